@@ -1,0 +1,4 @@
+pub mod Row
+pub mod RowStep
+pub mod MachineRun
+pub mod WellFormed
