@@ -2,10 +2,20 @@
 #![tactic(auto)]
 
 mod item;
+mod laws;
+mod number_text;
 mod seq;
+#[cfg(test)]
+mod tests;
+mod word;
 
 pub use item::{End, Extent, Item, Limits, MachineFault, OpCode, Operand, TrapKind};
+pub use laws::{laws_of_agreement, laws_of_number_texts, laws_of_words};
+pub use number_text::{NumberLine, NumbersError, read_numbers};
 pub use seq::Seq;
+pub use word::{
+    add, and, apply, below, div, equal, less, less_eq, mul, or, rem, shl, shr, sub, unequal, xor,
+};
 
 /// Lengths of arrays, in elements.
 pub type LengthList = Seq<u32>;

@@ -1,0 +1,36 @@
+use Rattle.std.proofs.Common.{◌≡◌, ℕ, ◌+◌, ◌<◌, List, [], ◌∷◌, ◌++◌, length, take, get_or}
+use Rattle.std.proofs.lemmas.List.{take_more}
+use Rattle.pc_syntax.specs.declared.statement.Stmt.{Stmt}
+use Rattle.pc_syntax.specs.Erasure.{list_of, statement_of}
+use Rattle.pc_syntax.proofs.ErasureLaws.{statement_of-For, statement_of-made_For, list_of-push}
+use Rattle.pc_syntax.proofs.statement.+copy_statement.Goals as goal
+
+-- one more copy stands for one more statement
+one_more : (from copies longer : List Stmt) (i : ℕ) (item copy : Stmt) → i < length from → item ≡ get_or from i item →
+    statement_of copy ≡ statement_of item → list_of copies ≡ list_of (take i from) → longer ≡ copies ++ copy ∷ [] →
+    list_of longer ≡ list_of (take (i + 1) from)
+one_more from copies longer i item copy below read copied so_far pushed =
+    let one = take_more from i item below in
+    let front = list_of-push (take i from) (get_or from i item) in
+    let made = list_of-push copies copy in
+    cc
+
+pub copy_list-loop-item-preserved : goal.copy_list-loop-item-preserved
+copy_list-loop-item-preserved t c =
+    let same = c.as_slice-item-items.ensures in
+    let below : c.loop-item.item-index < length c.args.from.now = rw same at c.loop-item-test.true in
+    let read = rw same at c.item-item.is in
+    one_more c.args.from.now c.loop-item.copies c.push.new.self c.loop-item.item-index c.item-item.result c.in_ok-copy.copy below read
+    c.in_ok-copy.ensures c.loop-item.invariant c.in_ok-push.ensures.ok
+
+-- a copied `for` stands for the one that it was copied from
+pub copy_statement-returns-in_ok-body-in-For : goal.copy_statement-returns-in_ok-body-in-For
+copy_statement-returns-in_ok-body-in-For t c =
+    let made = statement_of-made_For c.in-For.line c.in_ok-first-in-For.first c.in_ok-test-in-For.test c.in_ok-step-in-For.step c.in_ok-body-in-For.body in
+    let was = statement_of-For c.args.from.now c.in-For.line c.in-For.first c.in-For.test c.in-For.step c.in-For.body c.in-For.is in
+    let first = c.in_ok-first-in-For.ensures in
+    let test = c.in_ok-test-in-For.ensures in
+    let step = c.in_ok-step-in-For.ensures in
+    let body = c.in_ok-body-in-For.ensures in
+    let borrowed = c.deref-in-For.ensures in
+    cc

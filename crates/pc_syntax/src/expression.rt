@@ -1,0 +1,145 @@
+ghost use Rattle.std.specs.Prelude.{◌≡◌, IfOk, option_map};
+ghost use Rattle.pc_syntax.specs.Erasure.{expression_of};
+
+use crate::operator::{BinaryOp, UnaryOp};
+use crate::program::SyntaxError;
+use std::alloc::Global;
+
+/// An expression.
+///
+/// Each `line` is the line of the expression's first token, and each `at` the line of its operator or
+/// of its `[`. Parentheses and unary `+` leave no node.
+#[derive(Debug, Drop)]
+pub enum Expr {
+    Lit {
+        value: i32,
+    },
+    Name {
+        symbol: u32,
+        line: u32,
+    },
+    /// `read()`
+    Read {
+        line: u32,
+    },
+    /// An element of an array.
+    Element {
+        symbol: u32,
+        line: u32,
+        at: u32,
+        index: Box<Expr>,
+    },
+    Unary {
+        op: UnaryOp,
+        of: Box<Expr>,
+    },
+    Binary {
+        op: BinaryOp,
+        at: u32,
+        left: Box<Expr>,
+        right: Box<Expr>,
+    },
+    /// `left && right`
+    Both {
+        left: Box<Expr>,
+        right: Box<Expr>,
+    },
+    /// `left || right`
+    Either {
+        left: Box<Expr>,
+        right: Box<Expr>,
+    },
+    /// `test ? yes : no`
+    Choose {
+        test: Box<Expr>,
+        yes: Box<Expr>,
+        no: Box<Expr>,
+    },
+}
+
+/// An equal expression, in memory of its own.
+#[cycle(copy_expression)]
+#[tactic(auto, using(crate::proofs::ErasureLaws::expression_forms))]
+pub(crate) fn copy_expression(alloc: Global, from: &Expr) -> Result<Expr, SyntaxError>
+    ensures { IfOk result (λ copy. expression_of copy ≡ expression_of from.now) }
+{
+    match from {
+        Expr::Lit { value } => Ok(Expr::Lit { value: *value }),
+        Expr::Name { symbol, line } => Ok(Expr::Name {
+            symbol: *symbol,
+            line: *line,
+        }),
+        Expr::Read { line } => Ok(Expr::Read { line: *line }),
+        Expr::Element {
+            symbol,
+            line,
+            at,
+            index,
+        } => {
+            let index = copy_boxed(alloc, index)?;
+            Ok(Expr::Element {
+                symbol: *symbol,
+                line: *line,
+                at: *at,
+                index,
+            })
+        }
+        Expr::Unary { op, of } => {
+            let of = copy_boxed(alloc, of)?;
+            Ok(Expr::Unary { op: *op, of })
+        }
+        Expr::Binary {
+            op,
+            at,
+            left,
+            right,
+        } => {
+            let left = copy_boxed(alloc, left)?;
+            let right = copy_boxed(alloc, right)?;
+            Ok(Expr::Binary {
+                op: *op,
+                at: *at,
+                left,
+                right,
+            })
+        }
+        Expr::Both { left, right } => {
+            let left = copy_boxed(alloc, left)?;
+            let right = copy_boxed(alloc, right)?;
+            Ok(Expr::Both { left, right })
+        }
+        Expr::Either { left, right } => {
+            let left = copy_boxed(alloc, left)?;
+            let right = copy_boxed(alloc, right)?;
+            Ok(Expr::Either { left, right })
+        }
+        Expr::Choose { test, yes, no } => {
+            let test = copy_boxed(alloc, test)?;
+            let yes = copy_boxed(alloc, yes)?;
+            let no = copy_boxed(alloc, no)?;
+            Ok(Expr::Choose { test, yes, no })
+        }
+    }
+}
+
+/// An equal expression, in a box of its own.
+#[cycle(copy_expression)]
+fn copy_boxed(alloc: Global, from: &Expr) -> Result<Box<Expr>, SyntaxError>
+    ensures { IfOk result (λ copy. expression_of copy.value ≡ expression_of from.now) }
+{
+    let copy = copy_expression(alloc, from)?;
+    Ok(Box::new(alloc, copy)?)
+}
+
+/// An equal expression, where there is one.
+pub(crate) fn copy_optional(alloc: Global, from: &Option<Expr>) -> Result<Option<Expr>, SyntaxError>
+    ensures { IfOk result (λ copy. option_map expression_of copy ≡ option_map expression_of from.now) }
+{
+    match from {
+        None => Ok(None),
+        Some(from) => {
+            let copy = copy_expression(alloc, from)?;
+            Ok(Some(copy))
+        }
+    }
+}

@@ -1,0 +1,12 @@
+//! The syntax tree of a source program, with the lines that faults and traps are told by.
+#![tactic(auto)]
+
+mod expression;
+mod operator;
+mod program;
+mod statement;
+
+pub use expression::Expr;
+pub use operator::{BinaryOp, UnaryOp};
+pub use program::{Program, SyntaxError};
+pub use statement::{Stmt, StmtList};
