@@ -1,0 +1,214 @@
+//! Tables over sources, sinks and shelves.
+use super::*;
+use std::alloc::{AllocError, Global};
+use std::fs;
+use std::test::Fail;
+
+/// A source that moves one byte a call, over a source that may move many.
+#[derive(Drop)]
+struct Slow<T> {
+    inner: T,
+}
+
+impl<T: Source> Source for Slow<T> {
+    ghost left = { λ s. T.left s.inner };
+
+    ghost faults = { λ s. T.faults s.inner };
+
+    fn read(&mut self, into: &mut [u8]) -> Result<usize, Failed> {
+        self.inner.read(&mut into[..1])
+    }
+}
+
+impl<T: Sink> Sink for Slow<T> {
+    ghost taken = { λ s. T.taken s.inner };
+
+    ghost faults = { λ s. T.faults s.inner };
+
+    fn write(&mut self, from: &[u8]) -> Result<usize, Failed> {
+        self.inner.write(&from[..1])
+    }
+}
+
+/// Takes what a source has, up to some bytes, and sends it on.
+fn carry<I: Source, O: Sink>(
+    alloc: Global,
+    from: &mut I,
+    to: &mut O,
+    most: usize,
+) -> Result<(), TakeError> {
+    let bytes = take_all(alloc, from, most)?;
+    send(to, bytes.as_slice())?;
+    Ok(())
+}
+
+/// A list of numbers of calls.
+fn calls(alloc: Global, numbers: &[u64]) -> Result<CallList, AllocError> {
+    CallList::from_slice(alloc, numbers)
+}
+
+const TEXT: &[u8] = b"print(7);";
+
+#[test]
+fn one_byte_a_call_gives_the_same(rt: HostRuntime) -> Result<(), Fail> {
+    let alloc = rt.alloc();
+    for most in [0, 1, 4, 9, 10, 99] {
+        let mut slow = Slow {
+            inner: SureSource::new(TEXT.to_vec(alloc)?),
+        };
+        let mut slow_sink = Slow {
+            inner: SureSink::new(alloc, 99)?,
+        };
+        carry(alloc, &mut slow, &mut slow_sink, most)?;
+        let mut fast = SureSource::new(TEXT.to_vec(alloc)?);
+        let mut fast_sink = SureSink::new(alloc, 99)?;
+        carry(alloc, &mut fast, &mut fast_sink, most)?;
+        assert_eq!(rt;
+            slow_sink.inner.taken(),
+            &TEXT[..most.min(TEXT.len())],
+            "at most {most}"
+        );
+        assert_eq!(rt;
+            fast_sink.taken(),
+            slow_sink.inner.taken(),
+            "at most {most}"
+        );
+    }
+    Ok(())
+}
+
+/// What `take_all` answers over a source whose reads with these numbers fail, one byte a call.
+fn taken_slowly(
+    alloc: Global,
+    failing: &[u64],
+    most: usize,
+) -> Result<Result<Vec<u8>, TakeError>, AllocError> {
+    let mut source = Slow {
+        inner: MemorySource::new(TEXT.to_vec(alloc)?, calls(alloc, failing)?),
+    };
+    Ok(take_all(alloc, &mut source, most))
+}
+
+#[test]
+fn listed_reads_fail(rt: HostRuntime) -> Result<(), Fail> {
+    // Nine bytes take ten turns, and at most four bytes take four.
+    let rows = [
+        (1, 99, true),
+        (10, 99, true),
+        (11, 99, false),
+        (4, 4, true),
+        (5, 4, false),
+        (1, 0, false),
+    ];
+    for (number, most, fails) in rows {
+        let answer = taken_slowly(rt.alloc(), &[number], most)?;
+        assert_eq!(rt; answer.is_err(), fails, "read {number} of at most {most}");
+    }
+    Ok(())
+}
+
+#[test]
+fn sinks_keep_a_prefix(rt: HostRuntime) -> Result<(), Fail> {
+    let alloc = rt.alloc();
+    for (failing, room, kept) in [
+        (99, 99, 9),
+        (99, 9, 9),
+        (99, 8, 8),
+        (99, 0, 0),
+        (1, 99, 0),
+        (4, 99, 3),
+        (10, 99, 9),
+    ] {
+        let mut sink = Slow {
+            inner: MemorySink::new(alloc, room, calls(alloc, &[failing])?)?,
+        };
+        let sent = send(&mut sink, TEXT);
+        assert_eq!(rt;
+            sent.is_ok(),
+            kept == TEXT.len(),
+            "call {failing}, room {room}"
+        );
+        assert_eq!(rt;
+            sink.inner.taken(),
+            &TEXT[..kept.min(TEXT.len())],
+            "call {failing}, room {room}"
+        );
+        let mut whole = MemorySink::new(alloc, room, calls(alloc, &[2])?)?;
+        assert_eq!(rt;
+            send(&mut whole, TEXT).is_ok(),
+            room >= TEXT.len(),
+            "room {room}"
+        );
+    }
+    Ok(())
+}
+
+/// Whether a read gives these bytes, or fails where none are given.
+fn reads<H: Shelf>(
+    alloc: Global,
+    shelf: &mut H,
+    name: &str,
+    most: usize,
+    want: Option<&[u8]>,
+) -> bool {
+    match (shelf.read_file(alloc, name, most), want) {
+        (Ok(bytes), Some(want)) => bytes.as_slice() == want,
+        (Err(error), None) => error == ShelfError::Failed,
+        _ => false,
+    }
+}
+
+/// Whether a write is done.
+fn writes<H: Shelf>(alloc: Global, shelf: &mut H, name: &str, bytes: &[u8]) -> bool {
+    shelf.write_file(alloc, name, bytes).is_ok()
+}
+
+#[test]
+fn a_shelf_counts_its_calls(rt: HostRuntime) -> Result<(), Fail> {
+    let alloc = rt.alloc();
+    let mut shelf = MemoryShelf::new(alloc, calls(alloc, &[2, 4])?);
+    assert!(rt; shelf.put(alloc, "a", TEXT).is_ok());
+    assert!(rt; reads(alloc, &mut shelf, "a", 5, Some(b"print")));
+    assert!(rt; reads(alloc, &mut shelf, "a", 5, None));
+    assert!(rt; writes(alloc, &mut shelf, "b", b"new"));
+    assert!(rt; !writes(alloc, &mut shelf, "a", b"lost"));
+    assert!(rt; reads(alloc, &mut shelf, "c", 5, None));
+    assert!(rt; reads(alloc, &mut shelf, "a", 99, Some(TEXT)));
+    assert!(rt; shelf.held("b") == Some(b"new".as_slice()));
+    Ok(())
+}
+
+#[test]
+fn a_sure_shelf_reads_what_it_holds(rt: HostRuntime) {
+    let alloc = rt.alloc();
+    let mut shelf = SureShelf::new(alloc);
+    assert!(rt; shelf.put(alloc, "a", b"old").is_ok());
+    assert!(rt; writes(alloc, &mut shelf, "a", TEXT));
+    assert!(rt; reads(alloc, &mut shelf, "a", 9, Some(TEXT)));
+    assert!(rt; reads(alloc, &mut shelf, "b", 9, None));
+    assert!(rt; shelf.held("a") == Some(TEXT));
+}
+
+#[test]
+fn a_folder_is_a_shelf(rt: HostRuntime) -> Result<(), Fail> {
+    let alloc = rt.alloc();
+    let mut shelf = DirShelf::new(alloc, rt.clone()?, String::new(alloc));
+    assert!(rt; writes(alloc, &mut shelf, "outside.test", b"something longer"));
+    assert!(rt; writes(alloc, &mut shelf, "outside.test", TEXT));
+    assert!(rt; reads(alloc, &mut shelf, "outside.test", 99, Some(TEXT)));
+    assert!(rt; reads(alloc, &mut shelf, "outside.test", 5, Some(b"print")));
+    assert!(rt; fs::remove_file(&rt, "outside.test").is_ok());
+    assert!(rt; reads(alloc, &mut shelf, "outside.test", 99, None));
+    assert!(rt; reads(alloc, &mut shelf, ".", 99, None));
+    assert!(rt; !writes(alloc, &mut shelf, "no_such_folder/file", TEXT));
+    Ok(())
+}
+
+#[test]
+fn the_real_streams_open(rt: HostRuntime) -> Result<(), Fail> {
+    assert!(rt; send(&mut StdSink::new(rt.stdout()), b"").is_ok());
+    let mut bytes = b"abc".as_slice();
+    let taken = take_all(rt.alloc(), &mut StdSource::new(&mut bytes), 2)?;
+    assert_eq!(rt; taken.as_slice(), b"ab".as_slice());
+    Ok(())
+}
