@@ -1,4 +1,24 @@
-# `make` proves and builds the programs into build/, `make demo` compiles the examples, `make test` runs the gate.
+# make        proves and builds the programs into build/
+# make demo   compiles the examples with them and compares the bytes
+# make test   runs the gate
+
+PROGRAMS = pcc
+
+all: $(PROGRAMS:%=build/%)
+
+build/%: FORCE
+	@mkdir -p build
+	-@cd crates/$* && rt run >../../build/$*.log 2>&1
+	@test -x crates/$*/out/$* || { cat build/$*.log; exit 1; }
+	@cp crates/$*/out/$* $@
+	@echo "proved and built: $@"
+
+demo: all
+	examples/run
+
 test:
 	rt ci
-.PHONY: test
+
+FORCE:
+
+.PHONY: all demo test FORCE

@@ -2,3 +2,7 @@ pub mod Row
 pub mod RowStep
 pub mod MachineRun
 pub mod WellFormed
+pub mod Flaws
+pub mod Checks
+pub mod Printing
+pub mod Laws

@@ -16,6 +16,7 @@ follow_leaf out new (Leads_to row) = Goes out (record { row = row; state = new }
 follow_leaf out new Ends = Stops out Ended
 follow_leaf out new (Traps kind line) = Stops out (Trapped kind line)
 
+-- a fault ends the run, and nothing of its row is printed
 abbrev pub after_row : RowOutcome → Step Cycle
 after_row (Faults fault) = Stops [] (Fault fault)
 after_row (Commits out new leaf) = follow_leaf out new leaf
@@ -31,7 +32,10 @@ machine_step code here = run_row code.arrays here.state (slice_get code.rows her
 
 -- row 0, with all registers and elements 0
 abbrev pub machine_start : List ℤ → Cycle
-machine_start input = record { row = 0; state = record { names = λ x. pos 0; cells = λ array place. pos 0; input = input } }
+machine_start input = record {
+  row = 0;
+  state = record { names = λ register. pos 0; cells = λ array place. pos 0; input = input };
+}
 
 -- the run of a code on an input: at most n cycles
 abbrev pub machine_run : RowCode → List ℤ → Run

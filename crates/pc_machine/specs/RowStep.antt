@@ -18,6 +18,7 @@ pub record State : Type 0 where
 
 -- ---- the path
 
+-- the value of an operand
 abbrev pub operand_value : (ℕ → ℤ) → Operand → ℤ
 operand_value names (Name x) = names x
 operand_value names (Lit value) = value
@@ -51,6 +52,7 @@ abbrev pub next_input : List ℤ → ℤ
 next_input [] = pos 0
 next_input (word ∷ words) = word
 
+-- whether an input number is left
 abbrev pub some_left : List ℤ → Bool
 some_left [] = false
 some_left (word ∷ words) = true
@@ -107,6 +109,7 @@ reads_of [] = 0
 reads_of (Read dest ∷ items) = suc (reads_of items)
 reads_of (_ ∷ items) = reads_of items
 
+-- whether a name is the one that is written
 abbrev pub writes : Option ℕ → ℕ → Bool
 writes None x = false
 writes (Some dest) x = nat_eq dest x
@@ -117,6 +120,7 @@ names_after lengths old [] x = old.names x
 names_after lengths old (item ∷ items) x =
     if writes (dest_of item) x then value_of lengths old item else names_after lengths old items x
 
+-- whether a store is in this element
 abbrev pub is_at : Stored → ℕ → ℕ → Bool
 is_at stored array place = nat_eq stored.array array && writes stored.place place
 
@@ -128,9 +132,11 @@ cells_after old (stored ∷ stores) array place =
 
 -- ---- faults
 
+-- whether a store is outside its array
 abbrev pub is_outside : Stored → Bool
 is_outside stored = is_none stored.place
 
+-- whether another store is in the element of a store
 abbrev pub meets_at : ℕ → Option ℕ → Stored → Bool
 meets_at array None other = false
 meets_at array (Some place) other = is_at other array place
@@ -140,6 +146,7 @@ abbrev pub some_meet : List Stored → Bool
 some_meet [] = false
 some_meet (stored ∷ stores) = list_any (meets_at stored.array stored.place) stores || some_meet stores
 
+-- whether a path reads where no input number is left
 abbrev pub reads_past_end : State → List Item → Bool
 reads_past_end old items = nat_lt 0 (reads_of items) && not (some_left old.input)
 
@@ -167,6 +174,7 @@ state_after lengths old items =
       input = drop (reads_of items) old.input;
     }
 
+-- what a path does, with the fault that it has, if any
 abbrev pub commit_of : List ℕ → State → List Item → Leaf → Option MachineFault → RowOutcome
 commit_of lengths old items leaf (Some fault) = Faults fault
 commit_of lengths old items leaf None = Commits (prints_of old items) (state_after lengths old items) leaf

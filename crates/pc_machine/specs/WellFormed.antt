@@ -11,16 +11,19 @@ use Rattle.pc_machine.specs.RowStep.{dest_of}
 
 -- ---- what a row has
 
+-- its items, on whatever path, in preorder
 abbrev pub items_of : Row → List Item
 items_of (Then item rest) = item ∷ items_of rest
 items_of (Either on on_yes on_no) = items_of on_yes ++ items_of on_no
 items_of (At_leaf leaf) = []
 
+-- the operands of its tests, in preorder
 abbrev pub tests_of : Row → List Operand
 tests_of (Then item rest) = tests_of rest
 tests_of (Either on on_yes on_no) = on ∷ (tests_of on_yes ++ tests_of on_no)
 tests_of (At_leaf leaf) = []
 
+-- its leaves, in preorder
 abbrev pub leaves_of : Row → List Leaf
 leaves_of (Then item rest) = leaves_of rest
 leaves_of (Either on on_yes on_no) = leaves_of on_yes ++ leaves_of on_no
@@ -85,9 +88,11 @@ pub record IsRow (limits : Limits) (arrays rows : ℕ) (row : Row) : Type 0 wher
 
 -- ---- the code
 
+-- a number is from one to another
 abbrev pub IsBetween : ℕ → ℕ → ℕ → Type 0
 IsBetween low high n = (low ≤ n) × (n ≤ high)
 
+-- limits that the machine has: from 1 to 32 items, 7 tests, and 32 loads and stores
 pub record AreLimits (limits : Limits) : Type 0 where
   pub ops : IsBetween 1 32 limits.ops
   pub tests : IsBetween 1 7 limits.tests
@@ -99,6 +104,7 @@ pub record AreArrays (lengths : List ℕ) : Type 0 where
   pub each : AllByRecursion (IsBetween 1 65536) lengths
   pub elements : sum lengths ≤ 1048576
 
+-- its limits and arrays are the machine's, it has an entry, and each row keeps its limits
 pub record WellFormed (code : RowCode) : Type 0 where
   pub limits : AreLimits code.limits
   pub arrays : AreArrays code.arrays

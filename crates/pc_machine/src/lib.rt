@@ -3,9 +3,18 @@
 //! `specs/` says what one row does in one cycle, what a code does, and when a code is well formed.
 #![tactic(auto)]
 
+mod check;
 mod code;
+mod laws;
+#[cfg(test)]
+mod tests;
 mod tree;
 
+pub use check::{
+    Bounds, Counts, Path, array_count, array_length, is_register, limit, operand, row_count,
+    well_formed,
+};
 pub use code::{Code, Flaw, TreeList};
+pub use laws::laws_of_codes;
 pub use pc_word::{End, MachineFault};
 pub use tree::Tree;

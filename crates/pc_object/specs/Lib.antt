@@ -1,1 +1,5 @@
 pub mod ObjectText
+pub mod Numbers
+pub mod Reading
+pub mod Gives
+pub mod Headers

@@ -1,6 +1,20 @@
 //! Objects and their format, PTV1: a code and a note for each pipelined or refused loop, as bytes.
 #![tactic(auto)]
 
+mod decoding;
+mod encoding;
+mod fields;
+mod laws;
 mod object;
+mod refusal;
+mod rows;
+mod tag;
 
+pub use decoding::decode;
+pub use encoding::{EncodeError, encode};
+pub use laws::{depth_decides_nothing, longer_is_trailing, one_object, reads_exactly_texts};
 pub use object::{Note, NoteList, Object};
+pub use refusal::ObjectError;
+
+#[cfg(test)]
+mod tests;

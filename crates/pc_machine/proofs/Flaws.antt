@@ -1,0 +1,655 @@
+-- A code has no flaw exactly where it is well formed.
+use Rattle.std.proofs.Common.{◌≡◌, ℕ, ◌+◌, ◌<◌, ◌≤◌, zero-le, Bool, true, false, cond, not, ◌&&◌, ◌||◌, List, [], ◌∷◌, ◌++◌, length, Option, Some, None, refl, sym, ◌∙◌, ap, arith, length-append}
+use Rattle.std.specs.Prelude.{slice_get, nat_eq, nat_lt, nat_le, sum, ◌↔◌}
+use Rattle.std.specs.List.{AllByRecursion, IsDistinct, count_by, filter_map, cons_option, flat_map}
+use Rattle.std.proofs.lemmas.Bool.Decides.{nat_tests}
+use Rattle.std.proofs.lemmas.List.Sums.{sum_by-cons}
+use Rattle.pc_word.specs.declared.item.Item.{Item}
+use Rattle.pc_word.specs.declared.item.Item.TheVariants.{Bin, Copy, Load, Store, Print, Read, More}
+use Rattle.pc_word.specs.declared.item.Operand.{Operand}
+use Rattle.pc_word.specs.declared.item.Operand.TheVariants.{Name, Lit}
+use Rattle.pc_word.specs.declared.item.Limits.{Limits}
+use Rattle.pc_machine.specs.declared.code.Flaw.{Flaw}
+use Rattle.pc_machine.specs.declared.code.Flaw.TheVariants.{HeaderLimit, ArrayCount, ArrayLength, Elements, RowCount, Register, Array, Target, DestTwice, EffectTwice, TooManyOps, TooManyTests, TooManyMem}
+use Rattle.pc_machine.specs.declared.check.Bounds.{Bounds}
+use Rattle.pc_machine.specs.declared.check.Counts.{Counts}
+use Rattle.pc_machine.specs.Row.{Leaf, Leads_to, Ends, Traps, Row, Then, Either, At_leaf, RowCode}
+use Rattle.pc_machine.specs.RowStep.{dest_of, writes}
+use Rattle.pc_machine.specs.WellFormed.{items_of, tests_of, leaves_of, paths_of, is_memory, is_effect, IsOperand, IsItem, IsLeaf, IsPath, IsRow, IsBetween, AreLimits, WellFormed}
+use Rattle.pc_machine.proofs.Lists.{all_front, all_back, all_both, all_of_map, map_of_all, all_imply, count_more, count_both}
+use Rattle.pc_machine.specs.Flaws.{flaw_where, is_between, limit_flaws, limits_flaws, array_count_flaws, length_flaws, lengths_flaws, row_count_flaws, Above, nothing_above, above_with, no_counts, one_where, counts_with_item, counts_with_test, counts_after, item_tag_flaws, test_tag_flaws, register_flaws, dest_flaws, operand_flaws, array_flaws, field_flaws, item_flaws, test_flaws, leaf_flaws, row_flaws, bounds_of, header_flaws, flaws_of}
+
+-- ---- lists of flaws
+
+-- where there is no flaw in two parts, there is none in the first
+none_front : (xs ys : List Flaw) → xs ++ ys ≡ [] → xs ≡ []
+none_front [] ys e = refl
+none_front (x ∷ xs) ys e = (cc)
+
+-- nor in the second
+none_back : (xs ys : List Flaw) → xs ++ ys ≡ [] → ys ≡ []
+none_back [] ys e = e
+none_back (x ∷ xs) ys e = (cc)
+
+none_both : (xs ys : List Flaw) → xs ≡ [] → ys ≡ [] → xs ++ ys ≡ []
+none_both xs ys p q = ap (λ (l : List Flaw). l ++ ys) p ∙ q
+
+-- a test that says of no flaw does not hold
+where_none : (b : Bool) (flaw : Flaw) → flaw_where b flaw ≡ [] → b ≡ false
+where_none true flaw e = (cc)
+where_none false flaw e = refl
+
+none_where : (b : Bool) (flaw : Flaw) → b ≡ false → flaw_where b flaw ≡ []
+none_where true flaw e = (cc)
+none_where false flaw e = refl
+
+below_of : (a b : ℕ) → nat_le a b ≡ false → b < a
+below_of a b e = grind (arith, nat_tests)
+
+of_below : (a b : ℕ) → b < a → nat_le a b ≡ false
+of_below a b e = grind (arith, nat_tests)
+
+most_of : (a b : ℕ) → nat_lt a b ≡ false → b ≤ a
+most_of a b e = grind (arith, nat_tests)
+
+of_most : (a b : ℕ) → b ≤ a → nat_lt a b ≡ false
+of_most a b e = grind (arith, nat_tests)
+
+between_of : (low high n : ℕ) → not (is_between low high n) ≡ false → IsBetween low high n
+between_of low high n e = (low_of (nat_le low n) (nat_le n high) refl refl e, high_of (nat_le low n) (nat_le n high) refl refl e)
+  where
+    low_of : (p q : Bool) → nat_le low n ≡ p → nat_le n high ≡ q → not (p && q) ≡ false → low ≤ n
+    low_of true q a b e = grind (arith, nat_tests)
+    low_of false q a b e = (cc)
+
+    high_of : (p q : Bool) → nat_le low n ≡ p → nat_le n high ≡ q → not (p && q) ≡ false → n ≤ high
+    high_of true true a b e = grind (arith, nat_tests)
+    high_of true false a b e = (cc)
+    high_of false q a b e = (cc)
+
+of_between : (low high n : ℕ) → IsBetween low high n → not (is_between low high n) ≡ false
+of_between low high n (p, q) =
+    let a : nat_le low n ≡ true = grind (arith, nat_tests) in
+    let b : nat_le n high ≡ true = grind (arith, nat_tests) in
+    ap (λ (x : Bool). not (x && nat_le n high)) a ∙ ap not b
+
+-- ---- the fields of an item
+
+register_sound : (register : ℕ) → register_flaws register ≡ [] → register < 128
+register_sound register e = below_of 128 register (where_none (nat_le 128 register) Register e)
+
+register_complete : (register : ℕ) → register < 128 → register_flaws register ≡ []
+register_complete register h = none_where (nat_le 128 register) Register (of_below 128 register h)
+
+operand_sound : (operand : Operand) → operand_flaws operand ≡ [] → IsOperand operand
+operand_sound (Name register) e = register_sound register e
+operand_sound (Lit value) e = tt
+
+operand_complete : (operand : Operand) → IsOperand operand → operand_flaws operand ≡ []
+operand_complete (Name register) h = register_complete register h
+operand_complete (Lit value) h = refl
+
+array_sound : (arrays array : ℕ) → array_flaws arrays array ≡ [] → array < arrays
+array_sound arrays array e = below_of arrays array (where_none (nat_le arrays array) Array e)
+
+array_complete : (arrays array : ℕ) → array < arrays → array_flaws arrays array ≡ []
+array_complete arrays array h = none_where (nat_le arrays array) Array (of_below arrays array h)
+
+-- a register that is not written above, if any
+abbrev Fresh : (ℕ → Bool) → Option ℕ → Type 0
+Fresh written (Some register) = written register ≡ false
+Fresh written None = Unit {0}
+
+dest_sound : (above : Above) (dest : ℕ) → dest_flaws above dest ≡ [] → (dest < 128) × (above.written dest ≡ false)
+dest_sound above dest e = (
+  register_sound dest (none_front (register_flaws dest) (flaw_where (above.written dest) DestTwice) e),
+  where_none (above.written dest) DestTwice (none_back (register_flaws dest) (flaw_where (above.written dest) DestTwice) e),
+)
+
+dest_complete : (above : Above) (dest : ℕ) → dest < 128 → above.written dest ≡ false → dest_flaws above dest ≡ []
+dest_complete above dest h fresh =
+    none_both (register_flaws dest) (flaw_where (above.written dest) DestTwice) (register_complete dest h) (none_where (above.written dest) DestTwice fresh)
+
+field_sound : (arrays : ℕ) (above : Above) (item : Item) → field_flaws arrays above item ≡ [] → IsItem arrays item × Fresh above.written (dest_of item)
+field_sound arrays above (Bin op dest left right) e =
+    let d = dest_sound above dest (none_front (dest_flaws above dest) (operand_flaws left ++ operand_flaws right) e) in
+    let o = none_back (dest_flaws above dest) (operand_flaws left ++ operand_flaws right) e in
+    ((d.0, operand_sound left (none_front (operand_flaws left) (operand_flaws right) o), operand_sound right (none_back (operand_flaws left) (operand_flaws right) o)), d.1)
+field_sound arrays above (Copy dest from) e =
+    let d = dest_sound above dest (none_front (dest_flaws above dest) (operand_flaws from) e) in
+    ((d.0, operand_sound from (none_back (dest_flaws above dest) (operand_flaws from) e)), d.1)
+field_sound arrays above (Load dest array index) e =
+    let d = dest_sound above dest (none_front (dest_flaws above dest) (array_flaws arrays array ++ operand_flaws index) e) in
+    let o = none_back (dest_flaws above dest) (array_flaws arrays array ++ operand_flaws index) e in
+    ((d.0, array_sound arrays array (none_front (array_flaws arrays array) (operand_flaws index) o), operand_sound index (none_back (array_flaws arrays array) (operand_flaws index) o)), d.1)
+field_sound arrays above (Store array index value) e =
+    let o = none_back (array_flaws arrays array) (operand_flaws index ++ operand_flaws value) e in
+    ((array_sound arrays array (none_front (array_flaws arrays array) (operand_flaws index ++ operand_flaws value) e), operand_sound index (none_front (operand_flaws index) (operand_flaws value) o), operand_sound value (none_back (operand_flaws index) (operand_flaws value) o)), tt)
+field_sound arrays above (Print value) e = (operand_sound value e, tt)
+field_sound arrays above (Read dest) e = dest_sound above dest e
+field_sound arrays above (More dest) e = dest_sound above dest e
+
+field_complete : (arrays : ℕ) (above : Above) (item : Item) → IsItem arrays item → Fresh above.written (dest_of item) → field_flaws arrays above item ≡ []
+field_complete arrays above (Bin op dest left right) h fresh =
+    none_both (dest_flaws above dest) (operand_flaws left ++ operand_flaws right) (dest_complete above dest h.0 fresh)
+    (none_both (operand_flaws left) (operand_flaws right) (operand_complete left h.1) (operand_complete right h.2))
+field_complete arrays above (Copy dest from) h fresh =
+    none_both (dest_flaws above dest) (operand_flaws from) (dest_complete above dest h.0 fresh) (operand_complete from h.1)
+field_complete arrays above (Load dest array index) h fresh =
+    none_both (dest_flaws above dest) (array_flaws arrays array ++ operand_flaws index) (dest_complete above dest h.0 fresh)
+    (none_both (array_flaws arrays array) (operand_flaws index) (array_complete arrays array h.1) (operand_complete index h.2))
+field_complete arrays above (Store array index value) h fresh =
+    none_both (array_flaws arrays array) (operand_flaws index ++ operand_flaws value) (array_complete arrays array h.0)
+    (none_both (operand_flaws index) (operand_flaws value) (operand_complete index h.1) (operand_complete value h.2))
+field_complete arrays above (Print value) h fresh = operand_complete value h
+field_complete arrays above (Read dest) h fresh = dest_complete above dest h fresh
+field_complete arrays above (More dest) h fresh = dest_complete above dest h fresh
+
+-- ---- an item under a path
+
+-- what an item keeps where it stands
+record Fits (bounds : Bounds) (counts : Counts) (above : Above) (item : Item) : Type 0 where
+  ops : counts.ops < bounds.limits.ops
+  mem : one_where (is_memory item) counts.mem ≤ bounds.limits.mem
+  effect : (is_effect item && above.effect) ≡ false
+  parts : IsItem bounds.arrays item
+  fresh : Fresh above.written (dest_of item)
+
+-- one more load or store, if it is one
+memory_sound : (memory : Bool) (mem most : ℕ) → mem ≤ most → (memory && nat_le most mem) ≡ false → one_where memory mem ≤ most
+memory_sound true mem most few e = let h : mem < most = below_of most mem e in omega arith
+memory_sound false mem most few e = few
+
+memory_complete : (memory : Bool) (mem most : ℕ) → one_where memory mem ≤ most → (memory && nat_le most mem) ≡ false
+memory_complete true mem most h = of_below most mem (omega arith)
+memory_complete false mem most h = refl
+
+item_sound : (bounds : Bounds) (counts : Counts) (above : Above) (item : Item) → counts.mem ≤ bounds.limits.mem → item_flaws bounds counts above item ≡ [] → Fits bounds counts above item
+item_sound bounds counts above item few e =
+    let memory : Bool = is_memory item && nat_le bounds.limits.mem counts.mem in
+    let effect : Bool = is_effect item && above.effect in
+    let tag = none_front (item_tag_flaws bounds.limits counts above (is_memory item) (is_effect item)) (field_flaws bounds.arrays above item) e in
+    let behind = none_back (flaw_where (nat_le bounds.limits.ops counts.ops) TooManyOps) (flaw_where memory TooManyMem ++ flaw_where effect EffectTwice) tag in
+    let f = field_sound bounds.arrays above item (none_back (item_tag_flaws bounds.limits counts above (is_memory item) (is_effect item)) (field_flaws bounds.arrays above item) e) in
+    record {
+      ops = below_of bounds.limits.ops counts.ops (where_none (nat_le bounds.limits.ops counts.ops) TooManyOps (none_front (flaw_where (nat_le bounds.limits.ops counts.ops) TooManyOps) (flaw_where memory TooManyMem ++ flaw_where effect EffectTwice) tag));
+      mem = memory_sound (is_memory item) counts.mem bounds.limits.mem few (where_none memory TooManyMem (none_front (flaw_where memory TooManyMem) (flaw_where effect EffectTwice) behind));
+      effect = where_none effect EffectTwice (none_back (flaw_where memory TooManyMem) (flaw_where effect EffectTwice) behind);
+      parts = f.0;
+      fresh = f.1;
+    }
+
+item_complete : (bounds : Bounds) (counts : Counts) (above : Above) (item : Item) → Fits bounds counts above item → item_flaws bounds counts above item ≡ []
+item_complete bounds counts above item fits =
+    let memory : Bool = is_memory item && nat_le bounds.limits.mem counts.mem in
+    let effect : Bool = is_effect item && above.effect in
+    none_both (item_tag_flaws bounds.limits counts above (is_memory item) (is_effect item)) (field_flaws bounds.arrays above item)
+    (none_both (flaw_where (nat_le bounds.limits.ops counts.ops) TooManyOps) (flaw_where memory TooManyMem ++ flaw_where effect EffectTwice)
+    (none_where (nat_le bounds.limits.ops counts.ops) TooManyOps (of_below bounds.limits.ops counts.ops fits.ops))
+    (none_both (flaw_where memory TooManyMem) (flaw_where effect EffectTwice)
+    (none_where memory TooManyMem (memory_complete (is_memory item) counts.mem bounds.limits.mem fits.mem))
+    (none_where effect EffectTwice fits.effect)))
+    (field_complete bounds.arrays above item fits.parts fits.fresh)
+
+-- ---- a path under what stands above it
+
+record IsBelow (above : Above) (path : List Item) : Type 0 where
+  fresh : AllByRecursion (λ register. above.written register ≡ false) (filter_map dest_of path)
+  writes_once : IsDistinct nat_eq (filter_map dest_of path)
+  one_effect : one_where above.effect (count_by is_effect path) ≤ 1
+
+or_first : (p q : Bool) → (p || q) ≡ false → p ≡ false
+or_first true q e = e
+or_first false q e = refl
+
+or_second : (p q : Bool) → (p || q) ≡ false → q ≡ false
+or_second true q e = absurd (cc)
+or_second false q e = e
+
+or_none : (p q : Bool) → p ≡ false → q ≡ false → (p || q) ≡ false
+or_none p q a b = ap (λ (x : Bool). x || q) a ∙ b
+
+-- a register that is written, if any, before registers that are not it and not written above
+fresh_more : (written : ℕ → Bool) (dest : Option ℕ) (dests : List ℕ) → Fresh written dest
+    → AllByRecursion (λ register. (writes dest register || written register) ≡ false) dests
+    → AllByRecursion (λ register. written register ≡ false) (cons_option dest dests)
+fresh_more written (Some x) dests h all = (h, all_imply (λ r. (nat_eq x r || written r) ≡ false) (λ r. written r ≡ false) dests (λ r e. or_second (nat_eq x r) (written r) e) all)
+fresh_more written None dests h all = all
+
+once_more : (written : ℕ → Bool) (dest : Option ℕ) (dests : List ℕ)
+    → AllByRecursion (λ register. (writes dest register || written register) ≡ false) dests
+    → IsDistinct nat_eq dests → IsDistinct nat_eq (cons_option dest dests)
+unfolding IsDistinct
+once_more written (Some x) dests all once = (all_imply (λ r. (nat_eq x r || written r) ≡ false) (λ r. nat_eq x r ≡ false) dests (λ r e. or_first (nat_eq x r) (written r) e) all, once)
+once_more written None dests all once = once
+
+fresh_first : (written : ℕ → Bool) (dest : Option ℕ) (dests : List ℕ) → AllByRecursion (λ register. written register ≡ false) (cons_option dest dests) → Fresh written dest
+fresh_first written (Some x) dests all = all.0
+fresh_first written None dests all = tt
+
+all_or : (p q : ℕ → Bool) (xs : List ℕ) → AllByRecursion (λ x. p x ≡ false) xs → AllByRecursion (λ x. q x ≡ false) xs → AllByRecursion (λ x. (p x || q x) ≡ false) xs
+all_or p q [] h k = tt
+all_or p q (x ∷ xs) h k = (or_none (p x) (q x) h.0 k.0, all_or p q xs h.1 k.1)
+
+all_true : (xs : List ℕ) → AllByRecursion (λ x. ◌≡◌ {A = Bool} false false) xs
+all_true [] = tt
+all_true (x ∷ xs) = (refl, all_true xs)
+
+fresh_rest : (written : ℕ → Bool) (dest : Option ℕ) (dests : List ℕ) → AllByRecursion (λ register. written register ≡ false) (cons_option dest dests)
+    → IsDistinct nat_eq (cons_option dest dests) → AllByRecursion (λ register. (writes dest register || written register) ≡ false) dests
+unfolding IsDistinct
+fresh_rest written (Some x) dests all once = all_or (λ r. nat_eq x r) written dests once.0 all.1
+fresh_rest written None dests all once = all
+
+once_rest : (dest : Option ℕ) (dests : List ℕ) → IsDistinct nat_eq (cons_option dest dests) → IsDistinct nat_eq dests
+unfolding IsDistinct
+once_rest (Some x) dests once = once.1
+once_rest None dests once = once
+
+effect_more : (effect above : Bool) (n m : ℕ) → m ≡ cond effect 1 0 + n → (effect && above) ≡ false → one_where (effect || above) n ≤ 1 → one_where above m ≤ 1
+effect_more true true n m e apart h = absurd (cc)
+effect_more true false n m e apart h = omega arith
+effect_more false true n m e apart h = omega arith
+effect_more false false n m e apart h = omega arith
+
+effect_first : (effect above : Bool) (n m : ℕ) → m ≡ cond effect 1 0 + n → one_where above m ≤ 1 → (effect && above) ≡ false
+effect_first true true n m e h = absurd (omega arith)
+effect_first true false n m e h = refl
+effect_first false above n m e h = refl
+
+effect_rest : (effect above : Bool) (n m : ℕ) → m ≡ cond effect 1 0 + n → one_where above m ≤ 1 → one_where (effect || above) n ≤ 1
+effect_rest true true n m e h = absurd (omega arith)
+effect_rest true false n m e h = omega arith
+effect_rest false true n m e h = omega arith
+effect_rest false false n m e h = omega arith
+
+below_more : (above : Above) (item : Item) (path : List Item) → Fresh above.written (dest_of item) → (is_effect item && above.effect) ≡ false
+    → IsBelow (above_with item above) path → IsBelow above (item ∷ path)
+below_more above item path fresh effect below = record {
+  fresh = fresh_more above.written (dest_of item) (filter_map dest_of path) fresh below.fresh;
+  writes_once = once_more above.written (dest_of item) (filter_map dest_of path) below.fresh below.writes_once;
+  one_effect = effect_more (is_effect item) above.effect (count_by is_effect path) (count_by is_effect (item ∷ path)) (count_more is_effect item path) effect below.one_effect;
+}
+
+below_rest : (above : Above) (item : Item) (path : List Item) → IsBelow above (item ∷ path) → IsBelow (above_with item above) path
+below_rest above item path below = record {
+  fresh = fresh_rest above.written (dest_of item) (filter_map dest_of path) below.fresh below.writes_once;
+  writes_once = once_rest (dest_of item) (filter_map dest_of path) below.writes_once;
+  one_effect = effect_rest (is_effect item) above.effect (count_by is_effect path) (count_by is_effect (item ∷ path)) (count_more is_effect item path) below.one_effect;
+}
+
+-- ---- the counts behind a row
+
+counts-ops : (row : Row) (counts : Counts) → (counts_after row counts).ops ≡ counts.ops + length (items_of row)
+counts-ops (Then item rest) counts = counts-ops rest (counts_with_item (is_memory item) counts) ∙ omega arith
+counts-ops (Either on on_yes on_no) counts =
+    counts-ops on_no (counts_after on_yes (counts_with_test counts))
+    ∙ ap (λ (n : ℕ). n + length (items_of on_no)) (counts-ops on_yes (counts_with_test counts))
+    ∙ omega (arith, length-append (items_of on_yes) (items_of on_no))
+counts-ops (At_leaf leaf) counts = omega arith
+
+counts-tests : (row : Row) (counts : Counts) → (counts_after row counts).tests ≡ counts.tests + length (tests_of row)
+counts-tests (Then item rest) counts = counts-tests rest (counts_with_item (is_memory item) counts)
+counts-tests (Either on on_yes on_no) counts =
+    counts-tests on_no (counts_after on_yes (counts_with_test counts))
+    ∙ ap (λ (n : ℕ). n + length (tests_of on_no)) (counts-tests on_yes (counts_with_test counts))
+    ∙ omega (arith, length-append (tests_of on_yes) (tests_of on_no))
+counts-tests (At_leaf leaf) counts = omega arith
+
+one_more : (b : Bool) (m n k : ℕ) → k ≡ cond b 1 0 + n → one_where b m + n ≡ m + k
+one_more true m n k e = omega arith
+one_more false m n k e = omega arith
+
+counts-mem : (row : Row) (counts : Counts) → (counts_after row counts).mem ≡ counts.mem + count_by is_memory (items_of row)
+counts-mem (Then item rest) counts =
+    counts-mem rest (counts_with_item (is_memory item) counts)
+    ∙ one_more (is_memory item) counts.mem (count_by is_memory (items_of rest)) (count_by is_memory (item ∷ items_of rest)) (count_more is_memory item (items_of rest))
+counts-mem (Either on on_yes on_no) counts =
+    let both = count_both is_memory (items_of on_yes) (items_of on_no) in
+    counts-mem on_no (counts_after on_yes (counts_with_test counts))
+    ∙ ap (λ (n : ℕ). n + count_by is_memory (items_of on_no)) (counts-mem on_yes (counts_with_test counts))
+    ∙ omega (arith, both)
+counts-mem (At_leaf leaf) counts = omega arith
+
+-- ---- a row behind these counts and under this path
+
+record Keeps (bounds : Bounds) (counts : Counts) (above : Above) (row : Row) : Type 0 where
+  ops : counts.ops + length (items_of row) ≤ bounds.limits.ops
+  tests : counts.tests + length (tests_of row) ≤ bounds.limits.tests
+  mem : counts.mem + count_by is_memory (items_of row) ≤ bounds.limits.mem
+  items : AllByRecursion (IsItem bounds.arrays) (items_of row)
+  operands : AllByRecursion IsOperand (tests_of row)
+  leaves : AllByRecursion (IsLeaf bounds.rows) (leaves_of row)
+  paths : AllByRecursion (IsBelow above) (paths_of row)
+
+-- counts that the limits allow
+record Within (limits : Limits) (counts : Counts) : Type 0 where
+  ops : counts.ops ≤ limits.ops
+  tests : counts.tests ≤ limits.tests
+  mem : counts.mem ≤ limits.mem
+
+leaf_sound : (bounds : Bounds) (leaf : Leaf) → leaf_flaws bounds leaf ≡ [] → IsLeaf bounds.rows leaf
+leaf_sound bounds (Leads_to row) e = below_of bounds.rows row (where_none (nat_le bounds.rows row) Target e)
+leaf_sound bounds Ends e = tt
+leaf_sound bounds (Traps kind line) e = tt
+
+leaf_complete : (bounds : Bounds) (leaf : Leaf) → IsLeaf bounds.rows leaf → leaf_flaws bounds leaf ≡ []
+leaf_complete bounds (Leads_to row) h = none_where (nat_le bounds.rows row) Target (of_below bounds.rows row h)
+leaf_complete bounds Ends h = refl
+leaf_complete bounds (Traps kind line) h = refl
+
+-- the path that takes each yes
+some_path : (row : Row) (P : List Item → Type 0) → AllByRecursion P (paths_of row) → (path : List Item) × P path
+some_path (Then item rest) P all =
+    let found = some_path rest (λ path. P (item ∷ path)) (all_of_map P (λ path. item ∷ path) (paths_of rest) all) in
+    (item ∷ found.0, found.1)
+some_path (Either on on_yes on_no) P all = some_path on_yes P (all_front P (paths_of on_yes) (paths_of on_no) all)
+some_path (At_leaf leaf) P all = ([], all.0)
+
+end_below : (above : Above) → IsBelow above []
+unfolding IsDistinct
+end_below above = record { fresh = tt; writes_once = tt; one_effect = at_most_one above.effect }
+  where
+    at_most_one : (effect : Bool) → one_where effect 0 ≤ 1
+    at_most_one true = omega arith
+    at_most_one false = omega arith
+
+then_keeps : (bounds : Bounds) (counts : Counts) (above : Above) (item : Item) (rest : Row) → Fits bounds counts above item
+    → Keeps bounds (counts_with_item (is_memory item) counts) (above_with item above) rest → Keeps bounds counts above (Then item rest)
+then_keeps bounds counts above item rest fits keeps =
+    let count = one_more (is_memory item) counts.mem (count_by is_memory (items_of rest)) (count_by is_memory (item ∷ items_of rest)) (count_more is_memory item (items_of rest)) in
+    record {
+      ops = omega (arith, keeps.ops);
+      tests = keeps.tests;
+      mem = omega (arith, keeps.mem, count);
+      items = (fits.parts, keeps.items);
+      operands = keeps.operands;
+      leaves = keeps.leaves;
+      paths = map_of_all (IsBelow above) (λ path. item ∷ path) (paths_of rest)
+          (all_imply (IsBelow (above_with item above)) (λ path. IsBelow above (item ∷ path)) (paths_of rest) (λ path below. below_more above item path fits.fresh fits.effect below) keeps.paths);
+    }
+
+then_fits : (bounds : Bounds) (counts : Counts) (above : Above) (item : Item) (rest : Row) → Keeps bounds counts above (Then item rest) → Fits bounds counts above item
+then_fits bounds counts above item rest keeps =
+    let count = one_more (is_memory item) counts.mem (count_by is_memory (items_of rest)) (count_by is_memory (item ∷ items_of rest)) (count_more is_memory item (items_of rest)) in
+    let found = some_path rest (λ path. IsBelow above (item ∷ path)) (all_of_map (IsBelow above) (λ path. item ∷ path) (paths_of rest) keeps.paths) in
+    record {
+      ops = omega (arith, keeps.ops);
+      mem = omega (arith, keeps.mem, count);
+      effect = effect_first (is_effect item) above.effect (count_by is_effect found.0) (count_by is_effect (item ∷ found.0)) (count_more is_effect item found.0) found.1.one_effect;
+      parts = keeps.items.0;
+      fresh = fresh_first above.written (dest_of item) (filter_map dest_of found.0) found.1.fresh;
+    }
+
+then_rest : (bounds : Bounds) (counts : Counts) (above : Above) (item : Item) (rest : Row) → Keeps bounds counts above (Then item rest)
+    → Keeps bounds (counts_with_item (is_memory item) counts) (above_with item above) rest
+then_rest bounds counts above item rest keeps =
+    let count = one_more (is_memory item) counts.mem (count_by is_memory (items_of rest)) (count_by is_memory (item ∷ items_of rest)) (count_more is_memory item (items_of rest)) in
+    record {
+      ops = omega (arith, keeps.ops);
+      tests = keeps.tests;
+      mem = omega (arith, keeps.mem, count);
+      items = keeps.items.1;
+      operands = keeps.operands;
+      leaves = keeps.leaves;
+      paths = all_imply (λ path. IsBelow above (item ∷ path)) (IsBelow (above_with item above)) (paths_of rest) (λ path below. below_rest above item path below)
+          (all_of_map (IsBelow above) (λ path. item ∷ path) (paths_of rest) keeps.paths);
+    }
+
+either_keeps : (bounds : Bounds) (counts : Counts) (above : Above) (on : Operand) (on_yes on_no : Row) → IsOperand on
+    → Keeps bounds (counts_with_test counts) above on_yes → Keeps bounds (counts_after on_yes (counts_with_test counts)) above on_no
+    → Keeps bounds counts above (Either on on_yes on_no)
+either_keeps bounds counts above on on_yes on_no is_operand yes_keeps no_keeps =
+    let ops = counts-ops on_yes (counts_with_test counts) in
+    let tests = counts-tests on_yes (counts_with_test counts) in
+    let mem = counts-mem on_yes (counts_with_test counts) in
+    record {
+      ops = omega (arith, no_keeps.ops, ops, length-append (items_of on_yes) (items_of on_no));
+      tests = omega (arith, no_keeps.tests, tests, length-append (tests_of on_yes) (tests_of on_no));
+      mem = omega (arith, no_keeps.mem, mem, count_both is_memory (items_of on_yes) (items_of on_no));
+      items = all_both (IsItem bounds.arrays) (items_of on_yes) (items_of on_no) yes_keeps.items no_keeps.items;
+      operands = (is_operand, all_both IsOperand (tests_of on_yes) (tests_of on_no) yes_keeps.operands no_keeps.operands);
+      leaves = all_both (IsLeaf bounds.rows) (leaves_of on_yes) (leaves_of on_no) yes_keeps.leaves no_keeps.leaves;
+      paths = all_both (IsBelow above) (paths_of on_yes) (paths_of on_no) yes_keeps.paths no_keeps.paths;
+    }
+
+either_yes : (bounds : Bounds) (counts : Counts) (above : Above) (on : Operand) (on_yes on_no : Row) → Keeps bounds counts above (Either on on_yes on_no)
+    → Keeps bounds (counts_with_test counts) above on_yes
+either_yes bounds counts above on on_yes on_no keeps = record {
+  ops = omega (arith, keeps.ops, length-append (items_of on_yes) (items_of on_no));
+  tests = omega (arith, keeps.tests, length-append (tests_of on_yes) (tests_of on_no));
+  mem = omega (arith, keeps.mem, count_both is_memory (items_of on_yes) (items_of on_no));
+  items = all_front (IsItem bounds.arrays) (items_of on_yes) (items_of on_no) keeps.items;
+  operands = all_front IsOperand (tests_of on_yes) (tests_of on_no) keeps.operands.1;
+  leaves = all_front (IsLeaf bounds.rows) (leaves_of on_yes) (leaves_of on_no) keeps.leaves;
+  paths = all_front (IsBelow above) (paths_of on_yes) (paths_of on_no) keeps.paths;
+}
+
+either_no : (bounds : Bounds) (counts : Counts) (above : Above) (on : Operand) (on_yes on_no : Row) → Keeps bounds counts above (Either on on_yes on_no)
+    → Keeps bounds (counts_after on_yes (counts_with_test counts)) above on_no
+either_no bounds counts above on on_yes on_no keeps =
+    let ops = counts-ops on_yes (counts_with_test counts) in
+    let tests = counts-tests on_yes (counts_with_test counts) in
+    let mem = counts-mem on_yes (counts_with_test counts) in
+    record {
+      ops = omega (arith, keeps.ops, ops, length-append (items_of on_yes) (items_of on_no));
+      tests = omega (arith, keeps.tests, tests, length-append (tests_of on_yes) (tests_of on_no));
+      mem = omega (arith, keeps.mem, mem, count_both is_memory (items_of on_yes) (items_of on_no));
+      items = all_back (IsItem bounds.arrays) (items_of on_yes) (items_of on_no) keeps.items;
+      operands = all_back IsOperand (tests_of on_yes) (tests_of on_no) keeps.operands.1;
+      leaves = all_back (IsLeaf bounds.rows) (leaves_of on_yes) (leaves_of on_no) keeps.leaves;
+      paths = all_back (IsBelow above) (paths_of on_yes) (paths_of on_no) keeps.paths;
+    }
+
+-- a row without a flaw keeps its bounds
+row_sound : (bounds : Bounds) (counts : Counts) (above : Above) (row : Row) → Within bounds.limits counts → row_flaws bounds counts above row ≡ [] → Keeps bounds counts above row
+row_sound bounds counts above (Then item rest) within e =
+    let behind : Counts = counts_with_item (is_memory item) counts in
+    let below : Above = above_with item above in
+    let fits = item_sound bounds counts above item within.mem (none_front (item_flaws bounds counts above item) (row_flaws bounds behind below rest) e) in
+    let still : Within bounds.limits behind = record { ops = omega (arith, fits.ops); tests = within.tests; mem = fits.mem } in
+    then_keeps bounds counts above item rest fits
+    (row_sound bounds behind below rest still (none_back (item_flaws bounds counts above item) (row_flaws bounds behind below rest) e))
+row_sound bounds counts above (Either on on_yes on_no) within e =
+    let behind : Counts = counts_with_test counts in
+    let between : Counts = counts_after on_yes behind in
+    let test : List Flaw = test_flaws bounds counts on in
+    let rest : List Flaw = row_flaws bounds behind above on_yes ++ row_flaws bounds between above on_no in
+    let t = none_front test rest e in
+    let r = none_back test rest e in
+    let room : counts.tests < bounds.limits.tests = below_of bounds.limits.tests counts.tests (where_none (nat_le bounds.limits.tests counts.tests) TooManyTests (none_front (test_tag_flaws bounds.limits counts) (operand_flaws on) t)) in
+    let still : Within bounds.limits behind = record { ops = within.ops; tests = omega arith; mem = within.mem } in
+    let yes_keeps = row_sound bounds behind above on_yes still (none_front (row_flaws bounds behind above on_yes) (row_flaws bounds between above on_no) r) in
+    let later : Within bounds.limits between = record {
+      ops = omega (arith, counts-ops on_yes behind, yes_keeps.ops);
+      tests = omega (arith, counts-tests on_yes behind, yes_keeps.tests);
+      mem = omega (arith, counts-mem on_yes behind, yes_keeps.mem);
+    } in
+    either_keeps bounds counts above on on_yes on_no (operand_sound on (none_back (test_tag_flaws bounds.limits counts) (operand_flaws on) t)) yes_keeps
+    (row_sound bounds between above on_no later (none_back (row_flaws bounds behind above on_yes) (row_flaws bounds between above on_no) r))
+row_sound bounds counts above (At_leaf leaf) within e = record {
+  ops = omega (arith, within.ops);
+  tests = omega (arith, within.tests);
+  mem = omega (arith, within.mem);
+  items = tt;
+  operands = tt;
+  leaves = (leaf_sound bounds leaf e, tt);
+  paths = (end_below above, tt);
+}
+
+-- a row that keeps its bounds has no flaw
+row_complete : (bounds : Bounds) (counts : Counts) (above : Above) (row : Row) → Keeps bounds counts above row → row_flaws bounds counts above row ≡ []
+row_complete bounds counts above (Then item rest) keeps =
+    none_both (item_flaws bounds counts above item) (row_flaws bounds (counts_with_item (is_memory item) counts) (above_with item above) rest)
+    (item_complete bounds counts above item (then_fits bounds counts above item rest keeps))
+    (row_complete bounds (counts_with_item (is_memory item) counts) (above_with item above) rest (then_rest bounds counts above item rest keeps))
+row_complete bounds counts above (Either on on_yes on_no) keeps =
+    let behind : Counts = counts_with_test counts in
+    let between : Counts = counts_after on_yes behind in
+    let room : counts.tests < bounds.limits.tests = omega (arith, keeps.tests) in
+    none_both (test_flaws bounds counts on) (row_flaws bounds behind above on_yes ++ row_flaws bounds between above on_no)
+    (none_both (test_tag_flaws bounds.limits counts) (operand_flaws on)
+    (none_where (nat_le bounds.limits.tests counts.tests) TooManyTests (of_below bounds.limits.tests counts.tests room))
+    (operand_complete on keeps.operands.0))
+    (none_both (row_flaws bounds behind above on_yes) (row_flaws bounds between above on_no)
+    (row_complete bounds behind above on_yes (either_yes bounds counts above on on_yes on_no keeps))
+    (row_complete bounds between above on_no (either_no bounds counts above on on_yes on_no keeps)))
+row_complete bounds counts above (At_leaf leaf) keeps = leaf_complete bounds leaf keeps.leaves.0
+
+-- ---- a row of a code
+
+path_of_below : (path : List Item) → IsBelow nothing_above path → IsPath path
+path_of_below path below = record { writes_once = below.writes_once; one_effect = below.one_effect }
+
+below_of_path : (path : List Item) → IsPath path → IsBelow nothing_above path
+below_of_path path is = record { fresh = all_true (filter_map dest_of path); writes_once = is.writes_once; one_effect = is.one_effect }
+
+whole_sound : (bounds : Bounds) (row : Row) → row_flaws bounds no_counts nothing_above row ≡ [] → IsRow bounds.limits bounds.arrays bounds.rows row
+whole_sound bounds row e =
+    let keeps = row_sound bounds no_counts nothing_above row (record { ops = zero-le; tests = zero-le; mem = zero-le }) e in
+    record {
+      ops = omega (arith, keeps.ops);
+      tests = omega (arith, keeps.tests);
+      mem = omega (arith, keeps.mem);
+      items = keeps.items;
+      operands = keeps.operands;
+      leaves = keeps.leaves;
+      paths = all_imply (IsBelow nothing_above) IsPath (paths_of row) path_of_below keeps.paths;
+    }
+
+whole_complete : (bounds : Bounds) (row : Row) → IsRow bounds.limits bounds.arrays bounds.rows row → row_flaws bounds no_counts nothing_above row ≡ []
+whole_complete bounds row is = row_complete bounds no_counts nothing_above row (record {
+  ops = omega (arith, is.ops);
+  tests = omega (arith, is.tests);
+  mem = omega (arith, is.mem);
+  items = is.items;
+  operands = is.operands;
+  leaves = is.leaves;
+  paths = all_imply IsPath (IsBelow nothing_above) (paths_of row) below_of_path is.paths;
+})
+
+rows_sound : (bounds : Bounds) (rows : List Row) → flat_map (row_flaws bounds no_counts nothing_above) rows ≡ [] → AllByRecursion (IsRow bounds.limits bounds.arrays bounds.rows) rows
+rows_sound bounds [] e = tt
+rows_sound bounds (row ∷ rows) e =
+    let first : List Flaw = row_flaws bounds no_counts nothing_above row in
+    let rest : List Flaw = flat_map (row_flaws bounds no_counts nothing_above) rows in
+    (whole_sound bounds row (none_front first rest e), rows_sound bounds rows (none_back first rest e))
+
+rows_complete : (bounds : Bounds) (rows : List Row) → AllByRecursion (IsRow bounds.limits bounds.arrays bounds.rows) rows → flat_map (row_flaws bounds no_counts nothing_above) rows ≡ []
+rows_complete bounds [] h = refl
+rows_complete bounds (row ∷ rows) h =
+    none_both (row_flaws bounds no_counts nothing_above row) (flat_map (row_flaws bounds no_counts nothing_above) rows)
+    (whole_complete bounds row h.0) (rows_complete bounds rows h.1)
+
+-- ---- the header
+
+limit_sound : (most limit : ℕ) → limit_flaws most limit ≡ [] → IsBetween 1 most limit
+limit_sound most limit e = between_of 1 most limit (where_none (not (is_between 1 most limit)) HeaderLimit e)
+
+limit_complete : (most limit : ℕ) → IsBetween 1 most limit → limit_flaws most limit ≡ []
+limit_complete most limit h = none_where (not (is_between 1 most limit)) HeaderLimit (of_between 1 most limit h)
+
+limits_sound : (limits : Limits) → limits_flaws limits ≡ [] → AreLimits limits
+limits_sound limits e =
+    let ops : List Flaw = limit_flaws 32 limits.ops in
+    let tests : List Flaw = limit_flaws 7 limits.tests in
+    let mem : List Flaw = limit_flaws 32 limits.mem in
+    let rest = none_back ops (tests ++ mem) e in
+    record {
+      ops = limit_sound 32 limits.ops (none_front ops (tests ++ mem) e);
+      tests = limit_sound 7 limits.tests (none_front tests mem rest);
+      mem = limit_sound 32 limits.mem (none_back tests mem rest);
+    }
+
+limits_complete : (limits : Limits) → AreLimits limits → limits_flaws limits ≡ []
+limits_complete limits are =
+    none_both (limit_flaws 32 limits.ops) (limit_flaws 7 limits.tests ++ limit_flaws 32 limits.mem) (limit_complete 32 limits.ops are.ops)
+    (none_both (limit_flaws 7 limits.tests) (limit_flaws 32 limits.mem) (limit_complete 7 limits.tests are.tests) (limit_complete 32 limits.mem are.mem))
+
+sum_more : (n : ℕ) (ns : List ℕ) → sum (n ∷ ns) ≡ n + sum ns
+sum_more n ns = sum_by-cons (λ m. m) n ns
+
+lengths_sound : (before : ℕ) (lengths : List ℕ) → before ≤ 1048576 → lengths_flaws before lengths ≡ []
+    → AllByRecursion (IsBetween 1 65536) lengths × (before + sum lengths ≤ 1048576)
+lengths_sound before [] few e = (tt, omega arith)
+lengths_sound before (elements ∷ lengths) few e =
+    let here = none_front (length_flaws before elements) (lengths_flaws (before + elements) lengths) e in
+    let odd : Bool = not (is_between 1 65536 elements) in
+    let over : Bool = nat_lt 1048576 (before + elements) in
+    let room : before + elements ≤ 1048576 = most_of 1048576 (before + elements) (where_none over Elements (none_back (flaw_where odd ArrayLength) (flaw_where over Elements) here)) in
+    let rest = lengths_sound (before + elements) lengths room (none_back (length_flaws before elements) (lengths_flaws (before + elements) lengths) e) in (
+      (between_of 1 65536 elements (where_none odd ArrayLength (none_front (flaw_where odd ArrayLength) (flaw_where over Elements) here)), rest.0),
+      omega (arith, rest.1, sum_more elements lengths),
+    )
+
+lengths_complete : (before : ℕ) (lengths : List ℕ) → AllByRecursion (IsBetween 1 65536) lengths → before + sum lengths ≤ 1048576 → lengths_flaws before lengths ≡ []
+lengths_complete before [] h few = refl
+lengths_complete before (elements ∷ lengths) h few =
+    let more = sum_more elements lengths in
+    let room : before + elements ≤ 1048576 = omega (arith, more) in
+    let rest : before + elements + sum lengths ≤ 1048576 = omega (arith, more) in
+    none_both (length_flaws before elements) (lengths_flaws (before + elements) lengths)
+    (none_both (flaw_where (not (is_between 1 65536 elements)) ArrayLength) (flaw_where (nat_lt 1048576 (before + elements)) Elements)
+    (none_where (not (is_between 1 65536 elements)) ArrayLength (of_between 1 65536 elements h.0))
+    (none_where (nat_lt 1048576 (before + elements)) Elements (of_most 1048576 (before + elements) room)))
+    (lengths_complete (before + elements) lengths h.1 rest)
+
+count_sound : (count : ℕ) → row_count_flaws count ≡ [] → 1 ≤ count
+count_sound count e = let apart : nat_eq count 0 ≡ false = where_none (nat_eq count 0) RowCount e in grind (arith, nat_tests)
+
+count_complete : (count : ℕ) → 1 ≤ count → row_count_flaws count ≡ []
+count_complete count h = let apart : nat_eq count 0 ≡ false = grind (arith, nat_tests) in none_where (nat_eq count 0) RowCount apart
+
+-- ---- the code
+
+-- a code without a flaw is well formed
+pub well_formed_without_flaw : (code : RowCode) → flaws_of code ≡ [] → WellFormed code
+well_formed_without_flaw code e =
+    let rows : List Flaw = flat_map (row_flaws (bounds_of code) no_counts nothing_above) code.rows in
+    let limits : List Flaw = limits_flaws code.limits in
+    let count : List Flaw = array_count_flaws (length code.arrays) in
+    let lengths : List Flaw = lengths_flaws 0 code.arrays in
+    let row_count : List Flaw = row_count_flaws (length code.rows) in
+    let header = none_front (header_flaws code) rows e in
+    let arrays = none_back limits (count ++ (lengths ++ row_count)) header in
+    let behind = none_back count (lengths ++ row_count) arrays in
+    let each = lengths_sound 0 code.arrays zero-le (none_front lengths row_count behind) in
+    record {
+      limits = limits_sound code.limits (none_front limits (count ++ (lengths ++ row_count)) header);
+      arrays = record {
+        count = most_of 32 (length code.arrays) (where_none (nat_lt 32 (length code.arrays)) ArrayCount (none_front count (lengths ++ row_count) arrays));
+        each = each.0;
+        elements = omega (arith, each.1);
+      };
+      entry = count_sound (length code.rows) (none_back lengths row_count behind);
+      rows = rows_sound (bounds_of code) code.rows (none_back (header_flaws code) rows e);
+    }
+
+-- a well-formed code has no flaw
+pub no_flaw_well_formed : (code : RowCode) → WellFormed code → flaws_of code ≡ []
+no_flaw_well_formed code well =
+    let sum_few : 0 + sum code.arrays ≤ 1048576 = omega (arith, well.arrays.elements) in
+    none_both (header_flaws code) (flat_map (row_flaws (bounds_of code) no_counts nothing_above) code.rows)
+    (none_both (limits_flaws code.limits) (array_count_flaws (length code.arrays) ++ (lengths_flaws 0 code.arrays ++ row_count_flaws (length code.rows)))
+    (limits_complete code.limits well.limits)
+    (none_both (array_count_flaws (length code.arrays)) (lengths_flaws 0 code.arrays ++ row_count_flaws (length code.rows))
+    (none_where (nat_lt 32 (length code.arrays)) ArrayCount (of_most 32 (length code.arrays) well.arrays.count))
+    (none_both (lengths_flaws 0 code.arrays) (row_count_flaws (length code.rows))
+    (lengths_complete 0 code.arrays well.arrays.each sum_few)
+    (count_complete (length code.rows) well.entry))))
+    (rows_complete (bounds_of code) code.rows well.rows)
+
+-- the law: no flaw stands in a code exactly where it is well formed
+pub no_flaw : (code : RowCode) → (flaws_of code ≡ []) ↔ WellFormed code
+no_flaw code = (well_formed_without_flaw code, no_flaw_well_formed code)
+
+-- the first flaw is none exactly where the code is well formed
+pub first_flaw : (code : RowCode) (told : Option Flaw) → told ≡ slice_get (flaws_of code) 0 → (told ≡ None) ↔ WellFormed code
+first_flaw code told e = (
+  λ none. well_formed_without_flaw code (no_first (flaws_of code) (sym e ∙ none)),
+  λ well. e ∙ ap (λ (flaws : List Flaw). slice_get flaws 0) (no_flaw_well_formed code well),
+)
+  where
+    no_first : (flaws : List Flaw) → slice_get flaws 0 ≡ None → flaws ≡ []
+    no_first [] none = refl
+    no_first (flaw ∷ flaws) none = (cc)

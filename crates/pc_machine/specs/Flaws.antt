@@ -1,0 +1,182 @@
+-- The flaws of a code, in the order in which its text has the fields at which they stand: the header, and then each
+-- row in preorder, the yes side before the no side.
+use Rattle.std.specs.Prelude.{ℕ, suc, ◌+◌, Bool, true, false, not, ◌&&◌, ◌||◌, nat_eq, nat_lt, nat_le, List, [], ◌∷◌, ◌++◌, length, Result, Ok, Err}
+use Rattle.std.specs.List.{flat_map}
+use Rattle.pc_word.specs.declared.item.Item.{Item}
+use Rattle.pc_word.specs.declared.item.Item.TheVariants.{Bin, Copy, Load, Store, Print, Read, More}
+use Rattle.pc_word.specs.declared.item.Operand.{Operand}
+use Rattle.pc_word.specs.declared.item.Operand.TheVariants.{Name, Lit}
+use Rattle.pc_word.specs.declared.item.Limits.{Limits}
+use Rattle.pc_machine.specs.declared.code.Flaw.{Flaw}
+use Rattle.pc_machine.specs.declared.code.Flaw.TheVariants.{HeaderLimit, ArrayCount, ArrayLength, Elements, RowCount, Register, Array, Target, DestTwice, EffectTwice, TooManyOps, TooManyTests, TooManyMem}
+use Rattle.pc_machine.specs.declared.check.Bounds.{Bounds}
+use Rattle.pc_machine.specs.declared.check.Counts.{Counts}
+use Rattle.pc_machine.specs.Row.{Leaf, Leads_to, Ends, Traps, Row, Then, Either, At_leaf, RowCode}
+use Rattle.pc_machine.specs.RowStep.{dest_of, writes}
+use Rattle.pc_machine.specs.WellFormed.{is_memory, is_effect}
+
+-- a flaw, where a test says so
+abbrev pub flaw_where : Bool → Flaw → List Flaw
+flaw_where true flaw = flaw ∷ []
+flaw_where false flaw = []
+
+-- whether a number is from one to another
+abbrev pub is_between : ℕ → ℕ → ℕ → Bool
+is_between low high n = nat_le low n && nat_le n high
+
+-- ---- the header
+
+-- at a limit, which is at least 1 and at most this
+abbrev pub limit_flaws : ℕ → ℕ → List Flaw
+limit_flaws most limit = flaw_where (not (is_between 1 most limit)) HeaderLimit
+
+-- at the three limits
+abbrev pub limits_flaws : Limits → List Flaw
+limits_flaws limits = limit_flaws 32 limits.ops ++ (limit_flaws 7 limits.tests ++ limit_flaws 32 limits.mem)
+
+-- at the number of arrays
+abbrev pub array_count_flaws : ℕ → List Flaw
+array_count_flaws count = flaw_where (nat_lt 32 count) ArrayCount
+
+-- at the length of an array, where the arrays before it have so many elements
+abbrev pub length_flaws : ℕ → ℕ → List Flaw
+length_flaws before elements =
+    flaw_where (not (is_between 1 65536 elements)) ArrayLength ++ flaw_where (nat_lt 1048576 (before + elements)) Elements
+
+-- at each length
+abbrev pub lengths_flaws : ℕ → List ℕ → List Flaw
+lengths_flaws before [] = []
+lengths_flaws before (elements ∷ lengths) = length_flaws before elements ++ lengths_flaws (before + elements) lengths
+
+-- at the number of rows
+abbrev pub row_count_flaws : ℕ → List Flaw
+row_count_flaws count = flaw_where (nat_eq count 0) RowCount
+
+-- ---- what stands before a field in its row
+
+-- on the path from the root: whether a register is written, and whether there is a print, read or more
+pub record Above : Type 0 where
+  pub written : ℕ → Bool
+  pub effect : Bool
+
+-- at the root
+abbrev pub nothing_above : Above
+nothing_above = record { written = λ register. false; effect = false }
+
+-- below an item
+abbrev pub above_with : Item → Above → Above
+above_with item above =
+    record { written = λ register. writes (dest_of item) register || above.written register; effect = is_effect item || above.effect }
+
+-- before the first part of a tree
+abbrev pub no_counts : Counts
+no_counts = record { ops = 0; tests = 0; mem = 0 }
+
+-- one more, where a test says so
+abbrev pub one_where : Bool → ℕ → ℕ
+one_where true n = suc n
+one_where false n = n
+
+-- behind an item, which may be a load or store: what stands before is counted over the whole tree, on whatever path
+abbrev pub counts_with_item : Bool → Counts → Counts
+counts_with_item memory counts = record { ops = suc counts.ops; tests = counts.tests; mem = one_where memory counts.mem }
+
+-- behind a test
+abbrev pub counts_with_test : Counts → Counts
+counts_with_test counts = record { ops = counts.ops; tests = suc counts.tests; mem = counts.mem }
+
+-- behind all of a tree, or of the part of one
+abbrev pub counts_after : Row → Counts → Counts
+counts_after (Then item rest) counts = counts_after rest (counts_with_item (is_memory item) counts)
+counts_after (Either on on_yes on_no) counts = counts_after on_no (counts_after on_yes (counts_with_test counts))
+counts_after (At_leaf leaf) counts = counts
+
+-- ---- a row
+
+-- at the tag of an item that is or is not a load or store, and a print, read or more
+abbrev pub item_tag_flaws : Limits → Counts → Above → Bool → Bool → List Flaw
+item_tag_flaws limits counts above memory effect =
+    flaw_where (nat_le limits.ops counts.ops) TooManyOps
+    ++ (flaw_where (memory && nat_le limits.mem counts.mem) TooManyMem ++ flaw_where (effect && above.effect) EffectTwice)
+
+-- at the tag of a test
+abbrev pub test_tag_flaws : Limits → Counts → List Flaw
+test_tag_flaws limits counts = flaw_where (nat_le limits.tests counts.tests) TooManyTests
+
+-- at a register, of which there are 128
+abbrev pub register_flaws : ℕ → List Flaw
+register_flaws register = flaw_where (nat_le 128 register) Register
+
+-- at the register that an item writes
+abbrev pub dest_flaws : Above → ℕ → List Flaw
+dest_flaws above dest = register_flaws dest ++ flaw_where (above.written dest) DestTwice
+
+-- at an operand
+abbrev pub operand_flaws : Operand → List Flaw
+operand_flaws (Name register) = register_flaws register
+operand_flaws (Lit value) = []
+
+-- at an array, of so many
+abbrev pub array_flaws : ℕ → ℕ → List Flaw
+array_flaws arrays array = flaw_where (nat_le arrays array) Array
+
+-- at the row that a goto leads to, of so many
+abbrev pub target_flaws : ℕ → ℕ → List Flaw
+target_flaws rows row = flaw_where (nat_le rows row) Target
+
+-- behind the tag of an item, field by field
+abbrev pub field_flaws : ℕ → Above → Item → List Flaw
+field_flaws arrays above (Bin op dest left right) = dest_flaws above dest ++ (operand_flaws left ++ operand_flaws right)
+field_flaws arrays above (Copy dest from) = dest_flaws above dest ++ operand_flaws from
+field_flaws arrays above (Load dest array index) = dest_flaws above dest ++ (array_flaws arrays array ++ operand_flaws index)
+field_flaws arrays above (Store array index value) = array_flaws arrays array ++ (operand_flaws index ++ operand_flaws value)
+field_flaws arrays above (Print value) = operand_flaws value
+field_flaws arrays above (Read dest) = dest_flaws above dest
+field_flaws arrays above (More dest) = dest_flaws above dest
+
+-- of an item
+abbrev pub item_flaws : Bounds → Counts → Above → Item → List Flaw
+item_flaws bounds counts above item =
+    item_tag_flaws bounds.limits counts above (is_memory item) (is_effect item) ++ field_flaws bounds.arrays above item
+
+-- of a test
+abbrev pub test_flaws : Bounds → Counts → Operand → List Flaw
+test_flaws bounds counts on = test_tag_flaws bounds.limits counts ++ operand_flaws on
+
+-- of a leaf
+abbrev pub leaf_flaws : Bounds → Leaf → List Flaw
+leaf_flaws bounds (Leads_to row) = target_flaws bounds.rows row
+leaf_flaws bounds Ends = []
+leaf_flaws bounds (Traps kind line) = []
+
+-- of a tree, or of the part of one that stands behind these counts and under this path
+abbrev pub row_flaws : Bounds → Counts → Above → Row → List Flaw
+row_flaws bounds counts above (Then item rest) =
+    item_flaws bounds counts above item ++ row_flaws bounds (counts_with_item (is_memory item) counts) (above_with item above) rest
+row_flaws bounds counts above (Either on on_yes on_no) =
+    test_flaws bounds counts on
+    ++ (row_flaws bounds (counts_with_test counts) above on_yes
+    ++ row_flaws bounds (counts_after on_yes (counts_with_test counts)) above on_no)
+row_flaws bounds counts above (At_leaf leaf) = leaf_flaws bounds leaf
+
+-- ---- the code
+
+-- what each row of a code is held against
+abbrev pub bounds_of : RowCode → Bounds
+bounds_of code = record { limits = code.limits; arrays = length code.arrays; rows = length code.rows }
+
+-- of the header: the limits, the number of arrays, their lengths, the number of rows
+abbrev pub header_flaws : RowCode → List Flaw
+header_flaws code =
+    limits_flaws code.limits ++ (array_count_flaws (length code.arrays) ++ (lengths_flaws 0 code.arrays ++ row_count_flaws (length code.rows)))
+
+-- all flaws, in the order of the text
+abbrev pub flaws_of : RowCode → List Flaw
+flaws_of code = header_flaws code ++ flat_map (row_flaws (bounds_of code) no_counts nothing_above) code.rows
+
+-- ---- answers
+
+-- a value that was checked, or the first flaw
+abbrev pub checked : {X : Type 0} → List Flaw → X → Result X Flaw
+checked [] x = Ok x
+checked (flaw ∷ flaws) x = Err flaw

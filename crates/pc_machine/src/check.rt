@@ -1,0 +1,388 @@
+ghost use Rattle.std.specs.Prelude.{◌≡◌, ◌+◌, ◌≤◌, slice_get, ◌↔◌};
+ghost use Rattle.std.specs.List.{flat_map};
+ghost use Rattle.pc_machine.specs.Row.{row_of, code_of, rows_of};
+ghost use Rattle.pc_machine.specs.RowStep.{dest_of};
+ghost use Rattle.pc_machine.specs.WellFormed.{is_memory, is_effect, WellFormed};
+ghost use Rattle.pc_machine.specs.Flaws.{limit_flaws, array_count_flaws, length_flaws, lengths_flaws, row_count_flaws, header_flaws, nothing_above, above_with, no_counts, counts_with_item, counts_with_test, counts_after, item_tag_flaws, test_tag_flaws, register_flaws, dest_flaws, operand_flaws, array_flaws, target_flaws, field_flaws, item_flaws, test_flaws, row_flaws, flaws_of, checked};
+ghost use Rattle.pc_machine.specs.Checks.{above_of, IsDest};
+
+use crate::code::{Code, Flaw};
+use crate::tree::Tree;
+use pc_word::{Item, Limits, Operand};
+
+/// The number of registers of the machine.
+const REGISTERS: usize = 128;
+
+/// What each row of a code is held against: its limits, its number of arrays and its number of rows.
+#[derive(Clone, Copy, Debug, PartialEq, Eq)]
+pub struct Bounds {
+    pub limits: Limits,
+    pub arrays: usize,
+    pub rows: usize,
+}
+
+/// How many items, tests, and loads and stores of a tree stand before a field, on whatever path.
+#[derive(Clone, Copy, Debug, PartialEq, Eq)]
+pub struct Counts {
+    pub ops: u8,
+    pub tests: u8,
+    pub mem: u8,
+}
+
+/// What stands above a field on its path: which registers are written, and whether there is a
+/// print, read or more.
+#[derive(Clone, Copy, Debug)]
+pub struct Path {
+    written: [bool; REGISTERS],
+    effect: bool,
+}
+
+impl Counts {
+    /// The counts at the root of a tree.
+    pub fn none() -> Counts
+        ensures { result ≡ no_counts }
+    {
+        Counts {
+            ops: 0,
+            tests: 0,
+            mem: 0,
+        }
+    }
+}
+
+impl Path {
+    /// The path at the root of a tree.
+    pub fn root() -> Path
+        ensures { above_of result ≡ nothing_above }
+    {
+        Path {
+            written: [false; REGISTERS],
+            effect: false,
+        }
+    }
+
+    /// The path below an item.
+    pub fn below(&self, item: &Item) -> Path
+        requires { IsDest (dest_of item.now) }
+        ensures { above_of result ≡ above_with item.now (above_of self.now) }
+    {
+        let mut written = self.written;
+        if let Some(register) = written_by(item) {
+            written[register as usize] = true;
+        }
+        Path {
+            written,
+            effect: is_effect(item) || self.effect,
+        }
+    }
+
+    /// Checks the register that an item under this path writes: `Register` where the machine has
+    /// no such register, and else `DestTwice` where the path writes it already.
+    pub fn dest(&self, register: u32) -> Result<(), Flaw>
+        ensures { result ≡ checked (dest_flaws (above_of self.now) register) tt }
+    {
+        is_register(register)?;
+        if self.written[register as usize] {
+            return Err(Flaw::DestTwice);
+        }
+        Ok(())
+    }
+}
+
+impl Bounds {
+    /// Checks the tag of an item, which is or is not a load or store, and a print, read or more:
+    /// `TooManyOps` or `TooManyMem` where the tree has as many already, and then `EffectTwice`
+    /// where the path has a print, read or more. Gives the counts behind the item.
+    pub fn item_tag(
+        &self,
+        counts: Counts,
+        path: &Path,
+        memory: bool,
+        effect: bool,
+    ) -> Result<Counts, Flaw>
+        ensures { result ≡ checked (item_tag_flaws self.now.limits counts (above_of path.now) memory effect) (counts_with_item memory counts) }
+    {
+        if self.limits.ops <= counts.ops {
+            return Err(Flaw::TooManyOps);
+        }
+        if memory && self.limits.mem <= counts.mem {
+            return Err(Flaw::TooManyMem);
+        }
+        if effect && path.effect {
+            return Err(Flaw::EffectTwice);
+        }
+        Ok(Counts {
+            ops: counts.ops + 1,
+            tests: counts.tests,
+            mem: if memory { counts.mem + 1 } else { counts.mem },
+        })
+    }
+
+    /// Checks the tag of a test: `TooManyTests` where the tree has as many already. Gives the
+    /// counts behind the test.
+    pub fn test_tag(&self, counts: Counts) -> Result<Counts, Flaw>
+        ensures { result ≡ checked (test_tag_flaws self.now.limits counts) (counts_with_test counts) }
+    {
+        if self.limits.tests <= counts.tests {
+            return Err(Flaw::TooManyTests);
+        }
+        Ok(Counts {
+            ops: counts.ops,
+            tests: counts.tests + 1,
+            mem: counts.mem,
+        })
+    }
+
+    /// Checks that an array is there; else `Array`.
+    pub fn array(&self, array: u8) -> Result<(), Flaw>
+        ensures { result ≡ checked (array_flaws self.now.arrays array) tt }
+    {
+        if self.arrays <= array as usize {
+            return Err(Flaw::Array);
+        }
+        Ok(())
+    }
+
+    /// Checks that the row that a goto leads to is there; else `Target`.
+    pub fn target(&self, row: u32) -> Result<(), Flaw>
+        ensures { result ≡ checked (target_flaws self.now.rows row) tt }
+    {
+        if self.rows <= row as usize {
+            return Err(Flaw::Target);
+        }
+        Ok(())
+    }
+
+    /// Checks the fields behind the tag of an item.
+    fn fields(&self, path: &Path, item: &Item) -> Result<(), Flaw>
+        ensures { result ≡ checked (field_flaws self.now.arrays (above_of path.now) item.now) tt }
+    {
+        match item {
+            Item::Bin {
+                dest,
+                left,
+                right,
+                ..
+            } => {
+                path.dest(*dest)?;
+                operand(left)?;
+                operand(right)
+            }
+            Item::Copy { dest, from } => {
+                path.dest(*dest)?;
+                operand(from)
+            }
+            Item::Load { dest, array, index } => {
+                path.dest(*dest)?;
+                self.array(*array)?;
+                operand(index)
+            }
+            Item::Store {
+                array,
+                index,
+                value,
+            } => {
+                self.array(*array)?;
+                operand(index)?;
+                operand(value)
+            }
+            Item::Print { value } => operand(value),
+            Item::Read { dest } => path.dest(*dest),
+            Item::More { dest } => path.dest(*dest),
+        }
+    }
+
+    /// Checks an item, and gives the counts behind it.
+    fn item(&self, counts: Counts, path: &Path, item: &Item) -> Result<Counts, Flaw>
+        ensures { result ≡ checked (item_flaws self.now counts (above_of path.now) item.now) (counts_with_item (is_memory item.now) counts) }
+    {
+        let counts = self.item_tag(counts, path, is_memory(item), is_effect(item))?;
+        self.fields(path, item)?;
+        Ok(counts)
+    }
+
+    /// Checks a test, and gives the counts behind it.
+    fn test(&self, counts: Counts, on: &Operand) -> Result<Counts, Flaw>
+        ensures { result ≡ checked (test_flaws self.now counts on.now) (counts_with_test counts) }
+    {
+        let counts = self.test_tag(counts)?;
+        operand(on)?;
+        Ok(counts)
+    }
+
+    /// Checks a tree, or the part of one that stands behind these counts and under this path, and
+    /// gives the counts behind it.
+    ///
+    /// It goes no deeper than the limits let a tree be, since it stops at the first tag too many.
+    fn row(&self, counts: Counts, path: &Path, tree: &Tree) -> Result<Counts, Flaw>
+        ensures { result ≡ checked (row_flaws self.now counts (above_of path.now) (row_of tree.now)) (counts_after (row_of tree.now) counts) }
+    {
+        match tree {
+            Tree::Step { item, next } => {
+                let counts = self.item(counts, path, item)?;
+                self.row(counts, &path.below(item), next)
+            }
+            Tree::Test { on, yes, no } => {
+                let counts = self.test(counts, on)?;
+                let counts = self.row(counts, path, yes)?;
+                self.row(counts, path, no)
+            }
+            Tree::Goto { row } => {
+                self.target(*row)?;
+                Ok(counts)
+            }
+            Tree::Stop | Tree::Trap { .. } => Ok(counts),
+        }
+    }
+
+    /// Checks rows one after the other.
+    fn rows(&self, trees: &[Tree]) -> Result<(), Flaw>
+        ensures { result ≡ checked (flat_map (row_flaws self.now no_counts nothing_above) (rows_of trees.now)) tt }
+    {
+        let path = Path::root();
+        for tree in trees {
+            self.row(Counts::none(), &path, tree)?;
+        }
+        Ok(())
+    }
+}
+
+/// Whether an item is a load or store.
+fn is_memory(item: &Item) -> bool
+    ensures { result ≡ is_memory item.now }
+{
+    matches!(item, Item::Load { .. } | Item::Store { .. })
+}
+
+/// Whether an item is a print, read or more.
+fn is_effect(item: &Item) -> bool
+    ensures { result ≡ is_effect item.now }
+{
+    matches!(
+        item,
+        Item::Print { .. } | Item::Read { .. } | Item::More { .. }
+    )
+}
+
+/// The register that an item writes.
+fn written_by(item: &Item) -> Option<u32>
+    ensures { result ≡ dest_of item.now }
+{
+    match item {
+        Item::Bin { dest, .. }
+        | Item::Copy { dest, .. }
+        | Item::Load { dest, .. }
+        | Item::Read { dest }
+        | Item::More { dest } => Some(*dest),
+        Item::Store { .. } | Item::Print { .. } => None,
+    }
+}
+
+/// Checks that the machine has a register; else `Register`.
+pub fn is_register(register: u32) -> Result<(), Flaw>
+    ensures { result ≡ checked (register_flaws register) tt }
+{
+    if REGISTERS <= register as usize {
+        return Err(Flaw::Register);
+    }
+    Ok(())
+}
+
+/// Checks an operand: `Register` where it is a register that the machine does not have.
+pub fn operand(operand: &Operand) -> Result<(), Flaw>
+    ensures { result ≡ checked (operand_flaws operand.now) tt }
+{
+    match operand {
+        Operand::Name(register) => is_register(*register),
+        Operand::Lit(_) => Ok(()),
+    }
+}
+
+/// Checks a limit, which is from 1 to `most`; else `HeaderLimit`.
+pub fn limit(most: u8, limit: u8) -> Result<(), Flaw>
+    ensures { result ≡ checked (limit_flaws most limit) tt }
+{
+    if limit < 1 || most < limit {
+        return Err(Flaw::HeaderLimit);
+    }
+    Ok(())
+}
+
+/// Checks the number of arrays, which is at most 32; else `ArrayCount`.
+pub fn array_count(count: usize) -> Result<(), Flaw>
+    ensures { result ≡ checked (array_count_flaws count) tt }
+{
+    if 32 < count {
+        return Err(Flaw::ArrayCount);
+    }
+    Ok(())
+}
+
+/// Checks the length of an array behind arrays of so many elements: `ArrayLength` where it is not
+/// from 1 to 65,536, and then `Elements` where there are more than 1,048,576 elements with it.
+/// Gives the elements with it.
+pub fn array_length(before: u32, length: u32) -> Result<u32, Flaw>
+    requires { before ≤ 1048576 }
+    ensures { result ≡ checked (length_flaws before length) (before + length) }
+{
+    if length < 1 || 65_536 < length {
+        return Err(Flaw::ArrayLength);
+    }
+    if 1_048_576 < before + length {
+        return Err(Flaw::Elements);
+    }
+    Ok(before + length)
+}
+
+/// Checks the number of rows, of which there is one; else `RowCount`.
+pub fn row_count(count: usize) -> Result<(), Flaw>
+    ensures { result ≡ checked (row_count_flaws count) tt }
+{
+    if count == 0 {
+        return Err(Flaw::RowCount);
+    }
+    Ok(())
+}
+
+fn array_lengths(lengths: &[u32]) -> Result<(), Flaw>
+    ensures { result ≡ checked (lengths_flaws 0 lengths.now) tt }
+{
+    let mut elements = 0;
+    for length in lengths {
+        elements = array_length(elements, *length)?;
+    }
+    Ok(())
+}
+
+fn header(code: &Code) -> Result<(), Flaw>
+    ensures { result ≡ checked (header_flaws (code_of code.now)) tt }
+{
+    limit(32, code.limits.ops)?;
+    limit(7, code.limits.tests)?;
+    limit(32, code.limits.mem)?;
+    array_count(code.arrays.len())?;
+    array_lengths(code.arrays.as_slice())?;
+    row_count(code.rows.len())
+}
+
+fn check_code(code: &Code) -> Result<(), Flaw>
+    ensures { result ≡ checked (flaws_of (code_of code.now)) tt }
+{
+    header(code)?;
+    let bounds = Bounds {
+        limits: code.limits,
+        arrays: code.arrays.len(),
+        rows: code.rows.len(),
+    };
+    bounds.rows(code.rows.as_slice())
+}
+
+/// The flaw of a code that stands first in its text; `None` where the code is well formed.
+///
+/// It takes no memory, and time in proportion to the part of the code before that flaw.
+pub fn well_formed(code: &Code) -> Option<Flaw>
+    ensures first { result ≡ slice_get (flaws_of (code_of code.now)) 0 }
+    ensures none { (result ≡ None) ↔ WellFormed (code_of code.now) }
+{
+    check_code(code).err()
+}

@@ -1,0 +1,406 @@
+-- The reading of an object's text: field by field from the left, up to the first that is wrong.
+-- A reader takes the bytes that are left, and gives a value and the bytes behind its fields.
+use Rattle.std.specs.Prelude.{ℕ, zero, suc, ◌+◌, ◌-◌, ℤ, Bool, true, false, if◌then◌else◌, ◌==◌, nat_lt, List, [], ◌∷◌, length, take, drop, find, Option, Some, None, Result, Ok, Err}
+use Rattle.std.specs.Int.{Width, w16, w32, byte_len, from_be_bytes, cast_signed}
+use Rattle.pc_word.specs.declared.item.OpCode.{OpCode}
+use Rattle.pc_word.specs.declared.item.OpCode.TheVariants.{Add, Sub, Mul, Div, Rem, Shl, Shr, And, Or, Xor, Less, LessEq, Equal, Unequal, Below}
+use Rattle.pc_word.specs.declared.item.Item.{Item}
+use Rattle.pc_word.specs.declared.item.Item.TheVariants as items
+use Rattle.pc_word.specs.declared.item.Operand.{Operand}
+use Rattle.pc_word.specs.declared.item.Operand.TheVariants.{Name, Lit}
+use Rattle.pc_word.specs.declared.item.TrapKind.{TrapKind}
+use Rattle.pc_word.specs.declared.item.TrapKind.TheVariants.{DivideByZero, OutOfBounds, EndOfInput}
+use Rattle.pc_word.specs.declared.item.Limits.{Limits}
+use Rattle.pc_machine.specs.declared.code.Flaw.{Flaw}
+use Rattle.pc_machine.specs.declared.code.Flaw.TheVariants as flaws
+use Rattle.pc_machine.specs.declared.check.Bounds.{Bounds}
+use Rattle.pc_machine.specs.declared.check.Counts.{Counts}
+use Rattle.pc_machine.specs.Row.{Leads_to, Ends, Traps, Row, Then, Either, At_leaf}
+use Rattle.pc_machine.specs.Flaws.{flaw_where, limit_flaws, array_count_flaws, length_flaws, row_count_flaws, Above, nothing_above, above_with, no_counts, counts_with_item, counts_with_test, item_tag_flaws, test_tag_flaws, register_flaws, dest_flaws, array_flaws, target_flaws, checked}
+use Rattle.pc_object.specs.declared.object.Note.{Note}
+use Rattle.pc_object.specs.declared.refusal.ObjectError.{ObjectError}
+use Rattle.pc_object.specs.declared.refusal.ObjectError.TheVariants.{BadMagic, Truncated, BadField, Trailing}
+use Rattle.pc_object.specs.declared.refusal.Refusal.{Refusal}
+use Rattle.pc_object.specs.declared.refusal.Refusal.TheVariants.{NotMagic, Short, Flawed, Longer}
+use Rattle.pc_object.specs.declared.tag.ItemKind.{ItemKind}
+use Rattle.pc_object.specs.declared.tag.ItemKind.TheVariants as kinds
+use Rattle.pc_object.specs.declared.tag.Tag.{Tag}
+use Rattle.pc_object.specs.declared.tag.Tag.TheVariants as tags
+use Rattle.pc_object.specs.ObjectText.{CodeWithNotes, operator_byte, trap_byte}
+
+-- one reading after another: the first refusal wins
+infixl 10 ◌>>=◌
+abbrev pub ◌>>=◌ : {A B : Type 0} → Result A Refusal → (A → Result B Refusal) → Result B Refusal
+(Ok x) >>= f = f x
+(Err refusal) >>= f = Err refusal
+
+-- the same, where the first gives nothing
+infixl 10 ◌>>◌
+abbrev pub ◌>>◌ : {A B : Type 0} → Result A Refusal → Result B Refusal → Result B Refusal
+first >> second = first >>= λ _. second
+
+-- what a check gives of the field that begins where these bytes do
+abbrev pub at_field : {A : Type 0} → List ℕ → Result A Flaw → Result A Refusal
+at_field bytes (Ok x) = Ok x
+at_field bytes (Err flaw) = Err (Flawed (length bytes) flaw)
+
+-- that field is fine, or has a first flaw
+abbrev pub passes : List ℕ → List Flaw → Result (Unit {0}) Refusal
+passes bytes flaws = at_field bytes (checked {X = Unit {0}} flaws tt)
+
+-- what a number stands for in that field, if the table has it
+abbrev pub known : {A : Type 0} → List ℕ → Flaw → Option A → Result A Refusal
+known bytes flaw (Some x) = Ok x
+known bytes flaw None = Err (Flawed (length bytes) flaw)
+
+-- ---- numbers
+
+abbrev pub byte_at : List ℕ → Result (ℕ × List ℕ) Refusal
+byte_at [] = Err Short
+byte_at (byte ∷ rest) = Ok (byte, rest)
+
+-- a big-endian number of a width
+abbrev pub number_at : Width → List ℕ → Result (ℕ × List ℕ) Refusal
+number_at w bytes =
+    if nat_lt (length bytes) (byte_len w) then Err Short
+    else Ok (from_be_bytes w (take (byte_len w) bytes), drop (byte_len w) bytes)
+
+-- a word in two's complement
+unfoldable pub word_at : List ℕ → Result (ℤ × List ℕ) Refusal
+word_at bytes = do
+  number ← number_at w32 bytes
+  Ok (cast_signed w32 number.0, number.1)
+
+-- ---- the header
+
+-- the first bytes; one that differs is not they, also where the others are missing
+abbrev pub magic_at : List ℕ → List ℕ → Result (List ℕ) Refusal
+magic_at [] bytes = Ok bytes
+magic_at (first ∷ magic) [] = Err Short
+magic_at (first ∷ magic) (byte ∷ bytes) = if byte == first then magic_at magic bytes else Err NotMagic
+
+-- a limit, from 1 to the most
+unfoldable pub limit_at : ℕ → List ℕ → Result (ℕ × List ℕ) Refusal
+limit_at most bytes = do
+  limit ← byte_at bytes
+  passes bytes (limit_flaws most limit.0)
+  Ok limit
+
+unfoldable pub limits_at : List ℕ → Result (Limits × List ℕ) Refusal
+limits_at bytes = do
+  ops ← limit_at 32 bytes
+  tests ← limit_at 7 ops.1
+  mem ← limit_at 32 tests.1
+  Ok (record { ops = ops.0; tests = tests.0; mem = mem.0 }, mem.1)
+
+-- the lengths of so many arrays, behind arrays of so many elements
+unfoldable pub lengths_at : ℕ → ℕ → List ℕ → Result (List ℕ × List ℕ) Refusal
+lengths_at zero before bytes = Ok ([], bytes)
+lengths_at (suc count) before bytes = do
+  elements ← number_at w32 bytes
+  total ← at_field bytes (checked (length_flaws before elements.0) (before + elements.0))
+  others ← lengths_at count total elements.1
+  Ok (elements.0 ∷ others.0, others.1)
+
+-- the number of arrays
+unfoldable pub array_count_at : List ℕ → Result (ℕ × List ℕ) Refusal
+array_count_at bytes = do
+  count ← byte_at bytes
+  passes bytes (array_count_flaws count.0)
+  Ok count
+
+-- the number of rows
+unfoldable pub row_count_at : List ℕ → Result (ℕ × List ℕ) Refusal
+row_count_at bytes = do
+  count ← number_at w32 bytes
+  passes bytes (row_count_flaws count.0)
+  Ok count
+
+-- ---- the fields of a row
+
+-- the operator that a byte stands for
+abbrev pub operators : List OpCode
+operators = Add ∷ Sub ∷ Mul ∷ Div ∷ Rem ∷ Shl ∷ Shr ∷ And ∷ Or ∷ Xor ∷ Less ∷ LessEq ∷ Equal ∷ Unequal ∷ Below ∷ []
+
+unfoldable pub operator_of : ℕ → Option OpCode
+operator_of byte = find (λ op. operator_byte op == byte) operators
+
+-- the kind of trap that a byte stands for
+abbrev pub trap_kinds : List TrapKind
+trap_kinds = DivideByZero ∷ OutOfBounds ∷ EndOfInput ∷ []
+
+unfoldable pub trap_of : ℕ → Option TrapKind
+trap_of byte = find (λ kind. trap_byte kind == byte) trap_kinds
+
+unfoldable pub operator_at : List ℕ → Result (OpCode × List ℕ) Refusal
+operator_at bytes = do
+  byte ← byte_at bytes
+  op ← known bytes flaws.Operator (operator_of byte.0)
+  Ok (op, byte.1)
+
+unfoldable pub trap_at : List ℕ → Result (TrapKind × List ℕ) Refusal
+trap_at bytes = do
+  byte ← byte_at bytes
+  kind ← known bytes flaws.Trap (trap_of byte.0)
+  Ok (kind, byte.1)
+
+-- a register that is read
+unfoldable pub register_at : List ℕ → Result (ℕ × List ℕ) Refusal
+register_at bytes = do
+  register ← byte_at bytes
+  passes bytes (register_flaws register.0)
+  Ok register
+
+-- a register that is written
+unfoldable pub dest_at : Above → List ℕ → Result (ℕ × List ℕ) Refusal
+dest_at above bytes = do
+  register ← byte_at bytes
+  passes bytes (dest_flaws above register.0)
+  Ok register
+
+-- an array, of so many
+unfoldable pub array_at : ℕ → List ℕ → Result (ℕ × List ℕ) Refusal
+array_at arrays bytes = do
+  array ← byte_at bytes
+  passes bytes (array_flaws arrays array.0)
+  Ok array
+
+-- a register behind 00, or a literal behind 01
+unfoldable pub operand_at : List ℕ → Result (Operand × List ℕ) Refusal
+operand_at [] = Err Short
+operand_at (zero ∷ rest) = do
+  register ← register_at rest
+  Ok (Name register.0, register.1)
+operand_at (suc zero ∷ rest) = do
+  word ← word_at rest
+  Ok (Lit word.0, word.1)
+operand_at (suc (suc tag) ∷ rest) = Err (Flawed (suc (length rest)) flaws.OperandTag)
+
+-- ---- rows
+
+abbrev pub tag_byte : Tag → ℕ
+tag_byte tags.Goto = 0x01
+tag_byte tags.Stop = 0x02
+tag_byte tags.Trap = 0x03
+tag_byte tags.Test = 0x10
+tag_byte (tags.Item kinds.Bin) = 0x20
+tag_byte (tags.Item kinds.Copy) = 0x21
+tag_byte (tags.Item kinds.Load) = 0x22
+tag_byte (tags.Item kinds.Store) = 0x23
+tag_byte (tags.Item kinds.Print) = 0x24
+tag_byte (tags.Item kinds.Read) = 0x25
+tag_byte (tags.Item kinds.More) = 0x26
+
+abbrev pub all_tags : List Tag
+all_tags =
+    tags.Goto ∷ tags.Stop ∷ tags.Trap ∷ tags.Test ∷ tags.Item kinds.Bin ∷ tags.Item kinds.Copy ∷ tags.Item kinds.Load
+    ∷ tags.Item kinds.Store ∷ tags.Item kinds.Print ∷ tags.Item kinds.Read ∷ tags.Item kinds.More ∷ []
+
+-- the tag that a byte stands for
+unfoldable pub tag_of : ℕ → Option Tag
+tag_of byte = find (λ tag. tag_byte tag == byte) all_tags
+
+unfoldable pub tag_at : List ℕ → Result (Tag × List ℕ) Refusal
+tag_at bytes = do
+  byte ← byte_at bytes
+  tag ← known bytes flaws.Tag (tag_of byte.0)
+  Ok (tag, byte.1)
+
+-- loads and stores
+abbrev pub is_memory_kind : ItemKind → Bool
+is_memory_kind kinds.Load = true
+is_memory_kind kinds.Store = true
+is_memory_kind _ = false
+
+-- prints, reads and mores
+abbrev pub is_effect_kind : ItemKind → Bool
+is_effect_kind kinds.Print = true
+is_effect_kind kinds.Read = true
+is_effect_kind kinds.More = true
+is_effect_kind _ = false
+
+-- the fields of an item behind its tag
+unfoldable pub fields_at : ℕ → Above → ItemKind → List ℕ → Result (Item × List ℕ) Refusal
+fields_at arrays above kinds.Bin bytes = do
+  op ← operator_at bytes
+  dest ← dest_at above op.1
+  left ← operand_at dest.1
+  right ← operand_at left.1
+  Ok (items.Bin op.0 dest.0 left.0 right.0, right.1)
+fields_at arrays above kinds.Copy bytes = do
+  dest ← dest_at above bytes
+  from ← operand_at dest.1
+  Ok (items.Copy dest.0 from.0, from.1)
+fields_at arrays above kinds.Load bytes = do
+  dest ← dest_at above bytes
+  array ← array_at arrays dest.1
+  index ← operand_at array.1
+  Ok (items.Load dest.0 array.0 index.0, index.1)
+fields_at arrays above kinds.Store bytes = do
+  array ← array_at arrays bytes
+  index ← operand_at array.1
+  value ← operand_at index.1
+  Ok (items.Store array.0 index.0 value.0, value.1)
+fields_at arrays above kinds.Print bytes = do
+  value ← operand_at bytes
+  Ok (items.Print value.0, value.1)
+fields_at arrays above kinds.Read bytes = do
+  dest ← dest_at above bytes
+  Ok (items.Read dest.0, dest.1)
+fields_at arrays above kinds.More bytes = do
+  dest ← dest_at above bytes
+  Ok (items.More dest.0, dest.1)
+
+-- the row that a goto leads to, of so many
+unfoldable pub goto_at : ℕ → List ℕ → Result (Row × List ℕ) Refusal
+goto_at rows bytes = do
+  row ← number_at w32 bytes
+  passes bytes (target_flaws rows row.0)
+  Ok (At_leaf (Leads_to row.0), row.1)
+
+-- the kind and the line of a trap
+unfoldable pub trap_fields_at : List ℕ → Result (Row × List ℕ) Refusal
+trap_fields_at bytes = do
+  kind ← trap_at bytes
+  line ← number_at w32 kind.1
+  Ok (At_leaf (Traps kind.0 line.0), line.1)
+
+-- A part of a row: what is read, the counts of the whole row behind it, and the bytes behind it.
+abbrev pub PartOfRow : Type 0
+PartOfRow = Row × Counts × List ℕ
+
+-- A reader of a part of a row, given the counts before it and the path above it.
+abbrev pub ReadsPart : Type 0
+ReadsPart = Counts → Above → List ℕ → Result PartOfRow Refusal
+
+-- behind an item's tag: its fields, and what follows under the path with the item
+unfoldable pub step_at : Bounds → ReadsPart → Counts → Above → ItemKind → List ℕ → Result PartOfRow Refusal
+step_at bounds below counts above kind bytes = do
+  item ← fields_at bounds.arrays above kind bytes
+  next ← below counts (above_with item.0 above) item.1
+  Ok (Then item.0 next.0, next.1, next.2)
+
+-- behind a test's tag: its operand, and both sides under the same path, of which the second counts on from the first
+unfoldable pub test_at : ReadsPart → Counts → Above → List ℕ → Result PartOfRow Refusal
+test_at below counts above bytes = do
+  on ← operand_at bytes
+  on_yes ← below counts above on.1
+  on_no ← below on_yes.1 above on_yes.2
+  Ok (Either on.0 on_yes.0 on_no.0, on_no.1, on_no.2)
+
+-- the counts behind the tag of an item that is or is not a load or store, and a print, read or more
+abbrev pub counted_item : Limits → Counts → Above → Bool → Bool → Result Counts Flaw
+counted_item limits counts above memory effect = checked (item_tag_flaws limits counts above memory effect) (counts_with_item memory counts)
+
+-- the counts behind the tag of a test
+abbrev pub counted_test : Limits → Counts → Result Counts Flaw
+counted_test limits counts = checked (test_tag_flaws limits counts) (counts_with_test counts)
+
+-- behind a tag, which began where these bytes do: a leaf, or an item or a test, which is counted before its fields are read
+unfoldable pub behind_tag : Bounds → ReadsPart → Counts → Above → List ℕ → Tag → List ℕ → Result PartOfRow Refusal
+behind_tag bounds below counts above bytes tags.Goto rest = do
+  leaf ← goto_at bounds.rows rest
+  Ok (leaf.0, counts, leaf.1)
+behind_tag bounds below counts above bytes tags.Stop rest = Ok (At_leaf Ends, counts, rest)
+behind_tag bounds below counts above bytes tags.Trap rest = do
+  leaf ← trap_fields_at rest
+  Ok (leaf.0, counts, leaf.1)
+behind_tag bounds below counts above bytes tags.Test rest = do
+  more ← at_field bytes (counted_test bounds.limits counts)
+  test_at below more above rest
+behind_tag bounds below counts above bytes (tags.Item kind) rest = do
+  more ← at_field bytes (counted_item bounds.limits counts above (is_memory_kind kind) (is_effect_kind kind))
+  step_at bounds below more above kind rest
+
+-- A part of a row that goes down at most so many items and tests and a leaf. The limits stop a deeper one before.
+unfoldable pub row_at : Bounds → ℕ → ReadsPart
+row_at bounds zero counts above bytes = Err (Flawed (length bytes) flaws.Tag)
+row_at bounds (suc depth) counts above bytes = do
+  tag ← tag_at bytes
+  behind_tag bounds (row_at bounds depth) counts above bytes tag.0 tag.1
+
+-- no row has more than 32 items and 7 tests above a leaf
+abbrev pub deepest : ℕ
+deepest = 40
+
+-- so many rows, each counted by itself
+unfoldable pub rows_at : Bounds → ℕ → List ℕ → Result (List Row × List ℕ) Refusal
+rows_at bounds zero bytes = Ok ([], bytes)
+rows_at bounds (suc count) bytes = do
+  row ← row_at bounds deepest no_counts nothing_above bytes
+  others ← rows_at bounds count row.2
+  Ok (row.0 ∷ others.0, others.1)
+
+-- ---- notes
+
+-- a choice, which is at most 7
+unfoldable pub choice_at : List ℕ → Result (ℕ × List ℕ) Refusal
+choice_at bytes = do
+  choice ← byte_at bytes
+  passes bytes (flaw_where (nat_lt 7 choice.0) flaws.Choice)
+  Ok choice
+
+unfoldable pub note_at : List ℕ → Result (Note × List ℕ) Refusal
+note_at bytes = do
+  choice ← choice_at bytes
+  line ← number_at w32 choice.1
+  number ← number_at w32 line.1
+  limit ← number_at w32 number.1
+  Ok (record { choice = choice.0; line = line.0; number = number.0; limit = limit.0 }, limit.1)
+
+unfoldable pub notes_at : ℕ → List ℕ → Result (List Note × List ℕ) Refusal
+notes_at zero bytes = Ok ([], bytes)
+notes_at (suc count) bytes = do
+  note ← note_at bytes
+  others ← notes_at count note.1
+  Ok (note.0 ∷ others.0, others.1)
+
+-- ---- the whole
+
+-- nothing follows
+abbrev pub end_at : List ℕ → Result (Unit {0}) Refusal
+end_at [] = Ok tt
+end_at (byte ∷ bytes) = Err (Longer (suc (length bytes)))
+
+-- the limits, the arrays and the number of rows
+pub record Header : Type 0 where
+  pub limits : Limits
+  pub arrays : List ℕ
+  pub rows : ℕ
+
+unfoldable pub header_at : List ℕ → Result (Header × List ℕ) Refusal
+header_at bytes = do
+  start ← magic_at (0x50 ∷ 0x54 ∷ 0x56 ∷ 0x31 ∷ []) bytes
+  limits ← limits_at start
+  count ← array_count_at limits.1
+  arrays ← lengths_at count.0 0 count.1
+  rows ← row_count_at arrays.1
+  Ok (record { limits = limits.0; arrays = arrays.0; rows = rows.0 }, rows.1)
+
+abbrev pub header_bounds : Header → Bounds
+header_bounds header = record { limits = header.limits; arrays = length header.arrays; rows = header.rows }
+
+-- the header, the rows, the number of notes and the notes, and nothing behind them
+unfoldable pub object_at : List ℕ → Result CodeWithNotes Refusal
+object_at bytes = do
+  header ← header_at bytes
+  rows ← rows_at (header_bounds header.0) header.0.rows header.1
+  count ← number_at w16 rows.1
+  notes ← notes_at count.0 count.1
+  end_at notes.1
+  Ok (record { code = record { limits = header.0.limits; arrays = header.0.arrays; rows = rows.0 }; notes = notes.0 })
+
+-- the refusal of bytes of this number: the offset of a field is the number of bytes before it
+abbrev pub told : ℕ → Refusal → ObjectError
+told total NotMagic = BadMagic
+told total Short = Truncated total
+told total (Flawed left flaw) = BadField (total - left) flaw
+told total (Longer left) = Trailing (total - left)
+
+-- what the bytes are: an object, or the first thing that is wrong with them
+abbrev pub told_of : ℕ → Result CodeWithNotes Refusal → Result CodeWithNotes ObjectError
+told_of total (Ok object) = Ok object
+told_of total (Err refusal) = Err (told total refusal)
+
+unfoldable pub object_reading : List ℕ → Result CodeWithNotes ObjectError
+object_reading bytes = told_of (length bytes) (object_at bytes)

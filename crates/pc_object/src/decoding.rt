@@ -1,0 +1,189 @@
+//! Bytes as an object.
+
+ghost use Rattle.std.specs.Prelude.{◌≡◌, ◌≤◌, ◌∷◌, [], length, Result, Ok, Err, IfOk};
+ghost use Rattle.pc_machine.specs.WellFormed.{AreLimits};
+ghost use Rattle.pc_object.specs.ObjectText.{CodeWithNotes, object_of, object_text, IsObject};
+ghost use Rattle.pc_object.specs.Numbers.{HasWords};
+ghost use Rattle.pc_object.specs.Headers.{shown};
+ghost use Rattle.pc_object.specs.Gives.{Gives, Answers};
+ghost use Rattle.pc_object.specs.Reading.{magic_at, lengths_at, header_at, note_at, notes_at, end_at, object_at, object_reading, told};
+
+use crate::fields::{array_count_of, at_field, choice, half, limits, number, row_count_of};
+use crate::object::{Note, Object};
+use crate::refusal::{Halt, ObjectError, Refusal};
+use crate::rows::rows;
+use pc_machine::{Bounds, Code, array_length};
+use pc_word::{Limits, Seq};
+use std::alloc::Global;
+
+/// The object that the bytes are the text of.
+///
+/// The bytes are read once, from left to right; the first field that is wrong decides. What
+/// [`encode`](crate::encode) wrote is read as the object that it was, where neither call wants
+/// memory: its clauses are what `only` asks for.
+pub fn decode(alloc: Global, bytes: &[u8]) -> Result<Object, ObjectError>
+    requires { length bytes.now ≤ 16777216 }
+    // What is read is an object, and the bytes are its text.
+    ensures object { IfOk result (λ object. IsObject (object_of object)) }
+    ensures words { IfOk result (λ object. HasWords (object_of object)) }
+    ensures text { IfOk result (λ object. bytes.now ≡ object_text (object_of object)) }
+    // The text of an object is read, and as that object.
+    ensures only { (object : CodeWithNotes) → IsObject object → HasWords object → bytes.now ≡ object_text object
+        → Answers object_of result (Ok object) }
+    // Which refusal it is.
+    ensures exact { Answers object_of result (object_reading bytes.now) }
+{
+    told_object(alloc, bytes)
+}
+
+/// The object that the bytes are, or the refusal by its offset.
+#[tactic(auto, unfolding(crate::specs::Reading::object_reading))]
+fn told_object(alloc: Global, bytes: &[u8]) -> Result<Object, ObjectError>
+    requires { length bytes.now ≤ 16777216 }
+    ensures { Answers object_of result (object_reading bytes.now) }
+{
+    match object(alloc, bytes) {
+        Ok(object) => Ok(object),
+        Err(Halt::Memory) => Err(ObjectError::Memory),
+        Err(Halt::Refused(refusal)) => Err(tell(bytes, refusal)),
+    }
+}
+
+/// A refusal by its offset.
+fn tell(bytes: &[u8], refusal: Refusal) -> ObjectError
+    requires { length bytes.now ≤ 16777216 }
+    ensures { result ≡ told (length bytes.now) refusal }
+{
+    match refusal {
+        Refusal::NotMagic => ObjectError::BadMagic,
+        Refusal::Short => ObjectError::Truncated {
+            offset: bytes.len() as u32,
+        },
+        Refusal::Flawed { left, flaw } => ObjectError::BadField {
+            offset: bytes.len().saturating_sub(left) as u32,
+            flaw,
+        },
+        Refusal::Longer { left } => ObjectError::Trailing {
+            offset: bytes.len().saturating_sub(left) as u32,
+        },
+    }
+}
+
+/// What the header says of the rows.
+#[derive(Drop)]
+struct Header {
+    limits: Limits,
+    arrays: Vec<u32>,
+    rows: u32,
+}
+
+#[tactic(auto, unfolding(crate::specs::Reading::object_at))]
+fn object(alloc: Global, bytes: &[u8]) -> Result<Object, Halt>
+    ensures { Gives object_of result (object_at bytes.now) }
+{
+    let (header, rest) = header_of(alloc, bytes)?;
+    let bounds = Bounds {
+        limits: header.limits,
+        arrays: header.arrays.len(),
+        rows: header.rows as usize,
+    };
+    let (rows, rest) = rows(alloc, &bounds, rest)?;
+    let (count, rest) = half(rest)?;
+    let (notes, rest) = notes(alloc, count, rest)?;
+    end(rest)?;
+    Ok(Object {
+        code: Code {
+            limits: header.limits,
+            arrays: Seq::from_vec(header.arrays),
+            rows: Seq::from_vec(rows),
+        },
+        notes: Seq::from_vec(notes),
+    })
+}
+
+#[tactic(auto, unfolding(crate::specs::Reading::header_at))]
+fn header_of(alloc: Global, bytes: &[u8]) -> Result<(Header, &[u8]), Halt>
+    ensures { Gives (λ x. (shown x.0, x.1.now)) result (header_at bytes.now) }
+{
+    let rest = magic(b"PTV1", bytes)?;
+    let (limits, rest) = limits(rest)?;
+    let (count, rest) = array_count_of(rest)?;
+    let (arrays, rest) = lengths(alloc, count, rest)?;
+    let (rows, rest) = row_count_of(rest)?;
+    let header = Header {
+        limits,
+        arrays,
+        rows,
+    };
+    Ok((header, rest))
+}
+
+fn magic<'a>(magic: &[u8], bytes: &'a [u8]) -> Result<&'a [u8], Halt>
+    ensures { Gives (λ rest. rest.now) result (magic_at magic.now bytes.now) }
+{
+    let mut rest = bytes;
+    for byte in magic {
+        let [first, after @ ..] = rest else {
+            return Err(Halt::Refused(Refusal::Short));
+        };
+        if first != byte {
+            return Err(Halt::Refused(Refusal::NotMagic));
+        }
+        rest = after;
+    }
+    Ok(rest)
+}
+
+fn lengths(alloc: Global, count: u8, bytes: &[u8]) -> Result<(Vec<u32>, &[u8]), Halt>
+    ensures { Gives (λ x. (x.0.items, x.1.now)) result (lengths_at count 0 bytes.now) }
+{
+    let mut lengths = Vec::new(alloc);
+    let mut elements = 0;
+    let mut rest = bytes;
+    for _ in 0..count {
+        let (length, after) = number(rest)?;
+        elements = at_field(rest, array_length(elements, length))?;
+        lengths.push(length)?;
+        rest = after;
+    }
+    Ok((lengths, rest))
+}
+
+fn notes(alloc: Global, count: u16, bytes: &[u8]) -> Result<(Vec<Note>, &[u8]), Halt>
+    ensures { Gives (λ x. (x.0.items, x.1.now)) result (notes_at count bytes.now) }
+{
+    let mut notes = Vec::new(alloc);
+    let mut rest = bytes;
+    for _ in 0..count {
+        let (note, after) = note(rest)?;
+        notes.push(note)?;
+        rest = after;
+    }
+    Ok((notes, rest))
+}
+
+#[tactic(auto, unfolding(crate::specs::Reading::note_at))]
+fn note(bytes: &[u8]) -> Result<(Note, &[u8]), Halt>
+    ensures { Gives (λ x. (x.0, x.1.now)) result (note_at bytes.now) }
+{
+    let (choice, rest) = choice(bytes)?;
+    let (line, rest) = number(rest)?;
+    let (number_of, rest) = number(rest)?;
+    let (limit, rest) = number(rest)?;
+    let note = Note {
+        choice,
+        line,
+        number: number_of,
+        limit,
+    };
+    Ok((note, rest))
+}
+
+fn end(bytes: &[u8]) -> Result<(), Halt>
+    ensures { Gives (λ x. x) result (end_at bytes.now) }
+{
+    match bytes {
+        [] => Ok(()),
+        _ => Err(Halt::Refused(Refusal::Longer { left: bytes.len() })),
+    }
+}

@@ -1,0 +1,233 @@
+//! An object as bytes.
+
+ghost use Rattle.std.specs.Prelude.{◌≡◌, ◌++◌, ◌∷◌, [], ◌<◌, ◌≤◌, ◌^◌, length, All, IfOk, OnOk};
+ghost use Rattle.std.specs.List.{flat_map};
+ghost use Rattle.pc_machine.specs.Row.{row_of, rows_of, code_of};
+ghost use Rattle.pc_machine.specs.WellFormed.{IsOperand, IsItem};
+ghost use Rattle.pc_object.specs.ObjectText.{object_of, IsObject, object_text, header_text, notes_text, note_text, row_text, item_text, operand_text, word_text, u16_text, u32_text, operator_byte, trap_byte};
+ghost use Rattle.pc_object.specs.Numbers.{IsInRange, OperandFits, ItemFits, RowFits, NoteFits, HasWords};
+
+use crate::object::{Note, Object};
+use byteorder::{BigEndian, ByteOrder};
+use pc_machine::{Code, Tree};
+use pc_word::{Item, OpCode, Operand, TrapKind};
+use std::alloc::{AllocError, Global};
+
+/// Why an object could not be written.
+#[derive(Clone, Copy, Debug, PartialEq, Eq)]
+pub enum EncodeError {
+    Memory,
+}
+
+impl From<AllocError> for EncodeError {
+    fn from(_error: AllocError) -> EncodeError {
+        EncodeError::Memory
+    }
+}
+
+/// The bytes of an object.
+pub fn encode(alloc: Global, object: &Object) -> Result<Vec<u8>, EncodeError>
+    requires { IsObject (object_of object.now) }
+    ensures text { IfOk result (λ bytes. bytes.items ≡ object_text (object_of object.now)) }
+    // An object in memory holds no number that another one could be written for.
+    ensures words { OnOk result (HasWords (object_of object.now)) }
+{
+    let mut out = Vec::new(alloc);
+    push_header(&mut out, &object.code)?;
+    push_rows(&mut out, object.code.rows.as_slice())?;
+    push_notes(&mut out, object.notes.as_slice())?;
+    Ok(out)
+}
+
+fn push_u16(out: &mut Vec<u8>, number: u16) -> Result<(), AllocError>
+    ensures { OnOk result (out.new.items ≡ out.old.items ++ u16_text number) }
+{
+    let mut field = [0; 2];
+    BigEndian::write_u16(&mut field, number);
+    out.extend_from_slice(&field)
+}
+
+fn push_u32(out: &mut Vec<u8>, number: u32) -> Result<(), AllocError>
+    ensures { OnOk result (out.new.items ≡ out.old.items ++ u32_text number) }
+{
+    let mut field = [0; 4];
+    BigEndian::write_u32(&mut field, number);
+    out.extend_from_slice(&field)
+}
+
+fn push_word(out: &mut Vec<u8>, word: i32) -> Result<(), AllocError>
+    ensures { OnOk result (out.new.items ≡ out.old.items ++ word_text word) }
+{
+    push_u32(out, word.cast_unsigned())
+}
+
+fn push_header(out: &mut Vec<u8>, code: &Code) -> Result<(), AllocError>
+    requires arrays { length code.now.arrays ≤ 32 }
+    requires rows { length code.now.rows < 2 ^ 32 }
+    ensures { OnOk result (out.new.items ≡ out.old.items ++ header_text (code_of code.now)) }
+{
+    let arrays = code.arrays.as_slice();
+    let limits = code.limits;
+    out.extend_from_slice(b"PTV1")?;
+    out.extend_from_slice(&[limits.ops, limits.tests, limits.mem, arrays.len() as u8])?;
+    push_lengths(out, arrays)?;
+    push_u32(out, code.rows.len() as u32)
+}
+
+fn push_lengths(out: &mut Vec<u8>, lengths: &[u32]) -> Result<(), AllocError>
+    ensures { OnOk result (out.new.items ≡ out.old.items ++ flat_map u32_text lengths.now) }
+{
+    for length in lengths {
+        push_u32(out, *length)?;
+    }
+    Ok(())
+}
+
+fn push_rows(out: &mut Vec<u8>, rows: &[Tree]) -> Result<(), AllocError>
+    requires { All (λ tree. IsInRange 32 (2 ^ 32) (row_of tree)) rows.now }
+    ensures text { OnOk result (out.new.items ≡ out.old.items ++ flat_map row_text (rows_of rows.now)) }
+    ensures words { OnOk result (All (λ tree. RowFits (row_of tree)) rows.now) }
+{
+    for row in rows {
+        push_row(out, row)?;
+    }
+    Ok(())
+}
+
+fn push_row(out: &mut Vec<u8>, row: &Tree) -> Result<(), AllocError>
+    requires { IsInRange 32 (2 ^ 32) (row_of row.now) }
+    ensures text { OnOk result (out.new.items ≡ out.old.items ++ row_text (row_of row.now)) }
+    ensures words { OnOk result (RowFits (row_of row.now)) }
+{
+    match row {
+        Tree::Step { item, next } => {
+            push_item(out, *item)?;
+            push_row(out, next)
+        }
+        Tree::Test { on, yes, no } => {
+            out.push(0x10)?;
+            push_operand(out, *on)?;
+            push_row(out, yes)?;
+            push_row(out, no)
+        }
+        Tree::Goto { row } => {
+            out.push(0x01)?;
+            push_u32(out, *row)
+        }
+        Tree::Stop => Ok(out.push(0x02)?),
+        Tree::Trap { kind, line } => {
+            out.extend_from_slice(&[0x03, trap_byte(*kind)])?;
+            push_u32(out, *line)
+        }
+    }
+}
+
+fn push_item(out: &mut Vec<u8>, item: Item) -> Result<(), AllocError>
+    requires { IsItem 32 item }
+    ensures text { OnOk result (out.new.items ≡ out.old.items ++ item_text item) }
+    ensures words { OnOk result (ItemFits item) }
+{
+    match item {
+        Item::Bin {
+            op,
+            dest,
+            left,
+            right,
+        } => {
+            out.extend_from_slice(&[0x20, operator_byte(op), dest as u8])?;
+            push_operand(out, left)?;
+            push_operand(out, right)
+        }
+        Item::Copy { dest, from } => {
+            out.extend_from_slice(&[0x21, dest as u8])?;
+            push_operand(out, from)
+        }
+        Item::Load { dest, array, index } => {
+            out.extend_from_slice(&[0x22, dest as u8, array])?;
+            push_operand(out, index)
+        }
+        Item::Store {
+            array,
+            index,
+            value,
+        } => {
+            out.extend_from_slice(&[0x23, array])?;
+            push_operand(out, index)?;
+            push_operand(out, value)
+        }
+        Item::Print { value } => {
+            out.push(0x24)?;
+            push_operand(out, value)
+        }
+        Item::Read { dest } => out.extend_from_slice(&[0x25, dest as u8]),
+        Item::More { dest } => out.extend_from_slice(&[0x26, dest as u8]),
+    }
+}
+
+fn push_operand(out: &mut Vec<u8>, operand: Operand) -> Result<(), AllocError>
+    requires { IsOperand operand }
+    ensures text { OnOk result (out.new.items ≡ out.old.items ++ operand_text operand) }
+    ensures words { OnOk result (OperandFits operand) }
+{
+    match operand {
+        Operand::Name(register) => out.extend_from_slice(&[0x00, register as u8]),
+        Operand::Lit(value) => {
+            out.push(0x01)?;
+            push_word(out, value)
+        }
+    }
+}
+
+fn operator_byte(op: OpCode) -> u8
+    ensures { result ≡ operator_byte op }
+{
+    match op {
+        OpCode::Add => 0x00,
+        OpCode::Sub => 0x01,
+        OpCode::Mul => 0x02,
+        OpCode::Div => 0x03,
+        OpCode::Rem => 0x04,
+        OpCode::Shl => 0x05,
+        OpCode::Shr => 0x06,
+        OpCode::And => 0x07,
+        OpCode::Or => 0x08,
+        OpCode::Xor => 0x09,
+        OpCode::Less => 0x0A,
+        OpCode::LessEq => 0x0B,
+        OpCode::Equal => 0x0C,
+        OpCode::Unequal => 0x0D,
+        OpCode::Below => 0x0E,
+    }
+}
+
+fn trap_byte(kind: TrapKind) -> u8
+    ensures { result ≡ trap_byte kind }
+{
+    match kind {
+        TrapKind::DivideByZero => 0x00,
+        TrapKind::OutOfBounds => 0x01,
+        TrapKind::EndOfInput => 0x02,
+    }
+}
+
+fn push_notes(out: &mut Vec<u8>, notes: &[Note]) -> Result<(), AllocError>
+    requires { length notes.now ≤ 65535 }
+    ensures text { OnOk result (out.new.items ≡ out.old.items ++ notes_text notes.now) }
+    ensures words { OnOk result (All NoteFits notes.now) }
+{
+    push_u16(out, notes.len() as u16)?;
+    for note in notes {
+        push_note(out, *note)?;
+    }
+    Ok(())
+}
+
+fn push_note(out: &mut Vec<u8>, note: Note) -> Result<(), AllocError>
+    ensures text { OnOk result (out.new.items ≡ out.old.items ++ note_text note) }
+    ensures words { NoteFits note }
+{
+    out.push(note.choice)?;
+    push_u32(out, note.line)?;
+    push_u32(out, note.number)?;
+    push_u32(out, note.limit)
+}

@@ -1,0 +1,12 @@
+//! The top call of the compiler.
+#![tactic(auto)]
+
+mod command;
+mod compile;
+mod emit;
+mod literals;
+mod program;
+mod refusal;
+mod scan;
+
+pub use program::{Status, Who, tool};
