@@ -1,0 +1,9 @@
+pub mod Expressions
+pub mod Statements
+pub mod LoopTests
+pub mod SourceRuns
+pub mod Operators
+pub mod Traces
+mod Programs
+mod WorkedRuns
+mod RuleRuns

@@ -1,0 +1,7 @@
+pub mod State
+pub mod Expression
+pub mod Statement
+pub mod SourceRun
+pub mod Lowered
+pub mod Trace
+pub mod Laws
