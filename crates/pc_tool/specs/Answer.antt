@@ -2,9 +2,10 @@
 use Rattle.std.specs.Prelude.{◌≡◌, ℕ, ◌<◌, ◌⊎◌, ℤ, pos, List, map, length, Option, Some, None, IfSome}
 use Rattle.std.specs.FinMap.{get, insert}
 use Rattle.pc_word.specs.declared.item.End.TheVariants.{Ended}
-use Rattle.pc_word.specs.Run.{Run, Agree}
+use Rattle.pc_word.specs.Run.{Agree, ended_run}
 use Rattle.pc_machine.specs.MachineRun.{machine_run}
 use Rattle.pc_object.specs.ObjectText.{CodeWithNotes, IsObject, object_text}
+use Rattle.pc_object.specs.Numbers.{HasWords}
 use Rattle.pc_outside.specs.Shelf.{Files, Shelved, ReadFaultOf, WriteFaultOf, OnlyFileDiffers}
 use Rattle.pc_tool.specs.Command.{Paths}
 use Rattle.pc_tool.specs.Emission.{default_limits}
@@ -14,17 +15,15 @@ use Rattle.pc_tool.specs.declared.refusal.Refusal.TheVariants as refusal
 
 -- ---- the object that stands for a source
 
--- the run that has printed the numbers and ended, however many steps it may make
-abbrev pub printed_all : List ℕ → Run
-printed_all numbers n = record { printed = map pos numbers; end = Some Ended }
-
--- The text prints literals; the object loads under the default limits; and, for every input, it prints them and ends.
+-- The text prints literals; the object loads under the default limits, and is the one that its text is read as, since its
+-- literals are words and its lines and numbers below 2^32; and for every input it prints the literals and ends.
 pub record Translates (text : List ℕ) (object : CodeWithNotes) : Type 0 where
   pub numbers : List ℕ
   pub source : PrintsLiterals text numbers
   pub loads : IsObject object
+  pub words : HasWords object
   pub limits : object.code.limits ≡ default_limits
-  pub same : (input : List ℤ) → Agree (printed_all numbers) (machine_run object.code input)
+  pub same : (input : List ℤ) → Agree (ended_run (map pos numbers) Ended) (machine_run object.code input)
 
 -- the source that was held was translated; its object is held now, and all else is as before
 pub record Compiled (paths : Paths) (before : Files) (after : Option Files) : Type 0 where

@@ -100,6 +100,15 @@ mod tests {
     const SEVEN_OBJECT: &[u8] =
         b"PTV1\x08\x03\x02\x00\x00\x00\x00\x01\x24\x01\x00\x00\x00\x07\x02\x00\x00";
 
+    const NOTHING: &[u8] = b"int main(void){}\n";
+
+    const NOTHING_OBJECT: &[u8] = b"PTV1\x08\x03\x02\x00\x00\x00\x00\x01\x02\x00\x00";
+
+    const TWO: &[u8] = b"int main(void){print(0);print(2147483647);}";
+
+    const TWO_OBJECT: &[u8] =
+        b"PTV1\x08\x03\x02\x00\x00\x00\x00\x02\x24\x01\x00\x00\x00\x00\x01\x00\x00\x00\x01\x24\x01\x7f\xff\xff\xff\x02\x00\x00";
+
     // A shelf with one file, of whose reads and writes, counted from 1, these fail.
     fn shelf_with(
         alloc: Global,
@@ -143,6 +152,27 @@ mod tests {
         assert_eq!(rt; shelf.held("a.c").ok_or("no source")?, SEVEN);
         assert_eq!(rt; run(alloc, &mut shelf, "a.c -o a.c")?, 0);
         assert_eq!(rt; shelf.held("a.c").ok_or("no object")?, SEVEN_OBJECT);
+        Ok(())
+    }
+
+    #[test]
+    fn writes_other_objects(rt: HostRuntime) -> Result<(), Fail> {
+        let alloc = rt.alloc();
+        for (text, object) in [(NOTHING, NOTHING_OBJECT), (TWO, TWO_OBJECT)] {
+            let mut shelf = shelf_with(alloc, "a.c", text, &[])?;
+            assert_eq!(rt; run(alloc, &mut shelf, "a.c -o b.tv")?, 0);
+            assert_eq!(rt; shelf.held("b.tv").ok_or("no object")?, object);
+        }
+        Ok(())
+    }
+
+    #[test]
+    fn refuses_a_long_source(rt: HostRuntime) -> Result<(), Fail> {
+        let alloc = rt.alloc();
+        let text = vec![in alloc; b' '; 1_048_577]?;
+        let mut shelf = shelf_with(alloc, "a.c", text.as_slice(), &[])?;
+        assert_eq!(rt; run(alloc, &mut shelf, "a.c -o b.tv")?, 4);
+        assert!(rt; shelf.held("b.tv").is_none());
         Ok(())
     }
 

@@ -1,0 +1,11 @@
+pub mod Booleans
+pub mod Digits
+pub mod Comments
+pub mod Plain
+pub mod Fronts
+pub mod Begun
+pub mod Names
+pub mod Reading
+pub mod Marks
+pub mod Longest
+pub mod Numbering

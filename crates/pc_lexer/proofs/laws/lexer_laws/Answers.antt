@@ -1,0 +1,9 @@
+use Rattle.pc_lexer.proofs.Longest.{cuts_into_longest}
+use Rattle.pc_lexer.proofs.Numbering.{numbers_names}
+use Rattle.pc_lexer.proofs.laws.lexer_laws.Goals as goal
+
+pub returns-clause-longest : goal.returns-clause-longest
+returns-clause-longest c = cuts_into_longest
+
+pub returns-clause-symbols : goal.returns-clause-symbols
+returns-clause-symbols c = numbers_names

@@ -1,0 +1,8 @@
+pub mod Bytes
+pub mod Spelling
+pub mod Number
+pub mod Piece
+pub mod Cut
+pub mod Tokens
+pub mod Laws
+pub mod Steps

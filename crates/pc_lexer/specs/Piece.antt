@@ -1,0 +1,88 @@
+-- The piece that begins at a place of the text: a blank, a comment, a skipped line or a token, the longest one.
+use Rattle.std.specs.Prelude.{ℕ, suc, ◌+◌, Bool, false, not, ◌==◌, ◌&&◌, nat_eq, List, [], ◌∷◌, Option, Some, None, Result, Ok, Err, pos, if◌then◌else◌, codes, take, drop, length, slice_index}
+use Rattle.std.specs.List.{starts_with, prefix_len}
+use Rattle.std.specs.Option.{option_map}
+use Rattle.pc_lexer.specs.Bytes.{is_line_feed, is_blank, is_letter, is_digit, is_word_byte, line_feeds}
+use Rattle.pc_lexer.specs.Spelling.{mark_spelling, mark_at}
+use Rattle.pc_lexer.specs.Number.{number_length, number_value}
+use Rattle.pc_lexer.specs.declared.mark.Mark.{Mark}
+use Rattle.pc_lexer.specs.declared.piece.Shape.{Shape}
+use Rattle.pc_lexer.specs.declared.piece.Shape.TheVariants as shape
+use Rattle.pc_lexer.specs.declared.piece.Piece.{Piece}
+use Rattle.pc_lexer.specs.declared.piece.Trouble.{Trouble}
+use Rattle.pc_lexer.specs.declared.piece.Trouble.TheVariants as trouble
+
+-- the piece of this shape that the text's first n bytes are
+abbrev pub front : Shape → ℕ → List ℕ → Piece
+front shape n text = record { shape = shape; length = n; line_feeds = line_feeds (take n text) }
+
+-- how many bytes these have up to the end of their line, its line feed left out
+abbrev pub line_length : List ℕ → ℕ
+line_length bytes = prefix_len (λ b. not (is_line_feed b)) bytes
+
+-- how many bytes these have up to the end of the first `*/`, if there is one; star says whether a `*` stands before them
+unfoldable pub comment_length : Bool → List ℕ → Option ℕ
+comment_length star [] = None
+comment_length star (b ∷ bytes) =
+    if star && b == 47 then Some 1 else option_map suc (comment_length (b == 42) bytes)
+
+-- the blanks that may stand between `#` and `include`
+abbrev pub is_inner_blank : ℕ → Bool
+is_inner_blank b = is_blank b && not (is_line_feed b)
+
+-- whether a word goes on with these bytes
+abbrev pub goes_on : List ℕ → Bool
+goes_on [] = false
+goes_on (b ∷ bytes) = is_word_byte b
+
+-- how many bytes behind a `#` are skipped: blanks, the whole word `include` and the rest of the line
+unfoldable pub include_length : List ℕ → Option ℕ
+include_length bytes =
+    let blanks = prefix_len is_inner_blank bytes in
+    let word = drop blanks bytes in
+    if starts_with nat_eq word (codes "include") && not (goes_on (drop 7 word))
+    then Some (blanks + 7 + line_length (drop 7 word)) else None
+
+-- a piece of n bytes, where there is one, or the trouble
+abbrev pub front_or : Trouble → Shape → Option ℕ → List ℕ → Result Piece Trouble
+front_or why shape None text = Err why
+front_or why shape (Some n) text = Ok (front shape n text)
+
+-- a comment up to its `*/`, or one that stays open
+unfoldable pub block_comment_at : List ℕ → Result Piece Trouble
+block_comment_at text = front_or trouble.OpenComment shape.Comment (option_map (λ n. 2 + n) (comment_length false (drop 2 text))) text
+
+-- the line that is skipped from a `#` on, or a bad `#`
+unfoldable pub skipped_line_at : List ℕ → Result Piece Trouble
+skipped_line_at text = front_or trouble.NoPiece shape.Skipped (option_map (λ n. 1 + n) (include_length (drop 1 text))) text
+
+-- a number of n bytes with that value, or one that is misspelt
+abbrev pub number_of : List ℕ → ℕ → Option ℕ → Result Piece Trouble
+number_of text n None = Err trouble.Misspelt
+number_of text n (Some value) = Ok (front (shape.Number (pos value)) n text)
+
+-- a number, the first byte of which is a digit
+unfoldable pub number_at : List ℕ → Result Piece Trouble
+number_at text =
+    let n = 1 + number_length false (drop 1 text) in
+    number_of text n (number_value (take n text))
+
+-- a mark, or a byte that begins nothing
+abbrev pub mark_piece : List ℕ → Option Mark → Result Piece Trouble
+mark_piece text None = Err trouble.NoPiece
+mark_piece text (Some m) = Ok (front (shape.Mark m) (length (mark_spelling m)) text)
+
+unfoldable pub mark_piece_at : List ℕ → Result Piece Trouble
+mark_piece_at text = mark_piece text (mark_at text)
+
+-- The piece that begins the text, or why none does. fresh says whether only blanks stand before it in its line.
+unfoldable pub piece_at : Bool → List ℕ → Result Piece Trouble
+piece_at fresh text =
+    let first = slice_index text 0 in
+    if is_blank first then Ok (front shape.Blank 1 text)
+    else (if is_letter first then Ok (front shape.Word (prefix_len is_word_byte text) text)
+    else (if is_digit first then number_at text
+    else (if first == 35 then (if fresh then skipped_line_at text else Err trouble.NoPiece)
+    else (if starts_with nat_eq text (codes "//") then Ok (front shape.Comment (line_length text) text)
+    else (if starts_with nat_eq text (codes "/*") then block_comment_at text
+    else mark_piece_at text)))))

@@ -1,0 +1,89 @@
+-- The tokens of a text, or its first fault.
+use Rattle.std.specs.Prelude.{◌≡◌, ℕ, ◌+◌, List, [], ◌∷◌, ◌++◌, Option, Some, None, Result, Ok, Err, nat_lt, bytes_eq, if◌then◌else◌, length}
+use Rattle.std.specs.List.{list_any, position_or_len}
+use Rattle.pc_lexer.specs.Spelling.{keyword_of}
+use Rattle.pc_lexer.specs.Cut.{Cut, Done, Next, Stuck, line_behind, pieces_of}
+use Rattle.pc_lexer.specs.declared.keyword.Keyword.{Keyword}
+use Rattle.pc_lexer.specs.declared.piece.Shape.{Shape}
+use Rattle.pc_lexer.specs.declared.piece.Shape.TheVariants as shape
+use Rattle.pc_lexer.specs.declared.piece.Trouble.{Trouble}
+use Rattle.pc_lexer.specs.declared.piece.Trouble.TheVariants as trouble
+use Rattle.pc_lexer.specs.declared.token.Token.{Token}
+use Rattle.pc_lexer.specs.declared.token.TokenKind.{TokenKind}
+use Rattle.pc_lexer.specs.declared.token.TokenKind.TheVariants as kind
+use Rattle.pc_lexer.specs.declared.error.LexError.{LexError}
+use Rattle.pc_lexer.specs.declared.error.LexError.TheVariants as error
+
+-- the most tokens that a text may have
+abbrev pub token_limit : ℕ
+token_limit = 65536
+
+-- a name's symbol: its place among the names in the order of first use, where a new one goes last
+abbrev pub symbol_of : List (List ℕ) → List ℕ → ℕ
+symbol_of names name = position_or_len (bytes_eq name) names
+
+-- the names in the order of first use, once this one is used
+abbrev pub names_with : List (List ℕ) → List ℕ → List (List ℕ)
+names_with names name = if list_any (bytes_eq name) names then names else names ++ name ∷ []
+
+-- a word is a keyword if it spells one, else a name
+abbrev pub word_kind : List (List ℕ) → List ℕ → Option Keyword → TokenKind
+word_kind names word (Some key) = kind.Key key
+word_kind names word None = kind.Name (symbol_of names word)
+
+-- the names used once a word is read
+abbrev pub names_after_word : List (List ℕ) → List ℕ → Option Keyword → List (List ℕ)
+names_after_word names word (Some key) = names
+names_after_word names word None = names_with names word
+
+-- what token a piece is, if it is one
+unfoldable pub kind_of : List (List ℕ) → List ℕ → Shape → Option TokenKind
+kind_of names spelling shape.Blank = None
+kind_of names spelling shape.Comment = None
+kind_of names spelling shape.Skipped = None
+kind_of names spelling shape.Word = Some (word_kind names spelling (keyword_of spelling))
+kind_of names spelling (shape.Number value) = Some (kind.Number value)
+kind_of names spelling (shape.Mark mark) = Some (kind.Mark mark)
+
+-- the names used once a piece is read
+unfoldable pub names_after : List (List ℕ) → List ℕ → Shape → List (List ℕ)
+names_after names spelling shape.Word = names_after_word names spelling (keyword_of spelling)
+names_after names spelling _ = names
+
+-- the fault where no piece begins behind these bytes
+abbrev pub fault_of : Trouble → List ℕ → LexError
+fault_of trouble.NoPiece before = error.BadByte (length before)
+fault_of trouble.Misspelt before = error.BadLiteral (line_behind before)
+fault_of trouble.OpenComment before = error.OpenComment (line_behind before)
+
+-- whether a fault stands also where no more token may follow: only a comment that stays open does
+abbrev pub fault_at : ℕ → Trouble → List ℕ → LexError
+fault_at count trouble.OpenComment before = fault_of trouble.OpenComment before
+fault_at count why before = if nat_lt count token_limit then fault_of why before else error.TooManyTokens
+
+-- a token before others
+abbrev pub token_before : Token → Result (List Token) LexError → Result (List Token) LexError
+token_before token (Ok tokens) = Ok (token ∷ tokens)
+token_before token (Err fault) = Err fault
+
+-- the tokens of pieces, behind `count` others in which `names` were used, or the first fault
+unfoldable pub read : ℕ → List (List ℕ) → Cut → Result (List Token) LexError
+read count names Done = Ok []
+read count names (Stuck before rest why) = Err (fault_at count why before)
+read count names (Next before spelling shape others) =
+    elim (kind_of names spelling shape) [
+      | None ↦ read count names others
+      | Some kind ↦ if nat_lt count token_limit
+          then token_before (record { kind = kind; line = line_behind before }) (read (count + 1) (names_after names spelling shape) others)
+          else Err error.TooManyTokens
+    ]
+
+-- the tokens of a text, or its first fault
+abbrev pub lexed : List ℕ → Result (List Token) LexError
+lexed text = read 0 [] (pieces_of text)
+
+-- an answer for a text that reads so: it is the reading, and `Memory` is the only other answer, free to come at any text
+abbrev pub Answers : Result (List Token) LexError → Result (List Token) LexError → Type 0
+Answers (Ok tokens) reading = reading ≡ Ok tokens
+Answers (Err error.Memory) reading = Unit {0}
+Answers (Err fault) reading = reading ≡ Err fault

@@ -1,0 +1,138 @@
+ghost use Rattle.std.specs.Prelude.{◌≡◌, ℕ, ◌≤◌, ◌<◌, ◌+◌, List, IfSome, IfOk, IfErr, OnOk, is_some, if◌then◌else◌, length};
+ghost use Rattle.indexmap.specs.IndexSet.{index_set_len};
+ghost use Rattle.pc_lexer.specs.Cut.{line_behind};
+ghost use Rattle.pc_lexer.specs.Spelling.{keyword_of};
+ghost use Rattle.pc_lexer.specs.Tokens.{Answers, lexed, token_limit, kind_of, word_kind, symbol_of, names_with, names_after, names_after_word, fault_at};
+ghost use Rattle.pc_lexer.specs.Steps.{fresh_behind, with_token, IsRefusal, spellings};
+
+use crate::keyword::keyword_of;
+use crate::piece::{Piece, Shape, Trouble, piece_at};
+use crate::{LexError, Token, TokenKind, TokenList};
+use indexmap::IndexSet;
+use pc_word::Seq;
+use std::alloc::Global;
+
+/// The most tokens that a text may have.
+const TOKEN_LIMIT: usize = 65_536;
+
+/// A name's symbol. A new name is kept behind the others.
+fn symbol_of<'a>(names: &mut IndexSet<&'a [u8]>, name: &'a [u8]) -> Result<u32, LexError>
+    requires { index_set_len names.old ≤ token_limit }
+    ensures symbol { IfOk result (λ symbol. symbol ≡ symbol_of (spellings names.old.keys) name.now) }
+    ensures kept { OnOk result (spellings names.new.keys ≡ names_with (spellings names.old.keys) name.now) }
+    ensures refused { IfErr result (λ fault. fault ≡ LexError.Memory) }
+    ensures room { index_set_len names.new ≤ index_set_len names.old + 1 }
+{
+    let (symbol, _) = names.insert_full(name)?;
+    Ok(symbol as u32)
+}
+
+/// What token a word is.
+fn word_kind<'a>(names: &mut IndexSet<&'a [u8]>, word: &'a [u8]) -> Result<TokenKind, LexError>
+    requires { index_set_len names.old ≤ token_limit }
+    ensures kind { IfOk result (λ kind. kind ≡ word_kind (spellings names.old.keys) word.now (keyword_of word.now)) }
+    ensures kept { OnOk result (spellings names.new.keys ≡ names_after_word (spellings names.old.keys) word.now (keyword_of word.now)) }
+    ensures refused { IfErr result (λ fault. fault ≡ LexError.Memory) }
+    ensures room { index_set_len names.new ≤ index_set_len names.old + 1 }
+{
+    match keyword_of(word) {
+        Some(key) => Ok(TokenKind::Key { key }),
+        None => {
+            let symbol = symbol_of(names, word)?;
+            Ok(TokenKind::Name { symbol })
+        }
+    }
+}
+
+/// What token a piece is, if it is one. A name is kept.
+#[tactic(auto, unfolding(crate::specs::Tokens::kind_of, crate::specs::Tokens::names_after))]
+fn kind_of<'a>(
+    names: &mut IndexSet<&'a [u8]>,
+    spelling: &'a [u8],
+    shape: Shape,
+) -> Result<Option<TokenKind>, LexError>
+    requires { index_set_len names.old ≤ token_limit }
+    ensures kind { IfOk result (λ kind. kind ≡ kind_of (spellings names.old.keys) spelling.now shape) }
+    ensures kept { OnOk result (spellings names.new.keys ≡ names_after (spellings names.old.keys) spelling.now shape) }
+    ensures refused { IfErr result (λ fault. fault ≡ LexError.Memory) }
+    ensures room { IfOk result (λ kind. index_set_len names.new ≤ index_set_len names.old + (if is_some kind then 1 else 0)) }
+{
+    match shape {
+        Shape::Blank => Ok(None),
+        Shape::Comment => Ok(None),
+        Shape::Skipped => Ok(None),
+        Shape::Word => Ok(Some(word_kind(names, spelling)?)),
+        Shape::Number { value } => Ok(Some(TokenKind::Number { value })),
+        Shape::Mark { mark } => Ok(Some(TokenKind::Mark { mark })),
+    }
+}
+
+/// The fault where no piece begins, behind `count` tokens.
+fn fault_at(count: usize, why: Trouble, offset: u32, line: u32) -> LexError
+    ensures { (before : List ℕ) → length before ≡ offset → line_behind before ≡ line → result ≡ fault_at count why before }
+{
+    match why {
+        Trouble::OpenComment => LexError::OpenComment { line },
+        _ if count >= TOKEN_LIMIT => LexError::TooManyTokens,
+        Trouble::NoPiece => LexError::BadByte { offset },
+        Trouble::Misspelt => LexError::BadLiteral { line },
+    }
+}
+
+/// Whether only blanks stand in the line behind a piece.
+fn is_fresh_behind(fresh: bool, piece: Piece) -> bool
+    ensures { result ≡ fresh_behind fresh piece }
+{
+    match piece.shape {
+        Shape::Blank => fresh || piece.line_feeds > 0,
+        _ => false,
+    }
+}
+
+/// Puts the token that a piece is, if it is one, behind the others.
+fn keep(found: &mut TokenList, kind: Option<TokenKind>, line: u32) -> Result<(), LexError>
+    ensures kept { OnOk result (found.new ≡ with_token found.old kind line) }
+    ensures room { OnOk result (IfSome kind (λ _. length found.old < token_limit)) }
+    ensures refused { IfErr result (IsRefusal found.old kind) }
+{
+    let Some(kind) = kind else {
+        return Ok(());
+    };
+    if found.len() >= TOKEN_LIMIT {
+        return Err(LexError::TooManyTokens);
+    }
+    found.push(Token { kind, line })?;
+    Ok(())
+}
+
+/// The tokens of a text, in order, each with the line in which it begins.
+///
+/// Tokens are words, numbers and marks, the longest that begin at their place. Blanks, comments and
+/// `#include` lines are passed over. The first fault from the left is the answer: `BadByte` where
+/// nothing begins, `BadLiteral` at a number that is no `int`, `OpenComment` at a comment that stays
+/// open, `TooManyTokens` where a token, a bad byte or a bad number stands behind token 65,536.
+/// `Memory` alone may come at any text. The time is linear in the text's length; of the text nothing
+/// is copied.
+pub fn tokens(alloc: Global, text: &[u8]) -> Result<TokenList, LexError>
+    requires { length text.now ≤ 1048576 }
+    ensures { Answers result (lexed text.now) }
+{
+    let mut found = Seq::new(alloc);
+    let mut names = IndexSet::new(alloc);
+    let mut offset = 0;
+    let mut line: u32 = 1;
+    let mut fresh = true;
+    while offset < text.len() {
+        let rest = &text[offset..];
+        let piece = match piece_at(fresh, rest) {
+            Ok(piece) => piece,
+            Err(why) => return Err(fault_at(found.len(), why, offset as u32, line)),
+        };
+        let kind = kind_of(&mut names, &rest[..piece.length], piece.shape)?;
+        keep(&mut found, kind, line)?;
+        offset += piece.length;
+        line += piece.line_feeds as u32;
+        fresh = is_fresh_behind(fresh, piece);
+    }
+    Ok(found)
+}
