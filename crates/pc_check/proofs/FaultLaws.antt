@@ -1,0 +1,71 @@
+-- The first fault of lists of faults in a row.
+use Rattle.std.proofs.Common.{◌≡◌, sym, ap, subst, ◌∙◌, List, [], ◌∷◌, ◌++◌, Some, Result, Ok, Err, IsErrAnd, IfErr, slice_get}
+use Rattle.pc_check.specs.declared.error.CheckError.{CheckError}
+use Rattle.pc_check.specs.declared.error.CheckError.TheVariants.{Undeclared, Redeclared, NotArray, NotScalar, BadSize, OutsideLoop, TooManyScalars, TooManyArrays, TooManyElements, TooDeep, Memory}
+use Rattle.pc_check.specs.Answers.{IsFirst}
+
+-- want of memory says nothing of the faults
+pub IsFirst-memory : (e : CheckError) (found : List CheckError) → e ≡ Memory → IsFirst e found
+IsFirst-memory e found is = let P : CheckError → Type 0 = λ x. IsFirst x found in subst P (sym is) tt
+
+-- the first fault of a list is at place 0
+abbrev pub is_first : (e : CheckError) (found : List CheckError) → slice_get found 0 ≡ Some e → IsFirst e found
+is_first Memory found at = tt
+is_first (Undeclared line) found at = at
+is_first (Redeclared line) found at = at
+is_first (NotArray line) found at = at
+is_first (NotScalar line) found at = at
+is_first (BadSize line) found at = at
+is_first (OutsideLoop line) found at = at
+is_first (TooManyScalars line) found at = at
+is_first (TooManyArrays line) found at = at
+is_first (TooManyElements line) found at = at
+is_first (TooDeep line) found at = at
+
+-- the first fault of the front is the first of the whole
+pub IsFirst-front : (e : CheckError) (front rest : List CheckError) → IsFirst e front → IsFirst e (front ++ rest)
+IsFirst-front e (first ∷ others) rest is = by e is
+  where
+    by : (e : CheckError) → IsFirst e (first ∷ others) → IsFirst e (first ∷ (others ++ rest))
+    by Memory is = tt
+    by (Undeclared line) is = is
+    by (Redeclared line) is = is
+    by (NotArray line) is = is
+    by (NotScalar line) is = is
+    by (BadSize line) is = is
+    by (OutsideLoop line) is = is
+    by (TooManyScalars line) is = is
+    by (TooManyArrays line) is = is
+    by (TooManyElements line) is = is
+    by (TooDeep line) is = is
+IsFirst-front e [] rest is = by e is
+  where
+    by : (e : CheckError) → IsFirst e [] → IsFirst e rest
+    by Memory is = tt
+    by (Undeclared line) is = cc
+    by (Redeclared line) is = cc
+    by (NotArray line) is = cc
+    by (NotScalar line) is = cc
+    by (BadSize line) is = cc
+    by (OutsideLoop line) is = cc
+    by (TooManyScalars line) is = cc
+    by (TooManyArrays line) is = cc
+    by (TooManyElements line) is = cc
+    by (TooDeep line) is = cc
+
+-- where the front has no fault, the first of the rest is the first of the whole
+pub IsFirst-rest : (e : CheckError) (front rest : List CheckError) → front ≡ [] → IsFirst e rest → IsFirst e (front ++ rest)
+IsFirst-rest e front rest none is =
+    let P : List CheckError → Type 0 = λ x. IsFirst e (x ++ rest) in subst P (sym none) is
+
+-- no fault in the front and none in the rest is none at all
+pub none_in_both : (front rest : List CheckError) → front ≡ [] → rest ≡ [] → front ++ rest ≡ []
+none_in_both front rest none still = ap (λ (x : List CheckError). x ++ rest) none ∙ still
+
+pub ruleset first_faults = (IsFirst-memory, IsFirst-front, IsFirst-rest, none_in_both)
+
+-- a fault that is passed on by `?` stays
+pub passed_on : {X : Type 0} (r : Result X CheckError) (e : CheckError) (found : List CheckError) →
+    IsErrAnd r (λ x. x ≡ e) → IsFirst e found → IfErr r (λ x. IsFirst x found)
+passed_on (Ok value) e found same is = tt
+passed_on (Err x) e found same is = let P : CheckError → Type 0 = λ y. IsFirst y found in subst P (sym same) is

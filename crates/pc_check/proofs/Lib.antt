@@ -1,0 +1,11 @@
+pub mod Rows
+pub mod SizeLaws
+pub mod ScopeLaws
+pub mod FaultLaws
+pub mod ExpressionLaws
+pub mod NameLaws
+pub mod StatementLaws
+pub mod ScopeForms
+pub mod SoundLaws
+pub mod ProgramLaws
+pub mod Examples

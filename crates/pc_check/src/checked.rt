@@ -1,0 +1,31 @@
+ghost use Rattle.std.specs.Prelude.{◌≤◌, false, IsTrue, length, sum};
+ghost use Rattle.std.specs.List.{list_all};
+ghost use Rattle.pc_syntax.specs.Source.{SourceProgram};
+ghost use Rattle.pc_syntax.specs.Erasure.{list_of, program_of};
+ghost use Rattle.pc_check.specs.Sound.{is_length, list_is_sound};
+ghost use Rattle.pc_check.specs.Answers.{Resolves};
+
+use pc_syntax::Program;
+use pc_word::LengthList;
+
+/// A program without faults, with a number for each name.
+///
+/// It is what `check` gives of some program. So what was checked holds of it, and is told by the other
+/// ghost fields: each name is a slot that it declares, no expression needs more than 32 temporaries, and
+/// each `break` and `continue` stands in a loop's body.
+#[derive(Debug, Drop)]
+pub struct Checked {
+    /// How many scalars the program declares, at most 64.
+    pub scalars: u8,
+    /// The lengths of its arrays, at most 32.
+    pub arrays: LengthList,
+    /// Its statements. A symbol is the number of a scalar or of an array, each counted from 0 in the order
+    /// of declaration.
+    pub body: Program,
+    pub ghost few_scalars: { scalars ≤ 64 },
+    pub ghost few_arrays: { length arrays ≤ 32 },
+    pub ghost sized: { IsTrue (list_all is_length arrays) },
+    pub ghost few_elements: { sum arrays ≤ 1048576 },
+    pub ghost sound: { IsTrue (list_is_sound scalars (length arrays) false (list_of body.items)) },
+    pub ghost of_a_program: { ∥ ((program : SourceProgram) × Resolves program (record { scalars = scalars; arrays = arrays; body = program_of body })) ∥₁ },
+}

@@ -1,0 +1,149 @@
+ghost use Rattle.std.specs.Prelude.{◌≡◌, ◌<◌, [], OnOk, IfOk, IfErr, option_map};
+ghost use Rattle.pc_syntax.specs.Erasure.{expression_of};
+ghost use Rattle.pc_check.specs.Names.{found};
+ghost use Rattle.pc_check.specs.Faults.{scalar_use, array_use, expression_faults, optional_faults};
+ghost use Rattle.pc_check.specs.Resolution.{number_of, slot_number, resolved_expression};
+ghost use Rattle.pc_check.specs.Answers.{IsFirst, ExpressionResolves, OptionalResolves};
+ghost use Rattle.pc_check.specs.View.{names_of};
+
+use crate::error::CheckError;
+use crate::scopes::Scopes;
+use crate::slot::Slot;
+use pc_syntax::Expr;
+use std::alloc::Global;
+
+/// The number of a scalar, by its name.
+pub(crate) fn scalar_slot(scopes: &Scopes, symbol: u32, line: u32) -> Result<u32, CheckError>
+    ensures faultless { OnOk result (scalar_use (found (names_of scopes.now) symbol) line ≡ []) }
+    ensures number { IfOk result (λ number. number ≡ slot_number (names_of scopes.now) symbol) }
+    ensures refused { IfErr result (λ e. IsFirst e (scalar_use (found (names_of scopes.now) symbol) line)) }
+{
+    match scopes.find(symbol) {
+        None => Err(CheckError::Undeclared { line }),
+        Some(Slot::Array { .. }) => Err(CheckError::NotScalar { line }),
+        Some(Slot::Scalar { number }) => Ok(u32::from(number)),
+    }
+}
+
+/// The number of an array, by its name.
+pub(crate) fn array_slot(scopes: &Scopes, symbol: u32, line: u32) -> Result<u32, CheckError>
+    ensures faultless { OnOk result (array_use (found (names_of scopes.now) symbol) line ≡ []) }
+    ensures number { IfOk result (λ number. number ≡ slot_number (names_of scopes.now) symbol) }
+    ensures refused { IfErr result (λ e. IsFirst e (array_use (found (names_of scopes.now) symbol) line)) }
+{
+    match scopes.find(symbol) {
+        None => Err(CheckError::Undeclared { line }),
+        Some(Slot::Scalar { .. }) => Err(CheckError::NotArray { line }),
+        Some(Slot::Array { number }) => Ok(u32::from(number)),
+    }
+}
+
+/// The expression with the number of its slot for each name.
+#[cycle(resolve_expression)]
+#[tactic(auto, using(pc_syntax::proofs::ErasureLaws::expression_forms, crate::proofs::FaultLaws::first_faults), unfolding(crate::specs::Faults::expression_faults, crate::specs::Resolution::resolved_expression))]
+pub(crate) fn resolve_expression(
+    alloc: Global,
+    scopes: &Scopes,
+    from: &Expr,
+) -> Result<Expr, CheckError>
+    ensures resolved { IfOk result (λ to. ExpressionResolves (names_of scopes.now) (expression_of from.now)
+        (expression_of to)) }
+    ensures refused { IfErr result (λ e. IsFirst e
+        (expression_faults (names_of scopes.now) (expression_of from.now))) }
+{
+    match from {
+        Expr::Lit { value } => Ok(Expr::Lit { value: *value }),
+        Expr::Name { symbol, line } => {
+            let symbol = scalar_slot(scopes, *symbol, *line)?;
+            Ok(Expr::Name {
+                symbol,
+                line: *line,
+            })
+        }
+        Expr::Read { line } => Ok(Expr::Read { line: *line }),
+        Expr::Element {
+            symbol,
+            line,
+            at,
+            index,
+        } => {
+            let symbol = array_slot(scopes, *symbol, *line)?;
+            let index = resolve_boxed(alloc, scopes, index)?;
+            Ok(Expr::Element {
+                symbol,
+                line: *line,
+                at: *at,
+                index,
+            })
+        }
+        Expr::Unary { op, of } => {
+            let of = resolve_boxed(alloc, scopes, of)?;
+            Ok(Expr::Unary { op: *op, of })
+        }
+        Expr::Binary {
+            op,
+            at,
+            left,
+            right,
+        } => {
+            let left = resolve_boxed(alloc, scopes, left)?;
+            let right = resolve_boxed(alloc, scopes, right)?;
+            Ok(Expr::Binary {
+                op: *op,
+                at: *at,
+                left,
+                right,
+            })
+        }
+        Expr::Both { left, right } => {
+            let left = resolve_boxed(alloc, scopes, left)?;
+            let right = resolve_boxed(alloc, scopes, right)?;
+            Ok(Expr::Both { left, right })
+        }
+        Expr::Either { left, right } => {
+            let left = resolve_boxed(alloc, scopes, left)?;
+            let right = resolve_boxed(alloc, scopes, right)?;
+            Ok(Expr::Either { left, right })
+        }
+        Expr::Choose { test, yes, no } => {
+            let test = resolve_boxed(alloc, scopes, test)?;
+            let yes = resolve_boxed(alloc, scopes, yes)?;
+            let no = resolve_boxed(alloc, scopes, no)?;
+            Ok(Expr::Choose { test, yes, no })
+        }
+    }
+}
+
+/// The same, in a box of its own.
+#[cycle(resolve_expression)]
+#[tactic(auto, using(pc_syntax::proofs::ErasureLaws::expression_forms, crate::proofs::FaultLaws::first_faults), unfolding(crate::specs::Faults::expression_faults, crate::specs::Resolution::resolved_expression))]
+fn resolve_boxed(alloc: Global, scopes: &Scopes, from: &Expr) -> Result<Box<Expr>, CheckError>
+    ensures resolved { IfOk result (λ to. ExpressionResolves (names_of scopes.now) (expression_of from.now)
+        (expression_of to.value)) }
+    ensures refused { IfErr result (λ e. IsFirst e
+        (expression_faults (names_of scopes.now) (expression_of from.now))) }
+{
+    let to = resolve_expression(alloc, scopes, from)?;
+    Ok(Box::new(alloc, to)?)
+}
+
+/// The same of an expression that may be left out.
+#[tactic(auto, using(pc_syntax::proofs::ErasureLaws::expression_forms, crate::proofs::FaultLaws::first_faults), unfolding(crate::specs::Faults::expression_faults, crate::specs::Resolution::resolved_expression))]
+pub(crate) fn resolve_optional(
+    alloc: Global,
+    scopes: &Scopes,
+    from: &Option<Expr>,
+) -> Result<Option<Expr>, CheckError>
+    ensures resolved { IfOk result (λ to. OptionalResolves (names_of scopes.now)
+        (option_map expression_of from.now) (option_map expression_of to)) }
+    ensures refused { IfErr result (λ e. IsFirst e
+        (optional_faults (names_of scopes.now) (option_map expression_of from.now))) }
+{
+    match from {
+        None => Ok(None),
+        Some(from) => {
+            let to = resolve_expression(alloc, scopes, from)?;
+            Ok(Some(to))
+        }
+    }
+}

@@ -1,0 +1,21 @@
+//! Names and limits of a source program: what each name stands for, and what is wrong with a program
+//! that reads but cannot be compiled.
+#![tactic(auto)]
+
+mod checked;
+mod error;
+mod expression;
+mod measure;
+mod program;
+mod scopes;
+mod search;
+mod slot;
+mod statement;
+
+pub use checked::Checked;
+pub use error::CheckError;
+pub use measure::{need, size};
+pub use program::check;
+
+#[cfg(test)]
+mod tests;
