@@ -1,6 +1,6 @@
 -- What holds of every checked program: each name is a slot that there is, no expression needs too many
 -- temporaries, and each `break` and `continue` stands in a loop's body.
-use Rattle.std.specs.Prelude.{ℕ, Bool, true, false, ◌&&◌, Option, Some, None, List, nat_lt, nat_le, length}
+use Rattle.std.specs.Prelude.{ℕ, Bool, true, ◌&&◌, Option, Some, None, nat_lt, nat_le}
 use Rattle.pc_syntax.specs.Source.{SourceExpression, Literal, Variable, Input, Indexed, Prefixed, Combined, Conjunction, Disjunction, Conditional, SourceStatement, Scope, ScalarDeclaration, ArrayDeclaration, Assignment, Printing, Evaluation, Branch, WhileLoop, DoLoop, ForLoop, BreakOut, ContinueOn, ReturnFrom, Nothing, OptionalStatement, Absent, Present, SourceList, No_more, More}
 use Rattle.pc_check.specs.Needs.{need, optional_need, assignment_need}
 

@@ -35,7 +35,7 @@ pub(crate) struct Scopes {
 }
 
 impl Scopes {
-    ghost use Rattle.std.specs.Prelude.{◌≡◌, [], OnOk, OnErr, IfOk, IfErr};
+    ghost use Rattle.std.specs.Prelude.{◌≡◌, [], OnOk, IfOk, IfErr};
     ghost use Rattle.pc_check.specs.Names.{no_names, found, entered, with_scalar, with_array};
     ghost use Rattle.pc_check.specs.Faults.{scalar_faults, array_faults};
     ghost use Rattle.pc_check.specs.Answers.{IsFirst};
