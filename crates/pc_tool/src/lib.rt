@@ -8,5 +8,7 @@ mod literals;
 mod program;
 mod refusal;
 mod scan;
+#[cfg(test)]
+mod tests;
 
 pub use program::{Status, Who, tool};

@@ -1,0 +1,8 @@
+use Rattle.std.proofs.Common.{◌≡◌, drop, map}
+use Rattle.pc_machine.specs.RowStep.{some_meet}
+use Rattle.pc_vm.specs.Planned.{stored_of}
+use Rattle.pc_vm.proofs.pending.any_meet.Given as goal
+
+-- two stores meet where two of those that are left do
+abbrev pub invariant-loop-at : goal.invariant-loop-at
+invariant-loop-at l = some_meet (map stored_of l.stores) ≡ some_meet (map stored_of (drop l.at l.stores))

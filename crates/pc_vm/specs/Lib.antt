@@ -1,0 +1,5 @@
+pub mod Contents
+pub mod Planned
+pub mod RowResult
+pub mod Standing
+pub mod Sound

@@ -1,0 +1,82 @@
+//! One row: its path is planned, and then faults or is done.
+ghost use Rattle.std.specs.Prelude.{◌≡◌, ◌+◌, ◌≤◌, length, IsTrue};
+ghost use Rattle.std.specs.List.{count_by};
+ghost use Rattle.pc_machine.specs.Row.{row_of};
+ghost use Rattle.pc_machine.specs.RowStep.{path_of, leaf_of, row_step};
+ghost use Rattle.pc_machine.specs.WellFormed.{is_effect};
+ghost use Rattle.pc_vm.specs.Contents.{names_of, lengths_of, state_of};
+ghost use Rattle.pc_vm.specs.Planned.{nothing_planned, planned_by};
+ghost use Rattle.pc_vm.specs.RowResult.{IsRunnable, longest, leaf_reached, outcome_of, KeepsOnFault};
+
+use crate::pending::Pending;
+use crate::values::Values;
+use pc_machine::Tree;
+use pc_word::{MachineFault, TrapKind};
+
+/// The leaf that a path comes to.
+#[derive(Clone, Copy, Debug)]
+pub(crate) enum Next {
+    Row { row: u32 },
+    Stop,
+    Trap { kind: TrapKind, line: u32 },
+}
+
+/// What a row did.
+#[derive(Clone, Copy, Debug)]
+pub(crate) enum RowResult {
+    /// Nothing, for this fault.
+    Faulted { fault: MachineFault },
+    /// All the items of its path, of which one printed this number, if any.
+    Done { printed: Option<i32>, next: Next },
+}
+
+/// Plans the items of the path that the values take through a tree, and gives its leaf.
+pub(crate) fn plan(tree: &Tree, values: &Values, pending: &mut Pending) -> Next
+    requires row { IsRunnable (length values.now.cells) (row_of tree.now) }
+    requires writes { length pending.old.writes + longest (row_of tree.now) ≤ 32 }
+    requires stores { length pending.old.stores + longest (row_of tree.now) ≤ 32 }
+    ensures leaf { leaf_reached result ≡ leaf_of (names_of values.now.registers) (row_of tree.now) }
+    ensures planned { pending.new ≡ planned_by (lengths_of values.now.cells) (state_of values.now) (path_of (names_of values.now.registers) (row_of tree.now)) pending.old }
+{
+    match tree {
+        Tree::Step { item, next } => {
+            pending.add(values, item);
+            plan(next, values, pending)
+        }
+        Tree::Test { on, yes, no } => {
+            if values.operand(on) != 0 {
+                plan(yes, values, pending)
+            } else {
+                plan(no, values, pending)
+            }
+        }
+        Tree::Goto { row } => Next::Row { row: *row },
+        Tree::Stop => Next::Stop,
+        Tree::Trap { kind, line } => Next::Trap {
+            kind: *kind,
+            line: *line,
+        },
+    }
+}
+
+/// Runs a row on the values. The plan is empty before and after.
+pub(crate) fn run_row(tree: &Tree, values: &mut Values, pending: &mut Pending) -> RowResult
+    requires row { IsRunnable (length values.old.cells) (row_of tree.now) }
+    requires short { longest (row_of tree.now) ≤ 32 }
+    requires one_effect { count_by is_effect (path_of (names_of values.old.registers) (row_of tree.now)) ≤ 1 }
+    requires registers { length values.old.registers ≡ 128 }
+    requires empty { pending.old ≡ nothing_planned }
+    ensures step { outcome_of result (state_of values.new) ≡ row_step (lengths_of values.old.cells) (row_of tree.now) (state_of values.old) }
+    ensures fault { KeepsOnFault result values.old values.new }
+    ensures registers { length values.new.registers ≡ 128 }
+    ensures lengths { lengths_of values.new.cells ≡ lengths_of values.old.cells }
+    ensures planned { pending.new ≡ nothing_planned }
+{
+    let next = plan(tree, values, pending);
+    if let Some(fault) = pending.fault(values.some_left()) {
+        pending.clear();
+        return RowResult::Faulted { fault };
+    }
+    let printed = pending.commit(values);
+    RowResult::Done { printed, next }
+}
