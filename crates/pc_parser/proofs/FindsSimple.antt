@@ -1,0 +1,341 @@
+-- The parser of simple statements and declarations finds a reading that the budget allows.
+use Rattle.std.proofs.Common.{◌≡◌, refl, sym, ap, ◌∙◌, subst, ℕ, ℤ, zero, suc, pos, ◌+◌, ◌-◌, ◌<◌, ◌≤◌, ◌⊎◌, inl, inr, Bool, true, false, List, length, arith, cond}
+use Rattle.std.specs.Prelude.{Option, Some, None, max}
+use Rattle.pc_lexer.specs.declared.token.Token.{Token}
+use Rattle.pc_lexer.specs.declared.token.TokenKind.{TokenKind}
+use Rattle.pc_lexer.specs.declared.token.TokenKind.TheVariants as kinds
+use Rattle.pc_lexer.specs.declared.mark.Mark.{Mark}
+use Rattle.pc_lexer.specs.declared.mark.Mark.TheVariants as marks
+use Rattle.pc_lexer.specs.declared.keyword.Keyword.TheVariants as keys
+use Rattle.pc_syntax.specs.declared.operator.BinaryOp.{BinaryOp}
+use Rattle.pc_syntax.specs.Source.{SourceExpression, SourceStatement, SourceList, OptionalStatement, Literal, ScalarDeclaration, ArrayDeclaration, Printing, Evaluation, Absent, Present, No_more, More}
+use Rattle.pc_parser.specs.declared.operator.Operator.{Operator}
+use Rattle.pc_parser.specs.Places.{kind_at, line_at, is_mark, is_key, mark_is, key_is}
+use Rattle.pc_parser.specs.Operators.{operator_of, assignment_of, step_of}
+use Rattle.pc_parser.specs.Expressions.{ReadsExpression}
+use Rattle.pc_parser.specs.Statements.{Target, assigned, ReadsTarget, ReadsTest, ReadsSimple, ReadsDeclarator, ReadsDeclarators, ReadsDeclaration, ReadsFirst, ReadsCondition, ReadsStep}
+use Rattle.pc_parser.specs.Outcome.{Outcome, Parsed, Unreadable, TooHigh, after, allowed, expect, expect_key}
+use Rattle.pc_parser.specs.ExpressionParser.{operator_from, tight, sign_of, target_named, target_tree, target_height, primary_on, name_at, unary_on, unary_at, climb, choice, operand, part, expression_at, below}
+use Rattle.pc_parser.specs.StatementParser.{assignment_from, step_from, symbol_of, length_of, name_budget, test_at, closed_behind, closed, target_on, target_at, evaluation, evaluation_from, print_at, step_before, assignment, behind_target, on_target, named, marked, simple_on, simple_at, ended_at, array, initialised, declarator_on, declarator_at, last_declarator, declarators_at, declaration_at, first_at, condition_at, step_at}
+use Rattle.pc_parser.proofs.Budgets.{expression_at-part}
+use Rattle.pc_parser.proofs.Tokens.{is_mark-of, is_key-of, is_mark-true, mark_is-self, key_is-self}
+use Rattle.pc_parser.proofs.Finds.{allowed-yes, expect-yes, expect_key-yes, after-parsed, cond-yes, cond-no, false_from, climb-ends}
+use Rattle.pc_parser.proofs.FindsExpressions.{FollowsWhole, follows-paren, follows-bracket, follows-semicolon, follows-comma, finds-lone, finds-indexed, finds-expression, expression-positive}
+use Rattle.pc_parser.proofs.Starts.{BeginsExpression, expression-begins, simple-begins}
+use Rattle.pc_parser.proofs.Onward.{inside, declarator-onward, declarators-onward}
+
+-- what stands behind a simple statement
+pub record Closes (kind : Option TokenKind) : Type 0 where
+  pub follows : FollowsWhole kind
+  pub assignment_not : assignment_from kind ≡ None
+  pub step_not : step_from kind ≡ None
+
+pub closes-semicolon : (kind : Option TokenKind) → kind ≡ Some (kinds.Mark marks.Semicolon) → Closes kind
+unfolding assignment_from step_from assignment_of step_of
+closes-semicolon kind is = record { follows = follows-semicolon kind is; assignment_not = ap assignment_from is; step_not = ap step_from is }
+
+pub closes-paren : (kind : Option TokenKind) → kind ≡ Some (kinds.Mark marks.RightParen) → Closes kind
+unfolding assignment_from step_from assignment_of step_of
+closes-paren kind is = record { follows = follows-paren kind is; assignment_not = ap assignment_from is; step_not = ap step_from is }
+
+-- no operator, and no bracket, assigns or steps
+assigns-only : (mark : Mark) → (assignment_of mark ≡ None) ⊎ ((operator_of mark ≡ None) × (step_of mark ≡ None) × (is_mark marks.LeftBracket (Some (kinds.Mark mark)) ≡ false))
+unfolding assignment_of operator_of step_of
+assigns-only marks.Assign = inr (refl, refl, refl)
+assigns-only marks.AddAssign = inr (refl, refl, refl)
+assigns-only marks.SubAssign = inr (refl, refl, refl)
+assigns-only marks.MulAssign = inr (refl, refl, refl)
+assigns-only marks.DivAssign = inr (refl, refl, refl)
+assigns-only marks.RemAssign = inr (refl, refl, refl)
+assigns-only marks.ShiftLeftAssign = inr (refl, refl, refl)
+assigns-only marks.ShiftRightAssign = inr (refl, refl, refl)
+assigns-only marks.AndAssign = inr (refl, refl, refl)
+assigns-only marks.XorAssign = inr (refl, refl, refl)
+assigns-only marks.OrAssign = inr (refl, refl, refl)
+assigns-only mark = inl refl
+
+steps-only : (mark : Mark) → (step_of mark ≡ None) ⊎ ((operator_of mark ≡ None) × (assignment_of mark ≡ None) × (is_mark marks.LeftBracket (Some (kinds.Mark mark)) ≡ false))
+unfolding assignment_of operator_of step_of
+steps-only marks.PlusPlus = inr (refl, refl, refl)
+steps-only marks.MinusMinus = inr (refl, refl, refl)
+steps-only mark = inl refl
+
+-- the test of an assignment or a step at a token that is an operator, or `?`
+operator-assigns : (kind : Option TokenKind) (found : Operator × ℕ) → operator_from 1 kind ≡ Some found → (assignment_from kind ≡ None) × (step_from kind ≡ None)
+unfolding operator_from assignment_from step_from
+operator-assigns (Some (kinds.Mark mark)) found is = (one (assigns-only mark), two (steps-only mark))
+  where
+    one : ((assignment_of mark ≡ None) ⊎ ((operator_of mark ≡ None) × (step_of mark ≡ None) × (is_mark marks.LeftBracket (Some (kinds.Mark mark)) ≡ false))) → assignment_of mark ≡ None
+    one (inl no') = no'
+    one (inr w) = let bad : tight 1 (operator_of mark) ≡ None = ap (tight 1) w.0 in cc
+
+    two : ((step_of mark ≡ None) ⊎ ((operator_of mark ≡ None) × (assignment_of mark ≡ None) × (is_mark marks.LeftBracket (Some (kinds.Mark mark)) ≡ false))) → step_of mark ≡ None
+    two (inl no') = no'
+    two (inr w) = let bad : tight 1 (operator_of mark) ≡ None = ap (tight 1) w.0 in cc
+operator-assigns (Some (kinds.Key key)) found is = cc
+operator-assigns (Some (kinds.Name symbol)) found is = cc
+operator-assigns (Some (kinds.Number value)) found is = cc
+operator-assigns None found is = cc
+
+question-assigns : (kind : Option TokenKind) → kind ≡ Some (kinds.Mark marks.Question) → (assignment_from kind ≡ None) × (step_from kind ≡ None)
+unfolding assignment_from step_from assignment_of step_of
+question-assigns kind is = (ap assignment_from is, ap step_from is)
+
+-- where an outcome that is gone on with gives a tree, it gave one
+pub gave : {A B : Type 0} (x : Outcome A) (f : A → ℕ → ℕ → Outcome B) (tree : B) (height to : ℕ) → after x f ≡ Parsed tree height to →
+    (first : A) × (i : ℕ) × (q : ℕ) × (x ≡ Parsed first i q) × (f first i q ≡ Parsed tree height to)
+gave (Parsed first i q) f tree height to is = (first, i, q, refl, is)
+gave (Unreadable at) f tree height to is = cc
+gave (TooHigh at) f tree height to is = cc
+
+module _ (tokens : List Token) where
+  pub finds-test : (b p : ℕ) (t : SourceExpression) (h q : ℕ) → ReadsTest tokens p t h q → h ≤ b → test_at tokens b p ≡ Parsed t h q
+  unfolding test_at
+  finds-test b p t h q (ReadsTest.tested {q = r} is d close') fits =
+      expect-yes tokens marks.LeftParen p _ is ∙ after-parsed (expression_at tokens b 0 (p + 1)) _ t h r (finds-expression tokens b (p + 1) t h r d (follows-paren (kind_at tokens r) close') fits) ∙ expect-yes tokens marks.RightParen r _ close'
+
+  pub test-positive : (p : ℕ) (t : SourceExpression) (h q : ℕ) → ReadsTest tokens p t h q → 1 ≤ h
+  test-positive p t h q (ReadsTest.tested {q = r} is d close') = expression-positive tokens (p + 1) t h r d
+
+  module _ (b : ℕ) where
+    -- the target that is read, in front of what is no bracket
+    finds-target : (p : ℕ) (target : Target) (i q : ℕ) → ReadsTarget tokens p target i q → is_mark marks.LeftBracket (kind_at tokens q) ≡ false → i + 1 ≤ b → target_at tokens b p ≡ Parsed target i q
+    unfolding target_at target_on symbol_of
+    finds-target p target i q (ReadsTarget.name {symbol = symbol} is) bracket fits =
+        ap (λ k. target_on tokens b (symbol_of k) p) is ∙ finds-lone tokens (name_budget b) p symbol bracket
+    finds-target p target i q (ReadsTarget.element {symbol = symbol} {height = height} {q = r} {index = index} is open' d close') bracket fits =
+        let some = expression-positive tokens (p + 2) index height r d in
+        ap (λ k. target_on tokens b (symbol_of k) p) is ∙
+        finds-indexed tokens (name_budget b) p symbol index height r open' (finds-expression tokens (name_budget b - 1) (p + 2) index height r d (follows-bracket (kind_at tokens r) close') (omega arith)) close' (omega arith)
+
+    -- a name at the beginning
+    named-at : (p : ℕ) (target : Target) (i q : ℕ) → ReadsTarget tokens p target i q → simple_at tokens b p ≡ named tokens b p
+    unfolding simple_at simple_on
+    named-at p target i q (ReadsTarget.name is) = ap (λ k. simple_on tokens b k p) is
+    named-at p target i q (ReadsTarget.element is open' d close') = ap (λ k. simple_on tokens b k p) is
+
+    assignment-bracket : (q : ℕ) (mark : Mark) (op : Option BinaryOp) → kind_at tokens q ≡ Some (kinds.Mark mark) → assignment_of mark ≡ Some op → is_mark marks.LeftBracket (kind_at tokens q) ≡ false
+    assignment-bracket q mark op is found = ap (is_mark marks.LeftBracket) is ∙ by (assigns-only mark)
+      where
+        by : ((assignment_of mark ≡ None) ⊎ ((operator_of mark ≡ None) × (step_of mark ≡ None) × (is_mark marks.LeftBracket (Some (kinds.Mark mark)) ≡ false))) → is_mark marks.LeftBracket (Some (kinds.Mark mark)) ≡ false
+        by (inl no') = cc
+        by (inr w) = w.2
+
+    step-bracket : (q : ℕ) (mark : Mark) (op : BinaryOp) → kind_at tokens q ≡ Some (kinds.Mark mark) → step_of mark ≡ Some op → is_mark marks.LeftBracket (kind_at tokens q) ≡ false
+    step-bracket q mark op is found = ap (is_mark marks.LeftBracket) is ∙ by (steps-only mark)
+      where
+        by : ((step_of mark ≡ None) ⊎ ((operator_of mark ≡ None) × (assignment_of mark ≡ None) × (is_mark marks.LeftBracket (Some (kinds.Mark mark)) ≡ false))) → is_mark marks.LeftBracket (Some (kinds.Mark mark)) ≡ false
+        by (inl no') = cc
+        by (inr w) = w.2
+
+    step-assigns : (q : ℕ) (mark : Mark) (op : BinaryOp) → kind_at tokens q ≡ Some (kinds.Mark mark) → step_of mark ≡ Some op → assignment_from (kind_at tokens q) ≡ None
+    unfolding assignment_from
+    step-assigns q mark op is found = ap assignment_from is ∙ by (steps-only mark)
+      where
+        by : ((step_of mark ≡ None) ⊎ ((operator_of mark ≡ None) × (assignment_of mark ≡ None) × (is_mark marks.LeftBracket (Some (kinds.Mark mark)) ≡ false))) → assignment_of mark ≡ None
+        by (inl no') = cc
+        by (inr w) = w.1
+
+    finds-assignment : (p : ℕ) (target : Target) (i q : ℕ) (mark : Mark) (op : Option BinaryOp) (value : SourceExpression) (j to : ℕ) → ReadsTarget tokens p target i q →
+        kind_at tokens q ≡ Some (kinds.Mark mark) → assignment_of mark ≡ Some op → ReadsExpression tokens (q + 1) value j to → FollowsWhole (kind_at tokens to) → max i j + 1 ≤ b →
+        simple_at tokens b p ≡ Parsed (assigned target op (line_at tokens q) value) (max i j + 1) to
+    unfolding named on_target assignment assignment_from
+    finds-assignment p target i q mark op value j to d is found e follows fits =
+        let some = expression-positive tokens (q + 1) value j to e in
+        named-at p target i q d ∙ allowed-yes 1 b p _ (omega arith) ∙
+        after-parsed (target_at tokens b p) _ target i q (finds-target p target i q d (assignment-bracket q mark op is found) (omega arith)) ∙
+        ap (on_target tokens b p target i q) (ap assignment_from is ∙ found) ∙ allowed-yes 2 b q _ (omega arith) ∙
+        after-parsed (expression_at tokens (b - 1) 0 (q + 1)) _ value j to (finds-expression tokens (b - 1) (q + 1) value j to e follows (omega arith))
+
+    finds-step_behind : (p : ℕ) (target : Target) (i q : ℕ) (mark : Mark) (op : BinaryOp) → ReadsTarget tokens p target i q →
+        kind_at tokens q ≡ Some (kinds.Mark mark) → step_of mark ≡ Some op → i + 1 ≤ b →
+        simple_at tokens b p ≡ Parsed (assigned target (Some op) (line_at tokens q) (Literal (pos 1))) (i + 1) (q + 1)
+    unfolding named on_target behind_target step_from
+    finds-step_behind p target i q mark op d is found fits =
+        named-at p target i q d ∙ allowed-yes 1 b p _ (omega arith) ∙
+        after-parsed (target_at tokens b p) _ target i q (finds-target p target i q d (step-bracket q mark op is found) (omega arith)) ∙
+        ap (on_target tokens b p target i q) (step-assigns q mark op is found) ∙ ap (behind_target tokens b p target i q) (ap step_from is ∙ found)
+
+    finds-step_before : (p : ℕ) (target : Target) (i q : ℕ) (mark : Mark) (op : BinaryOp) → kind_at tokens p ≡ Some (kinds.Mark mark) → step_of mark ≡ Some op →
+        ReadsTarget tokens (p + 1) target i q → is_mark marks.LeftBracket (kind_at tokens q) ≡ false → i + 1 ≤ b →
+        simple_at tokens b p ≡ Parsed (assigned target (Some op) (line_at tokens p) (Literal (pos 1))) (i + 1) q
+    unfolding simple_at simple_on marked step_before
+    finds-step_before p target i q mark op is found d bracket fits =
+        ap (λ k. simple_on tokens b k p) is ∙ ap (λ s. marked tokens b s p) found ∙ allowed-yes 1 b p _ (omega arith) ∙
+        after-parsed (target_at tokens b (p + 1)) _ target i q (finds-target (p + 1) target i q d bracket fits)
+
+    finds-print : (p : ℕ) (value : SourceExpression) (h q : ℕ) → kind_at tokens p ≡ Some (kinds.Key keys.Print) → ReadsTest tokens (p + 1) value h q → h + 1 ≤ b →
+        simple_at tokens b p ≡ Parsed (Printing (line_at tokens p) value) (h + 1) q
+    unfolding simple_at simple_on print_at
+    finds-print p value h q is d fits =
+        let some = test-positive (p + 1) value h q d in
+        ap (λ k. simple_on tokens b k p) is ∙ allowed-yes 2 b p _ (omega arith) ∙ after-parsed (test_at tokens (b - 1) (p + 1)) _ value h q (finds-test (b - 1) (p + 1) value h q d (omega arith))
+
+    -- an expression that begins with a name, by its target
+    split-name : (e p symbol : ℕ) → kind_at tokens p ≡ Some (kinds.Name symbol) → 1 ≤ e →
+        expression_at tokens e 0 p ≡ after (after (after (target_named tokens (below tokens e) e symbol p) (λ target height to. Parsed (target_tree target) (target_height target height) to)) (λ tree height to. climb tokens (below tokens e) e 1 e tree height to)) (choice tokens (below tokens e) e)
+    unfolding part operand unary_at unary_on sign_of primary_on name_at
+    split-name e p symbol is low =
+        expression_at-part tokens e 0 p ∙ ap (λ k. after (after (unary_on tokens (below tokens e) e (sign_of k) p) (λ tree height to. climb tokens (below tokens e) e 1 e tree height to)) (choice tokens (below tokens e) e)) is ∙
+        ap (λ k. after (after (primary_on tokens (below tokens e) e k p) (λ tree height to. climb tokens (below tokens e) e 1 e tree height to)) (choice tokens (below tokens e) e)) is ∙
+        ap (λ o. after (after o (λ tree height to. climb tokens (below tokens e) e 1 e tree height to)) (choice tokens (below tokens e) e)) (allowed-yes 1 e p _ low)
+
+    -- behind a target with which an expression goes on, nothing is assigned
+    goes-on : (e at : ℕ) (tree : SourceExpression) (height : ℕ) (value : SourceExpression) (h q : ℕ) → Closes (kind_at tokens q) →
+        after (climb tokens (below tokens e) e 1 e tree height at) (choice tokens (below tokens e) e) ≡ Parsed value h q →
+        (assignment_from (kind_at tokens at) ≡ None) × (step_from (kind_at tokens at) ≡ None)
+    unfolding choice
+    goes-on e at tree height value h q closes is = by_operator (operator_from 1 (kind_at tokens at)) refl
+      where
+        by_question : (t : Bool) → is_mark marks.Question (kind_at tokens at) ≡ t → operator_from 1 (kind_at tokens at) ≡ None → (assignment_from (kind_at tokens at) ≡ None) × (step_from (kind_at tokens at) ≡ None)
+        by_question true yes' none = question-assigns (kind_at tokens at) (is_mark-true marks.Question (kind_at tokens at) yes')
+        by_question false no' none =
+            let ends : Parsed tree height at ≡ Parsed value h q = sym (ap (λ o. after o (choice tokens (below tokens e) e)) (climb-ends tokens (below tokens e) e 1 e tree height at none) ∙ cond-no _ _ _ no') ∙ is in
+            let same : at ≡ q = cc in
+            (ap (λ n. assignment_from (kind_at tokens n)) same ∙ closes.assignment_not, ap (λ n. step_from (kind_at tokens n)) same ∙ closes.step_not)
+
+        by_operator : (found : Option (Operator × ℕ)) → operator_from 1 (kind_at tokens at) ≡ found → (assignment_from (kind_at tokens at) ≡ None) × (step_from (kind_at tokens at) ≡ None)
+        by_operator (Some found) found_is = operator-assigns (kind_at tokens at) found found_is
+        by_operator None none = by_question (is_mark marks.Question (kind_at tokens at)) refl none
+
+    finds-evaluation-name : (p : ℕ) (value : SourceExpression) (h q symbol : ℕ) → kind_at tokens p ≡ Some (kinds.Name symbol) → expression_at tokens (b - 1) 0 p ≡ Parsed value h q → Closes (kind_at tokens q) → 1 ≤ h → h + 1 ≤ b →
+        simple_at tokens b p ≡ Parsed (Evaluation (line_at tokens p) value) (h + 1) q
+    unfolding simple_at simple_on named target_at target_on symbol_of on_target behind_target evaluation_from
+    finds-evaluation-name p value h q symbol is found closes some fits =
+        let e = b - 1 in
+        let budget : name_budget b ≡ b - 1 = omega arith in
+        let whole = sym (split-name (b - 1) p symbol is (omega arith)) ∙ found in
+        let outer = gave _ _ value h q whole in
+        let inner = gave _ _ outer.0 outer.1 outer.2 outer.3 in
+        let first = gave _ _ inner.0 inner.1 inner.2 inner.3 in
+        let target = first.0 in
+        let same : Parsed (target_tree first.0) (target_height first.0 first.1) first.2 ≡ Parsed inner.0 inner.1 inner.2 = first.4 in
+        let rest : after (climb tokens (below tokens (b - 1)) (b - 1) 1 (b - 1) (target_tree first.0) (target_height first.0 first.1) first.2) (choice tokens (below tokens (b - 1)) (b - 1)) ≡ Parsed value h q =
+        ap (λ o. after (after o (λ tree height to. climb tokens (below tokens (b - 1)) (b - 1) 1 (b - 1) tree height to)) (choice tokens (below tokens (b - 1)) (b - 1))) same ∙ ap (λ o. after o (choice tokens (below tokens (b - 1)) (b - 1))) inner.4 ∙ outer.4 in
+        let none = goes-on (b - 1) first.2 (target_tree first.0) (target_height first.0 first.1) value h q closes rest in
+        ap (λ k. simple_on tokens b k p) is ∙ allowed-yes 1 b p _ (omega arith) ∙
+        after-parsed (target_at tokens b p) _ first.0 first.1 first.2 (ap (λ k. target_on tokens b (symbol_of k) p) is ∙ ap (λ n. target_named tokens (below tokens n) n symbol p) budget ∙ first.3) ∙
+        ap (on_target tokens b p first.0 first.1 first.2) none.0 ∙ ap (behind_target tokens b p first.0 first.1 first.2) none.1 ∙
+        ap (λ n. after (climb tokens (below tokens n) n 1 n (target_tree first.0) (target_height first.0 first.1) first.2) (λ left i r. after (choice tokens (below tokens n) n left i r) (λ value' j to. Parsed (Evaluation (line_at tokens p) value') (j + 1) to))) budget ∙
+        regrouped (climb tokens (below tokens (b - 1)) (b - 1) 1 (b - 1) (target_tree first.0) (target_height first.0 first.1) first.2) (choice tokens (below tokens (b - 1)) (b - 1)) (λ value' j to. Parsed (Evaluation (line_at tokens p) value') (j + 1) to) ∙
+        ap (λ o. after o (λ value' j to. Parsed (Evaluation (line_at tokens p) value') (j + 1) to)) rest
+      where
+        regrouped : (x : Outcome SourceExpression) (f : SourceExpression → ℕ → ℕ → Outcome SourceExpression) (g : SourceExpression → ℕ → ℕ → Outcome SourceStatement) → after x (λ tree height to. after (f tree height to) g) ≡ after (after x f) g
+        regrouped (Parsed tree height to) f g = refl
+        regrouped (Unreadable at) f g = refl
+        regrouped (TooHigh at) f g = refl
+
+    finds-evaluation : (p : ℕ) (value : SourceExpression) (h q : ℕ) → ReadsExpression tokens p value h q → Closes (kind_at tokens q) → h + 1 ≤ b → simple_at tokens b p ≡ Parsed (Evaluation (line_at tokens p) value) (h + 1) q
+    unfolding simple_at evaluation
+    finds-evaluation p value h q d closes fits = by (expression-begins tokens p value h q d).route
+      where
+        found : expression_at tokens (b - 1) 0 p ≡ Parsed value h q
+        found = finds-expression tokens (b - 1) p value h q d closes.follows (omega arith)
+
+        by : (((symbol : ℕ) × (kind_at tokens p ≡ Some (kinds.Name symbol))) ⊎ ((tokens' : List Token) (budget from : ℕ) → simple_on tokens' budget (kind_at tokens p) from ≡ evaluation tokens' budget from)) →
+            simple_on tokens b (kind_at tokens p) p ≡ Parsed (Evaluation (line_at tokens p) value) (h + 1) q
+        by (inl (symbol, is)) = finds-evaluation-name p value h q symbol is found closes (expression-positive tokens p value h q d) fits
+        by (inr route) = route tokens b p ∙ after-parsed (expression_at tokens (b - 1) 0 p) _ value h q found
+
+    pub finds-simple : (p : ℕ) (s : SourceStatement) (h q : ℕ) → ReadsSimple tokens p s h q → Closes (kind_at tokens q) → h ≤ b → simple_at tokens b p ≡ Parsed s h q
+    finds-simple p s h q (ReadsSimple.assignment {i = i} {q = r} {j = j} {target = target} {mark = mark} {op = op} {value = value} d is found e) closes fits = finds-assignment p target i r mark op value j q d is found e closes.follows fits
+    finds-simple p s h q (ReadsSimple.step_behind {height = i} {q = r} {target = target} {mark = mark} {op = op} d is found) closes fits = finds-step_behind p target i r mark op d is found fits
+    finds-simple p s h q (ReadsSimple.step_before {height = i} {target = target} {mark = mark} {op = op} is found d) closes fits = finds-step_before p target i q mark op is found d closes.follows.bracket fits
+    finds-simple p s h q (ReadsSimple.print {height = i} {value = value} is d) closes fits = finds-print p value i q is d fits
+    finds-simple p s h q (ReadsSimple.evaluation {height = i} {value = value} d) closes fits = finds-evaluation p value i q d closes fits
+
+    pub closed-yes : (mark : Mark) (x : Outcome SourceStatement) (s : SourceStatement) (h q : ℕ) → x ≡ Parsed s h q → kind_at tokens q ≡ Some (kinds.Mark mark) → h ≤ b → closed tokens mark b x ≡ Parsed s h (q + 1)
+    unfolding closed closed_behind
+    closed-yes mark x s h q is close' fits = after-parsed x _ s h q is ∙ expect-yes tokens mark q _ close' ∙ allowed-yes h b q _ fits
+
+    pub finds-ended : (p : ℕ) (s : SourceStatement) (h q : ℕ) → ReadsSimple tokens p s h q → kind_at tokens q ≡ Some (kinds.Mark marks.Semicolon) → h ≤ b → ended_at tokens b p ≡ Parsed s h (q + 1)
+    unfolding ended_at
+    finds-ended p s h q d close' fits = closed-yes marks.Semicolon (simple_at tokens b p) s h q (finds-simple p s h q d (closes-semicolon (kind_at tokens q) close') fits) close' fits
+
+    -- what ends a declarator
+    record EndsDeclarator (kind : Option TokenKind) : Type 0 where
+      pub follows : FollowsWhole kind
+      pub assign_not : is_mark marks.Assign kind ≡ false
+
+    ends-comma : (kind : Option TokenKind) → kind ≡ Some (kinds.Mark marks.Comma) → EndsDeclarator kind
+    ends-comma kind is = record { follows = follows-comma kind is; assign_not = ap (is_mark marks.Assign) is }
+
+    ends-semicolon : (kind : Option TokenKind) → kind ≡ Some (kinds.Mark marks.Semicolon) → EndsDeclarator kind
+    ends-semicolon kind is = record { follows = follows-semicolon kind is; assign_not = ap (is_mark marks.Assign) is }
+
+    declarator-named : (p symbol : ℕ) → kind_at tokens p ≡ Some (kinds.Name symbol) → declarator_at tokens b p ≡ declarator_on tokens b (Some symbol) p
+    unfolding declarator_at symbol_of
+    declarator-named p symbol is = ap (λ k. declarator_on tokens b (symbol_of k) p) is
+
+    finds-declarator : (p : ℕ) (s : SourceStatement) (h q : ℕ) → ReadsDeclarator tokens p s h q → EndsDeclarator (kind_at tokens q) → h ≤ b → declarator_at tokens b p ≡ Parsed s h q
+    unfolding declarator_on initialised array length_of
+    finds-declarator p s h q (ReadsDeclarator.scalar {symbol = symbol} is) ends fits =
+        declarator-named p symbol is ∙ cond-no _ _ _ ends.assign_not ∙ cond-no _ _ _ ends.follows.bracket
+    finds-declarator p s h q (ReadsDeclarator.initialised {symbol = symbol} {height = i} {value = value} is assign d) ends fits =
+        let some = expression-positive tokens (p + 2) value i q d in
+        declarator-named p symbol is ∙ cond-yes _ _ _ (is_mark-of marks.Assign (kind_at tokens (p + 1)) assign) ∙ allowed-yes 2 b (p + 1) _ (omega arith) ∙
+        after-parsed (expression_at tokens (b - 1) 0 (p + 2)) _ value i q (finds-expression tokens (b - 1) (p + 2) value i q d ends.follows (omega arith))
+    finds-declarator p s h q (ReadsDeclarator.array {symbol = symbol} {length = size} is open' number close') ends fits =
+        declarator-named p symbol is ∙ cond-no _ _ _ (ap (is_mark marks.Assign) open') ∙ cond-yes _ _ _ (is_mark-of marks.LeftBracket (kind_at tokens (p + 1)) open') ∙
+        ap (λ k. array tokens symbol p (length_of k)) number ∙ expect-yes tokens marks.RightBracket (p + 3) _ close'
+
+    declarator-positive : (p : ℕ) (s : SourceStatement) (h q : ℕ) → ReadsDeclarator tokens p s h q → 1 ≤ h
+    declarator-positive p s h q (ReadsDeclarator.scalar is) = omega arith
+    declarator-positive p s h q (ReadsDeclarator.initialised is assign d) = omega arith
+    declarator-positive p s h q (ReadsDeclarator.array is open' number close') = omega arith
+
+    declarators-positive : (p : ℕ) (trees : SourceList) (h q : ℕ) → ReadsDeclarators tokens p trees h q → 1 ≤ h
+    declarators-positive p trees h q (ReadsDeclarators.last {q = r} {tree = tree} d close') = declarator-positive p tree h r d
+    declarators-positive p trees h q (ReadsDeclarators.comma {i = i} {q = r} {tree = tree} d comma e) = let some = declarator-positive p tree i r d in omega arith
+
+    declarator-inside : (p : ℕ) (s : SourceStatement) (h q : ℕ) → ReadsDeclarator tokens p s h q → p < length tokens
+    declarator-inside p s h q (ReadsDeclarator.scalar is) = inside tokens p _ is
+    declarator-inside p s h q (ReadsDeclarator.initialised is assign d) = inside tokens p _ is
+    declarator-inside p s h q (ReadsDeclarator.array is open' number close') = inside tokens p _ is
+
+    finds-declarators : (n p : ℕ) (trees : SourceList) (h q : ℕ) → ReadsDeclarators tokens p trees h q → length tokens < p + n → h ≤ b → declarators_at tokens b n p ≡ Parsed trees h q
+    unfolding declarators_at last_declarator
+    finds-declarators zero p trees h q (ReadsDeclarators.last {q = r} {tree = tree} d close') enough fits = let a = declarator-inside p tree h r d in absurd (omega arith)
+    finds-declarators zero p trees h q (ReadsDeclarators.comma {i = i} {q = r} {tree = tree} d comma e) enough fits = let a = declarator-inside p tree i r d in absurd (omega arith)
+    finds-declarators (suc n) p trees h q (ReadsDeclarators.last {q = r} {tree = tree} d close') enough fits =
+        after-parsed (declarator_at tokens b p) _ tree h r (finds-declarator p tree h r d (ends-semicolon (kind_at tokens r) close') fits) ∙
+        cond-no _ _ _ (ap (is_mark marks.Comma) close') ∙ expect-yes tokens marks.Semicolon r _ close'
+    finds-declarators (suc n) p trees h q (ReadsDeclarators.comma {i = i} {q = r} {j = j} {tree = tree} {rest = rest} d comma e) enough fits =
+        let onward = declarator-onward tokens p tree i r d in
+        after-parsed (declarator_at tokens b p) _ tree i r (finds-declarator p tree i r d (ends-comma (kind_at tokens r) comma) (omega arith)) ∙
+        cond-yes _ _ _ (is_mark-of marks.Comma (kind_at tokens r) comma) ∙
+        after-parsed (declarators_at tokens b n (r + 1)) _ rest j q (finds-declarators n (r + 1) rest j q e (omega arith) (omega arith))
+
+    pub finds-declaration : (p : ℕ) (trees : SourceList) (h q : ℕ) → ReadsDeclaration tokens p trees h q → h ≤ b → declaration_at tokens b p ≡ Parsed trees h q
+    unfolding declaration_at
+    finds-declaration p trees h q (ReadsDeclaration.declaration is d) fits =
+        let some = declarators-positive (p + 1) trees h q d in
+        allowed-yes 1 b p _ (omega arith) ∙ finds-declarators (length tokens + 1) (p + 1) trees h q d (omega arith) fits
+
+    pub declaration-int : (p : ℕ) (trees : SourceList) (h q : ℕ) → ReadsDeclaration tokens p trees h q → kind_at tokens p ≡ Some (kinds.Key keys.Int)
+    declaration-int p trees h q (ReadsDeclaration.declaration is d) = is
+
+    pub finds-first : (p : ℕ) (trees : SourceList) (h q : ℕ) → ReadsFirst tokens p trees h q → h ≤ b → first_at tokens b p ≡ Parsed trees h q
+    unfolding first_at
+    finds-first p trees h q (ReadsFirst.declared d) fits =
+        cond-yes _ _ _ (is_key-of keys.Int (kind_at tokens p) (declaration-int p trees h q d)) ∙ finds-declaration p trees h q d fits
+    finds-first p trees h q (ReadsFirst.simple {q = r} {tree = tree} d close') fits =
+        let begins = simple-begins tokens p tree h r d in
+        cond-no _ _ _ begins.begins.int_not ∙ cond-no _ _ _ begins.semicolon_not ∙ after-parsed (ended_at tokens b p) _ tree h (r + 1) (finds-ended p tree h r d close' fits)
+    finds-first p trees h q (ReadsFirst.none is) fits =
+        cond-no _ _ _ (ap (is_key keys.Int) is) ∙ cond-yes _ _ _ (is_mark-of marks.Semicolon (kind_at tokens p) is)
+
+    pub finds-condition : (p : ℕ) (t : SourceExpression) (h q : ℕ) → ReadsCondition tokens p t h q → h ≤ b → condition_at tokens b p ≡ Parsed t h q
+    unfolding condition_at
+    finds-condition p t h q (ReadsCondition.given {q = r} d close') fits =
+        let begins = expression-begins tokens p t h r d in
+        cond-no _ _ _ begins.simple.semicolon_not ∙ after-parsed (expression_at tokens b 0 p) _ t h r (finds-expression tokens b p t h r d (follows-semicolon (kind_at tokens r) close') fits) ∙ expect-yes tokens marks.Semicolon r _ close'
+    finds-condition p t h q (ReadsCondition.none is) fits = cond-yes _ _ _ (is_mark-of marks.Semicolon (kind_at tokens p) is)
+
+    pub finds-step : (p : ℕ) (t : OptionalStatement) (h q : ℕ) → ReadsStep tokens p t h q → h ≤ b → step_at tokens b p ≡ Parsed t h q
+    unfolding step_at
+    finds-step p t h q (ReadsStep.given {q = r} {tree = tree} d close') fits =
+        let begins = simple-begins tokens p tree h r d in
+        cond-no _ _ _ begins.paren_not ∙ after-parsed (closed tokens marks.RightParen b (simple_at tokens b p)) _ tree h (r + 1)
+        (closed-yes marks.RightParen (simple_at tokens b p) tree h r (finds-simple p tree h r d (closes-paren (kind_at tokens r) close') fits) close' fits)
+    finds-step p t h q (ReadsStep.none is) fits = cond-yes _ _ _ (is_mark-of marks.RightParen (kind_at tokens p) is)

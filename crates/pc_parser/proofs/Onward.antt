@@ -1,0 +1,100 @@
+-- A reading ends behind its beginning, which is among the tokens.
+use Rattle.std.proofs.Common.{◌≡◌, refl, sym, ap, ◌∙◌, ℕ, zero, suc, ◌+◌, ◌<◌, ◌≤◌, List, [], ◌∷◌, length, arith}
+use Rattle.std.specs.Prelude.{Option, Some, None, option_map, slice_get, max}
+use Rattle.pc_lexer.specs.declared.token.Token.{Token}
+use Rattle.pc_lexer.specs.declared.token.TokenKind.{TokenKind}
+use Rattle.pc_syntax.specs.Source.{SourceExpression, SourceStatement, SourceList, OptionalStatement}
+use Rattle.pc_parser.specs.Places.{kind_at}
+use Rattle.pc_parser.specs.Expressions.{ReadsExpression, ReadsLevel, ReadsUnary, ReadsPrimary}
+use Rattle.pc_parser.specs.Statements.{Target, ReadsTarget, ReadsTest, ReadsSimple, ReadsDeclarator, ReadsDeclarators, ReadsDeclaration, ReadsFirst, ReadsCondition, ReadsStep, ReadsStatement, ReadsItems}
+
+-- where there is a token, there is a place
+pub inside : (tokens : List Token) (p : ℕ) (kind : TokenKind) → kind_at tokens p ≡ Some kind → p < length tokens
+unfolding kind_at
+inside [] p kind is = cc
+inside (token ∷ tokens) zero kind is = omega arith
+inside (token ∷ tokens) (suc p) kind is = let below = inside tokens p kind is in omega arith
+
+module _ (tokens : List Token) where
+  mutual
+    pub expression-onward : (p : ℕ) (t : SourceExpression) (h q : ℕ) → ReadsExpression tokens p t h q → p < q
+    expression-onward p t h q (ReadsExpression.plain d) = level-onward 1 p t h q d
+    expression-onward p t h q (ReadsExpression.choice {i = i} {q = q'} {j = j} {r = r} {k = k'} {test = test} {one = one} {other = other} d question e colon f) =
+        let a = level-onward 1 p test i q' d in let b = expression-onward (q' + 1) one j r e in let c = expression-onward (r + 1) other k' q f in omega arith
+
+    level-onward : (level p : ℕ) (t : SourceExpression) (h q : ℕ) → ReadsLevel tokens level p t h q → p < q
+    level-onward level p t h q (ReadsLevel.unary d) = unary-onward p t h q d
+    level-onward level p t h q (ReadsLevel.tighter d) = level-onward (level + 1) p t h q d
+    level-onward level p t h q (ReadsLevel.binary {i = i} {q = r} {j = j} {left = left} {right = right} d mark operator e) =
+        let a = level-onward level p left i r d in let b = level-onward (level + 1) (r + 1) right j q e in omega arith
+
+    unary-onward : (p : ℕ) (t : SourceExpression) (h q : ℕ) → ReadsUnary tokens p t h q → p < q
+    unary-onward p t h q (ReadsUnary.primary d) = primary-onward p t h q d
+    unary-onward p t h q (ReadsUnary.signed {height = i} {tree = tree} is prefix d) = let a = unary-onward (p + 1) tree i q d in omega arith
+
+    primary-onward : (p : ℕ) (t : SourceExpression) (h q : ℕ) → ReadsPrimary tokens p t h q → p < q
+    primary-onward p t h q (ReadsPrimary.number is) = omega arith
+    primary-onward p t h q (ReadsPrimary.name is) = omega arith
+    primary-onward p t h q (ReadsPrimary.element {height = i} {q = r} {index = index} is open' d close') = let a = expression-onward (p + 2) index i r d in omega arith
+    primary-onward p t h q (ReadsPrimary.input is open' close') = omega arith
+    primary-onward p t h q (ReadsPrimary.grouped {height = i} {q = r} {tree = tree} is d close') = let a = expression-onward (p + 1) tree i r d in omega arith
+
+  pub target-onward : (p : ℕ) (t : Target) (h q : ℕ) → ReadsTarget tokens p t h q → p < q
+  target-onward p t h q (ReadsTarget.name is) = omega arith
+  target-onward p t h q (ReadsTarget.element {height = i} {q = r} {index = index} is open' d close') = let a = expression-onward (p + 2) index i r d in omega arith
+
+  pub test-onward : (p : ℕ) (t : SourceExpression) (h q : ℕ) → ReadsTest tokens p t h q → p < q
+  test-onward p t h q (ReadsTest.tested {q = r} is d close') = let a = expression-onward (p + 1) t h r d in omega arith
+
+  pub simple-onward : (p : ℕ) (s : SourceStatement) (h q : ℕ) → ReadsSimple tokens p s h q → p < q
+  simple-onward p s h q (ReadsSimple.assignment {i = i} {q = r} {j = j} {target = target} {value = value} d is found e) = let a = target-onward p target i r d in let b = expression-onward (r + 1) value j q e in omega arith
+  simple-onward p s h q (ReadsSimple.step_behind {height = i} {q = r} {target = target} d is found) = let a = target-onward p target i r d in omega arith
+  simple-onward p s h q (ReadsSimple.step_before {height = i} {target = target} is found d) = let a = target-onward (p + 1) target i q d in omega arith
+  simple-onward p s h q (ReadsSimple.print {height = i} {value = value} is d) = let a = test-onward (p + 1) value i q d in omega arith
+  simple-onward p s h q (ReadsSimple.evaluation {height = i} {value = value} d) = expression-onward p value i q d
+
+  pub declarator-onward : (p : ℕ) (s : SourceStatement) (h q : ℕ) → ReadsDeclarator tokens p s h q → p < q
+  declarator-onward p s h q (ReadsDeclarator.scalar is) = omega arith
+  declarator-onward p s h q (ReadsDeclarator.initialised {height = i} {value = value} is assign d) = let a = expression-onward (p + 2) value i q d in omega arith
+  declarator-onward p s h q (ReadsDeclarator.array is open' number close') = omega arith
+
+  pub declarators-onward : (p : ℕ) (trees : SourceList) (h q : ℕ) → ReadsDeclarators tokens p trees h q → p < q
+  declarators-onward p trees h q (ReadsDeclarators.last {q = r} {tree = tree} d close') = let a = declarator-onward p tree h r d in omega arith
+  declarators-onward p trees h q (ReadsDeclarators.comma {i = i} {q = r} {j = j} {tree = tree} {rest = rest} d comma e) = let a = declarator-onward p tree i r d in let b = declarators-onward (r + 1) rest j q e in omega arith
+
+  pub declaration-onward : (p : ℕ) (trees : SourceList) (h q : ℕ) → ReadsDeclaration tokens p trees h q → p < q
+  declaration-onward p trees h q (ReadsDeclaration.declaration is d) = let a = declarators-onward (p + 1) trees h q d in omega arith
+
+  pub first-onward : (p : ℕ) (trees : SourceList) (h q : ℕ) → ReadsFirst tokens p trees h q → p < q
+  first-onward p trees h q (ReadsFirst.declared d) = declaration-onward p trees h q d
+  first-onward p trees h q (ReadsFirst.simple {q = r} {tree = tree} d close') = let a = simple-onward p tree h r d in omega arith
+  first-onward p trees h q (ReadsFirst.none is) = omega arith
+
+  pub condition-onward : (p : ℕ) (t : SourceExpression) (h q : ℕ) → ReadsCondition tokens p t h q → p < q
+  condition-onward p t h q (ReadsCondition.given {q = r} d close') = let a = expression-onward p t h r d in omega arith
+  condition-onward p t h q (ReadsCondition.none is) = omega arith
+
+  pub step-onward : (p : ℕ) (t : OptionalStatement) (h q : ℕ) → ReadsStep tokens p t h q → p < q
+  step-onward p t h q (ReadsStep.given {q = r} {tree = tree} d close') = let a = simple-onward p tree h r d in omega arith
+  step-onward p t h q (ReadsStep.none is) = omega arith
+
+  mutual
+    pub statement-onward : (p : ℕ) (s : SourceStatement) (h q : ℕ) → ReadsStatement tokens p s h q → p < q
+    statement-onward p s h q (ReadsStatement.block {height = i} {items = items} is d) = let a = items-onward (p + 1) items i q d in omega arith
+    statement-onward p s h q (ReadsStatement.empty is) = omega arith
+    statement-onward p s h q (ReadsStatement.simple {q = r} d is) = let a = simple-onward p s h r d in omega arith
+    statement-onward p s h q (ReadsStatement.branch {i = i} {q = r} {j = j} {test = test} {body = body} is d e) = let a = test-onward (p + 1) test i r d in let b = statement-onward r body j q e in omega arith
+    statement-onward p s h q (ReadsStatement.branch_else {i = i} {q = r} {j = j} {r = t} {k = k'} {test = test} {body = body} {other = other} is d e closed is' f) =
+        let a = test-onward (p + 1) test i r d in let b = statement-onward r body j t e in let c = statement-onward (t + 1) other k' q f in omega arith
+    statement-onward p s h q (ReadsStatement.while_loop {i = i} {q = r} {j = j} {test = test} {body = body} is d e) = let a = test-onward (p + 1) test i r d in let b = statement-onward r body j q e in omega arith
+    statement-onward p s h q (ReadsStatement.do_loop {i = i} {q = r} {j = j} {r = t} {body = body} {test = test} is d is' e close') = let a = statement-onward (p + 1) body i r d in let b = test-onward (r + 1) test j t e in omega arith
+    statement-onward p s h q (ReadsStatement.for_loop {i = i} {q = r} {j = j} {r = t} {k = k'} {s = u} {l = l} {first = first} {test = test} {step = step} {body = body} is open' d e f g) =
+        let a = first-onward (p + 2) first i r d in let b = condition-onward r test j t e in let c = step-onward t step k' u f in let c' = statement-onward u body l q g in omega arith
+    statement-onward p s h q (ReadsStatement.break_out is close') = omega arith
+    statement-onward p s h q (ReadsStatement.continue_on is close') = omega arith
+    statement-onward p s h q (ReadsStatement.return_from {height = i} {q = r} {value = value} is d close') = let a = expression-onward (p + 1) value i r d in omega arith
+
+    pub items-onward : (p : ℕ) (trees : SourceList) (h q : ℕ) → ReadsItems tokens p trees h q → p < q
+    items-onward p trees h q (ReadsItems.close is) = omega arith
+    items-onward p trees h q (ReadsItems.declared {i = i} {q = r} {j = j} {trees = some} {rest = rest} d e) = let a = declaration-onward p some i r d in let b = items-onward r rest j q e in omega arith
+    items-onward p trees h q (ReadsItems.stated {i = i} {q = r} {j = j} {tree = tree} {rest = rest} d e) = let a = statement-onward p tree i r d in let b = items-onward r rest j q e in omega arith

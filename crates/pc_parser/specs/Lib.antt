@@ -1,0 +1,9 @@
+pub mod Places
+pub mod Operators
+pub mod Expressions
+pub mod Statements
+pub mod Outcome
+pub mod ExpressionParser
+pub mod StatementParser
+pub mod Gives
+pub mod Parse

@@ -1,0 +1,169 @@
+ghost use Rattle.std.specs.Prelude.{◌≡◌, ℕ, ◌+◌, ◌<◌, ◌≤◌, None, length, IfOk};
+ghost use Rattle.pc_syntax.specs.Erasure.{statement_of, list_of};
+ghost use Rattle.pc_parser.specs.Places.{kind_at, line_at};
+ghost use Rattle.pc_syntax.specs.Source.{ScalarDeclaration};
+ghost use Rattle.pc_parser.specs.StatementParser.{array, initialised, declarator_at, declarators_at, declaration_at, length_of};
+ghost use Rattle.pc_parser.specs.Gives.{Gives, Stands, Ends, behind};
+
+use crate::expression::{EXPRESSION, expression};
+use crate::outcome::{Failure, Parsed, within};
+use crate::place::{expect, is_mark, length_at, line_at, symbol_at};
+use pc_lexer::{Mark, Token};
+use pc_syntax::{Stmt, StmtList};
+use std::alloc::Global;
+
+/// Reads a declaration, whose `int` stands at the place, and puts a statement for each declarator behind
+/// the items before it. The height is that of the declarators.
+#[tactic(auto, using(crate::proofs::Budgets::budgets), unfolding(crate::specs::StatementParser::declaration_at))]
+pub(crate) fn declaration(
+    alloc: Global,
+    tokens: &[Token],
+    budget: usize,
+    items: StmtList,
+    place: usize,
+) -> Result<Parsed<StmtList>, Failure>
+    requires stands { Stands tokens.now budget place }
+    requires more { place + 1 ≤ length tokens.now }
+    ensures gives { Gives list_of result (behind (list_of items) (declaration_at tokens.now budget place)) }
+    ensures ends { IfOk result (λ parsed. Ends tokens.now budget parsed.height parsed.next) }
+    ensures further { IfOk result (λ parsed. place < parsed.next) }
+{
+    within(1, budget, place)?;
+    declarators(alloc, tokens, budget, items, place + 1)
+}
+
+/// Reads declarators up to a `;`, and puts them behind the items before them.
+fn declarators(
+    alloc: Global,
+    tokens: &[Token],
+    budget: usize,
+    mut items: StmtList,
+    place: usize,
+) -> Result<Parsed<StmtList>, Failure>
+    requires stands { Stands tokens.now budget place }
+    requires some { 1 ≤ budget }
+    ensures gives { Gives list_of result (behind (list_of items) (declarators_at tokens.now budget (length tokens.now + 1) place)) }
+    ensures ends { IfOk result (λ parsed. Ends tokens.now budget parsed.height parsed.next) }
+    ensures further { IfOk result (λ parsed. place < parsed.next) }
+{
+    let first = declarator(alloc, tokens, budget, place)?;
+    items.push(first.tree)?;
+    let mut height = first.height;
+    let mut next = first.next;
+    while is_mark(tokens, Mark::Comma, next) {
+        let other = declarator(alloc, tokens, budget, next + 1)?;
+        items.push(other.tree)?;
+        height = height.max(other.height);
+        next = other.next;
+    }
+    expect(tokens, Mark::Semicolon, next)?;
+    Ok(Parsed {
+        tree: items,
+        height,
+        next: next + 1,
+    })
+}
+
+/// Reads a declarator.
+#[tactic(auto, using(crate::proofs::Budgets::budgets), unfolding(crate::specs::StatementParser::declarator_at, crate::specs::StatementParser::declarator_on))]
+fn declarator(
+    alloc: Global,
+    tokens: &[Token],
+    budget: usize,
+    place: usize,
+) -> Result<Parsed<Stmt>, Failure>
+    requires stands { Stands tokens.now budget place }
+    requires some { 1 ≤ budget }
+    ensures gives { Gives statement_of result (declarator_at tokens.now budget place) }
+    ensures ends { IfOk result (λ parsed. Ends tokens.now budget parsed.height parsed.next) }
+    ensures further { IfOk result (λ parsed. place < parsed.next) }
+{
+    match symbol_at(tokens, place) {
+        Some(symbol) => {
+            if is_mark(tokens, Mark::Assign, place + 1) {
+                return initialised(alloc, tokens, budget, symbol, place);
+            }
+            if is_mark(tokens, Mark::LeftBracket, place + 1) {
+                return array(tokens, symbol, place);
+            }
+            Ok(scalar(tokens, symbol, place))
+        }
+        None => Err(Failure::Syntax { at: place }),
+    }
+}
+
+/// The declarator of a scalar without an initialiser.
+#[tactic(auto, using(pc_syntax::proofs::ErasureLaws::statement_forms, pc_syntax::proofs::ErasureLaws::expression_forms))]
+fn scalar(tokens: &[Token], symbol: u32, place: usize) -> Parsed<Stmt>
+    requires { place < 65536 }
+    ensures tree { statement_of result.tree ≡ ScalarDeclaration symbol (line_at tokens.now place) None }
+    ensures height { result.height ≡ 1 }
+    ensures next { result.next ≡ place + 1 }
+{
+    let line = line_at(tokens, place);
+    Parsed {
+        tree: Stmt::Scalar {
+            symbol,
+            line,
+            init: None,
+        },
+        height: 1,
+        next: place + 1,
+    }
+}
+
+/// Reads the initialiser of a scalar.
+#[tactic(auto, using(crate::proofs::Budgets::budgets, pc_syntax::proofs::ErasureLaws::statement_forms, pc_syntax::proofs::ErasureLaws::expression_forms), unfolding(crate::specs::StatementParser::initialised))]
+fn initialised(
+    alloc: Global,
+    tokens: &[Token],
+    budget: usize,
+    symbol: u32,
+    place: usize,
+) -> Result<Parsed<Stmt>, Failure>
+    requires stands { Stands tokens.now budget place }
+    requires more { place + 2 ≤ length tokens.now }
+    ensures gives { Gives statement_of result (initialised tokens.now budget symbol place) }
+    ensures ends { IfOk result (λ parsed. Ends tokens.now budget parsed.height parsed.next) }
+    ensures further { IfOk result (λ parsed. place < parsed.next) }
+{
+    within(2, budget, place + 1)?;
+    let value = expression(alloc, tokens, budget - 1, EXPRESSION, place + 2)?;
+    let line = line_at(tokens, place);
+    Ok(Parsed {
+        tree: Stmt::Scalar {
+            symbol,
+            line,
+            init: Some(value.tree),
+        },
+        height: value.height + 1,
+        next: value.next,
+    })
+}
+
+/// Reads the length of an array.
+#[tactic(auto, using(crate::proofs::Budgets::budgets, pc_syntax::proofs::ErasureLaws::statement_forms, pc_syntax::proofs::ErasureLaws::expression_forms), unfolding(crate::specs::StatementParser::array))]
+fn array(tokens: &[Token], symbol: u32, place: usize) -> Result<Parsed<Stmt>, Failure>
+    requires { place + 2 ≤ length tokens.now }
+    ensures gives { Gives statement_of result (array tokens.now symbol place (length_of (kind_at tokens.now (place + 2)))) }
+    ensures ends { IfOk result (λ parsed. (parsed.height ≡ 1) × (parsed.next ≤ length tokens.now) × (place < parsed.next)) }
+{
+    match length_at(tokens, place + 2) {
+        Some(length) => {
+            expect(tokens, Mark::RightBracket, place + 3)?;
+            let line = line_at(tokens, place);
+            let at = line_at(tokens, place + 2);
+            Ok(Parsed {
+                tree: Stmt::Array {
+                    symbol,
+                    line,
+                    at,
+                    length,
+                },
+                height: 1,
+                next: place + 4,
+            })
+        }
+        None => Err(Failure::Syntax { at: place + 2 }),
+    }
+}

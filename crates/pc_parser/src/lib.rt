@@ -1,0 +1,18 @@
+//! The parser: the tokens of a source text become a program.
+#![tactic(auto)]
+
+mod declaration;
+mod expression;
+mod operator;
+mod outcome;
+mod place;
+mod simple;
+mod statement;
+mod target;
+mod tree;
+mod unit;
+
+pub use unit::{MOST_HEIGHT, ParseError, one_program, parse};
+
+#[cfg(test)]
+mod tests;
