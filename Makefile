@@ -8,7 +8,8 @@ all: $(PROGRAMS:%=build/%)
 
 build/%: FORCE
 	@mkdir -p build
-	-@cd crates/$* && rt run >../../build/$*.log 2>&1
+	@rm -f crates/$*/out/$*
+	@cd crates/$* && rt run >../../build/$*.log 2>&1 || true
 	@test -x crates/$*/out/$* || { cat build/$*.log; exit 1; }
 	@cp crates/$*/out/$* $@
 	@echo "proved and built: $@"
