@@ -1,8 +1,8 @@
 # make        proves and builds the programs into build/
-# make demo   compiles the examples with them and compares the bytes
+# make demo   compiles the examples with them, runs their objects, and compares bytes and output
 # make test   runs the gate
 
-PROGRAMS = pcc
+PROGRAMS = pcc pvm
 
 all: $(PROGRAMS:%=build/%)
 

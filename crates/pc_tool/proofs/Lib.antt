@@ -1,8 +1,9 @@
-pub mod Bodies
-pub mod Digits
-pub mod Outcomes
+pub mod Compilations
+pub mod CompilerPromises
+pub mod Files
+pub mod FrontEnd
 pub mod Prints
-pub mod Spelling
-pub mod Statuses
-pub mod TextSize
+pub mod Simulations
+pub mod SimulatorPromises
+pub mod Sources
 pub mod Translation

@@ -1,8 +1,12 @@
-pub mod Answer
 pub mod Command
+pub mod Compilation
+pub mod Compiler
 pub mod Emission
-pub mod LiteralProgram
-pub mod Promise
+pub mod Literals
+pub mod Objects
 pub mod Refusals
-pub mod Spans
-pub mod Steps
+pub mod Silence
+pub mod Simulation
+pub mod Simulator
+pub mod Source
+pub mod Told

@@ -1,10 +1,63 @@
--- What the refusals of a step are to the compiler.
+-- What the refusals of a step are to the programs. Want of memory stays want of memory.
+use Rattle.pc_lexer.specs.declared.error.LexError.{LexError}
+use Rattle.pc_lexer.specs.declared.error.LexError.TheVariants as lex
+use Rattle.pc_parser.specs.declared.unit.ParseError.{ParseError}
+use Rattle.pc_parser.specs.declared.unit.ParseError.TheVariants as parse
+use Rattle.pc_check.specs.declared.error.CheckError.{CheckError}
+use Rattle.pc_check.specs.declared.error.CheckError.TheVariants as check
+use Rattle.pc_object.specs.declared.refusal.ObjectError.{ObjectError}
+use Rattle.pc_object.specs.declared.refusal.ObjectError.TheVariants as object
+use Rattle.pc_outside.specs.declared.error.TakeError.{TakeError}
+use Rattle.pc_outside.specs.declared.error.TakeError.TheVariants as take
+use Rattle.pc_word.specs.declared.number_text.NumbersError.{NumbersError}
+use Rattle.pc_word.specs.declared.number_text.NumbersError.TheVariants as numbers
+use Rattle.pc_tool.specs.declared.file.FileError.{FileError}
+use Rattle.pc_tool.specs.declared.file.FileError.TheVariants as file
 use Rattle.pc_tool.specs.declared.literals.LiteralsError.{LiteralsError}
 use Rattle.pc_tool.specs.declared.literals.LiteralsError.TheVariants as literals
 use Rattle.pc_tool.specs.declared.refusal.Refusal.{Refusal}
 use Rattle.pc_tool.specs.declared.refusal.Refusal.TheVariants as refusal
+use Rattle.pc_tool.specs.declared.stop.Stop.{Stop}
+use Rattle.pc_tool.specs.declared.stop.Stop.TheVariants as stop
 
--- want of memory stays want of memory
-abbrev pub refusal_of : LiteralsError → Refusal
-refusal_of literals.Other = refusal.Unbuilt
-refusal_of literals.Memory = refusal.Memory
+-- ---- of the compiler
+
+abbrev pub refusal_of_file : FileError → Refusal
+refusal_of_file file.Failed = refusal.Read
+refusal_of_file file.TooLong = refusal.TooLong
+refusal_of_file file.Memory = refusal.Memory
+
+abbrev pub refusal_of_lex : LexError → Refusal
+refusal_of_lex lex.Memory = refusal.Memory
+refusal_of_lex error = refusal.NoTokens error
+
+abbrev pub refusal_of_parse : ParseError → Refusal
+refusal_of_parse parse.Memory = refusal.Memory
+refusal_of_parse error = refusal.NoProgram error
+
+abbrev pub refusal_of_check : CheckError → Refusal
+refusal_of_check check.Memory = refusal.Memory
+refusal_of_check error = refusal.Faulty error
+
+abbrev pub refusal_of_literals : LiteralsError → Refusal
+refusal_of_literals literals.Other = refusal.Unbuilt
+refusal_of_literals literals.Memory = refusal.Memory
+
+-- ---- of the simulator
+
+abbrev pub stop_of_file : FileError → Stop
+stop_of_file file.Failed = stop.ReadObject
+stop_of_file file.TooLong = stop.ObjectTooLong
+stop_of_file file.Memory = stop.Memory
+
+abbrev pub stop_of_object : ObjectError → Stop
+stop_of_object object.Memory = stop.Memory
+stop_of_object error = stop.NoObject error
+
+abbrev pub stop_of_take : TakeError → Stop
+stop_of_take take.Failed = stop.ReadInput
+stop_of_take take.Memory = stop.Memory
+
+abbrev pub stop_of_numbers : NumbersError → Stop
+stop_of_numbers (numbers.NotNumber offset) = stop.NotNumber offset
+stop_of_numbers numbers.Memory = stop.Memory

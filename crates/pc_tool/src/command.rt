@@ -1,14 +1,24 @@
-ghost use Rattle.std.specs.Prelude.{◌≡◌, ◌&&◌, Some, None, MatchOption, bytes_eq, codes};
-ghost use Rattle.pc_tool.specs.Command.{begins_with, may_be_source, may_be_object, command_of, spelled};
+ghost use Rattle.std.specs.Prelude.{◌≡◌, ◌&&◌, not, Some, None, MatchOption, bytes_eq, codes};
+ghost use Rattle.pc_tool.specs.Command.{begins_with, may_be_source, may_be_object, command_of, simulation_of, spelled};
 
-/// The names that a command gives: those of the source and of the object.
+/// The cycles that a run may take.
+const DEFAULT_CYCLES: u64 = 100_000_000;
+
+/// What the compiler is to do: the names of the source and of the object.
 #[derive(Clone, Copy)]
 pub(crate) struct Command<'a> {
     pub(crate) source: &'a str,
     pub(crate) object: &'a str,
 }
 
-/// The command that words are, if they are one.
+/// What the simulator is to do: the name of the object, and the cycles that its run may take.
+#[derive(Clone, Copy)]
+pub(crate) struct Simulation<'a> {
+    pub(crate) object: &'a str,
+    pub(crate) cycles: u64,
+}
+
+/// What words tell the compiler to do, if they are a command.
 pub(crate) fn read_command(words: &[String]) -> Option<Command<'_>>
     ensures { MatchOption result (command_of (spelled words.now) ≡ None) (λ c. command_of (spelled words.now) ≡ Some (record { source = c.source.now; object = c.object.now })) }
 {
@@ -20,6 +30,24 @@ pub(crate) fn read_command(words: &[String]) -> Option<Command<'_>>
         Some(Command { source, object })
     } else {
         None
+    }
+}
+
+/// What words tell the simulator to do, if they are a command.
+pub(crate) fn read_simulation(words: &[String]) -> Option<Simulation<'_>>
+    ensures { MatchOption result (simulation_of (spelled words.now) ≡ None) (λ s. simulation_of (spelled words.now) ≡ Some (record { object = s.object.now; cycles = s.cycles })) }
+{
+    let [object] = words else {
+        return None;
+    };
+    let object = object.as_str();
+    if begins_with(object, b'-') {
+        None
+    } else {
+        Some(Simulation {
+            object,
+            cycles: DEFAULT_CYCLES,
+        })
     }
 }
 

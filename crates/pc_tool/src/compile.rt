@@ -1,15 +1,18 @@
-//! From the source on the shelf to the object on it.
+//! The compiler: from the source on the shelf to the object on it.
 ghost use Rattle.std.specs.Prelude.{◌≡◌, ◌≤◌, length, MatchResult, IfOk};
-ghost use Rattle.std.specs.List.{AllByRecursion};
 ghost use Rattle.pc_object.specs.ObjectText.{object_text};
-ghost use Rattle.pc_outside.specs.Shelf.{ReadKeeps, WriteKeeps, HoldsFile};
-ghost use Rattle.pc_tool.specs.Answer.{Succeeds, Refuses};
+ghost use Rattle.pc_object.specs.Numbers.{HasWords};
+ghost use Rattle.pc_outside.specs.Shelf.{WriteKeeps, HoldsFile};
+ghost use Rattle.pc_tool.specs.Command.{command_of, spelled};
+ghost use Rattle.pc_tool.specs.Compilation.{Compiled, Refuses, IsTranslation, RefusesText, RefusesToWrite};
+ghost use Rattle.pc_tool.specs.Compiler.{AnswersCommand, compiler_status};
 ghost use Rattle.pc_tool.specs.Emission.{printing_object};
-ghost use Rattle.pc_tool.specs.LiteralProgram.{IsLiteral};
-ghost use Rattle.pc_tool.specs.Steps.{HasText, RefusesToRead, IsTranslation, RefusesToTranslate, RefusesToWrite};
 
+use crate::command::read_command;
 use crate::emit::emit;
-use crate::literals::read_literals;
+use crate::file::read_whole;
+use crate::front_end::read_program;
+use crate::literals::literals;
 use crate::refusal::Refusal;
 use pc_object::encode;
 use pc_outside::{Shelf, ShelfError};
@@ -18,47 +21,68 @@ use std::alloc::{AllocError, Global};
 /// The most bytes that a source may have.
 const MOST_SOURCE: usize = 1_048_576;
 
+/// Compiles as the words say.
+pub(crate) fn run_compiler<H: Shelf>(
+    alloc: Global,
+    words: &[String],
+    shelf: &mut H,
+) -> Result<(), Refusal>
+    ensures { AnswersCommand result (command_of (spelled words.now)) (H.state shelf.old) (H.state shelf.new) }
+{
+    match read_command(words) {
+        Some(command) => compile(alloc, command.source, command.object, shelf),
+        None => Err(Refusal::Usage),
+    }
+}
+
+/// The status that an answer of the compiler ends with.
+pub(crate) fn compiler_status(answer: Result<(), Refusal>) -> u8
+    ensures { result ≡ compiler_status answer }
+{
+    match answer {
+        Ok(()) => 0,
+        Err(Refusal::Memory) => 1,
+        Err(Refusal::Usage) => 2,
+        Err(Refusal::Read) => 3,
+        Err(Refusal::TooLong) => 4,
+        Err(Refusal::NoTokens { .. }) => 4,
+        Err(Refusal::NoProgram { .. }) => 4,
+        Err(Refusal::Faulty { .. }) => 4,
+        Err(Refusal::Unbuilt) => 4,
+        Err(Refusal::Write) => 5,
+    }
+}
+
 /// Compiles the source and writes its object.
-pub(crate) fn compile<H: Shelf>(
+fn compile<H: Shelf>(
     alloc: Global,
     source: &str,
     object: &str,
     shelf: &mut H,
 ) -> Result<(), Refusal>
-    ensures { MatchResult result (λ _. Succeeds (record { source = source.now; object = object.now }) (H.state shelf.old) (H.state shelf.new)) (λ refusal. Refuses refusal (record { source = source.now; object = object.now }) (H.state shelf.old) (H.state shelf.new)) }
+    ensures { MatchResult result (λ _. Compiled (record { source = source.now; object = object.now }) (H.state shelf.old) (H.state shelf.new)) (λ refusal. Refuses refusal (record { source = source.now; object = object.now }) (H.state shelf.old) (H.state shelf.new)) }
 {
-    let text = read_source(alloc, source, shelf)?;
+    let text = read_whole(alloc, source, MOST_SOURCE, shelf)?;
     let bytes = translate(alloc, text.as_slice())?;
     write_object(alloc, object, bytes.as_slice(), shelf)
 }
 
-/// The text of the source.
-fn read_source<H: Shelf>(alloc: Global, name: &str, shelf: &mut H) -> Result<Vec<u8>, Refusal>
-    ensures keeps { ReadKeeps (H.state shelf.old) (H.state shelf.new) }
-    ensures text { MatchResult result (λ text. HasText (H.state shelf.old).held name.now text.items) (λ refusal. RefusesToRead refusal name.now (H.state shelf.old) (H.state shelf.new)) }
-{
-    match shelf.read_file(alloc, name, MOST_SOURCE + 1) {
-        Ok(text) if text.len() > MOST_SOURCE => Err(Refusal::TooLong),
-        Ok(text) => Ok(text),
-        Err(ShelfError::Failed) => Err(Refusal::Read),
-        Err(ShelfError::Memory) => Err(Refusal::Memory),
-    }
-}
-
 /// The text of the object that does what a source does.
 fn translate(alloc: Global, text: &[u8]) -> Result<Vec<u8>, Refusal>
-    ensures { MatchResult result (λ bytes. IsTranslation text.now bytes.items) (λ refusal. RefusesToTranslate refusal text.now) }
+    requires { length text.now ≤ 1048576 }
+    ensures { MatchResult result (λ bytes. IsTranslation text.now bytes.items) (λ refusal. RefusesText refusal text.now) }
 {
-    let numbers = read_literals(alloc, text)?;
+    let program = read_program(alloc, text)?;
+    let numbers = literals(alloc, &program)?;
     let bytes = write_text(alloc, numbers.as_slice())?;
     Ok(bytes)
 }
 
 /// The text of the object that prints the numbers of a source.
-fn write_text(alloc: Global, numbers: &[u32]) -> Result<Vec<u8>, AllocError>
-    requires literals { AllByRecursion IsLiteral numbers.now }
-    requires few { length numbers.now ≤ 13105 }
-    ensures { IfOk result (λ bytes. bytes.items ≡ object_text (printing_object numbers.now)) }
+fn write_text(alloc: Global, numbers: &[i32]) -> Result<Vec<u8>, AllocError>
+    requires { length numbers.now ≤ 65536 }
+    ensures text { IfOk result (λ bytes. bytes.items ≡ object_text (printing_object numbers.now)) }
+    ensures words { IfOk result (λ bytes. HasWords (printing_object numbers.now)) }
 {
     let object = emit(alloc, numbers)?;
     encode(alloc, &object).map_err(|_| AllocError)

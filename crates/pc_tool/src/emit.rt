@@ -1,12 +1,10 @@
 //! The object of a program that prints literals.
-ghost use Rattle.std.specs.Prelude.{◌≡◌, ◌≤◌, pos, map, length, IfOk};
-ghost use Rattle.std.specs.List.{AllByRecursion};
-ghost use Rattle.pc_machine.specs.Row.{Then, At_leaf, Leads_to, Ends, row_of, rows_of};
+ghost use Rattle.std.specs.Prelude.{◌≡◌, ◌≤◌, length, IfOk};
+ghost use Rattle.pc_machine.specs.Row.{Then, row_of, rows_of};
 ghost use Rattle.pc_machine.specs.Printing.{printing_rows};
 ghost use Rattle.pc_object.specs.ObjectText.{object_of};
 ghost use Rattle.pc_word.specs.declared.item.Item.TheVariants.{Print as print};
 ghost use Rattle.pc_word.specs.declared.item.Operand.TheVariants.{Lit as literal};
-ghost use Rattle.pc_tool.specs.LiteralProgram.{IsLiteral};
 ghost use Rattle.pc_tool.specs.Emission.{printing_object};
 
 use pc_machine::{Code, Tree, TreeList};
@@ -22,9 +20,8 @@ const LIMITS: Limits = Limits {
 };
 
 /// The object whose rows print these numbers, one a row, and then stop.
-pub(crate) fn emit(alloc: Global, numbers: &[u32]) -> Result<Object, AllocError>
-    requires literals { AllByRecursion IsLiteral numbers.now }
-    requires few { length numbers.now ≤ 13105 }
+pub(crate) fn emit(alloc: Global, numbers: &[i32]) -> Result<Object, AllocError>
+    requires { length numbers.now ≤ 65536 }
     ensures { IfOk result (λ object. object_of object ≡ printing_object numbers.now) }
 {
     let code = Code {
@@ -39,10 +36,9 @@ pub(crate) fn emit(alloc: Global, numbers: &[u32]) -> Result<Object, AllocError>
 }
 
 /// A row for each number. Each leads to the next, and the last one stops.
-fn emit_rows(alloc: Global, numbers: &[u32]) -> Result<TreeList, AllocError>
-    requires literals { AllByRecursion IsLiteral numbers.now }
-    requires few { length numbers.now ≤ 13105 }
-    ensures { IfOk result (λ rows. rows_of rows ≡ printing_rows 0 (map pos numbers.now)) }
+fn emit_rows(alloc: Global, numbers: &[i32]) -> Result<TreeList, AllocError>
+    requires { length numbers.now ≤ 65536 }
+    ensures { IfOk result (λ rows. rows_of rows ≡ printing_rows 0 numbers.now) }
 {
     let mut rows = TreeList::new(alloc);
     let Some((last, front)) = numbers.split_last() else {
@@ -58,11 +54,10 @@ fn emit_rows(alloc: Global, numbers: &[u32]) -> Result<TreeList, AllocError>
 }
 
 /// The row that prints a number and goes on as `leaf` says.
-fn print_row(alloc: Global, number: u32, leaf: Tree) -> Result<Tree, AllocError>
-    requires { IsLiteral number }
-    ensures { IfOk result (λ row. row_of row ≡ Then (print (literal (pos number))) (row_of leaf)) }
+fn print_row(alloc: Global, number: i32, leaf: Tree) -> Result<Tree, AllocError>
+    ensures { IfOk result (λ row. row_of row ≡ Then (print (literal number)) (row_of leaf)) }
 {
-    let value = Operand::Lit(number as i32);
+    let value = Operand::Lit(number);
     Ok(Tree::Step {
         item: Item::Print { value },
         next: Box::new(alloc, leaf)?,

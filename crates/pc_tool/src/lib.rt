@@ -1,14 +1,21 @@
-//! The top call of the compiler.
+//! The top call of both programs: the compiler and the simulator.
 #![tactic(auto)]
 
 mod command;
 mod compile;
+#[cfg(test)]
+mod compiler_tests;
 mod emit;
+mod file;
+mod front_end;
 mod literals;
 mod program;
 mod refusal;
-mod scan;
+mod simulate;
 #[cfg(test)]
-mod tests;
+mod simulator_tests;
+mod stop;
+mod words;
 
 pub use program::{Status, Who, tool};
+pub use words::read_words;

@@ -1,10 +1,13 @@
-ghost use Rattle.std.specs.Prelude.{◌≡◌, ◌≤◌, ◌↔◌, ◌⊎◌, None};
-ghost use Rattle.pc_tool.specs.Command.{command_of, spelled};
-ghost use Rattle.pc_tool.specs.Promise.{Compiles, FailsToRead, RefusesSource, FailsToWrite, KeepsOthers, IsComplete, IsStrict, AnswersCommand, status_of};
+ghost use Rattle.std.specs.Prelude.{◌≡◌};
+ghost use Rattle.pc_tool.specs.declared.program.Who.TheVariants.{Pcc, Pvm};
+ghost use Rattle.pc_tool.specs.Command.{command_of, simulation_of, spelled};
+ghost use Rattle.pc_tool.specs.Compiler.{CompilerPromise};
+ghost use Rattle.pc_tool.specs.Simulation.{outside_of};
+ghost use Rattle.pc_tool.specs.Simulator.{SimulatorPromise};
+ghost use Rattle.pc_tool.specs.Silence.{SendsNothing};
 
-use crate::command::read_command;
-use crate::compile::compile;
-use crate::refusal::Refusal;
+use crate::compile::{compiler_status, run_compiler};
+use crate::simulate::{run_simulator, simulator_status};
 use pc_outside::{Shelf, Sink, Source};
 use std::alloc::Global;
 
@@ -13,6 +16,8 @@ use std::alloc::Global;
 pub enum Who {
     /// The compiler.
     Pcc,
+    /// The simulator.
+    Pvm,
 }
 
 /// How a program ends.
@@ -22,17 +27,34 @@ pub struct Status {
     pub code: u8,
 }
 
-/// The whole program, over the outside that is lent.
+/// The whole program, over the outside that is lent. `words` are those of the command line without the
+/// program's own name.
 ///
-/// `words` are those of the command line without the program's own name: `SRC -o OBJ`. `Pcc` reads
+/// `Pcc` is called as `SRC -o OBJ`, where SRC begins with neither `-` nor `@`, and OBJ not with `-`. It reads
 /// the source at SRC and writes its object to OBJ, which may be the same name. The statuses are
 ///
 /// - 0: the object is written,
-/// - 1: memory ran out,
+/// - 1: memory ran out; OBJ may hold anything,
 /// - 2: the words are no command,
 /// - 3: SRC could not be read,
-/// - 4: SRC is longer than 1,048,576 bytes, or another program than one that prints literals,
-/// - 5: OBJ could not be written.
+/// - 4: SRC is longer than 1,048,576 bytes, is no program of the language, or does something other than
+///   print literals,
+/// - 5: OBJ could not be written, and may hold anything.
+///
+/// `Pvm` is called as `OBJ`, which does not begin with `-`. It loads the object at OBJ, takes the whole input,
+/// numbers between spaces, tabs, carriage returns and line feeds, runs the object's code for at most
+/// 100,000,000 cycles, and sends the line of each number that is printed. The statuses are
+///
+/// - 0: the run ended,
+/// - 1: memory ran out; nothing was sent,
+/// - 2: the words are no command,
+/// - 3: OBJ or the input could not be read,
+/// - 4: OBJ or the input is longer than 16,777,216 bytes, OBJ holds no object that loads, or a word of the
+///   input is no number,
+/// - 5: the output failed,
+/// - 6: the run has not ended in so many cycles,
+/// - 7: the machine faulted,
+/// - 10, 11, 12: the run was trapped by a division by zero, an index out of bounds, the end of input.
 pub fn tool<H: Shelf, I: Source, O: Sink, E: Sink>(
     alloc: Global,
     who: Who,
@@ -42,49 +64,18 @@ pub fn tool<H: Shelf, I: Source, O: Sink, E: Sink>(
     out: &mut O,
     err: &mut E,
 ) -> Status
-    ensures compiled { result.code ≡ 0 → Compiles (command_of (spelled words.now)) (H.state shelf.old) (H.state shelf.new) }
-    ensures usage { (result.code ≡ 2) ↔ (command_of (spelled words.now) ≡ None) }
-    ensures unread { result.code ≡ 3 → FailsToRead (command_of (spelled words.now)) (H.state shelf.old) (H.state shelf.new) }
-    ensures refused { result.code ≡ 4 → RefusesSource (command_of (spelled words.now)) (H.state shelf.old) }
-    ensures unwritten { result.code ≡ 5 → FailsToWrite (command_of (spelled words.now)) (H.state shelf.old) (H.state shelf.new) }
-    ensures known { result.code ≤ 5 }
-    ensures complete { IsComplete (command_of (spelled words.now)) (H.state shelf.old) (H.state shelf.new) result.code }
-    ensures strict { IsStrict (command_of (spelled words.now)) (H.state shelf.old) (H.state shelf.new) result.code }
-    // Statuses 2 to 4 leave all files as they were, and every status all but OBJ.
-    ensures kept { (result.code ≡ 2) ⊎ (result.code ≡ 3) ⊎ (result.code ≡ 4) → (H.state shelf.new).held ≡ (H.state shelf.old).held }
-    ensures others { KeepsOthers (command_of (spelled words.now)) (H.state shelf.old) (H.state shelf.new) }
-    ensures input_kept { input.new ≡ input.old }
-    ensures out_kept { out.new ≡ out.old }
+    ensures compiler { who ≡ Pcc → CompilerPromise (command_of (spelled words.now)) (H.state shelf.old) (H.state shelf.new) result.code }
+    ensures simulator { who ≡ Pvm → SimulatorPromise (simulation_of (spelled words.now))
+        (outside_of (H.state shelf.old) (I.left input.old) (I.faults input.old) (O.taken out.old) (O.faults out.old))
+        (outside_of (H.state shelf.new) (I.left input.new) (I.faults input.new) (O.taken out.new) (O.faults out.new))
+        result.code }
+    ensures input_kept { who ≡ Pcc → input.new ≡ input.old }
+    ensures out_kept { SendsNothing who result.code → out.new ≡ out.old }
     ensures err_kept { err.new ≡ err.old }
 {
-    match who {
-        Who::Pcc => Status {
-            code: status_code(run(alloc, words, shelf)),
-        },
-    }
-}
-
-/// Compiles as the words say.
-fn run<H: Shelf>(alloc: Global, words: &[String], shelf: &mut H) -> Result<(), Refusal>
-    ensures { AnswersCommand result (command_of (spelled words.now)) (H.state shelf.old) (H.state shelf.new) }
-{
-    match read_command(words) {
-        Some(command) => compile(alloc, command.source, command.object, shelf),
-        None => Err(Refusal::Usage),
-    }
-}
-
-/// The status that an answer ends with.
-fn status_code(answer: Result<(), Refusal>) -> u8
-    ensures { result ≡ status_of answer }
-{
-    match answer {
-        Ok(()) => 0,
-        Err(Refusal::Memory) => 1,
-        Err(Refusal::Usage) => 2,
-        Err(Refusal::Read) => 3,
-        Err(Refusal::TooLong) => 4,
-        Err(Refusal::Unbuilt) => 4,
-        Err(Refusal::Write) => 5,
-    }
+    let code = match who {
+        Who::Pcc => compiler_status(run_compiler(alloc, words, shelf)),
+        Who::Pvm => simulator_status(run_simulator(alloc, words, shelf, input, out)),
+    };
+    Status { code }
 }
