@@ -1,13 +1,13 @@
 -- The parsers with a budget that is one less.
-use Rattle.std.proofs.Common.{◌≡◌, refl, sym, ap, ◌∙◌, subst, ℕ, suc, zero, ◌+◌, ◌-◌, ◌<◌, ◌≤◌, List, arith}
-use Rattle.std.specs.Prelude.{Option, Some, None}
+use Rattle.std.proofs.Common.{◌≡◌, refl, sym, ap, ◌∙◌, subst, ℕ, suc, zero, ◌-◌, ◌≤◌, List, arith}
+use Rattle.std.specs.Prelude.{Some}
 use Rattle.pc_lexer.specs.declared.token.Token.{Token}
 use Rattle.pc_syntax.specs.Source.{SourceExpression}
 use Rattle.pc_parser.specs.declared.operator.Operator.{Operator}
 use Rattle.pc_parser.specs.declared.outcome.Failure.{Failure}
 use Rattle.pc_parser.specs.declared.outcome.Failure.TheVariants as failures
 use Rattle.pc_parser.specs.Places.{kind_at}
-use Rattle.pc_parser.specs.Outcome.{Outcome, Parsed, Unreadable, TooHigh, after}
+use Rattle.pc_parser.specs.Outcome.{Outcome, Parsed, TooHigh, after}
 use Rattle.pc_parser.specs.Gives.{Fails}
 use Rattle.pc_parser.proofs.Finds.{climb-ends}
 use Rattle.pc_parser.specs.ExpressionParser.{Inner, operator_from, joined_at, last_turn, turn, climb, expression_at, below, part, operand}

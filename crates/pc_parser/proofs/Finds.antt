@@ -1,5 +1,5 @@
 -- The parser finds a reading that the budget allows: what each step gives where its test holds.
-use Rattle.std.proofs.Common.{◌≡◌, refl, sym, ap, ◌∙◌, ℕ, zero, suc, ◌+◌, ◌-◌, ◌<◌, ◌≤◌, Bool, true, false, List, arith, cond}
+use Rattle.std.proofs.Common.{◌≡◌, refl, sym, ap, ◌∙◌, ℕ, zero, suc, ◌<◌, ◌≤◌, Bool, true, false, List, arith, cond}
 use Rattle.std.specs.Prelude.{Option, Some, None, nat_le}
 use Rattle.std.proofs.lemmas.Bool.{le-leb, leb-true}
 use Rattle.pc_lexer.specs.declared.token.Token.{Token}
@@ -10,11 +10,11 @@ use Rattle.pc_lexer.specs.declared.mark.Mark.TheVariants as marks
 use Rattle.pc_lexer.specs.declared.keyword.Keyword.{Keyword}
 use Rattle.pc_syntax.specs.Source.{SourceExpression}
 use Rattle.pc_parser.specs.declared.operator.Operator.{Operator}
-use Rattle.pc_parser.specs.Places.{kind_at, line_at, is_mark, is_key}
+use Rattle.pc_parser.specs.Places.{kind_at}
 use Rattle.pc_parser.specs.Operators.{operator_of}
 use Rattle.pc_parser.specs.Outcome.{Outcome, Parsed, Unreadable, TooHigh, after, allowed, expect, expect_key}
 use Rattle.pc_parser.specs.ExpressionParser.{Inner, operator_from, tight, joined_at, last_turn, turn, climb}
-use Rattle.pc_parser.proofs.Tokens.{is_mark-of, is_key-of, is_mark-true}
+use Rattle.pc_parser.proofs.Tokens.{is_mark-of, is_key-of}
 
 pub allowed-yes : {A : Type 0} (least budget at : ℕ) (rest : Outcome A) → least ≤ budget → allowed least budget at rest ≡ rest
 allowed-yes least budget at rest low = ap (λ t. cond t rest (TooHigh at)) (le-leb least budget low)

@@ -1,5 +1,5 @@
 -- The parser of expressions finds a reading that the budget allows, in front of a token that ends it.
-use Rattle.std.proofs.Common.{◌≡◌, refl, sym, ap, ◌∙◌, subst, ℕ, ℤ, zero, suc, ◌+◌, ◌-◌, ◌<◌, ◌≤◌, Bool, true, false, List, arith, cond}
+use Rattle.std.proofs.Common.{◌≡◌, refl, sym, ap, ◌∙◌, subst, ℕ, ℤ, ◌+◌, ◌-◌, ◌≤◌, false, List, arith}
 use Rattle.std.specs.Prelude.{Option, Some, None, max}
 use Rattle.pc_lexer.specs.declared.token.Token.{Token}
 use Rattle.pc_lexer.specs.declared.token.TokenKind.{TokenKind}
@@ -8,16 +8,15 @@ use Rattle.pc_lexer.specs.declared.mark.Mark.{Mark}
 use Rattle.pc_lexer.specs.declared.mark.Mark.TheVariants as marks
 use Rattle.pc_lexer.specs.declared.keyword.Keyword.TheVariants as keys
 use Rattle.pc_syntax.specs.declared.operator.UnaryOp.{UnaryOp}
-use Rattle.pc_syntax.specs.Source.{SourceExpression, Literal, Variable, Input, Indexed, Conditional}
+use Rattle.pc_syntax.specs.Source.{SourceExpression, Literal, Input, Conditional}
 use Rattle.pc_parser.specs.declared.operator.Operator.{Operator}
-use Rattle.pc_parser.specs.Places.{kind_at, line_at, is_mark, mark_is, key_is}
+use Rattle.pc_parser.specs.Places.{kind_at, line_at, is_mark}
 use Rattle.pc_parser.specs.Operators.{operator_of, prefix_of, joined, prefixed}
 use Rattle.pc_parser.specs.Expressions.{ReadsExpression, ReadsLevel, ReadsUnary, ReadsPrimary}
-use Rattle.pc_parser.specs.Statements.{Target}
-use Rattle.pc_parser.specs.Outcome.{Outcome, Parsed, Unreadable, TooHigh, after, allowed, expect}
-use Rattle.pc_parser.specs.ExpressionParser.{Inner, operator_from, sign_of, target_tree, target_height, target_named, number_at, name_at, grouped, input, primary_on, signed, unary_on, unary_at, joined_at, climb, choice, operand, part, expression_at, below}
+use Rattle.pc_parser.specs.Outcome.{Parsed, after}
+use Rattle.pc_parser.specs.ExpressionParser.{operator_from, sign_of, target_tree, target_height, target_named, number_at, name_at, grouped, input, primary_on, signed, unary_on, unary_at, joined_at, climb, choice, operand, part, expression_at, below}
 use Rattle.pc_parser.proofs.Budgets.{below-expression, expression_at-part, part-operand}
-use Rattle.pc_parser.proofs.Tokens.{is_mark-of, is_mark-true, mark_is-self, key_is-self}
+use Rattle.pc_parser.proofs.Tokens.{is_mark-of, is_mark-true}
 use Rattle.pc_parser.proofs.Finds.{allowed-yes, expect-yes, after-parsed, cond-yes, cond-no, false_from, operator_from-higher, operator_from-found, operator_from-passed, operator_from-unary, climb-ends, climb-turns}
 
 -- what may stand behind an operand of a level

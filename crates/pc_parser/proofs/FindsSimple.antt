@@ -1,5 +1,5 @@
 -- The parser of simple statements and declarations finds a reading that the budget allows.
-use Rattle.std.proofs.Common.{◌≡◌, refl, sym, ap, ◌∙◌, subst, ℕ, ℤ, zero, suc, pos, ◌+◌, ◌-◌, ◌<◌, ◌≤◌, ◌⊎◌, inl, inr, Bool, true, false, List, length, arith, cond}
+use Rattle.std.proofs.Common.{◌≡◌, refl, sym, ap, ◌∙◌, ℕ, zero, suc, pos, ◌+◌, ◌-◌, ◌<◌, ◌≤◌, ◌⊎◌, inl, inr, Bool, true, false, List, length, arith}
 use Rattle.std.specs.Prelude.{Option, Some, None, max}
 use Rattle.pc_lexer.specs.declared.token.Token.{Token}
 use Rattle.pc_lexer.specs.declared.token.TokenKind.{TokenKind}
@@ -8,21 +8,21 @@ use Rattle.pc_lexer.specs.declared.mark.Mark.{Mark}
 use Rattle.pc_lexer.specs.declared.mark.Mark.TheVariants as marks
 use Rattle.pc_lexer.specs.declared.keyword.Keyword.TheVariants as keys
 use Rattle.pc_syntax.specs.declared.operator.BinaryOp.{BinaryOp}
-use Rattle.pc_syntax.specs.Source.{SourceExpression, SourceStatement, SourceList, OptionalStatement, Literal, ScalarDeclaration, ArrayDeclaration, Printing, Evaluation, Absent, Present, No_more, More}
+use Rattle.pc_syntax.specs.Source.{SourceExpression, SourceStatement, SourceList, OptionalStatement, Literal, Printing, Evaluation}
 use Rattle.pc_parser.specs.declared.operator.Operator.{Operator}
-use Rattle.pc_parser.specs.Places.{kind_at, line_at, is_mark, is_key, mark_is, key_is}
+use Rattle.pc_parser.specs.Places.{kind_at, line_at, is_mark, is_key}
 use Rattle.pc_parser.specs.Operators.{operator_of, assignment_of, step_of}
 use Rattle.pc_parser.specs.Expressions.{ReadsExpression}
 use Rattle.pc_parser.specs.Statements.{Target, assigned, ReadsTarget, ReadsTest, ReadsSimple, ReadsDeclarator, ReadsDeclarators, ReadsDeclaration, ReadsFirst, ReadsCondition, ReadsStep}
-use Rattle.pc_parser.specs.Outcome.{Outcome, Parsed, Unreadable, TooHigh, after, allowed, expect, expect_key}
+use Rattle.pc_parser.specs.Outcome.{Outcome, Parsed, Unreadable, TooHigh, after}
 use Rattle.pc_parser.specs.ExpressionParser.{operator_from, tight, sign_of, target_named, target_tree, target_height, primary_on, name_at, unary_on, unary_at, climb, choice, operand, part, expression_at, below}
 use Rattle.pc_parser.specs.StatementParser.{assignment_from, step_from, symbol_of, length_of, name_budget, test_at, closed_behind, closed, target_on, target_at, evaluation, evaluation_from, print_at, step_before, assignment, behind_target, on_target, named, marked, simple_on, simple_at, ended_at, array, initialised, declarator_on, declarator_at, last_declarator, declarators_at, declaration_at, first_at, condition_at, step_at}
 use Rattle.pc_parser.proofs.Budgets.{expression_at-part}
-use Rattle.pc_parser.proofs.Tokens.{is_mark-of, is_key-of, is_mark-true, mark_is-self, key_is-self}
-use Rattle.pc_parser.proofs.Finds.{allowed-yes, expect-yes, expect_key-yes, after-parsed, cond-yes, cond-no, false_from, climb-ends}
+use Rattle.pc_parser.proofs.Tokens.{is_mark-of, is_key-of, is_mark-true}
+use Rattle.pc_parser.proofs.Finds.{allowed-yes, expect-yes, after-parsed, cond-yes, cond-no, climb-ends}
 use Rattle.pc_parser.proofs.FindsExpressions.{FollowsWhole, follows-paren, follows-bracket, follows-semicolon, follows-comma, finds-lone, finds-indexed, finds-expression, expression-positive}
-use Rattle.pc_parser.proofs.Starts.{BeginsExpression, expression-begins, simple-begins}
-use Rattle.pc_parser.proofs.Onward.{inside, declarator-onward, declarators-onward}
+use Rattle.pc_parser.proofs.Starts.{expression-begins, simple-begins}
+use Rattle.pc_parser.proofs.Onward.{inside, declarator-onward}
 
 -- what stands behind a simple statement
 pub record Closes (kind : Option TokenKind) : Type 0 where

@@ -1,11 +1,11 @@
 -- A tree that is given ends behind its beginning.
-use Rattle.std.proofs.Common.{◌≡◌, refl, sym, subst, ℕ, ◌+◌, ◌<◌, ◌≤◌, List, length, arith}
+use Rattle.std.proofs.Common.{◌≡◌, refl, subst, ℕ, ◌+◌, ◌<◌, ◌≤◌, List, arith}
 use Rattle.pc_lexer.specs.declared.token.Token.{Token}
 use Rattle.pc_syntax.specs.Source.{SourceExpression, SourceStatement}
-use Rattle.pc_parser.specs.Outcome.{Outcome, Parsed}
+use Rattle.pc_parser.specs.Outcome.{Parsed}
 use Rattle.pc_parser.specs.ExpressionParser.{expression_at}
 use Rattle.pc_parser.specs.StatementParser.{statement_at}
-use Rattle.pc_parser.proofs.Local.{Goes, Budgets}
+use Rattle.pc_parser.proofs.Local.{Goes}
 use Rattle.pc_parser.proofs.LocalExpressions.{expression_at-local}
 use Rattle.pc_parser.proofs.LocalStatements.{statement_at-local}
 

@@ -1,7 +1,7 @@
 -- What a parser gives is what the grammar reads: a tree with its height, or a place among the tokens.
 use Rattle.std.proofs.Common.{◌≡◌, refl, sym, ap, ◌∙◌, subst, ℕ, zero, suc, ◌+◌, ◌-◌, ◌<◌, ◌≤◌, Bool, true, false, List, length, arith, cond}
 use Rattle.std.specs.Prelude.{Option, Some, None, nat_le}
-use Rattle.std.proofs.lemmas.Bool.{le-leb, leb-true}
+use Rattle.std.proofs.lemmas.Bool.{leb-true}
 use Rattle.std.proofs.lemmas.Bool.Decides.{nat_tests}
 use Rattle.pc_lexer.specs.declared.token.Token.{Token}
 use Rattle.pc_lexer.specs.declared.token.TokenKind.{TokenKind}
@@ -18,7 +18,6 @@ use Rattle.pc_parser.specs.Outcome.{Outcome, Parsed, Unreadable, TooHigh, after,
 use Rattle.pc_parser.specs.ExpressionParser.{operator_from, tight}
 use Rattle.pc_parser.proofs.Tokens.{is_mark-true, is_key-true}
 use Rattle.pc_parser.proofs.Onward.{inside}
-use Rattle.pc_parser.proofs.Finds.{false_from}
 
 -- An outcome is good: a tree has the property, a place is among the tokens, and what is too high comes late.
 abbrev pub Good : {A : Type 0} → (most late : ℕ) → (A → ℕ → ℕ → Type 0) → Outcome A → Type 0

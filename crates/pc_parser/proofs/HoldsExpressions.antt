@@ -1,5 +1,5 @@
 -- What the parser of expressions gives is what the grammar reads.
-use Rattle.std.proofs.Common.{◌≡◌, refl, sym, ap, ◌∙◌, subst, ℕ, ℤ, zero, suc, ◌+◌, ◌-◌, ◌<◌, ◌≤◌, Bool, true, false, List, length, arith, cond}
+use Rattle.std.proofs.Common.{◌≡◌, refl, ap, ◌∙◌, subst, ℕ, ℤ, zero, suc, ◌+◌, ◌-◌, ◌≤◌, List, length, arith}
 use Rattle.std.specs.Prelude.{Option, Some, None, max}
 use Rattle.pc_lexer.specs.declared.token.Token.{Token}
 use Rattle.pc_lexer.specs.declared.token.TokenKind.{TokenKind}
@@ -8,17 +8,17 @@ use Rattle.pc_lexer.specs.declared.mark.Mark.{Mark}
 use Rattle.pc_lexer.specs.declared.mark.Mark.TheVariants as marks
 use Rattle.pc_lexer.specs.declared.keyword.Keyword.TheVariants as keys
 use Rattle.pc_syntax.specs.declared.operator.UnaryOp.{UnaryOp}
-use Rattle.pc_syntax.specs.Source.{SourceExpression, Literal, Input, Conditional}
+use Rattle.pc_syntax.specs.Source.{SourceExpression}
 use Rattle.pc_parser.specs.declared.operator.Operator.{Operator}
-use Rattle.pc_parser.specs.Places.{kind_at, line_at, is_mark, mark_is, key_is}
-use Rattle.pc_parser.specs.Operators.{operator_of, prefix_of, joined, prefixed}
+use Rattle.pc_parser.specs.Places.{kind_at, line_at, mark_is, key_is}
+use Rattle.pc_parser.specs.Operators.{prefix_of, joined}
 use Rattle.pc_parser.specs.Expressions.{ReadsExpression, ReadsLevel, ReadsUnary, ReadsPrimary}
 use Rattle.pc_parser.specs.Statements.{Target, ReadsTarget}
-use Rattle.pc_parser.specs.Outcome.{Outcome, Parsed, Unreadable, TooHigh, after, allowed, expect}
+use Rattle.pc_parser.specs.Outcome.{Outcome, Parsed, Unreadable, TooHigh}
 use Rattle.pc_parser.specs.ExpressionParser.{Inner, operator_from, sign_of, target_tree, target_height, target_named, number_at, name_at, grouped, input, primary_on, signed, unary_on, unary_at, joined_at, last_turn, turn, climb, choice, operand, part, expression_at, below}
 use Rattle.pc_parser.proofs.Tokens.{mark_is-true, key_is-true}
 use Rattle.pc_parser.proofs.Onward.{inside}
-use Rattle.pc_parser.proofs.Holds.{Good, after-good, cond-good, allowed-good, expect-good, on_mark-good, rank-most, Found, found-is, found-below, looser-to}
+use Rattle.pc_parser.proofs.Holds.{Good, after-good, cond-good, allowed-good, expect-good, on_mark-good, rank-most, found-is, found-below, looser-to}
 
 module _ (tokens : List Token) where
   -- a height that the budget allows, no greater than the number of tokens, and a place among the tokens

@@ -1,6 +1,6 @@
 -- What the parser of simple statements and declarations gives is what the grammar reads.
-use Rattle.std.proofs.Common.{◌≡◌, refl, sym, ap, ◌∙◌, subst, ℕ, ℤ, zero, suc, pos, negsuc, ◌+◌, ◌-◌, ◌<◌, ◌≤◌, Bool, true, false, List, length, arith, cond}
-use Rattle.std.specs.Prelude.{Option, Some, None, max}
+use Rattle.std.proofs.Common.{◌≡◌, refl, ap, ◌∙◌, subst, ℕ, ℤ, zero, suc, pos, negsuc, ◌+◌, ◌-◌, ◌≤◌, List, length, arith}
+use Rattle.std.specs.Prelude.{Option, Some, None}
 use Rattle.pc_lexer.specs.declared.token.Token.{Token}
 use Rattle.pc_lexer.specs.declared.token.TokenKind.{TokenKind}
 use Rattle.pc_lexer.specs.declared.token.TokenKind.TheVariants as kinds
@@ -9,17 +9,17 @@ use Rattle.pc_lexer.specs.declared.mark.Mark.TheVariants as marks
 use Rattle.pc_lexer.specs.declared.keyword.Keyword.TheVariants as keys
 use Rattle.pc_syntax.specs.declared.operator.BinaryOp.{BinaryOp}
 use Rattle.pc_syntax.specs.Source.{SourceExpression, SourceStatement, SourceList, OptionalStatement, Present, No_more, More}
-use Rattle.pc_parser.specs.Places.{kind_at, line_at, is_mark, is_key, mark_is, key_is}
+use Rattle.pc_parser.specs.Places.{kind_at, key_is}
 use Rattle.pc_parser.specs.Operators.{assignment_of, step_of}
-use Rattle.pc_parser.specs.Expressions.{ReadsExpression, ReadsUnary}
-use Rattle.pc_parser.specs.Statements.{Target, ReadsTarget, ReadsTest, ReadsSimple, ReadsDeclarator, ReadsDeclarators, ReadsDeclaration, ReadsFirst, ReadsCondition, ReadsStep}
-use Rattle.pc_parser.specs.Outcome.{Outcome, Parsed, Unreadable, TooHigh, after, allowed, expect, expect_key}
-use Rattle.pc_parser.specs.ExpressionParser.{target_named, target_tree, target_height, climb, choice, expression_at, below}
+use Rattle.pc_parser.specs.Expressions.{ReadsUnary}
+use Rattle.pc_parser.specs.Statements.{Target, ReadsTest, ReadsSimple, ReadsDeclarator, ReadsDeclarators, ReadsDeclaration, ReadsFirst, ReadsCondition, ReadsStep}
+use Rattle.pc_parser.specs.Outcome.{Outcome, Parsed, Unreadable, TooHigh}
+use Rattle.pc_parser.specs.ExpressionParser.{target_tree, target_height, climb, choice, expression_at, below}
 use Rattle.pc_parser.specs.StatementParser.{assignment_from, step_from, symbol_of, length_of, natural, name_budget, test_at, closed_behind, closed, target_on, target_at, evaluation, evaluation_from, print_at, step_before, assignment, behind_target, on_target, named, marked, simple_on, simple_at, ended_at, array, initialised, declarator_on, declarator_at, last_declarator, declarators_at, declaration_at, first_at, condition_at, step_at}
 use Rattle.pc_parser.proofs.Tokens.{key_is-true}
 use Rattle.pc_parser.proofs.Onward.{inside, simple-onward, declarators-onward}
 use Rattle.pc_parser.proofs.Holds.{Good, after-good, cond-good, allowed-good, expect-good, on_mark-good, on_key-good}
-use Rattle.pc_parser.proofs.HoldsExpressions.{Sized, Sound, IsTarget, IsUnary, Left, fresh, target-primary, target-height-low, target_named-holds, climb-holds, choice-holds, expression_at-holds, below-holds}
+use Rattle.pc_parser.proofs.HoldsExpressions.{Sound, IsTarget, IsUnary, fresh, target-primary, target-height-low, target_named-holds, climb-holds, choice-holds, expression_at-holds, below-holds}
 
 -- what assigns, steps, is a name or a length
 assignment-is : (kind : Option TokenKind) (op : Option BinaryOp) → assignment_from kind ≡ Some op → (mark : Mark) × (kind ≡ Some (kinds.Mark mark)) × (assignment_of mark ≡ Some op)

@@ -1,5 +1,5 @@
 -- What the parser of statements and programs gives is what the grammar reads.
-use Rattle.std.proofs.Common.{◌≡◌, refl, sym, ap, ◌∙◌, subst, ℕ, zero, suc, ◌+◌, ◌-◌, ◌<◌, ◌≤◌, Bool, true, false, List, length, arith, cond}
+use Rattle.std.proofs.Common.{◌≡◌, refl, ap, ◌∙◌, subst, ℕ, zero, suc, ◌+◌, ◌-◌, ◌≤◌, true, false, List, length, arith, cond}
 use Rattle.std.specs.Prelude.{Option, Some, None, max}
 use Rattle.pc_lexer.specs.declared.token.Token.{Token}
 use Rattle.pc_lexer.specs.declared.token.TokenKind.{TokenKind}
@@ -8,15 +8,15 @@ use Rattle.pc_lexer.specs.declared.mark.Mark.{Mark}
 use Rattle.pc_lexer.specs.declared.mark.Mark.TheVariants as marks
 use Rattle.pc_lexer.specs.declared.keyword.Keyword.{Keyword}
 use Rattle.pc_lexer.specs.declared.keyword.Keyword.TheVariants as keys
-use Rattle.pc_syntax.specs.Source.{SourceExpression, SourceStatement, SourceList, OptionalStatement, SourceProgram, Scope, Branch, WhileLoop, DoLoop, ForLoop, BreakOut, ContinueOn, ReturnFrom, Nothing, Absent, Present, No_more, More, appended}
-use Rattle.pc_parser.specs.Places.{kind_at, line_at, is_mark, is_key, mark_is, key_is}
-use Rattle.pc_parser.specs.Statements.{ends_open, ReadsSimple, ReadsDeclaration, ReadsStatement, ReadsItems, ReadsProgram}
-use Rattle.pc_parser.specs.Outcome.{Outcome, Parsed, Unreadable, TooHigh, after, allowed, expect, expect_key}
+use Rattle.pc_syntax.specs.Source.{SourceExpression, SourceStatement, SourceList, Scope, BreakOut, ContinueOn, No_more, More, appended}
+use Rattle.pc_parser.specs.Places.{kind_at, line_at, is_key, mark_is, key_is}
+use Rattle.pc_parser.specs.Statements.{ends_open, ReadsSimple, ReadsStatement, ReadsItems, ReadsProgram}
+use Rattle.pc_parser.specs.Outcome.{Outcome, Parsed, Unreadable, TooHigh, after}
 use Rattle.pc_parser.specs.ExpressionParser.{expression_at}
 use Rattle.pc_parser.specs.StatementParser.{test_at, ended_at, declaration_at, first_at, condition_at, step_at, item_at, items_at, block_at, otherwise_at, branch_at, while_at, do_at, for_body, for_at, lone, return_at, keyed, started, statement_on, statement_from, statement_at, statement_below, nothing_behind, main_block, program_at}
 use Rattle.pc_parser.proofs.Tokens.{is_key-of, mark_is-true, key_is-true}
 use Rattle.pc_parser.proofs.Finds.{false_from}
-use Rattle.pc_parser.proofs.Onward.{inside, expression-onward, test-onward, simple-onward, items-onward}
+use Rattle.pc_parser.proofs.Onward.{inside, test-onward, simple-onward, items-onward}
 use Rattle.pc_parser.proofs.Holds.{Good, after-good, cond-good, allowed-good, expect-good, expect_key-good, on_mark-good, on_key-good}
 use Rattle.pc_parser.proofs.HoldsExpressions.{Sound, expression_at-holds}
 use Rattle.pc_parser.proofs.HoldsSimple.{IsTest, IsClosed, IsDeclaration, IsFirst, IsCondition, IsStep, test_at-holds, ended_at-holds, declaration_at-holds, first_at-holds, condition_at-holds, step_at-holds}

@@ -1,5 +1,5 @@
 -- What a loop over items has so far, with what the parser gives of the rest.
-use Rattle.std.proofs.Common.{◌≡◌, refl, sym, ap, ◌∙◌, subst, ℕ, zero, suc, ◌+◌, ◌-◌, ◌<◌, ◌≤◌, Bool, true, false, List, length, arith, cond}
+use Rattle.std.proofs.Common.{◌≡◌, refl, sym, ap, ◌∙◌, subst, ℕ, zero, suc, ◌+◌, ◌-◌, ◌≤◌, Bool, true, false, List, length, arith, cond}
 use Rattle.std.specs.Prelude.{max}
 use Rattle.pc_lexer.specs.declared.token.Token.{Token}
 use Rattle.pc_lexer.specs.declared.mark.Mark.TheVariants as marks

@@ -1,21 +1,20 @@
 -- The parser of expressions depends on the tokens up to where it stops.
-use Rattle.std.proofs.Common.{◌≡◌, refl, sym, ap, ◌∙◌, ℕ, ℤ, zero, suc, ◌+◌, ◌-◌, ◌<◌, ◌≤◌, Bool, true, false, List, arith, cond}
+use Rattle.std.proofs.Common.{◌≡◌, refl, sym, ℕ, ℤ, zero, suc, ◌+◌, ◌≤◌, Bool, true, false, List, arith, cond}
 use Rattle.std.specs.Prelude.{Option, Some, None, max}
 use Rattle.pc_lexer.specs.declared.token.Token.{Token}
 use Rattle.pc_lexer.specs.declared.token.TokenKind.{TokenKind}
 use Rattle.pc_lexer.specs.declared.token.TokenKind.TheVariants as kinds
-use Rattle.pc_lexer.specs.declared.mark.Mark.{Mark}
 use Rattle.pc_lexer.specs.declared.mark.Mark.TheVariants as marks
 use Rattle.pc_lexer.specs.declared.keyword.Keyword.TheVariants as keys
 use Rattle.pc_syntax.specs.declared.operator.UnaryOp.{UnaryOp}
-use Rattle.pc_syntax.specs.Source.{SourceExpression, Literal, Variable, Input, Indexed, Conditional}
+use Rattle.pc_syntax.specs.Source.{SourceExpression, Input, Conditional}
 use Rattle.pc_parser.specs.declared.operator.Operator.{Operator}
 use Rattle.pc_parser.specs.Places.{kind_at, line_at, is_mark, mark_is, key_is}
-use Rattle.pc_parser.specs.Operators.{joined, prefixed, operator_of, prefix_of}
+use Rattle.pc_parser.specs.Operators.{joined}
 use Rattle.pc_parser.specs.Statements.{Target}
 use Rattle.pc_parser.specs.Outcome.{Outcome, Parsed, Unreadable, TooHigh, after, allowed, expect}
-use Rattle.pc_parser.specs.ExpressionParser.{Inner, operator_from, sign_of, target_tree, target_height, target_named, number_at, name_at, grouped, input, primary_on, signed, unary_on, unary_at, joined_at, last_turn, turn, climb, choice, operand, part, expression_at, below}
-use Rattle.pc_parser.proofs.Local.{Budgets, Budgets-less, Local, parsed, unreadable, too_high, earlier, after-local, allowed-local, look, look_line, if-local, expect-local}
+use Rattle.pc_parser.specs.ExpressionParser.{Inner, operator_from, sign_of, target_named, number_at, name_at, grouped, input, primary_on, signed, unary_on, unary_at, joined_at, last_turn, turn, climb, choice, operand, part, expression_at, below}
+use Rattle.pc_parser.proofs.Local.{Budgets, Local, parsed, unreadable, too_high, earlier, after-local, allowed-local, look, look_line, if-local, expect-local}
 
 -- the target at a name, with the lines of the name and of the bracket
 abbrev target_with : List Token → Inner → (budget symbol from line bracket : ℕ) → Outcome Target

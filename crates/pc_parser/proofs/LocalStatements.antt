@@ -1,5 +1,5 @@
 -- The parser of statements depends on the tokens up to where it stops.
-use Rattle.std.proofs.Common.{◌≡◌, refl, sym, ap, ◌∙◌, ℕ, ℤ, zero, suc, pos, ◌+◌, ◌-◌, ◌<◌, ◌≤◌, Bool, true, false, List, length, arith, cond}
+use Rattle.std.proofs.Common.{◌≡◌, refl, sym, ap, ◌∙◌, ℕ, zero, suc, pos, ◌+◌, ◌-◌, ◌<◌, ◌≤◌, Bool, true, false, List, length, arith, cond}
 use Rattle.std.specs.Prelude.{Option, Some, None, max}
 use Rattle.pc_lexer.specs.declared.token.Token.{Token}
 use Rattle.pc_lexer.specs.declared.token.TokenKind.{TokenKind}
@@ -9,12 +9,12 @@ use Rattle.pc_lexer.specs.declared.mark.Mark.TheVariants as marks
 use Rattle.pc_lexer.specs.declared.keyword.Keyword.{Keyword}
 use Rattle.pc_lexer.specs.declared.keyword.Keyword.TheVariants as keys
 use Rattle.pc_syntax.specs.declared.operator.BinaryOp.{BinaryOp}
-use Rattle.pc_syntax.specs.Source.{SourceExpression, SourceStatement, SourceList, OptionalStatement, Literal, Scope, ScalarDeclaration, ArrayDeclaration, Printing, Evaluation, Branch, WhileLoop, DoLoop, ForLoop, BreakOut, ContinueOn, ReturnFrom, Nothing, Absent, Present, No_more, More, appended}
+use Rattle.pc_syntax.specs.Source.{SourceExpression, SourceStatement, SourceList, OptionalStatement, Literal, ScalarDeclaration, ArrayDeclaration, Printing, Evaluation, WhileLoop, DoLoop, BreakOut, ContinueOn, ReturnFrom, More, appended}
 use Rattle.pc_parser.specs.Places.{kind_at, line_at, is_mark, is_key, mark_is, key_is}
-use Rattle.pc_parser.specs.Operators.{assignment_of, step_of}
+use Rattle.pc_parser.specs.Operators.{step_of}
 use Rattle.pc_parser.specs.Statements.{Target, assigned}
 use Rattle.pc_parser.specs.Outcome.{Outcome, Parsed, Unreadable, TooHigh, after, allowed, expect, expect_key}
-use Rattle.pc_parser.specs.ExpressionParser.{target_named, target_tree, target_height, climb, choice, expression_at, below}
+use Rattle.pc_parser.specs.ExpressionParser.{target_tree, target_height, climb, choice, expression_at, below}
 use Rattle.pc_parser.specs.StatementParser.{assignment_from, step_from, symbol_of, length_of, name_budget, test_at, closed_behind, closed, target_on, target_at, evaluation, evaluation_from, print_at, step_before, assignment, behind_target, on_target, named, marked, simple_on, simple_at, ended_at, array, initialised, declarator_on, declarator_at, last_declarator, declarators_at, declaration_at, first_at, condition_at, step_at, item_at, items_at, block_at, otherwise_at, branch_at, while_at, do_at, for_body, for_at, lone, return_at, keyed, started, statement_on, statement_from, statement_at, statement_below, nothing_behind, main_block, program_at}
 use Rattle.pc_parser.proofs.Local.{Budgets, Budgets-less, Goes, Goes-stop, Goes-from, Goes-after, Goes-cond, Local, parsed, unreadable, too_high, earlier, after-local, allowed-local, look, look_line, if-local, expect-local, expect_key-local}
 use Rattle.pc_parser.proofs.LocalExpressions.{target_named-local, choice-local, climb-local, expression_at-local, below-local}

@@ -1,5 +1,5 @@
 -- A `do` whose last `;` is missing.
-use Rattle.std.proofs.Common.{◌≡◌, sym, ap, ◌∙◌, subst, ℕ, ◌+◌, ◌-◌, ◌≤◌, Bool, true, false, List, arith}
+use Rattle.std.proofs.Common.{◌≡◌, sym, ◌∙◌, subst, ℕ, ◌+◌, ◌-◌, ◌≤◌, true, false, List, arith}
 use Rattle.pc_lexer.specs.declared.token.Token.{Token}
 use Rattle.pc_lexer.specs.declared.mark.Mark.TheVariants as marks
 use Rattle.pc_lexer.specs.declared.keyword.Keyword.TheVariants as keys
@@ -7,7 +7,7 @@ use Rattle.pc_syntax.specs.Source.{SourceExpression, SourceStatement}
 use Rattle.pc_parser.specs.declared.outcome.Failure.{Failure}
 use Rattle.pc_parser.specs.declared.outcome.Failure.TheVariants as failures
 use Rattle.pc_parser.specs.Places.{kind_at, is_mark, is_key}
-use Rattle.pc_parser.specs.Outcome.{Parsed, Unreadable}
+use Rattle.pc_parser.specs.Outcome.{Parsed}
 use Rattle.pc_parser.specs.StatementParser.{test_at, do_at, statement_at, statement_below}
 use Rattle.pc_parser.specs.Gives.{Fails}
 use Rattle.pc_parser.proofs.Budgets.{below-statement}

@@ -1,6 +1,6 @@
 -- With what a reading begins.
-use Rattle.std.proofs.Common.{◌≡◌, refl, sym, ap, ◌∙◌, subst, ℕ, ℤ, ◌+◌, ◌⊎◌, inl, inr, Bool, true, false, List}
-use Rattle.std.specs.Prelude.{Option, Some, None}
+use Rattle.std.proofs.Common.{◌≡◌, refl, sym, subst, ℕ, ℤ, ◌+◌, ◌⊎◌, inl, inr, false, List}
+use Rattle.std.specs.Prelude.{Option, Some}
 use Rattle.pc_lexer.specs.declared.token.Token.{Token}
 use Rattle.pc_lexer.specs.declared.token.TokenKind.{TokenKind}
 use Rattle.pc_lexer.specs.declared.token.TokenKind.TheVariants as kinds
@@ -10,10 +10,10 @@ use Rattle.pc_lexer.specs.declared.keyword.Keyword.TheVariants as keys
 use Rattle.pc_syntax.specs.declared.operator.UnaryOp.{UnaryOp}
 use Rattle.pc_syntax.specs.declared.operator.BinaryOp.{BinaryOp}
 use Rattle.pc_syntax.specs.Source.{SourceExpression, SourceStatement}
-use Rattle.pc_parser.specs.Places.{kind_at, is_mark, is_key, mark_is, key_is}
+use Rattle.pc_parser.specs.Places.{kind_at, is_mark, is_key}
 use Rattle.pc_parser.specs.Operators.{prefix_of, step_of}
 use Rattle.pc_parser.specs.Expressions.{ReadsExpression, ReadsLevel, ReadsUnary, ReadsPrimary}
-use Rattle.pc_parser.specs.Statements.{Target, ReadsTarget, ReadsSimple, ReadsStatement, ReadsItems, ReadsDeclaration}
+use Rattle.pc_parser.specs.Statements.{Target, ReadsTarget, ReadsSimple, ReadsStatement}
 use Rattle.pc_parser.specs.Outcome.{Outcome}
 use Rattle.pc_parser.specs.StatementParser.{simple_on, marked, evaluation, ended_at, keyed, started, statement_on}
 

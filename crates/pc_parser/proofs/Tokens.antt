@@ -1,15 +1,14 @@
 -- What the tests of tokens say.
-use Rattle.std.proofs.Common.{◌≡◌, refl, sym, ap, ◌∙◌, ℕ, Bool, true, false, List, arith}
+use Rattle.std.proofs.Common.{◌≡◌, refl, ap, ◌∙◌, true}
 use Rattle.std.specs.Prelude.{Option, Some, None}
 use denote.Enum.Bare.{same_true, true_same}
-use Rattle.pc_lexer.specs.declared.token.Token.{Token}
 use Rattle.pc_lexer.specs.declared.token.TokenKind.{TokenKind}
 use Rattle.pc_lexer.specs.declared.token.TokenKind.TheVariants as kinds
 use Rattle.pc_lexer.specs.declared.mark.Mark.{Mark}
 use Rattle.pc_lexer.specs.declared.keyword.Keyword.{Keyword}
 use Rattle.pc_lexer.specs.contracts.mark.Mark as of_marks
 use Rattle.pc_lexer.specs.contracts.keyword.Keyword as of_keywords
-use Rattle.pc_parser.specs.Places.{kind_at, is_mark, is_key, mark_is, key_is}
+use Rattle.pc_parser.specs.Places.{is_mark, is_key, mark_is, key_is}
 
 -- a mark is this mark where the test says so
 pub mark_is-true : (found mark : Mark) → mark_is found mark ≡ true → found ≡ mark

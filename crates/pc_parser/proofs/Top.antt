@@ -1,20 +1,18 @@
 -- What the parser promises of tokens, from what it gives.
-use Rattle.std.proofs.Common.{◌≡◌, refl, sym, ap, ◌∙◌, subst, ℕ, zero, suc, ◌+◌, ◌-◌, ◌<◌, ◌≤◌, Bool, true, false, List, [], ◌∷◌, length, arith}
-use Rattle.std.specs.Prelude.{Option, Some, None, option_map, unwrap_or, slice_get, max}
+use Rattle.std.proofs.Common.{◌≡◌, refl, sym, ap, ◌∙◌, subst, ℕ, zero, suc, ◌+◌, ◌-◌, ◌≤◌, true, false, List, [], ◌∷◌, length, arith}
+use Rattle.std.specs.Prelude.{option_map, unwrap_or, max}
 use Rattle.pc_lexer.specs.declared.token.Token.{Token}
-use Rattle.pc_lexer.specs.declared.token.TokenKind.{TokenKind}
 use Rattle.pc_syntax.specs.Source.{SourceList, SourceProgram}
 use Rattle.pc_parser.specs.declared.outcome.Failure.{Failure}
 use Rattle.pc_parser.specs.declared.outcome.Failure.TheVariants as failures
-use Rattle.pc_parser.specs.declared.unit.ParseError.{ParseError}
 use Rattle.pc_parser.specs.declared.unit.ParseError.TheVariants as errors
 use Rattle.pc_parser.specs.Places.{kind_at, line_at}
 use Rattle.pc_parser.specs.Statements.{ReadsProgram}
-use Rattle.pc_parser.specs.Outcome.{Outcome, Parsed, Unreadable, TooHigh}
+use Rattle.pc_parser.specs.Outcome.{Parsed, Unreadable, TooHigh}
 use Rattle.pc_parser.specs.StatementParser.{program_at}
 use Rattle.pc_parser.specs.Gives.{Fails}
 use Rattle.pc_parser.specs.Parse.{IsReadWithin, AgreeUpTo, NothingReads, NothingReadsWithin, line_of, IsPlaceOfLine, FailsInside, located}
-use Rattle.pc_parser.proofs.Local.{Budgets, Local, stop, is_high}
+use Rattle.pc_parser.proofs.Local.{stop, is_high}
 use Rattle.pc_parser.proofs.LocalStatements.{program_at-local}
 use Rattle.pc_parser.proofs.FindsStatements.{finds-program}
 use Rattle.pc_parser.proofs.Holds.{Good}

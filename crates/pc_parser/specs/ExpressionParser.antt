@@ -1,10 +1,9 @@
 -- The parser of expressions: precedence climbing, under a budget of height. `inner` is the parser with
 -- a budget that is one less, of what stands at a level from a place on; level 0 is the whole expression.
-use Rattle.std.specs.Prelude.{ℕ, ℤ, zero, suc, ◌+◌, max, Bool, nat_le, Option, Some, None, List, if◌then◌else◌}
+use Rattle.std.specs.Prelude.{ℕ, ℤ, zero, suc, ◌+◌, max, nat_le, Option, Some, None, List, if◌then◌else◌}
 use Rattle.pc_lexer.specs.declared.token.Token.{Token}
 use Rattle.pc_lexer.specs.declared.token.TokenKind.{TokenKind}
 use Rattle.pc_lexer.specs.declared.token.TokenKind.TheVariants as kinds
-use Rattle.pc_lexer.specs.declared.mark.Mark.{Mark}
 use Rattle.pc_lexer.specs.declared.mark.Mark.TheVariants as marks
 use Rattle.pc_lexer.specs.declared.keyword.Keyword.TheVariants as keys
 use Rattle.pc_syntax.specs.declared.operator.UnaryOp.{UnaryOp}

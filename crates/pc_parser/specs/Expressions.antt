@@ -1,7 +1,7 @@
 -- How the tokens of a list are read as expressions: one case a rule. `from` is the place of the first
 -- token, `to` the place behind the last. The height is measured on the text: a number, a name and
 -- `read()` have 1, and parentheses, an index, an operator and `?:` one more than their highest part.
-use Rattle.std.specs.Prelude.{◌≡◌, ℕ, ℤ, ◌+◌, max, Option, Some, None, List}
+use Rattle.std.specs.Prelude.{◌≡◌, ℕ, ℤ, ◌+◌, max, Option, Some, List}
 use Rattle.pc_lexer.specs.declared.token.Token.{Token}
 use Rattle.pc_lexer.specs.declared.token.TokenKind.TheVariants as kinds
 use Rattle.pc_lexer.specs.declared.mark.Mark.{Mark}

@@ -1,8 +1,8 @@
 -- How the code's answers are those of the parsers of these definitions, unless memory runs out.
-use Rattle.std.specs.Prelude.{◌≡◌, ℕ, ◌+◌, ◌≤◌, ◌<◌, ◌^◌, List, length, Option, Some, None, option_map, Result, Ok, Err}
+use Rattle.std.specs.Prelude.{◌≡◌, ℕ, ◌≤◌, List, length, Option, Some, None, option_map, Result, Ok, Err}
 use Rattle.pc_lexer.specs.declared.token.Token.{Token}
 use Rattle.pc_syntax.specs.declared.statement.Stmt.{Stmt}
-use Rattle.pc_syntax.specs.Source.{SourceExpression, SourceList, OptionalStatement, Absent, Present, appended}
+use Rattle.pc_syntax.specs.Source.{SourceList, OptionalStatement, Absent, Present, appended}
 use Rattle.pc_syntax.specs.Erasure.{expression_of, statement_of}
 use Rattle.pc_parser.specs.declared.outcome.Failure.{Failure}
 use Rattle.pc_parser.specs.declared.outcome.Failure.TheVariants as failures

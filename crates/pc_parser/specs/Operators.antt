@@ -1,5 +1,5 @@
 -- The tables of the grammar's marks.
-use Rattle.std.specs.Prelude.{ℕ, Option, Some, None, pos}
+use Rattle.std.specs.Prelude.{ℕ, Option, Some, None}
 use Rattle.pc_lexer.specs.declared.mark.Mark.{Mark}
 use Rattle.pc_lexer.specs.declared.mark.Mark.TheVariants as marks
 use Rattle.pc_syntax.specs.declared.operator.UnaryOp.{UnaryOp}

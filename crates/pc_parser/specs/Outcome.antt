@@ -1,5 +1,5 @@
 -- What a parser gives: a tree, with its height and the place behind it, or why there is none.
-use Rattle.std.specs.Prelude.{◌≡◌, ℕ, ◌≤◌, Bool, true, false, nat_le, Option, List, Result, Ok, Err, if◌then◌else◌}
+use Rattle.std.specs.Prelude.{ℕ, nat_le, List, if◌then◌else◌}
 use Rattle.pc_lexer.specs.declared.token.Token.{Token}
 use Rattle.pc_lexer.specs.declared.mark.Mark.{Mark}
 use Rattle.pc_lexer.specs.declared.keyword.Keyword.{Keyword}

@@ -1,5 +1,5 @@
 -- What the parser promises of tokens.
-use Rattle.std.specs.Prelude.{◌≡◌, ℕ, ◌-◌, ◌≤◌, ◌<◌, ◌⊎◌, Option, Some, None, option_map, unwrap_or, List, length, slice_get, Result, Ok, Err}
+use Rattle.std.specs.Prelude.{◌≡◌, ℕ, ◌-◌, ◌≤◌, Option, option_map, unwrap_or, List, length, slice_get, Result, Ok, Err}
 use Rattle.pc_lexer.specs.declared.token.Token.{Token}
 use Rattle.pc_syntax.specs.Source.{SourceProgram}
 use Rattle.pc_syntax.specs.declared.program.Program.{Program}

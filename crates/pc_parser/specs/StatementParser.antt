@@ -1,5 +1,5 @@
 -- The parser of statements, under a budget of height.
-use Rattle.std.specs.Prelude.{ℕ, zero, suc, ℤ, pos, negsuc, ◌+◌, ◌-◌, max, Bool, Option, Some, None, List, length, if◌then◌else◌}
+use Rattle.std.specs.Prelude.{ℕ, zero, suc, ℤ, pos, negsuc, ◌+◌, ◌-◌, max, Option, Some, None, List, length, if◌then◌else◌}
 use Rattle.pc_lexer.specs.declared.token.Token.{Token}
 use Rattle.pc_lexer.specs.declared.token.TokenKind.{TokenKind}
 use Rattle.pc_lexer.specs.declared.token.TokenKind.TheVariants as kinds

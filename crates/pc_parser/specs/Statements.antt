@@ -1,7 +1,7 @@
 -- How the tokens of a list are read as statements: one case a rule, with the places and the heights of
 -- `Expressions`. A declarator, a simple statement, `break`, `continue`, `return` and `;` are one higher
 -- than their highest expression, or 1; a block, `if` or loop is one higher than its highest part, or 1.
-use Rattle.std.specs.Prelude.{◌≡◌, ℕ, ℤ, pos, ◌+◌, max, Bool, true, false, Option, Some, None, List}
+use Rattle.std.specs.Prelude.{◌≡◌, ℕ, pos, ◌+◌, max, Bool, true, false, Option, Some, None, List}
 use Rattle.pc_lexer.specs.declared.token.Token.{Token}
 use Rattle.pc_lexer.specs.declared.token.TokenKind.TheVariants as kinds
 use Rattle.pc_lexer.specs.declared.mark.Mark.{Mark}
@@ -9,7 +9,7 @@ use Rattle.pc_lexer.specs.declared.mark.Mark.TheVariants as marks
 use Rattle.pc_lexer.specs.declared.keyword.Keyword.{Keyword}
 use Rattle.pc_lexer.specs.declared.keyword.Keyword.TheVariants as keys
 use Rattle.pc_syntax.specs.declared.operator.BinaryOp.{BinaryOp}
-use Rattle.pc_syntax.specs.Source.{SourceExpression, SourceStatement, SourceList, OptionalStatement, SourceProgram, Literal, Variable, Indexed, Scope, ScalarDeclaration, ArrayDeclaration, Assignment, Printing, Evaluation, Branch, WhileLoop, DoLoop, ForLoop, BreakOut, ContinueOn, ReturnFrom, Nothing, Absent, Present, No_more, More, appended}
+use Rattle.pc_syntax.specs.Source.{SourceExpression, SourceStatement, SourceList, OptionalStatement, SourceProgram, Literal, Scope, ScalarDeclaration, ArrayDeclaration, Assignment, Printing, Evaluation, Branch, WhileLoop, DoLoop, ForLoop, BreakOut, ContinueOn, ReturnFrom, Nothing, Absent, Present, No_more, More, appended}
 use Rattle.pc_parser.specs.Places.{kind_at, line_at}
 use Rattle.pc_parser.specs.Operators.{assignment_of, step_of}
 use Rattle.pc_parser.specs.Expressions.{HasMark, HasName, HasNumber, ReadsExpression}

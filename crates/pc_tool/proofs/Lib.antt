@@ -2,6 +2,7 @@ pub mod Compilations
 pub mod CompilerPromises
 pub mod Files
 pub mod FrontEnd
+pub mod Meanings
 pub mod Prints
 pub mod Simulations
 pub mod SimulatorPromises

@@ -9,6 +9,7 @@ use Rattle.pc_object.specs.Numbers.{HasWords}
 use Rattle.pc_object.specs.ObjectText.{IsObject, row_text}
 use Rattle.pc_tool.specs.Source.{PrintsLiterals}
 use Rattle.pc_tool.specs.Compilation.{Translates}
+use Rattle.pc_tool.proofs.Meanings.{does_the_same}
 use Rattle.pc_tool.specs.Emission.{default_limits, printing_object}
 
 limits_are : AreLimits default_limits
@@ -41,5 +42,6 @@ translates text numbers p few words = record {
   loads = record { is_object = printing_object_fits numbers few; has_words = words };
   limits = refl;
   bare = refl;
-  same = λ input. prints_in_order default_limits numbers input;
+  prints = λ input. prints_in_order default_limits numbers input;
+  same = λ input. does_the_same p.program numbers input p.literals;
 }

@@ -9,21 +9,23 @@ use Rattle.pc_tool.specs.Command.{Paths}
 use Rattle.pc_tool.specs.Told.{HasText, HoldsText}
 use Rattle.pc_tool.specs.Objects.{Loads}
 use Rattle.pc_tool.specs.Source.{most_source, IsUncut, IsNoProgram, IsFaulty, IsUnbuilt, IsBuilt, PrintsLiterals}
+use Rattle.pc_tool.specs.Meaning.{meaning_of}
 use Rattle.pc_tool.specs.Emission.{default_limits}
 use Rattle.pc_tool.specs.declared.refusal.Refusal.{Refusal}
 use Rattle.pc_tool.specs.declared.refusal.Refusal.TheVariants as refusal
 
 -- ---- the object that stands for a source
 
--- The text is a source that prints literals; the object loads under the default limits, without notes; and for every
--- input it prints the literals and ends.
+-- The text is a source that prints literals; the object loads under the default limits, without notes; for every input
+-- its run and that of the source agree: it prints the literals and ends.
 pub record Translates (text : List ℕ) (object : CodeWithNotes) : Type 0 where
   pub numbers : List ℤ
   pub source : PrintsLiterals text numbers
   pub loads : Loads object
   pub limits : object.code.limits ≡ default_limits
   pub bare : object.notes ≡ []
-  pub same : (input : List ℤ) → Agree (ended_run numbers Ended) (machine_run object.code input)
+  pub prints : (input : List ℤ) → Agree (ended_run numbers Ended) (machine_run object.code input)
+  pub same : (input : List ℤ) → Agree (meaning_of source.program input) (machine_run object.code input)
 
 -- the source that was held was translated; its object is held now, and all else is as before
 pub record Compiled (paths : Paths) (old new : Shelved) : Type 0 where

@@ -3,6 +3,7 @@ pub mod Compilation
 pub mod Compiler
 pub mod Emission
 pub mod Literals
+pub mod Meaning
 pub mod Objects
 pub mod Refusals
 pub mod Silence

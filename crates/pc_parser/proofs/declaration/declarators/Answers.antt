@@ -1,11 +1,8 @@
-use Rattle.std.proofs.Common.{◌≡◌, sym, ap, ◌∙◌, ◌+◌, ◌-◌, ◌<◌, ◌≤◌, true, length, arith}
+use Rattle.std.proofs.Common.{◌≡◌, sym, ap, ◌∙◌, ◌-◌, length, arith}
 use Rattle.std.specs.Prelude.{max}
 use Rattle.std.proofs.lemmas.Result.{err_from_is_err_and}
-use Rattle.pc_lexer.specs.declared.mark.Mark.TheVariants as marks
-use Rattle.pc_syntax.specs.Source.{appended, More, No_more}
 use Rattle.pc_syntax.specs.Erasure.{list_of, statement_of}
 use Rattle.pc_syntax.proofs.ErasureLaws.{list_of-push}
-use Rattle.pc_parser.specs.Places.{kind_at, is_mark}
 use Rattle.pc_parser.proofs.Lists.{declarators-init, declarators-more, declarators-fail_first, declarators-fail_more}
 use Rattle.pc_parser.proofs.declaration.declarators.Goals as goal
 

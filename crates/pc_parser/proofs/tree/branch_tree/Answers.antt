@@ -1,4 +1,4 @@
-use Rattle.std.proofs.Common.{◌≡◌, ap}
+use Rattle.std.proofs.Common.{ap}
 use Rattle.std.specs.Prelude.{Some, None}
 use Rattle.pc_syntax.proofs.ErasureLaws.{statement_of-made_If, optional_of-made_None, optional_of-made_Some}
 use Rattle.pc_parser.specs.Gives.{optional_tree}
