@@ -3,7 +3,7 @@ use Rattle.std.proofs.Common.{ℕ, List, Option, subst}
 use Rattle.pc_object.specs.ObjectText.{object_text}
 use Rattle.pc_outside.specs.Fault.{Rose}
 use Rattle.pc_outside.specs.Shelf.{Files, Shelved, ReadKeeps, WriteKeeps, HoldsFile, OnlyFileDiffers}
-use Rattle.pc_tool.specs.Command.{Paths}
+use Rattle.pc_tool.specs.Command.{CompileCommand}
 use Rattle.pc_tool.specs.Told.{HasText, RefusesFile}
 use Rattle.pc_tool.specs.Source.{IsBuilt}
 use Rattle.pc_tool.specs.Compilation.{Compiled, Refuses, IsTranslation, RefusesText, RefusesToWrite}
@@ -17,14 +17,14 @@ use Rattle.pc_tool.proofs.Files.{holds, same_differs}
 -- ---- refusals
 
 -- a source that was not read
-pub refused_read : (error : FileError) (paths : Paths) (old new : Shelved) → ReadKeeps old new → RefusesFile error paths.source 1048576 old new
+pub refused_read : (error : FileError) (paths : CompileCommand) (old new : Shelved) → ReadKeeps old new → RefusesFile error paths.source 1048576 old new
     → Refuses (refusal_of_file error) paths old new
 refused_read file.Memory paths old new keeps h = same_differs old.held new.held paths.object keeps.held
 refused_read file.Failed paths old new keeps h = (keeps, h)
 refused_read file.TooLong paths old new keeps h = (keeps, h)
 
 -- a source that was not translated
-pub refused_text : (why : Refusal) (paths : Paths) (old new : Shelved) (text : List ℕ) → ReadKeeps old new → HasText old.held paths.source text
+pub refused_text : (why : Refusal) (paths : CompileCommand) (old new : Shelved) (text : List ℕ) → ReadKeeps old new → HasText old.held paths.source text
     → RefusesText why text → Refuses why paths old new
 refused_text refusal.Memory paths old new text keeps has h = same_differs old.held new.held paths.object keeps.held
 refused_text refusal.Usage paths old new text keeps has h = h
@@ -37,7 +37,7 @@ refused_text refusal.Unbuilt paths old new text keeps has h = (keeps, holds old.
 refused_text refusal.Write paths old new text keeps has h = absurd h
 
 -- an object that was not written
-pub refused_write : (why : Refusal) (paths : Paths) (old mid new : Shelved) (text bytes : List ℕ) → ReadKeeps old mid → HasText old.held paths.source text
+pub refused_write : (why : Refusal) (paths : CompileCommand) (old mid new : Shelved) (text bytes : List ℕ) → ReadKeeps old mid → HasText old.held paths.source text
     → IsTranslation text bytes → WriteKeeps mid new paths.object → RefusesToWrite why paths.object mid new → Refuses why paths old new
 refused_write refusal.Memory paths old mid new text bytes keeps has t w h =
     subst (λ (held : Option Files). OnlyFileDiffers held new.held paths.object) keeps.held w.others
@@ -57,7 +57,7 @@ refused_write refusal.Unbuilt paths old mid new text bytes keeps has t w h = abs
 -- ---- success
 
 -- the source was read, translated and its object written
-pub compiled : (paths : Paths) (old mid new : Shelved) (text bytes : List ℕ) → ReadKeeps old mid → HasText old.held paths.source text
+pub compiled : (paths : CompileCommand) (old mid new : Shelved) (text bytes : List ℕ) → ReadKeeps old mid → HasText old.held paths.source text
     → IsTranslation text bytes → HoldsFile mid.held new.held paths.object bytes → Compiled paths old new
 compiled paths old mid new text bytes keeps has t h = record {
   text = text;

@@ -8,7 +8,7 @@ use Rattle.std.proofs.lemmas.Map.Text.{is_eq-slice_cmp}
 use Rattle.std.proofs.lemmas.Slice.Eq.{bytes_eq-Decides}
 use Rattle.pc_object.specs.ObjectText.{object_text}
 use Rattle.pc_outside.specs.Shelf.{Files, Shelved, ReadFaultOf, WriteFaultOf, ReadKeeps, HoldsFile, OnlyFileDiffers}
-use Rattle.pc_tool.specs.Command.{Paths}
+use Rattle.pc_tool.specs.Command.{CompileCommand}
 use Rattle.pc_tool.specs.Told.{HoldsText}
 use Rattle.pc_tool.specs.Source.{IsBuilt, PrintsLiterals}
 use Rattle.pc_tool.specs.Compilation.{Compiled, RefusesText}
@@ -34,7 +34,7 @@ holds_differs : (old new : Option Files) (name bytes : List ℕ) → HoldsFile o
 holds_differs None new name bytes h = tt
 holds_differs (Some before) new name bytes h = (_, h, λ other ne. kept_by_insert before name bytes other ne)
 
-paths_differ : (answer : Result ⊤ Refusal) (paths : Paths) (old new : Shelved) → AnswersPaths answer paths old new → OnlyFileDiffers old.held new.held paths.object
+paths_differ : (answer : Result ⊤ Refusal) (paths : CompileCommand) (old new : Shelved) → AnswersPaths answer paths old new → OnlyFileDiffers old.held new.held paths.object
 paths_differ (Ok done) paths old new h = holds_differs old.held new.held paths.object (object_text h.object) h.written
 paths_differ (Err refusal.Memory) paths old new h = h
 paths_differ (Err refusal.Usage) paths old new h = absurd h
@@ -46,14 +46,14 @@ paths_differ (Err (refusal.Faulty error)) paths old new h = same_differs old.hel
 paths_differ (Err refusal.Unbuilt) paths old new h = same_differs old.held new.held paths.object h.0.held
 paths_differ (Err refusal.Write) paths old new h = h.0
 
-keeps_others : (answer : Result ⊤ Refusal) (command : Option Paths) (old new : Shelved) → AnswersCommand answer command old new → KeepsOthers command old new
+keeps_others : (answer : Result ⊤ Refusal) (command : Option CompileCommand) (old new : Shelved) → AnswersCommand answer command old new → KeepsOthers command old new
 keeps_others answer None old new h = h.1
 keeps_others answer (Some paths) old new h = paths_differ answer paths old new h
 
 -- ---- sources
 
 -- what a refused source was
-refused_text : (answer : Result ⊤ Refusal) (paths : Paths) (old new : Shelved) → AnswersPaths answer paths old new → compiler_status answer ≡ 4
+refused_text : (answer : Result ⊤ Refusal) (paths : CompileCommand) (old new : Shelved) → AnswersPaths answer paths old new → compiler_status answer ≡ 4
     → ReadKeeps old new × HoldsText old.held paths.source IsRefused
 refused_text (Ok done) paths old new h e = absurd cc
 refused_text (Err refusal.Memory) paths old new h e = absurd cc
@@ -67,12 +67,12 @@ refused_text (Err refusal.Unbuilt) paths old new h e = (h.0, held_map old.held p
 refused_text (Err refusal.Write) paths old new h e = absurd cc
 
 -- the source of an object that was written
-compiled_source : (files : Files) (paths : Paths) (old new : Shelved) (text : List ℕ) → old.held ≡ Some files → get files paths.source ≡ Some text
+compiled_source : (files : Files) (paths : CompileCommand) (old new : Shelved) (text : List ℕ) → old.held ≡ Some files → get files paths.source ≡ Some text
     → Compiled paths old new → IsBuilt text
 compiled_source files paths old new text f g c =
     subst IsBuilt (told_text old.held files paths.source text c.text f g c.in_file) (c.translates.numbers, c.translates.source)
 
-complete_of : (answer : Result ⊤ Refusal) (paths : Paths) (old new : Shelved) (files : Files) (text : List ℕ) (numbers : List ℤ) → AnswersPaths answer paths old new
+complete_of : (answer : Result ⊤ Refusal) (paths : CompileCommand) (old new : Shelved) (files : Files) (text : List ℕ) (numbers : List ℤ) → AnswersPaths answer paths old new
     → old.held ≡ Some files → get files paths.source ≡ Some text → PrintsLiterals text numbers
     → (compiler_status answer ≡ 0) ⊎ (compiler_status answer ≡ 1) ⊎ ((compiler_status answer ≡ 3) × ReadFaultOf old new paths.source) ⊎ ((compiler_status answer ≡ 5) × WriteFaultOf old new paths.object)
 complete_of (Ok done) paths old new files text numbers h f g p = search rules
@@ -86,7 +86,7 @@ complete_of (Err (refusal.Faulty error)) paths old new files text numbers h f g 
 complete_of (Err refusal.Unbuilt) paths old new files text numbers h f g p = absurd (built_is_not_refused text (numbers, p) (told old.held files paths.source text IsRefused f g (refused_text (Err refusal.Unbuilt) paths old new h refl).1))
 complete_of (Err refusal.Write) paths old new files text numbers h f g p = let fault : WriteFaultOf old new paths.object = h.1 in search rules
 
-strict_of : (answer : Result ⊤ Refusal) (paths : Paths) (old new : Shelved) (files : Files) (text : List ℕ) → AnswersPaths answer paths old new
+strict_of : (answer : Result ⊤ Refusal) (paths : CompileCommand) (old new : Shelved) (files : Files) (text : List ℕ) → AnswersPaths answer paths old new
     → old.held ≡ Some files → get files paths.source ≡ Some text → IsRefused text
     → (compiler_status answer ≡ 4) ⊎ (compiler_status answer ≡ 1) ⊎ ((compiler_status answer ≡ 3) × ReadFaultOf old new paths.source)
 strict_of (Ok done) paths old new files text h f g r = absurd (built_is_not_refused text (compiled_source files paths old new text f g h) r)
@@ -100,12 +100,12 @@ strict_of (Err (refusal.Faulty error)) paths old new files text h f g r = search
 strict_of (Err refusal.Unbuilt) paths old new files text h f g r = search rules
 strict_of (Err refusal.Write) paths old new files text h f g r = absurd (built_is_not_refused text (told old.held files paths.source text IsBuilt f g h.2) r)
 
-answers_paths : (answer : Result ⊤ Refusal) (command : Option Paths) (paths : Paths) (old new : Shelved) → AnswersCommand answer command old new → command ≡ Some paths → AnswersPaths answer paths old new
+answers_paths : (answer : Result ⊤ Refusal) (command : Option CompileCommand) (paths : CompileCommand) (old new : Shelved) → AnswersCommand answer command old new → command ≡ Some paths → AnswersPaths answer paths old new
 answers_paths answer command paths old new h e = subst (λ c. AnswersCommand answer c old new) e h
 
 -- ---- one status each
 
-usage_never : (answer : Result ⊤ Refusal) (paths : Paths) (old new : Shelved) → AnswersPaths answer paths old new → compiler_status answer ≡ 2
+usage_never : (answer : Result ⊤ Refusal) (paths : CompileCommand) (old new : Shelved) → AnswersPaths answer paths old new → compiler_status answer ≡ 2
     → ⊥
 usage_never (Ok done) paths old new h e = absurd cc
 usage_never (Err refusal.Memory) paths old new h e = absurd cc
@@ -118,7 +118,7 @@ usage_never (Err (refusal.Faulty error)) paths old new h e = absurd cc
 usage_never (Err refusal.Unbuilt) paths old new h e = absurd cc
 usage_never (Err refusal.Write) paths old new h e = absurd cc
 
-compiled_of : (answer : Result ⊤ Refusal) (paths : Paths) (old new : Shelved) → AnswersPaths answer paths old new → compiler_status answer ≡ 0
+compiled_of : (answer : Result ⊤ Refusal) (paths : CompileCommand) (old new : Shelved) → AnswersPaths answer paths old new → compiler_status answer ≡ 0
     → Compiled paths old new
 compiled_of (Ok done) paths old new h e = h
 compiled_of (Err refusal.Memory) paths old new h e = absurd cc
@@ -131,7 +131,7 @@ compiled_of (Err (refusal.Faulty error)) paths old new h e = absurd cc
 compiled_of (Err refusal.Unbuilt) paths old new h e = absurd cc
 compiled_of (Err refusal.Write) paths old new h e = absurd cc
 
-unread_of : (answer : Result ⊤ Refusal) (paths : Paths) (old new : Shelved) → AnswersPaths answer paths old new → compiler_status answer ≡ 3
+unread_of : (answer : Result ⊤ Refusal) (paths : CompileCommand) (old new : Shelved) → AnswersPaths answer paths old new → compiler_status answer ≡ 3
     → ReadKeeps old new × ReadFaultOf old new paths.source
 unread_of (Ok done) paths old new h e = absurd cc
 unread_of (Err refusal.Memory) paths old new h e = absurd cc
@@ -144,7 +144,7 @@ unread_of (Err (refusal.Faulty error)) paths old new h e = absurd cc
 unread_of (Err refusal.Unbuilt) paths old new h e = absurd cc
 unread_of (Err refusal.Write) paths old new h e = absurd cc
 
-unwritten_of : (answer : Result ⊤ Refusal) (paths : Paths) (old new : Shelved) → AnswersPaths answer paths old new → compiler_status answer ≡ 5
+unwritten_of : (answer : Result ⊤ Refusal) (paths : CompileCommand) (old new : Shelved) → AnswersPaths answer paths old new → compiler_status answer ≡ 5
     → WriteFaultOf old new paths.object × HoldsText old.held paths.source IsBuilt
 unwritten_of (Ok done) paths old new h e = absurd cc
 unwritten_of (Err refusal.Memory) paths old new h e = absurd cc
@@ -169,14 +169,14 @@ known_of (Err (refusal.Faulty error)) = omega arith
 known_of (Err refusal.Unbuilt) = omega arith
 known_of (Err refusal.Write) = omega arith
 
-kept_of : (answer : Result ⊤ Refusal) (paths : Paths) (old new : Shelved) → AnswersPaths answer paths old new
+kept_of : (answer : Result ⊤ Refusal) (paths : CompileCommand) (old new : Shelved) → AnswersPaths answer paths old new
     → (compiler_status answer ≡ 3) ⊎ (compiler_status answer ≡ 4) → ReadKeeps old new
 kept_of answer paths old new h (inl e) = (unread_of answer paths old new h e).0
 kept_of answer paths old new h (inr e) = (refused_text answer paths old new h e).0
 
 -- ---- the promise
 
-some_is_none : (paths : Paths) → Some paths ≡ None → ⊥
+some_is_none : (paths : CompileCommand) → Some paths ≡ None → ⊥
 some_is_none paths e = cc
 
 -- other words give the usage
@@ -201,7 +201,7 @@ usage_promise answer old new is same = record {
     two_is_neither (inl e) = cc
     two_is_neither (inr e) = cc
 
-paths_promise : (answer : Result ⊤ Refusal) (paths : Paths) (old new : Shelved) → AnswersPaths answer paths old new → CompilerPromise (Some paths) old new (compiler_status answer)
+paths_promise : (answer : Result ⊤ Refusal) (paths : CompileCommand) (old new : Shelved) → AnswersPaths answer paths old new → CompilerPromise (Some paths) old new (compiler_status answer)
 paths_promise answer paths old new h = record {
   usage = (λ e. absurd (usage_never answer paths old new h e), λ e. absurd (some_is_none paths e));
   compiled = compiled_of answer paths old new h;
@@ -216,6 +216,6 @@ paths_promise answer paths old new h = record {
 }
 
 -- an answer that says what it should keeps the promise with its status
-pub compiler_promise : (answer : Result ⊤ Refusal) (command : Option Paths) (old new : Shelved) → AnswersCommand answer command old new → CompilerPromise command old new (compiler_status answer)
+pub compiler_promise : (answer : Result ⊤ Refusal) (command : Option CompileCommand) (old new : Shelved) → AnswersCommand answer command old new → CompilerPromise command old new (compiler_status answer)
 compiler_promise answer None old new h = usage_promise answer old new h.0 h.1
 compiler_promise answer (Some paths) old new h = paths_promise answer paths old new h

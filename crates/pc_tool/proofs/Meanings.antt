@@ -15,7 +15,7 @@ use Rattle.pc_machine.specs.MachineRun.{machine_run}
 use Rattle.pc_machine.proofs.Printing.{prints_in_order}
 use Rattle.pc_tool.specs.Emission.{default_limits, printing_object}
 use Rattle.pc_tool.specs.Source.{value_of, literal_of, literal_before, literals_of}
-use Rattle.pc_tool.specs.Meaning.{meaning_of}
+use Rattle.pc_tool.specs.Meaning.{meaning_of, Same}
 
 -- ---- a statement that prints a literal
 
@@ -117,8 +117,7 @@ pub means_prints : (program : SourceProgram) (numbers input : List ℤ) → lite
 means_prints program numbers input e = Agree-equal (meaning_of program input) (ended_run numbers Ended) (λ n. ends_at_once program numbers input n e)
 
 -- and its object does the same
-pub does_the_same : (program : SourceProgram) (numbers input : List ℤ) → literals_of program.items ≡ Some numbers
-    → Agree (meaning_of program input) (machine_run (printing_object numbers).code input)
-does_the_same program numbers input e =
+pub does_the_same : (program : SourceProgram) (numbers : List ℤ) → literals_of program.items ≡ Some numbers → Same program (printing_object numbers).code
+does_the_same program numbers e input =
     Agree-trans (meaning_of program input) (ended_run numbers Ended) (machine_run (printing_object numbers).code input)
     (means_prints program numbers input e) (prints_in_order default_limits numbers input)

@@ -21,9 +21,9 @@ use Rattle.pc_outside.specs.Shelf.{Files, Shelved}
 use Rattle.pc_vm.specs.Standing.{Standing, here_of}
 use Rattle.pc_vm.specs.declared.event.Outcome.{Outcome}
 use Rattle.pc_vm.specs.Standing.{end_of}
-use Rattle.pc_tool.specs.Command.{Simulation}
+use Rattle.pc_tool.specs.Command.{SimulateCommand}
 use Rattle.pc_tool.specs.Told.{HasText, RefusesFile}
-use Rattle.pc_tool.specs.Objects.{IsTextOf, IsMisread, Holds, HoldsObject}
+use Rattle.pc_tool.specs.Objects.{IsTextOf, FailsToDecode, Holds, HoldsObject}
 use Rattle.pc_tool.specs.Simulation.{Streamed, Outside, most_input, Gives, Ran, Broke, end_status, IsMisspelt, RefusesObject, RefusesInput, StopsEarly, Stops, Ready}
 use Rattle.pc_tool.specs.Refusals.{stop_of_file, stop_of_object, stop_of_numbers}
 use Rattle.pc_tool.specs.declared.file.FileError.{FileError}
@@ -57,13 +57,13 @@ refused_file file.TooLong name old new h = h
 pub refused_bytes : (error : ObjectError) (name bytes : List ℕ) (old new : Shelved) → HasText old.held name bytes → length bytes ≤ 16777216
     → Refuses error (object_reading bytes) → RefusesObject (stop_of_object error) name old new
 refused_bytes object_error.BadMagic name bytes old new has few h =
-    holds old.held name bytes (IsMisread object_error.BadMagic) has (record { few_bytes = few; first = h })
+    holds old.held name bytes (FailsToDecode object_error.BadMagic) has (record { few_bytes = few; first = h })
 refused_bytes (object_error.Truncated offset) name bytes old new has few h =
-    holds old.held name bytes (IsMisread (object_error.Truncated offset)) has (record { few_bytes = few; first = h })
+    holds old.held name bytes (FailsToDecode (object_error.Truncated offset)) has (record { few_bytes = few; first = h })
 refused_bytes (object_error.BadField offset flaw) name bytes old new has few h =
-    holds old.held name bytes (IsMisread (object_error.BadField offset flaw)) has (record { few_bytes = few; first = h })
+    holds old.held name bytes (FailsToDecode (object_error.BadField offset flaw)) has (record { few_bytes = few; first = h })
 refused_bytes (object_error.Trailing offset) name bytes old new has few h =
-    holds old.held name bytes (IsMisread (object_error.Trailing offset)) has (record { few_bytes = few; first = h })
+    holds old.held name bytes (FailsToDecode (object_error.Trailing offset)) has (record { few_bytes = few; first = h })
 refused_bytes object_error.Memory name bytes old new has few h = tt
 
 -- ---- the input
@@ -116,7 +116,7 @@ loses_none (Some bytes) most = record { lost = []; bound = zero-le; gone = refl 
 -- ---- stops before the run
 
 -- a stop before the run is a stop of the simulator
-pub stops_early : (s : Stop) (simulation : Simulation) (old new : Outside) → StopsEarly s simulation.object old.shelf new.shelf old.input new.input → Stops s simulation old new
+pub stops_early : (s : Stop) (simulation : SimulateCommand) (old new : Outside) → StopsEarly s simulation.object old.shelf new.shelf old.input new.input → Stops s simulation old new
 stops_early stop.Memory simulation old new h = h
 stops_early stop.Usage simulation old new (inl h) = h.0
 stops_early stop.Usage simulation old new (inr h) = h.1
@@ -139,7 +139,7 @@ seen_same name held left machine r n =
     ∙ ap (λ (here : Cycle). run_from (machine_step r.object.code) n here) r.placed.start
 
 -- the machine ran, and sent what it printed
-pub ran : (simulation : Simulation) (old new : Outside) (machine : Standing) (outcome : Outcome)
+pub ran : (simulation : SimulateCommand) (old new : Outside) (machine : Standing) (outcome : Outcome)
     → Ready simulation.object old.shelf.held old.input.told machine
     → end_of outcome ≡ (run_from (machine_step (code_of machine.code)) simulation.cycles (here_of machine)).end
     → Appends old.out.told new.out.told (text_of (run_from (machine_step (code_of machine.code)) simulation.cycles (here_of machine)).printed)
@@ -157,7 +157,7 @@ ran simulation old new machine outcome r ended sent =
     }
 
 -- the machine ran, and the output failed
-pub broke : (simulation : Simulation) (old new : Outside) (machine : Standing)
+pub broke : (simulation : SimulateCommand) (old new : Outside) (machine : Standing)
     → Ready simulation.object old.shelf.held old.input.told machine
     → Rose old.out.faults new.out.faults
     → AppendsPart old.out.told new.out.told (text_of (run_from (machine_step (code_of machine.code)) simulation.cycles (here_of machine)).printed)

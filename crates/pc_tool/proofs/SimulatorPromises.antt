@@ -16,8 +16,8 @@ use Rattle.pc_outside.specs.Stream.{LosesFront}
 use Rattle.pc_outside.specs.Shelf.{Files, ReadKeeps, ReadFaultOf}
 use Rattle.pc_vm.specs.declared.event.Outcome.{Outcome}
 use Rattle.pc_vm.specs.Standing.{end_of}
-use Rattle.pc_tool.specs.Command.{Simulation}
-use Rattle.pc_tool.specs.Objects.{most_object, IsTextOf, IsNoObject, IsMisread, Holds, HoldsObject}
+use Rattle.pc_tool.specs.Command.{SimulateCommand}
+use Rattle.pc_tool.specs.Objects.{most_object, IsTextOf, IsNoObject, FailsToDecode, Holds, HoldsObject}
 use Rattle.pc_tool.specs.Simulation.{Outside, most_input, IsInputOf, IsNoInput, Gives, Shows, BreaksOff, Ran, Broke, trap_status, end_status, IsMisspelt}
 use Rattle.pc_tool.specs.Simulator.{IsEndStatus, FailsToTake, RefusesBytes, SimulatorPromise, simulator_status, AnswersSimulation, AnswersWords}
 use Rattle.pc_tool.specs.declared.stop.Stop.{Stop}
@@ -34,7 +34,7 @@ long_is_none bytes big object is =
     omega arith
 
 -- nor are those that are read as none
-misread_is_none : (error : ObjectError) (bytes : List ℕ) → IsMisread error bytes → IsNoObject bytes
+misread_is_none : (error : ObjectError) (bytes : List ℕ) → FailsToDecode error bytes → IsNoObject bytes
 misread_is_none error bytes m object is =
     let ok : object_reading bytes ≡ Ok object = ap object_reading is.text ∙ reads_text object is.loads.is_object is.loads.has_words in
     let err : object_reading bytes ≡ Err error = m.first in
@@ -99,7 +99,7 @@ not_an_end (Some (end.Trapped kind line)) n low high e = not_a_trap kind n low h
 -- ---- one status each
 
 -- no command is told as none
-usage_never : (answer : Result Outcome Stop) (simulation : Simulation) (old new : Outside) → AnswersSimulation answer simulation old new → simulator_status answer ≡ 2
+usage_never : (answer : Result Outcome Stop) (simulation : SimulateCommand) (old new : Outside) → AnswersSimulation answer simulation old new → simulator_status answer ≡ 2
     → ⊥
 usage_never (Ok outcome) simulation old new h e = absurd (not_an_end (end_of outcome) 2 (omega arith) (omega arith) (sym e))
 usage_never (Err stop.Memory) simulation old new h e = absurd cc
@@ -122,7 +122,7 @@ only_second never (inl h) = absurd (never h.0)
 only_second never (inr h) = h
 
 -- what could not be taken
-unread_of : (answer : Result Outcome Stop) (simulation : Simulation) (old new : Outside) → AnswersSimulation answer simulation old new → simulator_status answer ≡ 3
+unread_of : (answer : Result Outcome Stop) (simulation : SimulateCommand) (old new : Outside) → AnswersSimulation answer simulation old new → simulator_status answer ≡ 3
     → FailsToTake simulation old new
 unread_of (Ok outcome) simulation old new h e = absurd (not_an_end (end_of outcome) 3 (omega arith) (omega arith) (sym e))
 unread_of (Err stop.Memory) simulation old new h e = absurd cc
@@ -136,21 +136,21 @@ unread_of (Err (stop.NotNumber offset)) simulation old new h e = absurd cc
 unread_of (Err stop.Write) simulation old new h e = absurd cc
 
 -- what was refused
-refused_of : (answer : Result Outcome Stop) (simulation : Simulation) (old new : Outside) → AnswersSimulation answer simulation old new → simulator_status answer ≡ 4
+refused_of : (answer : Result Outcome Stop) (simulation : SimulateCommand) (old new : Outside) → AnswersSimulation answer simulation old new → simulator_status answer ≡ 4
     → RefusesBytes simulation old new
 refused_of (Ok outcome) simulation old new h e = absurd (not_an_end (end_of outcome) 4 (omega arith) (omega arith) (sym e))
 refused_of (Err stop.Memory) simulation old new h e = absurd cc
 refused_of (Err stop.Usage) simulation old new h e = absurd cc
 refused_of (Err stop.ReadObject) simulation old new h e = absurd cc
 refused_of (Err stop.ObjectTooLong) simulation old new h e = let f = only_first (λ b. b) h in inl (held_map old.shelf.held simulation.object (λ bytes. most_object < length bytes) IsNoObject (λ bytes n. long_is_none bytes n) f.0, f.1)
-refused_of (Err (stop.NoObject error)) simulation old new h e = let f = only_first (λ b. b) h in inl (held_map old.shelf.held simulation.object (IsMisread error) IsNoObject (λ bytes n. misread_is_none error bytes n) f.0, f.1)
+refused_of (Err (stop.NoObject error)) simulation old new h e = let f = only_first (λ b. b) h in inl (held_map old.shelf.held simulation.object (FailsToDecode error) IsNoObject (λ bytes n. misread_is_none error bytes n) f.0, f.1)
 refused_of (Err stop.ReadInput) simulation old new h e = absurd cc
 refused_of (Err stop.InputTooLong) simulation old new h e = let f = only_second (λ a. a) h in inr (f.0, if_some_map old.input.told (λ bytes. most_input < length bytes) IsNoInput (λ bytes n. long_is_no_input bytes n) f.1)
 refused_of (Err (stop.NotNumber offset)) simulation old new h e = let f = only_second (λ a. a) h in inr (f.0, if_some_map old.input.told (IsMisspelt offset) IsNoInput (λ bytes n. misspelt_is_no_input offset bytes n) f.1)
 refused_of (Err stop.Write) simulation old new h e = absurd cc
 
 -- what broke off
-unwritten_of : (answer : Result Outcome Stop) (simulation : Simulation) (old new : Outside) → AnswersSimulation answer simulation old new → simulator_status answer ≡ 5
+unwritten_of : (answer : Result Outcome Stop) (simulation : SimulateCommand) (old new : Outside) → AnswersSimulation answer simulation old new → simulator_status answer ≡ 5
     → Broke simulation old new
 unwritten_of (Ok outcome) simulation old new h e = absurd (not_an_end (end_of outcome) 5 (omega arith) (omega arith) (sym e))
 unwritten_of (Err stop.Memory) simulation old new h e = absurd cc
@@ -164,7 +164,7 @@ unwritten_of (Err (stop.NotNumber offset)) simulation old new h e = absurd cc
 unwritten_of (Err stop.Write) simulation old new h e = h
 
 -- what was run
-ran_of : (answer : Result Outcome Stop) (simulation : Simulation) (old new : Outside) → AnswersSimulation answer simulation old new → IsEndStatus (simulator_status answer)
+ran_of : (answer : Result Outcome Stop) (simulation : SimulateCommand) (old new : Outside) → AnswersSimulation answer simulation old new → IsEndStatus (simulator_status answer)
     → Ran simulation old new (simulator_status answer)
 ran_of (Ok outcome) simulation old new h e = h
 ran_of (Err stop.Memory) simulation old new h e = absurd (not_an_end (e.0) 1 (omega arith) (omega arith) e.1)
@@ -191,7 +191,7 @@ known_of (Err stop.Write) = inl (omega arith)
 
 -- ---- an object and an input that are told
 
-shows_of : (simulation : Simulation) (old new : Outside) (files : Files) (text left : List ℕ) (object : CodeWithNotes) (numbers : List ℤ) (code : ℕ)
+shows_of : (simulation : SimulateCommand) (old new : Outside) (files : Files) (text left : List ℕ) (object : CodeWithNotes) (numbers : List ℤ) (code : ℕ)
     → Ran simulation old new code → old.shelf.held ≡ Some files → get files simulation.object ≡ Some text → IsTextOf text object
     → old.input.told ≡ Some left → IsInputOf left numbers → Shows (machine_run object.code numbers simulation.cycles) old.out new.out code
 shows_of simulation old new files text left object numbers code r f g is i input =
@@ -200,7 +200,7 @@ shows_of simulation old new files text left object numbers code r f g is i input
     subst (λ (o : CodeWithNotes). Shows (machine_run o.code numbers simulation.cycles) old.out new.out code) first
     (subst (λ (ns : List ℤ). Shows (machine_run r.object.code ns simulation.cycles) old.out new.out code) second r.shows)
 
-breaks_of : (simulation : Simulation) (old new : Outside) (files : Files) (text left : List ℕ) (object : CodeWithNotes) (numbers : List ℤ)
+breaks_of : (simulation : SimulateCommand) (old new : Outside) (files : Files) (text left : List ℕ) (object : CodeWithNotes) (numbers : List ℤ)
     → Broke simulation old new → old.shelf.held ≡ Some files → get files simulation.object ≡ Some text → IsTextOf text object
     → old.input.told ≡ Some left → IsInputOf left numbers → BreaksOff (machine_run object.code numbers simulation.cycles) old.out new.out
 breaks_of simulation old new files text left object numbers r f g is i input =
@@ -210,13 +210,13 @@ breaks_of simulation old new files text left object numbers r f g is i input =
     (subst (λ (ns : List ℤ). BreaksOff (machine_run r.object.code ns simulation.cycles) old.out new.out) second r.breaks_off)
 
 -- neither of them is refused
-refuses_neither : (simulation : Simulation) (old new : Outside) (files : Files) (text left : List ℕ) (object : CodeWithNotes) (numbers : List ℤ)
+refuses_neither : (simulation : SimulateCommand) (old new : Outside) (files : Files) (text left : List ℕ) (object : CodeWithNotes) (numbers : List ℤ)
     → old.shelf.held ≡ Some files → get files simulation.object ≡ Some text → IsTextOf text object
     → old.input.told ≡ Some left → IsInputOf left numbers → RefusesBytes simulation old new → ⊥
 refuses_neither simulation old new files text left object numbers f g is i input (inl none) = told old.shelf.held files simulation.object text IsNoObject f g none.0 object is
 refuses_neither simulation old new files text left object numbers f g is i input (inr none) = told_input old.input.told left IsNoInput i none.1 numbers input
 
-complete_of : (answer : Result Outcome Stop) (simulation : Simulation) (old new : Outside) (files : Files) (text left : List ℕ) (object : CodeWithNotes) (numbers : List ℤ)
+complete_of : (answer : Result Outcome Stop) (simulation : SimulateCommand) (old new : Outside) (files : Files) (text left : List ℕ) (object : CodeWithNotes) (numbers : List ℤ)
     → AnswersSimulation answer simulation old new → old.shelf.held ≡ Some files → get files simulation.object ≡ Some text → IsTextOf text object
     → old.input.told ≡ Some left → IsInputOf left numbers
     → Shows (machine_run object.code numbers simulation.cycles) old.out new.out (simulator_status answer)
@@ -236,17 +236,17 @@ complete_of (Err stop.Write) simulation old new files text left object numbers h
 
 -- ---- a file that is no object, an input that is none
 
-no_object : (simulation : Simulation) (old : Outside) (files : Files) (text : List ℕ) (object : CodeWithNotes)
+no_object : (simulation : SimulateCommand) (old : Outside) (files : Files) (text : List ℕ) (object : CodeWithNotes)
     → old.shelf.held ≡ Some files → get files simulation.object ≡ Some text → IsNoObject text → Holds old.shelf.held simulation.object object → ⊥
 no_object simulation old files text object f g none h = none object (loaded_text old.shelf.held files simulation.object text object f g h)
 
-no_held_object : (simulation : Simulation) (old : Outside) (files : Files) (text : List ℕ)
+no_held_object : (simulation : SimulateCommand) (old : Outside) (files : Files) (text : List ℕ)
     → old.shelf.held ≡ Some files → get files simulation.object ≡ Some text → IsNoObject text → HoldsObject old.shelf.held simulation.object → ⊥
 no_held_object simulation old files text f g none h =
     let held = told old.shelf.held files simulation.object text (λ bytes. (o : CodeWithNotes) × IsTextOf bytes o) f g h in
     none held.0 held.1
 
-strict_object : (answer : Result Outcome Stop) (simulation : Simulation) (old new : Outside) (files : Files) (text : List ℕ)
+strict_object : (answer : Result Outcome Stop) (simulation : SimulateCommand) (old new : Outside) (files : Files) (text : List ℕ)
     → AnswersSimulation answer simulation old new → old.shelf.held ≡ Some files → get files simulation.object ≡ Some text → IsNoObject text
     → (simulator_status answer ≡ 4) ⊎ (simulator_status answer ≡ 1) ⊎ ((simulator_status answer ≡ 3) × ReadFaultOf old.shelf new.shelf simulation.object)
 strict_object (Ok outcome) simulation old new files text h f g none = absurd (no_object simulation old files text h.object f g none h.loaded.in_file)
@@ -260,7 +260,7 @@ strict_object (Err stop.InputTooLong) simulation old new files text h f g none =
 strict_object (Err (stop.NotNumber offset)) simulation old new files text h f g none = inl refl
 strict_object (Err stop.Write) simulation old new files text h f g none = absurd (no_object simulation old files text h.object f g none h.loaded.in_file)
 
-strict_input : (answer : Result Outcome Stop) (simulation : Simulation) (old new : Outside) (left : List ℕ)
+strict_input : (answer : Result Outcome Stop) (simulation : SimulateCommand) (old new : Outside) (left : List ℕ)
     → AnswersSimulation answer simulation old new → old.input.told ≡ Some left → IsNoInput left
     → (simulator_status answer ≡ 4) ⊎ (simulator_status answer ≡ 1) ⊎ ((simulator_status answer ≡ 3) × FailsToTake simulation old new)
 strict_input (Ok outcome) simulation old new left h i none = absurd (none h.numbers (given_input old.input.told left h.numbers i h.loaded.in_input))
@@ -276,10 +276,10 @@ strict_input (Err stop.Write) simulation old new left h i none = absurd (none h.
 
 -- ---- the promise
 
-some_is_none : (simulation : Simulation) → Some simulation ≡ None → ⊥
+some_is_none : (simulation : SimulateCommand) → Some simulation ≡ None → ⊥
 some_is_none simulation e = cc
 
-answers_of : (answer : Result Outcome Stop) (one other : Simulation) (old new : Outside) → AnswersSimulation answer one old new → Some one ≡ Some other → AnswersSimulation answer other old new
+answers_of : (answer : Result Outcome Stop) (one other : SimulateCommand) (old new : Outside) → AnswersSimulation answer one old new → Some one ≡ Some other → AnswersSimulation answer other old new
 answers_of answer one other old new h e = subst (λ c. AnswersWords answer c old new) e h
 
 -- other words give the usage
@@ -303,7 +303,7 @@ usage_promise answer old new is same keeps lost = record {
     two : simulator_status answer ≡ 2
     two = ap simulator_status is
 
-run_promise : (answer : Result Outcome Stop) (simulation : Simulation) (old new : Outside) → AnswersSimulation answer simulation old new
+run_promise : (answer : Result Outcome Stop) (simulation : SimulateCommand) (old new : Outside) → AnswersSimulation answer simulation old new
     → ReadKeeps old.shelf new.shelf → LosesFront old.input.told new.input.told 16777217 → SimulatorPromise (Some simulation) old new (simulator_status answer)
 run_promise answer simulation old new h keeps lost = record {
   usage = (λ e. absurd (usage_never answer simulation old new h e), λ e. absurd (some_is_none simulation e));
@@ -322,7 +322,7 @@ run_promise answer simulation old new h keeps lost = record {
 }
 
 -- an answer that says what it should keeps the promise with its status
-pub simulator_promise : (answer : Result Outcome Stop) (command : Option Simulation) (old new : Outside) → AnswersWords answer command old new
+pub simulator_promise : (answer : Result Outcome Stop) (command : Option SimulateCommand) (old new : Outside) → AnswersWords answer command old new
     → ReadKeeps old.shelf new.shelf → LosesFront old.input.told new.input.told 16777217 → SimulatorPromise command old new (simulator_status answer)
 simulator_promise answer None old new h keeps lost = usage_promise answer old new h.0 h.1 keeps lost
 simulator_promise answer (Some simulation) old new h keeps lost = run_promise answer simulation old new h keeps lost

@@ -18,7 +18,7 @@ use Rattle.pc_parser.proofs.Onward.{inside, declarator-onward, statement-onward}
 use Rattle.pc_parser.proofs.Top.{one-program}
 use Rattle.pc_check.specs.declared.error.CheckError.{CheckError}
 use Rattle.pc_check.specs.Faults.{faults}
-use Rattle.pc_tool.specs.Source.{IsRead, IsNoSource, IsUncut, IsUnread, IsNoProgram, IsFaulty, IsUnbuilt, IsBuilt, PrintsLiterals, literal_of, literal_before, literals_of, most_source}
+use Rattle.pc_tool.specs.Source.{IsRead, IsNoSource, FailsToLex, IsUnread, IsNoProgram, IsFaulty, IsUnbuilt, IsBuilt, PrintsLiterals, literal_of, literal_before, literals_of, most_source}
 
 -- ---- one program
 
@@ -39,7 +39,7 @@ pub long_is_none : (text : List ℕ) → most_source < length text → IsNoSourc
 long_is_none text long program source = let few : length text ≤ most_source = source.read.few_bytes in omega arith
 
 -- a text without tokens
-pub uncut_is_none : (error : LexError) (text : List ℕ) → IsUncut error text → IsNoSource text
+pub uncut_is_none : (error : LexError) (text : List ℕ) → FailsToLex error text → IsNoSource text
 uncut_is_none error text u program source =
     let first : lexed text ≡ Err error = u.first in
     let cut : lexed text ≡ Ok source.read.tokens = source.read.cut in

@@ -43,5 +43,5 @@ translates text numbers p few words = record {
   limits = refl;
   bare = refl;
   prints = λ input. prints_in_order default_limits numbers input;
-  same = λ input. does_the_same p.program numbers input p.literals;
+  same = does_the_same p.program numbers p.literals;
 }

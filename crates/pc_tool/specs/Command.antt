@@ -3,15 +3,16 @@ use Rattle.std.specs.Prelude.{ℕ, Bool, false, not, ◌==◌, ◌&&◌, if◌th
 use Rattle.std.specs.declared.alloc.Global.{Global}
 
 -- what the compiler is to do: the names of the source and of the object
-pub record Paths : Type 0 where
+pub record CompileCommand : Type 0 where
   pub source : List ℕ
   pub object : List ℕ
 
 -- what the simulator is to do: the name of the object, and the cycles that its run may take
-pub record Simulation : Type 0 where
+pub record SimulateCommand : Type 0 where
   pub object : List ℕ
   pub cycles : ℕ
 
+-- the word's first byte is this one
 abbrev pub begins_with : ℕ → List ℕ → Bool
 begins_with byte [] = false
 begins_with byte (first ∷ rest) = first == byte
@@ -25,7 +26,7 @@ abbrev pub may_be_object : List ℕ → Bool
 may_be_object word = not (begins_with 45 word)
 
 -- what words tell the compiler to do, if they are a command: a source, `-o` and an object
-abbrev pub command_of : List (List ℕ) → Option Paths
+abbrev pub command_of : List (List ℕ) → Option CompileCommand
 command_of (source ∷ (flag ∷ (object ∷ []))) =
     if may_be_source source && bytes_eq flag (codes "-o") && may_be_object object
     then Some (record { source = source; object = object }) else None
@@ -36,10 +37,15 @@ abbrev pub default_cycles : ℕ
 default_cycles = 100000000
 
 -- what words tell the simulator to do, if they are a command: an object
-abbrev pub simulation_of : List (List ℕ) → Option Simulation
+abbrev pub simulation_of : List (List ℕ) → Option SimulateCommand
 simulation_of (object ∷ []) =
     if may_be_object object then Some (record { object = object; cycles = default_cycles }) else None
 simulation_of _ = None
+
+-- a fact about what words tell to do; none holds where they are no command
+abbrev pub OfCommand : {A : Type 0} → Option A → (A → Type 0) → Type 0
+OfCommand None P = ⊥
+OfCommand (Some command) P = P command
 
 -- the bytes of each word
 abbrev pub spelled : List (String Global) → List (List ℕ)

@@ -5,11 +5,11 @@ use Rattle.pc_word.specs.Run.{Agree, ended_run}
 use Rattle.pc_machine.specs.MachineRun.{machine_run}
 use Rattle.pc_object.specs.ObjectText.{CodeWithNotes, object_text}
 use Rattle.pc_outside.specs.Shelf.{Shelved, ReadFaultOf, WriteFaultOf, ReadKeeps, OnlyFileDiffers, HoldsFile}
-use Rattle.pc_tool.specs.Command.{Paths}
+use Rattle.pc_tool.specs.Command.{CompileCommand}
 use Rattle.pc_tool.specs.Told.{HasText, HoldsText}
 use Rattle.pc_tool.specs.Objects.{Loads}
-use Rattle.pc_tool.specs.Source.{most_source, IsUncut, IsNoProgram, IsFaulty, IsUnbuilt, IsBuilt, PrintsLiterals}
-use Rattle.pc_tool.specs.Meaning.{meaning_of}
+use Rattle.pc_tool.specs.Source.{most_source, FailsToLex, IsNoProgram, IsFaulty, IsUnbuilt, IsBuilt, PrintsLiterals}
+use Rattle.pc_tool.specs.Meaning.{Same}
 use Rattle.pc_tool.specs.Emission.{default_limits}
 use Rattle.pc_tool.specs.declared.refusal.Refusal.{Refusal}
 use Rattle.pc_tool.specs.declared.refusal.Refusal.TheVariants as refusal
@@ -25,10 +25,10 @@ pub record Translates (text : List ℕ) (object : CodeWithNotes) : Type 0 where
   pub limits : object.code.limits ≡ default_limits
   pub bare : object.notes ≡ []
   pub prints : (input : List ℤ) → Agree (ended_run numbers Ended) (machine_run object.code input)
-  pub same : (input : List ℤ) → Agree (meaning_of source.program input) (machine_run object.code input)
+  pub same : Same source.program object.code
 
 -- the source that was held was translated; its object is held now, and all else is as before
-pub record Compiled (paths : Paths) (old new : Shelved) : Type 0 where
+pub record Compiled (paths : CompileCommand) (old new : Shelved) : Type 0 where
   pub text : List ℕ
   pub object : CodeWithNotes
   pub in_file : HasText old.held paths.source text
@@ -41,14 +41,14 @@ pub record Compiled (paths : Paths) (old new : Shelved) : Type 0 where
 abbrev pub RefusesText : Refusal → List ℕ → Type 0
 RefusesText refusal.Memory text = Unit {0}
 RefusesText refusal.TooLong text = most_source < length text
-RefusesText (refusal.NoTokens error) text = IsUncut error text
+RefusesText (refusal.NoTokens error) text = FailsToLex error text
 RefusesText (refusal.NoProgram error) text = IsNoProgram error text
 RefusesText (refusal.Faulty error) text = IsFaulty error text
 RefusesText refusal.Unbuilt text = IsUnbuilt text
 RefusesText _ text = ⊥
 
 -- why a refusal came, and what stands after it
-abbrev pub Refuses : Refusal → Paths → Shelved → Shelved → Type 0
+abbrev pub Refuses : Refusal → CompileCommand → Shelved → Shelved → Type 0
 Refuses refusal.Memory paths old new = OnlyFileDiffers old.held new.held paths.object
 Refuses refusal.Usage paths old new = ⊥
 Refuses refusal.Read paths old new = ReadKeeps old new × ReadFaultOf old new paths.source

@@ -26,7 +26,7 @@ abbrev pub IsNoObject : List ℕ → Type 0
 IsNoObject bytes = (object : CodeWithNotes) → IsTextOf bytes object → ⊥
 
 -- the bytes are not too many, and are read as no object: this is the first thing that is wrong with them
-pub record IsMisread (error : ObjectError) (bytes : List ℕ) : Type 0 where
+pub record FailsToDecode (error : ObjectError) (bytes : List ℕ) : Type 0 where
   pub few_bytes : length bytes ≤ most_object
   pub first : object_reading bytes ≡ Err error
 

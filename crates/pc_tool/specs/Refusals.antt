@@ -22,42 +22,51 @@ use Rattle.pc_tool.specs.declared.stop.Stop.TheVariants as stop
 
 -- ---- of the compiler
 
+-- a refusal of a file
 abbrev pub refusal_of_file : FileError → Refusal
 refusal_of_file file.Failed = refusal.Read
 refusal_of_file file.TooLong = refusal.TooLong
 refusal_of_file file.Memory = refusal.Memory
 
+-- a refusal of the lexer
 abbrev pub refusal_of_lex : LexError → Refusal
 refusal_of_lex lex.Memory = refusal.Memory
 refusal_of_lex error = refusal.NoTokens error
 
+-- a refusal of the parser
 abbrev pub refusal_of_parse : ParseError → Refusal
 refusal_of_parse parse.Memory = refusal.Memory
 refusal_of_parse error = refusal.NoProgram error
 
+-- a refusal of the checker
 abbrev pub refusal_of_check : CheckError → Refusal
 refusal_of_check check.Memory = refusal.Memory
 refusal_of_check error = refusal.Faulty error
 
+-- a refusal of the reader of literals
 abbrev pub refusal_of_literals : LiteralsError → Refusal
 refusal_of_literals literals.Other = refusal.Unbuilt
 refusal_of_literals literals.Memory = refusal.Memory
 
 -- ---- of the simulator
 
+-- a refusal of a file
 abbrev pub stop_of_file : FileError → Stop
 stop_of_file file.Failed = stop.ReadObject
 stop_of_file file.TooLong = stop.ObjectTooLong
 stop_of_file file.Memory = stop.Memory
 
+-- a refusal of the loader
 abbrev pub stop_of_object : ObjectError → Stop
 stop_of_object object.Memory = stop.Memory
 stop_of_object error = stop.NoObject error
 
+-- a refusal of the input
 abbrev pub stop_of_take : TakeError → Stop
 stop_of_take take.Failed = stop.ReadInput
 stop_of_take take.Memory = stop.Memory
 
+-- a refusal of the reader of numbers
 abbrev pub stop_of_numbers : NumbersError → Stop
 stop_of_numbers (numbers.NotNumber offset) = stop.NotNumber offset
 stop_of_numbers numbers.Memory = stop.Memory

@@ -14,9 +14,9 @@ use Rattle.pc_outside.specs.Fault.{Rose}
 use Rattle.pc_outside.specs.Stream.{AppendsPart}
 use Rattle.pc_outside.specs.Shelf.{Files, Shelved, ReadFaultOf}
 use Rattle.pc_vm.specs.Standing.{Standing, here_of}
-use Rattle.pc_tool.specs.Command.{Simulation}
+use Rattle.pc_tool.specs.Command.{SimulateCommand}
 use Rattle.pc_tool.specs.Told.{HoldsText}
-use Rattle.pc_tool.specs.Objects.{most_object, IsMisread, Holds, HoldsObject}
+use Rattle.pc_tool.specs.Objects.{most_object, FailsToDecode, Holds, HoldsObject}
 use Rattle.pc_tool.specs.declared.stop.Stop.{Stop}
 use Rattle.pc_tool.specs.declared.stop.Stop.TheVariants as stop
 
@@ -31,6 +31,7 @@ pub record Outside : Type 0 where
   pub input : Streamed
   pub out : Streamed
 
+-- the outside from its parts
 abbrev pub outside_of : Shelved → Option (List ℕ) → ℕ → Option (List ℕ) → ℕ → Outside
 outside_of shelf left input_faults taken out_faults = record {
   shelf = shelf;
@@ -88,14 +89,14 @@ pub record BreaksOff (seen : Seen) (old new : Streamed) : Type 0 where
   pub part : AppendsPart old.told new.told (text_of seen.printed)
 
 -- an object that OBJ held was run on the input, and this is what its run shows
-pub record Ran (simulation : Simulation) (old new : Outside) (code : ℕ) : Type 0 where
+pub record Ran (simulation : SimulateCommand) (old new : Outside) (code : ℕ) : Type 0 where
   pub object : CodeWithNotes
   pub numbers : List ℤ
   pub loaded : Loaded simulation.object old.shelf.held old.input.told object numbers
   pub shows : Shows (machine_run object.code numbers simulation.cycles) old.out new.out code
 
 -- the same, but the output failed on the way
-pub record Broke (simulation : Simulation) (old new : Outside) : Type 0 where
+pub record Broke (simulation : SimulateCommand) (old new : Outside) : Type 0 where
   pub object : CodeWithNotes
   pub numbers : List ℤ
   pub loaded : Loaded simulation.object old.shelf.held old.input.told object numbers
@@ -113,7 +114,7 @@ abbrev pub RefusesObject : Stop → List ℕ → Shelved → Shelved → Type 0
 RefusesObject stop.Memory name old new = Unit {0}
 RefusesObject stop.ReadObject name old new = ReadFaultOf old new name
 RefusesObject stop.ObjectTooLong name old new = HoldsText old.held name (λ bytes. most_object < length bytes)
-RefusesObject (stop.NoObject error) name old new = HoldsText old.held name (IsMisread error)
+RefusesObject (stop.NoObject error) name old new = HoldsText old.held name (FailsToDecode error)
 RefusesObject _ name old new = ⊥
 
 -- why the input gave no numbers
@@ -130,7 +131,7 @@ StopsEarly why name old new input rest =
     (RefusesObject why name old new × (rest ≡ input)) ⊎ (HoldsObject old.held name × RefusesInput why input rest)
 
 -- why the simulator stopped
-abbrev pub Stops : Stop → Simulation → Outside → Outside → Type 0
+abbrev pub Stops : Stop → SimulateCommand → Outside → Outside → Type 0
 Stops stop.Usage simulation old new = ⊥
 Stops stop.Write simulation old new = Broke simulation old new
 Stops why simulation old new = StopsEarly why simulation.object old.shelf new.shelf old.input new.input

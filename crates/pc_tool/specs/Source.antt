@@ -37,7 +37,7 @@ IsNoSource text = (program : SourceProgram) → IsSource text program → ⊥
 -- ---- why a text is no source
 
 -- the text is not too long, and is not cut into tokens: this is its first fault
-pub record IsUncut (error : LexError) (text : List ℕ) : Type 0 where
+pub record FailsToLex (error : LexError) (text : List ℕ) : Type 0 where
   pub few_bytes : length text ≤ most_source
   pub first : lexed text ≡ Err error
 

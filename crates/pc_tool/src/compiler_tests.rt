@@ -123,6 +123,18 @@ fn wrote(shelf: &MemoryShelf, object: &[u8]) -> bool {
 }
 
 #[test]
+fn refuses_words_that_are_no_command(rt: HostRuntime) -> Result<(), Fail> {
+    let alloc = rt.alloc();
+    for (source, object) in [("@a", "b.tv"), ("-a.c", "b.tv"), ("a.c", "-b.tv")].iter() {
+        let words = command(alloc, source, object)?;
+        let mut shelf = shelf_with(alloc, SEVEN, 9)?;
+        assert!(rt; status(alloc, &mut shelf, words.as_slice()) == 2);
+        assert!(rt; status(alloc, &mut shelf, &words.as_slice()[..2]) == 2);
+    }
+    Ok(())
+}
+
+#[test]
 fn reads_the_whole_language(rt: HostRuntime) -> Result<(), Fail> {
     let alloc = rt.alloc();
     assert!(rt; compiles(alloc, SEVEN, 0, SEVEN_OBJECT)?);

@@ -1,10 +1,11 @@
+//! The top call.
 ghost use Rattle.std.specs.Prelude.{◌≡◌};
 ghost use Rattle.pc_tool.specs.declared.program.Who.TheVariants.{Pcc, Pvm};
 ghost use Rattle.pc_tool.specs.Command.{command_of, simulation_of, spelled};
 ghost use Rattle.pc_tool.specs.Compiler.{CompilerPromise};
 ghost use Rattle.pc_tool.specs.Simulation.{outside_of};
 ghost use Rattle.pc_tool.specs.Simulator.{SimulatorPromise};
-ghost use Rattle.pc_tool.specs.Silence.{SendsNothing};
+ghost use Rattle.pc_tool.specs.Silence.{IsSilentStatus};
 
 use crate::compile::{compiler_status, run_compiler};
 use crate::simulate::{run_simulator, simulator_status};
@@ -42,8 +43,9 @@ pub struct Status {
 /// - 5: OBJ could not be written, and may hold anything.
 ///
 /// `Pvm` is called as `OBJ`, which does not begin with `-`. It loads the object at OBJ, takes the whole input,
-/// numbers between spaces, tabs, carriage returns and line feeds, runs the object's code for at most
-/// 100,000,000 cycles, and sends the line of each number that is printed. The statuses are
+/// which is decimal numbers from -2147483648 to 2147483647, with or without a sign, between spaces, tabs,
+/// carriage returns and line feeds, runs the object's code for at most 100,000,000 cycles, and sends the
+/// line of each number that is printed. The statuses are
 ///
 /// - 0: the run ended,
 /// - 1: memory ran out; nothing was sent,
@@ -51,7 +53,7 @@ pub struct Status {
 /// - 3: OBJ or the input could not be read,
 /// - 4: OBJ or the input is longer than 16,777,216 bytes, OBJ holds no object that loads, or a word of the
 ///   input is no number,
-/// - 5: the output failed,
+/// - 5: the output failed; a proper prefix of the text was sent,
 /// - 6: the run has not ended in so many cycles,
 /// - 7: the machine faulted,
 /// - 10, 11, 12: the run was trapped by a division by zero, an index out of bounds, the end of input.
@@ -70,7 +72,7 @@ pub fn tool<H: Shelf, I: Source, O: Sink, E: Sink>(
         (outside_of (H.state shelf.new) (I.left input.new) (I.faults input.new) (O.taken out.new) (O.faults out.new))
         result.code }
     ensures input_kept { who ≡ Pcc → input.new ≡ input.old }
-    ensures out_kept { SendsNothing who result.code → out.new ≡ out.old }
+    ensures out_kept { IsSilentStatus who result.code → out.new ≡ out.old }
     ensures err_kept { err.new ≡ err.old }
 {
     let code = match who {

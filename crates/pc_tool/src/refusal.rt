@@ -1,3 +1,4 @@
+//! Why the compiler wrote no object.
 ghost use Rattle.std.specs.Prelude.{◌≡◌};
 ghost use Rattle.pc_tool.specs.Refusals.{refusal_of_file, refusal_of_lex, refusal_of_parse, refusal_of_check, refusal_of_literals};
 ghost use Rattle.pc_tool.specs.declared.refusal.Refusal.TheVariants.{Memory};

@@ -2,6 +2,7 @@
 
 use crate::{Who, tool};
 use pc_outside::{CallList, MemoryShelf, MemorySink, MemorySource};
+use pc_word::{NumbersError, read_numbers};
 use std::alloc::Global;
 use std::test::Fail;
 
@@ -133,6 +134,53 @@ fn reads_the_numbers_of_the_input(rt: HostRuntime) -> Result<(), Fail> {
     assert!(rt; runs(alloc, SEVEN, b"-2147483648", 0, b"7\n")?);
     assert!(rt; runs(alloc, SEVEN, b"2147483648", 4, b"")?);
     assert!(rt; runs(alloc, SEVEN, b"5 x", 4, b"")?);
+    Ok(())
+}
+
+/// The offset of the first word of an input that is no number.
+fn bad_word(alloc: Global, input: &[u8]) -> Option<u32> {
+    match read_numbers(alloc, input) {
+        Err(NumbersError::NotNumber { offset }) => Some(offset),
+        _ => None,
+    }
+}
+
+#[test]
+fn tells_the_first_bad_word(rt: HostRuntime) -> Result<(), Fail> {
+    let alloc = rt.alloc();
+    assert!(rt; bad_word(alloc, b"2147483648") == Some(0));
+    assert!(rt; bad_word(alloc, b"5 x") == Some(2));
+    assert!(rt; bad_word(alloc, b"-2147483648").is_none());
+    Ok(())
+}
+
+/// The status of the simulator with these words, over an empty shelf.
+fn usage(alloc: Global, words: &[String]) -> Result<u8, Fail> {
+    let mut err = sink(alloc, 0)?;
+    let mut out = sink(alloc, 0)?;
+    let mut input = source_of(alloc, b"", 0)?;
+    let mut shelf = MemoryShelf::new(alloc, CallList::new(alloc));
+    let status = tool(
+        alloc,
+        Who::Pvm,
+        words,
+        &mut shelf,
+        &mut input,
+        &mut out,
+        &mut err,
+    );
+    Ok(status.code)
+}
+
+#[test]
+fn takes_one_word(rt: HostRuntime) -> Result<(), Fail> {
+    let alloc = rt.alloc();
+    let one = String::from_str(alloc, "o.tv")?;
+    let other = String::from_str(alloc, "o.tv")?;
+    let words = vec![in alloc; one, other]?;
+    assert!(rt; usage(alloc, &[])? == 2);
+    assert!(rt; usage(alloc, words.as_slice())? == 2);
+    assert!(rt; usage(alloc, &words.as_slice()[..1])? == 3);
     Ok(())
 }
 

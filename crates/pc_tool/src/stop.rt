@@ -1,3 +1,4 @@
+//! Why the simulator came to no end of a run.
 ghost use Rattle.std.specs.Prelude.{◌≡◌};
 ghost use Rattle.pc_tool.specs.Refusals.{stop_of_file, stop_of_object, stop_of_take, stop_of_numbers};
 ghost use Rattle.pc_tool.specs.declared.stop.Stop.TheVariants.{Memory};
