@@ -122,15 +122,31 @@ fn wrote(shelf: &MemoryShelf, object: &[u8]) -> bool {
     }
 }
 
+/// Whether these names make no command.
+fn is_usage(alloc: Global, source: &str, object: &str) -> Result<bool, Fail> {
+    let words = command(alloc, source, object)?;
+    let mut shelf = shelf_with(alloc, SEVEN, 9)?;
+    Ok(status(alloc, &mut shelf, words.as_slice()) == 2)
+}
+
 #[test]
-fn refuses_words_that_are_no_command(rt: HostRuntime) -> Result<(), Fail> {
+fn refuses_names_that_are_none(rt: HostRuntime) -> Result<(), Fail> {
     let alloc = rt.alloc();
-    for (source, object) in [("@a", "b.tv"), ("-a.c", "b.tv"), ("a.c", "-b.tv")].iter() {
-        let words = command(alloc, source, object)?;
-        let mut shelf = shelf_with(alloc, SEVEN, 9)?;
-        assert!(rt; status(alloc, &mut shelf, words.as_slice()) == 2);
-        assert!(rt; status(alloc, &mut shelf, &words.as_slice()[..2]) == 2);
-    }
+    assert!(rt; is_usage(alloc, "@a", "b.tv")?);
+    assert!(rt; is_usage(alloc, "-a.c", "b.tv")?);
+    assert!(rt; is_usage(alloc, "a.c", "-b.tv")?);
+    assert!(rt; !is_usage(alloc, "a.c", "b.tv")?);
+    Ok(())
+}
+
+#[test]
+fn takes_three_words(rt: HostRuntime) -> Result<(), Fail> {
+    let alloc = rt.alloc();
+    let source = String::from_str(alloc, "a.c")?;
+    let flag = String::from_str(alloc, "-o")?;
+    let words = vec![in alloc; source, flag]?;
+    let mut shelf = shelf_with(alloc, SEVEN, 9)?;
+    assert!(rt; status(alloc, &mut shelf, words.as_slice()) == 2);
     Ok(())
 }
 

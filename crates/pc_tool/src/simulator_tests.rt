@@ -1,4 +1,5 @@
 //! The simulator over a shelf and streams in memory.
+ghost use Rattle.std.specs.Prelude.{◌≤◌, length};
 
 use crate::{Who, tool};
 use pc_outside::{CallList, MemoryShelf, MemorySink, MemorySource};
@@ -138,7 +139,9 @@ fn reads_the_numbers_of_the_input(rt: HostRuntime) -> Result<(), Fail> {
 }
 
 /// The offset of the first word of an input that is no number.
-fn bad_word(alloc: Global, input: &[u8]) -> Option<u32> {
+fn bad_word(alloc: Global, input: &[u8]) -> Option<u32>
+    requires { length input.now ≤ 16777216 }
+{
     match read_numbers(alloc, input) {
         Err(NumbersError::NotNumber { offset }) => Some(offset),
         _ => None,
