@@ -1,10 +1,9 @@
 -- What a read of a file tells of its text.
 use Rattle.std.proofs.Common.{◌≡◌, ℕ, ◌+◌, ◌<◌, ◌≤◌, List, length, take, Option, Some, None, refl, sym, ◌∙◌, ap, subst, arith, length-take}
 use Rattle.std.specs.Prelude.{min}
-use Rattle.std.specs.Option.{option_map}
 use Rattle.std.proofs.lemmas.List.{take_all}
 use Rattle.std.specs.FinMap.{get}
-use Rattle.pc_outside.specs.Shelf.{Files, GivesFile, OnlyFileDiffers}
+use Rattle.pc_outside.specs.Shelf.{Files, OnlyFileDiffers}
 use Rattle.pc_tool.specs.Told.{HasText, HoldsText}
 
 -- ---- the text that a read gives
@@ -23,27 +22,6 @@ longer_of most text bytes cut big =
 
 some_same : {X : Type 0} (x y : X) → Some x ≡ Some y → x ≡ y
 some_same x y e = cc
-
-short_of : (file : Option (List ℕ)) (most : ℕ) (bytes : List ℕ) → option_map (take (most + 1)) file ≡ Some bytes → length bytes ≤ most → file ≡ Some bytes
-short_of None most bytes e small = cc
-short_of (Some text) most bytes e small =
-    let cut : take (most + 1) text ≡ bytes = some_same (take (most + 1) text) bytes e in
-    ap (λ (t : List ℕ). Some t) (sym (whole_of most text bytes cut small) ∙ cut)
-
--- a file of which no more than the most was read is whole
-pub short_text : (held : Option Files) (name bytes : List ℕ) (most : ℕ) → GivesFile held name (most + 1) bytes → length bytes ≤ most → HasText held name bytes
-short_text None name bytes most g small = tt
-short_text (Some files) name bytes most g small = short_of (get files name) most bytes g.first small
-
-long_of : (file : Option (List ℕ)) (most : ℕ) (bytes : List ℕ) → option_map (take (most + 1)) file ≡ Some bytes → most < length bytes
-    → (text : List ℕ) × (file ≡ Some text) × (most < length text)
-long_of None most bytes e big = absurd cc
-long_of (Some text) most bytes e big = (text, refl, longer_of most text bytes (some_same (take (most + 1) text) bytes e) big)
-
--- a file of which more was read is longer
-pub long_text : (held : Option Files) (name bytes : List ℕ) (most : ℕ) → GivesFile held name (most + 1) bytes → most < length bytes → HoldsText held name (λ text. most < length text)
-long_text None name bytes most g big = tt
-long_text (Some files) name bytes most g big = long_of (get files name) most bytes g.first big
 
 -- ---- what is told
 

@@ -47,10 +47,6 @@ behind numbers (Some rest) = Some (numbers ++ rest)
 abbrev pub left_literals : List Stmt → ℕ → Option (List ℤ)
 left_literals items i = literals_of (list_of (drop i items))
 
-behind_nothing : (rest : Option (List ℤ)) → behind [] rest ≡ rest
-behind_nothing None = refl
-behind_nothing (Some rest) = refl
-
 behind_more : (numbers : List ℤ) (value : ℤ) (rest : Option (List ℤ)) → behind numbers (literal_before (Some value) rest) ≡ behind (numbers ++ value ∷ []) rest
 behind_more numbers value None = refl
 behind_more numbers value (Some rest) = ap Some (sym (append_assoc numbers (value ∷ []) rest))
@@ -62,10 +58,6 @@ none_before (Some rest) = refl
 left_first : (items rest : List Stmt) (i : ℕ) (item : Stmt) → drop i items ≡ item ∷ rest → left_literals items i ≡ literal_before (literal_of (statement_of item)) (literals_of (list_of rest))
 unfolding list_of
 left_first items rest i item e = ap (λ (left : List Stmt). literals_of (list_of left)) e
-
--- before the first statement
-pub begins : (items : List Stmt) → behind [] (left_literals items 0) ≡ literals_of (list_of items)
-begins items = behind_nothing (literals_of (list_of items))
 
 -- behind a statement that prints a literal
 pub goes_on : (numbers : List ℤ) (items : List Stmt) (i : ℕ) (item : Stmt) (value : ℤ) (whole : Option (List ℤ))
