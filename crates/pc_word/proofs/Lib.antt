@@ -1,4 +1,7 @@
-pub mod Runs
-pub mod Words
+pub mod Items
+pub mod Lists
 pub mod NumberTexts
 pub mod ReadsBack
+pub mod Runs
+pub mod Truth
+pub mod Words

@@ -1,5 +1,6 @@
 -- What is read of a text of numbers.
-use Rattle.std.proofs.Common.{◌≡◌, ℕ, suc, ◌+◌, ◌-◌, ◌^◌, ◌<◌, ◌≤◌, Bool, true, false, ◌&&◌, eqb, List, [], ◌∷◌, ◌++◌, length, take, drop, get_or, refl, sym, ◌∙◌, ap, arith, ℤ, pos, w32, FitsSigned, add-one, add-zero, append_assoc, append-nil}
+use Rattle.std.proofs.Common.{◌≡◌, ℕ, suc, ◌+◌, ◌-◌, ◌^◌, ◌<◌, ◌≤◌, Bool, true, false, ◌&&◌, eqb, List, [], ◌∷◌, ◌++◌, length, take, drop, get_or}
+use Rattle.std.proofs.Common.{refl, sym, ◌∙◌, ap, arith, ℤ, pos, w32, FitsSigned, add-one, add-zero, append_assoc, append-nil}
 use Rattle.std.specs.Prelude.{negsuc, Option, Some, None, Result, Ok, Err, nat_lt}
 use Rattle.std.specs.Prelude.{int_le, unsigned_abs}
 use Rattle.std.specs.Fmt.{decimal, signed_decimal}
@@ -16,18 +17,8 @@ use Rattle.std.specs.Result.{result_ok}
 use Rattle.std.proofs.lemmas.Str.{IsUtf8-from_ascii}
 use Rattle.std.proofs.lemmas.Fmt.{IsAscii-from_digits}
 use Rattle.std.proofs.lemmas.Str.Parse.{numerals_by_value, tells_all_ascii_digits}
-use Rattle.pc_word.specs.NumberText.{is_blank, first_word, is_numeral, is_word, number_of, with_number, numbers_from, numbers_in, line_of, text_of}
-
--- both tests hold where their `&&` does
-pub both : (a b : Bool) → (a && b) ≡ true → (a ≡ true) × (b ≡ true)
-both true b h = (refl, h)
-both false b h = absurd (cc)
-
-not_lt_from_test : (m n : ℕ) → nat_lt m n ≡ false → n ≤ m
-not_lt_from_test m n h = grind (arith, nat_tests)
-
-pub lt_from_test : (m n : ℕ) → nat_lt m n ≡ true → m < n
-lt_from_test m n h = grind (arith, nat_tests)
+use Rattle.pc_word.proofs.Truth.{and_true, most_of, less_of}
+use Rattle.pc_word.specs.NumberText.{is_separator, first_word, is_numeral, is_word, number_of, with_number, numbers_from, numbers_in, line_of, text_of}
 
 -- numbers before what is read
 abbrev pub numbers_after : List ℤ → Result (List ℤ) ℕ → Result (List ℤ) ℕ
@@ -38,9 +29,9 @@ numbers_after numbers (Err place) = Err place
 numbers_from-within : (place : ℕ) (bytes : List ℕ)
     → numbers_from place false bytes ≡ numbers_from (place + length (first_word bytes)) true (drop (length (first_word bytes)) bytes)
 numbers_from-within place [] = refl
-numbers_from-within place (byte ∷ bytes) = within (is_blank byte) refl (numbers_from-within (suc place) bytes)
+numbers_from-within place (byte ∷ bytes) = within (is_separator byte) refl (numbers_from-within (suc place) bytes)
   where
-    within : (b : Bool) → is_blank byte ≡ b
+    within : (b : Bool) → is_separator byte ≡ b
         → numbers_from (suc place) false bytes ≡ numbers_from (suc place + length (first_word bytes)) true (drop (length (first_word bytes)) bytes)
         → numbers_from place false (byte ∷ bytes) ≡ numbers_from (place + length (first_word (byte ∷ bytes))) true (drop (length (first_word (byte ∷ bytes))) (byte ∷ bytes))
     within true e rest = simp (e, add-zero) refl
@@ -49,7 +40,7 @@ numbers_from-within place (byte ∷ bytes) = within (is_blank byte) refl (number
         simp e (rest ∙ ap (λ (k : ℕ). numbers_from k true (drop (length (first_word bytes)) bytes)) at)
 
 -- a word that spells no number ends what is read, and one that spells a number stands before it
-pub numbers_from-word : (place byte : ℕ) (bytes : List ℕ) → is_blank byte ≡ false
+pub numbers_from-word : (place byte : ℕ) (bytes : List ℕ) → is_separator byte ≡ false
     → numbers_from place true (byte ∷ bytes)
     ≡ with_number place (number_of (first_word (byte ∷ bytes))) (numbers_from (place + length (first_word (byte ∷ bytes))) true (drop (length (first_word (byte ∷ bytes))) (byte ∷ bytes)))
 numbers_from-word place byte bytes e =
@@ -58,44 +49,46 @@ numbers_from-word place byte bytes e =
     simp e (ap (λ r. with_number place (number_of (byte ∷ first_word bytes)) r) rest)
 
 -- a blank is passed over
-pub numbers_from-blank : (place byte : ℕ) (bytes : List ℕ) (after_blank : Bool) → is_blank byte ≡ true → numbers_from place after_blank (byte ∷ bytes) ≡ numbers_from (suc place) true bytes
+pub numbers_from-blank : (place byte : ℕ) (bytes : List ℕ) (after_blank : Bool) → is_separator byte ≡ true → numbers_from place after_blank (byte ∷ bytes) ≡ numbers_from (suc place) true bytes
 numbers_from-blank place byte bytes true e = simp e refl
 numbers_from-blank place byte bytes false e = simp e refl
 
 -- the first word is a beginning of the text
 pub take-first_word : (bytes : List ℕ) → take (length (first_word bytes)) bytes ≡ first_word bytes
 take-first_word [] = refl
-take-first_word (byte ∷ bytes) = taken (is_blank byte) refl (take-first_word bytes)
+take-first_word (byte ∷ bytes) = taken (is_separator byte) refl (take-first_word bytes)
   where
-    taken : (b : Bool) → is_blank byte ≡ b → take (length (first_word bytes)) bytes ≡ first_word bytes → take (length (first_word (byte ∷ bytes))) (byte ∷ bytes) ≡ first_word (byte ∷ bytes)
+    taken : (b : Bool) → is_separator byte ≡ b → take (length (first_word bytes)) bytes ≡ first_word bytes → take (length (first_word (byte ∷ bytes))) (byte ∷ bytes) ≡ first_word (byte ∷ bytes)
     taken true e rest = simp e refl
     taken false e rest = simp e (ap (λ (l : List ℕ). byte ∷ l) rest)
 
 -- and no longer than it
 pub length-first_word : (bytes : List ℕ) → length (first_word bytes) ≤ length bytes
 length-first_word [] = omega arith
-length-first_word (byte ∷ bytes) = short (is_blank byte) refl (length-first_word bytes)
+length-first_word (byte ∷ bytes) = short (is_separator byte) refl (length-first_word bytes)
   where
-    short : (b : Bool) → is_blank byte ≡ b → length (first_word bytes) ≤ length bytes → length (first_word (byte ∷ bytes)) ≤ length (byte ∷ bytes)
+    short : (b : Bool) → is_separator byte ≡ b → length (first_word bytes) ≤ length bytes → length (first_word (byte ∷ bytes)) ≤ length (byte ∷ bytes)
     short true e rest = simp e (omega arith)
     short false e rest = simp e (omega arith)
 
 -- no word begins at a blank
-pub first_word-blank : (byte : ℕ) (bytes : List ℕ) → is_blank byte ≡ true → first_word (byte ∷ bytes) ≡ []
+pub first_word-blank : (byte : ℕ) (bytes : List ℕ) → is_separator byte ≡ true → first_word (byte ∷ bytes) ≡ []
 first_word-blank byte bytes e = simp e refl
 
 -- a word goes on at another byte
-pub first_word-other : (byte : ℕ) (bytes : List ℕ) → is_blank byte ≡ false → first_word (byte ∷ bytes) ≡ byte ∷ first_word bytes
+pub first_word-other : (byte : ℕ) (bytes : List ℕ) → is_separator byte ≡ false → first_word (byte ∷ bytes) ≡ byte ∷ first_word bytes
 first_word-other byte bytes e = simp e refl
 
-pub first_word-at_blank : (bytes : List ℕ) (place : ℕ) → place < length bytes → is_blank (get_or bytes place 0) ≡ true → first_word (drop place bytes) ≡ []
+pub first_word-at_blank : (bytes : List ℕ) (place : ℕ) → place < length bytes → is_separator (get_or bytes place 0) ≡ true → first_word (drop place bytes) ≡ []
 first_word-at_blank bytes place h e = rw (drop-cons bytes place 0 h) (first_word-blank (get_or bytes place 0) (drop (suc place) bytes) e)
 
-pub first_word-at_other : (bytes : List ℕ) (place : ℕ) → place < length bytes → is_blank (get_or bytes place 0) ≡ false → first_word (drop place bytes) ≡ get_or bytes place 0 ∷ first_word (drop (place + 1) bytes)
+pub first_word-at_other : (bytes : List ℕ) (place : ℕ) → place < length bytes → is_separator (get_or bytes place 0) ≡ false
+    → first_word (drop place bytes) ≡ get_or bytes place 0 ∷ first_word (drop (place + 1) bytes)
 first_word-at_other bytes place h e = rw (drop-cons bytes place 0 h, add-one) (first_word-other (get_or bytes place 0) (drop (suc place) bytes) e)
 
 -- numbers before numbers before what is read
-pub numbers_after-push : (numbers : List ℤ) (number : ℤ) (rest : Result (List ℤ) ℕ) (place : ℕ) → numbers_after numbers (with_number place (Some number) rest) ≡ numbers_after (numbers ++ number ∷ []) rest
+pub numbers_after-push : (numbers : List ℤ) (number : ℤ) (rest : Result (List ℤ) ℕ) (place : ℕ)
+    → numbers_after numbers (with_number place (Some number) rest) ≡ numbers_after (numbers ++ number ∷ []) rest
 numbers_after-push numbers number (Ok more) place = ap (λ (l : List ℤ). Ok l) (sym (append_assoc numbers (number ∷ []) more))
 numbers_after-push numbers number (Err later) place = refl
 
@@ -107,8 +100,8 @@ is_numeral-from bytes h =
 
 pub is_numeral-to : (bytes : List ℕ) → is_numeral bytes ≡ true → IsNumeral 10 bytes
 is_numeral-to bytes h =
-    let parts = both (nat_lt 0 (length bytes)) (all_ascii_digits bytes) h in
-    let some : 0 < length bytes = lt_from_test 0 (length bytes) parts.0 in
+    let parts = and_true (nat_lt 0 (length bytes)) (all_ascii_digits bytes) h in
+    let some : 0 < length bytes = less_of 0 (length bytes) parts.0 in
     (some, (numerals_by_value (λ ds. all_ascii_digits ds ≡ true) tells_all_ascii_digits).to bytes parts.1)
 
 pub is_word-from : (z : ℤ) → FitsSigned w32 z → is_word z ≡ true
@@ -116,8 +109,8 @@ is_word-from (pos n) h = grind (arith, ints, nat_tests)
 is_word-from (negsuc n) h = grind (arith, ints, nat_tests)
 
 pub is_word-to : (z : ℤ) → is_word z ≡ true → FitsSigned w32 z
-is_word-to (pos n) h = let lt : n < 2 ^ 31 = lt_from_test n (2 ^ 31) h in record { sfits = lt }
-is_word-to (negsuc n) h = let lt : n < 2 ^ 31 = lt_from_test n (2 ^ 31) h in record { sfits = lt }
+is_word-to (pos n) h = let lt : n < 2 ^ 31 = less_of n (2 ^ 31) h in record { sfits = lt }
+is_word-to (negsuc n) h = let lt : n < 2 ^ 31 = less_of n (2 ^ 31) h in record { sfits = lt }
 
 -- a word of a text that spells a number, and one that does not
 number_of-Some : (bytes : List ℕ) → IsNumeral 10 (without_leading_sign bytes) → FitsSigned w32 (signed_digits_value 10 bytes) → number_of bytes ≡ Some (signed_digits_value 10 bytes)
@@ -158,15 +151,16 @@ number_of-bytes bytes h = not_numeral (is_numeral (without_leading_sign bytes)) 
     not_numeral false p = rw p
 
 -- a blank in a text is passed over
-pub numbers_from-at_blank : (bytes : List ℕ) (place : ℕ) → place < length bytes → is_blank (get_or bytes place 0) ≡ true
+pub numbers_from-at_blank : (bytes : List ℕ) (place : ℕ) → place < length bytes → is_separator (get_or bytes place 0) ≡ true
     → numbers_from place true (drop place bytes) ≡ numbers_from (place + 1) true (drop (place + 1) bytes)
 numbers_from-at_blank bytes place h e =
     rw (drop-cons bytes place 0 h, add-one) (numbers_from-blank place (get_or bytes place 0) (drop (suc place) bytes) true e)
 
 -- a word in a text is read
-pub numbers_from-at_word : (bytes : List ℕ) (place : ℕ) → place < length bytes → is_blank (get_or bytes place 0) ≡ false
+pub numbers_from-at_word : (bytes : List ℕ) (place : ℕ) → place < length bytes → is_separator (get_or bytes place 0) ≡ false
     → numbers_from place true (drop place bytes)
-    ≡ with_number place (number_of (first_word (drop place bytes))) (numbers_from (place + length (first_word (drop place bytes))) true (drop (length (first_word (drop place bytes))) (drop place bytes)))
+    ≡ with_number place (number_of (first_word (drop place bytes)))
+    (numbers_from (place + length (first_word (drop place bytes))) true (drop (length (first_word (drop place bytes))) (drop place bytes)))
 numbers_from-at_word bytes place h e =
     rw (drop-cons bytes place 0 h) (numbers_from-word place (get_or bytes place 0) (drop (suc place) bytes) e)
 
@@ -185,7 +179,7 @@ unfolding numbers_in
 numbers_in-begin bytes = sym (numbers_after-nil (numbers_from 0 true bytes))
 
 -- a number is read, and put behind those before it
-pub numbers_in-more : (bytes : List ℕ) (place : ℕ) (numbers : List ℤ) (number : ℤ) (word : List ℕ) → place < length bytes → is_blank (get_or bytes place 0) ≡ false
+pub numbers_in-more : (bytes : List ℕ) (place : ℕ) (numbers : List ℤ) (number : ℤ) (word : List ℕ) → place < length bytes → is_separator (get_or bytes place 0) ≡ false
     → word ≡ first_word (drop place bytes) → Some number ≡ number_of word
     → numbers_in bytes ≡ numbers_after numbers (numbers_from place true (drop place bytes))
     → numbers_in bytes ≡ numbers_after (numbers ++ number ∷ []) (numbers_from (place + length word) true (drop (place + length word) bytes))

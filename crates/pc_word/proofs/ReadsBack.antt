@@ -9,7 +9,7 @@ use Rattle.std.proofs.lemmas.Fmt.{decimal_is_IsNumeral, parse-signed_decimal}
 use Rattle.std.proofs.lemmas.List.Elements.{All-head, All-tail, All-cons, All-nil}
 use Rattle.std.proofs.lemmas.Str.Parse.{digit_from_value}
 use Rattle.pc_word.specs.Word.{IsWord}
-use Rattle.pc_word.specs.NumberText.{is_blank, first_word, is_numeral, is_word, number_of, with_number, numbers_from, numbers_in, text_of}
+use Rattle.pc_word.specs.NumberText.{is_separator, first_word, is_numeral, is_word, number_of, with_number, numbers_from, numbers_in, text_of}
 use Rattle.pc_word.proofs.NumberTexts.{is_numeral-from, is_numeral-to, is_word-from, is_word-to, number_of-parses, first_word-other, numbers_from-word}
 
 -- what std reads in a text, where it reads a number
@@ -30,8 +30,8 @@ number_of-signed_decimal z h =
     number_of-parses (signed_decimal z) read.0 read.1 ∙ rw is_z refl
 
 -- a digit is no blank, nor is `-`
-is_blank-other : (c : ℕ) → 33 ≤ c → is_blank c ≡ false
-is_blank-other c h =
+is_separator-other : (c : ℕ) → 33 ≤ c → is_separator c ≡ false
+is_separator-other c h =
     let a : eqb c 32 ≡ false = grind (arith, nat_tests) in
     let b : eqb c 9 ≡ false = grind (arith, nat_tests) in
     let d : eqb c 13 ≡ false = grind (arith, nat_tests) in
@@ -43,20 +43,20 @@ first_word-digits : (digits rest : List ℕ) → AllDigits 10 digits → first_w
 first_word-digits [] rest h = refl
 first_word-digits (c ∷ cs) rest h =
     let low : 33 ≤ c = omega (arith, (digit_from_value c h.0).0) in
-    first_word-other c (cs ++ 10 ∷ rest) (is_blank-other c low) ∙ ap (λ (l : List ℕ). c ∷ l) (first_word-digits cs rest h.1)
+    first_word-other c (cs ++ 10 ∷ rest) (is_separator-other c low) ∙ ap (λ (l : List ℕ). c ∷ l) (first_word-digits cs rest h.1)
 
 -- a text whose first byte is no blank
 record Begins_word (bytes : List ℕ) : Type 0 where
   first : ℕ
   others : List ℕ
   parts : bytes ≡ first ∷ others
-  no_blank : is_blank first ≡ false
+  no_blank : is_separator first ≡ false
 
 begins_digits : (digits : List ℕ) → IsNumeral 10 digits → Begins_word digits
 begins_digits [] h = absurd (omega (arith, h.0))
 begins_digits (c ∷ cs) h =
     let low : 33 ≤ c = omega (arith, (digit_from_value c h.1.0).0) in
-    record { first = c; others = cs; parts = refl; no_blank = is_blank-other c low }
+    record { first = c; others = cs; parts = refl; no_blank = is_separator-other c low }
 
 begins_line : (z : ℤ) → IsWord z → Begins_word (signed_decimal z)
 begins_line (pos n) h = begins_digits (decimal n) (decimal_is_IsNumeral n (omega (arith, h.sfits))).0
@@ -116,10 +116,10 @@ number_of-word bytes = spelt (is_numeral (without_leading_sign bytes)) (is_word 
 numbers_from-words : (place : ℕ) (after_blank : Bool) (bytes : List ℕ) → WordsIfOk (numbers_from place after_blank bytes)
 numbers_from-words place after_blank [] = All-nil IsWord
 numbers_from-words place after_blank (byte ∷ bytes) =
-    let rest = numbers_from (suc place) (is_blank byte) bytes in
-    let words = numbers_from-words (suc place) (is_blank byte) bytes in
+    let rest = numbers_from (suc place) (is_separator byte) bytes in
+    let words = numbers_from-words (suc place) (is_separator byte) bytes in
     let o = number_of (first_word (byte ∷ bytes)) in
-    elim (after_blank && not (is_blank byte)) as (λ (b : Bool). WordsIfOk (cond b (with_number place o rest) rest)) [
+    elim (after_blank && not (is_separator byte)) as (λ (b : Bool). WordsIfOk (cond b (with_number place o rest) rest)) [
       | true ↦ WordsIfOk-with_number place o rest (number_of-word (first_word (byte ∷ bytes))) words
       | false ↦ words
     ]

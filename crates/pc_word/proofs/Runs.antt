@@ -2,15 +2,16 @@
 use Rattle.std.proofs.Common.{zero-add, add-zero, ◌≡◌, ℕ, zero, suc, ◌+◌, ◌-◌, ◌<◌, ◌≤◌, List, [], ◌++◌, Option, Some, None, refl, sym, ◌∙◌, ap, subst, ◌⊎◌, inl, inr, append_assoc, append-nil, arith}
 use Rattle.std.specs.Prelude.{ℤ}
 use Rattle.pc_word.specs.declared.item.End.{End}
-use Rattle.pc_word.specs.Run.{Seen, Run, Begins, Grows, Answers, Follows, Agree, Step, Goes, Stops, after_printing, seen_of, run_from, Reached, At, Over, reached_after, reached_of, reach, seen_from, Meet, MeetsAgain, Simulates, SimulatesInTime, ended_run}
-
--- one number is at most another, or above it
-decide_le : (n m : ℕ) → (n ≤ m) ⊎ (m < n)
-decide_le n m = grind arith
+use Rattle.pc_word.specs.Run.{Seen, Run, Begins, Grows, Answers, Follows, Agree, Step, Goes, Stops, after_printing, seen_of, run_from, Reached, At}
+use Rattle.pc_word.specs.Run.{Over, reached_after, reached_of, reach, seen_from, ended_run, AgreeOnInputs}
+use Rattle.pc_word.proofs.Truth.{decide_le}
+use Rattle.pc_word.specs.models.Simulation.{Meet, MeetsAgain, Simulates, SimulatesInTime}
 
 -- what is seen is equal where its parts are
 record_equal : (x y : Seen) → x.printed ≡ y.printed → x.end ≡ y.end → x ≡ y
-record_equal x y p q = ap (λ (l : List ℤ). let seen : Seen = record { printed = l; end = x.end } in seen) p ∙ ap (λ (e : Option End). let seen : Seen = record { printed = y.printed; end = e } in seen) q
+record_equal x y p q =
+    ap (λ (l : List ℤ). let seen : Seen = record { printed = l; end = x.end } in seen) p
+    ∙ ap (λ (e : Option End). let seen : Seen = record { printed = y.printed; end = e } in seen) q
 
 -- a list begins itself
 pub Begins-refl : (xs : List ℤ) → Begins xs xs
@@ -75,6 +76,18 @@ Agree-sym X Y p = record { forth = p.back; back = p.forth }
 pub Agree-trans : (X Y Z : Run) → Agree X Y → Agree Y Z → Agree X Z
 Agree-trans X Y Z p q = record { forth = Follows-trans X Y Z p.forth q.forth; back = Follows-trans Z Y X q.back p.back }
 
+-- on every input of words, a run agrees with itself
+pub AgreeOnInputs-refl : (X : List ℤ → Run) → AgreeOnInputs X X
+AgreeOnInputs-refl X input words = Agree-refl (X input)
+
+-- agreement on inputs goes both ways
+pub AgreeOnInputs-sym : (X Y : List ℤ → Run) → AgreeOnInputs X Y → AgreeOnInputs Y X
+AgreeOnInputs-sym X Y p input words = Agree-sym (X input) (Y input) (p input words)
+
+-- what agrees on inputs with one thing agrees on inputs
+pub AgreeOnInputs-trans : (X Y Z : List ℤ → Run) → AgreeOnInputs X Y → AgreeOnInputs Y Z → AgreeOnInputs X Z
+AgreeOnInputs-trans X Y Z p q input words = Agree-trans (X input) (Y input) (Z input) (p input words) (q input words)
+
 -- runs that show the same at each number of steps agree
 pub Agree-equal : (X Y : Run) → ((n : ℕ) → X n ≡ Y n) → Agree X Y
 Agree-equal X Y p = record {
@@ -112,7 +125,8 @@ pub run_from-reach : {S : Type 0} (step : S → Step S) (n : ℕ) (s : S) → ru
 run_from-reach step n s = ap (λ (k : ℕ). run_from step k s) (sym (add-zero n)) ∙ run_from-add step n 0 s
 
 -- a place that was reached, with more steps after it, answers what was seen there
-later_answers : {S : Type 0} (r : Reached S) (first more : S → Seen) → ((s : S) → first s ≡ record { printed = []; end = None }) → Answers (seen_from r first) (seen_from r more) (seen_from r first).end
+later_answers : {S : Type 0} (r : Reached S) (first more : S → Seen) → ((s : S) → first s ≡ record { printed = []; end = None })
+    → Answers (seen_from r first) (seen_from r more) (seen_from r first).end
 later_answers (At p s) first more none =
     subst (λ (x : Seen). Answers (after_printing p x) (after_printing p (more s)) x.end) (sym (none s)) (Begins-after p [] (more s).printed (Begins-append [] (more s).printed))
 later_answers (Over p e) first more none = (refl, refl)
@@ -163,7 +177,8 @@ pub run_from-at : {S : Type 0} (step : S → Step S) (n m : ℕ) (s t : S) (prin
 run_from-at step n m s t printed p = run_from-add step n m s ∙ ap (λ r. seen_from r (run_from step m)) p
 
 -- steps that print and come to an end, and then more steps
-pub run_from-over : {S : Type 0} (step : S → Step S) (n m : ℕ) (s : S) (printed : List ℤ) (end : End) → reach step n s ≡ Over printed end → run_from step (n + m) s ≡ record { printed = printed; end = Some end }
+pub run_from-over : {S : Type 0} (step : S → Step S) (n m : ℕ) (s : S) (printed : List ℤ) (end : End) → reach step n s ≡ Over printed end
+    → run_from step (n + m) s ≡ record { printed = printed; end = Some end }
 run_from-over step n m s printed end p = run_from-add step n m s ∙ ap (λ r. seen_from r (run_from step m)) p
 
 reached_after-append : {S : Type 0} (p q : List ℤ) (r : Reached S) → reached_after p (reached_after q r) ≡ reached_after (p ++ q) r

@@ -13,7 +13,8 @@ use Rattle.std.proofs.lemmas.Nat.{or_lt, xor_lt}
 use Rattle.std.proofs.lemmas.Bool.Decides.{nat_tests}
 use Rattle.pc_word.specs.declared.item.OpCode.{OpCode}
 use Rattle.pc_word.specs.declared.item.OpCode.TheVariants.{Add, Sub, Mul, Div, Rem, Shl, Shr, And, Or, Xor, Less, LessEq, Equal, Unequal, Below}
-use Rattle.pc_word.specs.Word.{IsWord, word_of_test, word_add, word_sub, word_mul, word_div, word_rem, word_shl, word_shr, word_and, word_or, word_xor, word_less, word_less_eq, word_equal, word_unequal, word_below, word_apply}
+use Rattle.pc_word.specs.Word.{IsWord, word_of_test, word_add, word_sub, word_mul, word_div, word_rem, word_shl, word_shr, word_and, word_or}
+use Rattle.pc_word.specs.Word.{word_xor, word_less, word_less_eq, word_equal, word_unequal, word_below, word_apply}
 
 -- a test by what it tests
 test_true : (m n : ℕ) → m < n → nat_lt m n ≡ true

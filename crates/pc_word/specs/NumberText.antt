@@ -16,13 +16,13 @@ abbrev pub text_of : List ℤ → List ℕ
 text_of numbers = flat_map line_of numbers
 
 -- what stands between the words of a text: spaces, tabs, carriage returns and line feeds
-abbrev pub is_blank : ℕ → Bool
-is_blank byte = byte == 32 || byte == 9 || byte == 13 || byte == 10
+abbrev pub is_separator : ℕ → Bool
+is_separator byte = byte == 32 || byte == 9 || byte == 13 || byte == 10
 
 -- the bytes of a text before its first blank
 abbrev pub first_word : List ℕ → List ℕ
 first_word [] = []
-first_word (byte ∷ bytes) = if is_blank byte then [] else byte ∷ first_word bytes
+first_word (byte ∷ bytes) = if is_separator byte then [] else byte ∷ first_word bytes
 
 -- one decimal digit or more, and nothing else
 abbrev pub is_numeral : List ℕ → Bool
@@ -49,9 +49,9 @@ with_number place (Some number) (Err later) = Err later
 abbrev pub numbers_from : ℕ → Bool → List ℕ → Result (List ℤ) ℕ
 numbers_from place after_blank [] = Ok []
 numbers_from place after_blank (byte ∷ bytes) =
-    if after_blank && not (is_blank byte)
-    then with_number place (number_of (first_word (byte ∷ bytes))) (numbers_from (suc place) (is_blank byte) bytes)
-    else numbers_from (suc place) (is_blank byte) bytes
+    if after_blank && not (is_separator byte)
+    then with_number place (number_of (first_word (byte ∷ bytes))) (numbers_from (suc place) (is_separator byte) bytes)
+    else numbers_from (suc place) (is_separator byte) bytes
 
 -- the numbers that the words of a text spell, or the offset of the first byte of the first word that spells none
 unfoldable pub numbers_in : List ℕ → Result (List ℤ) ℕ

@@ -3,6 +3,8 @@
 
 mod item;
 mod laws;
+mod limits;
+mod loop_mark;
 mod number_text;
 mod seq;
 #[cfg(test)]
@@ -10,7 +12,13 @@ mod tests;
 mod word;
 
 pub use item::{End, Extent, Item, Limits, MachineFault, OpCode, Operand, TrapKind};
-pub use laws::{laws_of_agreement, laws_of_number_texts, laws_of_words};
+pub use laws::{law_of_single_items, laws_of_agreement, laws_of_number_texts, laws_of_words};
+pub use limits::{
+    MOST_ARRAYS, MOST_ELEMENTS, MOST_HEIGHT, MOST_INPUT, MOST_LENGTH, MOST_MEM, MOST_NODES,
+    MOST_OBJECT, MOST_OPS, MOST_SCALARS, MOST_SOURCE, MOST_TEMPORARIES, MOST_TESTS, MOST_TOKENS,
+    REGISTERS,
+};
+pub use loop_mark::LoopMark;
 pub use number_text::{NumberLine, NumbersError, read_numbers};
 pub use seq::Seq;
 pub use word::{
@@ -25,3 +33,6 @@ pub type WordList = Seq<i32>;
 
 /// Bytes.
 pub type ByteList = Seq<u8>;
+
+/// The loops of a program, by number.
+pub type LoopList = Seq<LoopMark>;

@@ -1,18 +1,22 @@
 //! Numbers as text: what a program prints, and how its input is read.
 ghost use Rattle.std.specs.Prelude.{◌≡◌, ◌≤◌, [], ◌∷◌, length, IfOk, IfErr, unwrap_or};
-ghost use Rattle.pc_word.specs.NumberText.{is_blank, first_word, number_of, numbers_in, text_of, IsNumbersRefusal};
+ghost use Rattle.pc_word.specs.MachineLimits.{most_input};
+ghost use Rattle.pc_word.specs.NumberText.{is_separator, first_word, number_of, numbers_in, text_of, IsNumbersRefusal};
 
 use crate::WordList;
 use std::alloc::{AllocError, Global};
 use std::marker::Model;
+use thiserror::Error;
 
 /// Why a text is no list of numbers.
-#[derive(Clone, Copy, Debug, PartialEq, Eq)]
+#[derive(Clone, Copy, Debug, PartialEq, Eq, Error)]
 pub enum NumbersError {
     /// A word of the text spells no number that is a word of the language. `offset` is the place
     /// of its first byte, and no word before it is such a one.
+    #[error("not a number at offset {offset}")]
     NotNumber { offset: u32 },
     /// There is no memory for the list.
+    #[error("out of memory")]
     Memory,
 }
 
@@ -26,8 +30,8 @@ impl From<AllocError> for NumbersError {
     }
 }
 
-fn is_blank(byte: u8) -> bool
-    ensures { result ≡ is_blank byte }
+fn is_separator(byte: u8) -> bool
+    ensures { result ≡ is_separator byte }
 {
     matches!(byte, b' ' | b'\t' | b'\r' | b'\n')
 }
@@ -38,7 +42,7 @@ fn first_word(bytes: &[u8]) -> &[u8]
     ensures within { length result.now ≤ length bytes.now }
 {
     for (len, byte) in bytes.iter().enumerate() {
-        if is_blank(*byte) {
+        if is_separator(*byte) {
             return &bytes[..len];
         }
     }
@@ -59,14 +63,14 @@ fn number_of(word: &[u8]) -> Option<i32>
 /// optional `+` or `-` and one or more decimal digits, with a value from -2147483648 to
 /// 2147483647. Leading zeros are allowed. It takes time in proportion to the text's length.
 pub fn read_numbers(alloc: Global, bytes: &[u8]) -> Result<WordList, NumbersError>
-    requires { length bytes.now ≤ 16777216 }
+    requires { length bytes.now ≤ most_input }
     ensures ok { IfOk result (λ numbers. numbers_in bytes.now ≡ Ok numbers) }
     ensures err { IfErr result (IsNumbersRefusal bytes.now) }
 {
     let mut numbers = WordList::new(alloc);
     let mut at = 0;
     while at < bytes.len() {
-        if is_blank(bytes[at]) {
+        if is_separator(bytes[at]) {
             at += 1;
         } else {
             let word = first_word(&bytes[at..]);

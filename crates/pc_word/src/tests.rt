@@ -3,51 +3,60 @@ use std::test::Fail;
 
 // The values are those of a C program, built by gcc 12.2, which computes on uint32_t where C17
 // leaves an overflow or a shift count undefined.
+/// An operator, its operands and its value.
+const ARITHMETIC: &[(OpCode, i32, i32, i32)] = &[
+    (OpCode::Add, 2147483647, 1, -2147483648),
+    (OpCode::Add, -7, 2, -5),
+    (OpCode::Sub, -2147483648, 1, 2147483647),
+    (OpCode::Sub, 3, 10, -7),
+    (OpCode::Mul, 65537, 65537, 131073),
+    (OpCode::Mul, -46341, 46341, 2147479015),
+    (OpCode::Div, -7, 2, -3),
+    (OpCode::Div, 7, -2, -3),
+    (OpCode::Div, -2147483648, -1, -2147483648),
+    (OpCode::Div, 5, 0, 0),
+    (OpCode::Rem, -7, 2, -1),
+    (OpCode::Rem, 7, -2, 1),
+    (OpCode::Rem, -2147483648, -1, 0),
+    (OpCode::Rem, 5, 0, 0),
+    (OpCode::Shl, 3, 31, -2147483648),
+    (OpCode::Shl, 3, 32, 3),
+    (OpCode::Shl, 3, 33, 6),
+    (OpCode::Shl, 3, -1, -2147483648),
+    (OpCode::Shr, -9, 1, -5),
+    (OpCode::Shr, -9, 31, -1),
+    (OpCode::Shr, -9, 32, -9),
+    (OpCode::Shr, -9, 33, -5),
+    (OpCode::Shr, 9, -31, 4),
+    (OpCode::And, -6, 13, 8),
+    (OpCode::Or, -6, 13, -1),
+    (OpCode::Xor, -6, 13, -9),
+];
+
+/// The same of comparisons.
+const COMPARISONS: &[(OpCode, i32, i32, i32)] = &[
+    (OpCode::Less, -1, 0, 1),
+    (OpCode::Less, 0, 0, 0),
+    (OpCode::LessEq, 0, 0, 1),
+    (OpCode::LessEq, 1, -1, 0),
+    (OpCode::Equal, -1, -1, 1),
+    (OpCode::Equal, 0, 1, 0),
+    (OpCode::Unequal, -1, -1, 0),
+    (OpCode::Unequal, 0, 1, 1),
+    (OpCode::Below, 1, 2, 1),
+    (OpCode::Below, -1, 0, 0),
+    (OpCode::Below, 0, -1, 1),
+    (OpCode::Below, -2, -1, 1),
+    (OpCode::Below, -1, -2, 0),
+    (OpCode::Below, 2147483647, -2147483648, 1),
+];
+
 #[test]
 fn operators(rt: HostRuntime) {
-    for (op, a, b, want) in [
-        (OpCode::Add, 2147483647, 1, -2147483648),
-        (OpCode::Add, -7, 2, -5),
-        (OpCode::Sub, -2147483648, 1, 2147483647),
-        (OpCode::Sub, 3, 10, -7),
-        (OpCode::Mul, 65537, 65537, 131073),
-        (OpCode::Mul, -46341, 46341, 2147479015),
-        (OpCode::Div, -7, 2, -3),
-        (OpCode::Div, 7, -2, -3),
-        (OpCode::Div, -2147483648, -1, -2147483648),
-        (OpCode::Div, 5, 0, 0),
-        (OpCode::Rem, -7, 2, -1),
-        (OpCode::Rem, 7, -2, 1),
-        (OpCode::Rem, -2147483648, -1, 0),
-        (OpCode::Rem, 5, 0, 0),
-        (OpCode::Shl, 3, 31, -2147483648),
-        (OpCode::Shl, 3, 32, 3),
-        (OpCode::Shl, 3, 33, 6),
-        (OpCode::Shl, 3, -1, -2147483648),
-        (OpCode::Shr, -9, 1, -5),
-        (OpCode::Shr, -9, 31, -1),
-        (OpCode::Shr, -9, 32, -9),
-        (OpCode::Shr, -9, 33, -5),
-        (OpCode::Shr, 9, -31, 4),
-        (OpCode::And, -6, 13, 8),
-        (OpCode::Or, -6, 13, -1),
-        (OpCode::Xor, -6, 13, -9),
-        (OpCode::Less, -1, 0, 1),
-        (OpCode::Less, 0, 0, 0),
-        (OpCode::LessEq, 0, 0, 1),
-        (OpCode::LessEq, 1, -1, 0),
-        (OpCode::Equal, -1, -1, 1),
-        (OpCode::Equal, 0, 1, 0),
-        (OpCode::Unequal, -1, -1, 0),
-        (OpCode::Unequal, 0, 1, 1),
-        (OpCode::Below, 1, 2, 1),
-        (OpCode::Below, -1, 0, 0),
-        (OpCode::Below, 0, -1, 1),
-        (OpCode::Below, -2, -1, 1),
-        (OpCode::Below, -1, -2, 0),
-        (OpCode::Below, 2147483647, -2147483648, 1),
-    ] {
-        assert_eq!(rt; apply(op, a, b), want, "{a} and {b}");
+    for table in [ARITHMETIC, COMPARISONS] {
+        for (op, a, b, want) in table.iter().copied() {
+            assert_eq!(rt; apply(op, a, b), want, "{a} and {b}");
+        }
     }
 }
 

@@ -3,7 +3,8 @@
 //! Each is total: sums, differences and products wrap modulo 2^32, a shift count is taken modulo
 //! 32, and what is divided by 0 is 0. None takes memory.
 ghost use Rattle.std.specs.Prelude.{◌≡◌};
-ghost use Rattle.pc_word.specs.Word.{word_add, word_sub, word_mul, word_div, word_rem, word_shl, word_shr, word_and, word_or, word_xor, word_less, word_less_eq, word_equal, word_unequal, word_below, word_apply};
+ghost use Rattle.pc_word.specs.Word.{word_add, word_sub, word_mul, word_div, word_rem, word_shl, word_shr, word_and, word_or, word_xor, word_less};
+ghost use Rattle.pc_word.specs.Word.{word_less_eq, word_equal, word_unequal, word_below, word_apply};
 
 use crate::item::OpCode;
 

@@ -19,6 +19,6 @@ loop-at-preserved c =
     let left = take-left bytes place in
     let is_word = c.first_word-word.ensures.word ∙ ap (λ (l : List ℕ). first_word l) left in
     let within : place + length word ≤ length bytes = omega (arith, c.first_word-word.ensures.within, ap length left, length-drop place bytes) in
-    let more = numbers_in-more bytes place numbers number word c.loop-at-test.true (sym c.if-is_blank.ensures) is_word c.in-Some.ensures c.loop-at.invariant.1 in
+    let more = numbers_in-more bytes place numbers number word c.loop-at-test.true (sym c.if-is_separator.ensures) is_word c.in-Some.ensures c.loop-at.invariant.1 in
     let pushed = c.in_ok-push-in-Some.ensures.ok ∙ ap (λ (n : ℤ). numbers ++ n ∷ []) (to_z-of_z w32 number fits) in
     (within, more ∙ ap (λ (l : List ℤ). numbers_after l (numbers_from (place + length word) true (drop (place + length word) bytes))) (sym pushed))
