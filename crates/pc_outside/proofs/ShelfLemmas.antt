@@ -14,7 +14,8 @@ OnlyFileDiffers-insert : (files : Files) (new : Option Files) (name bytes : List
 OnlyFileDiffers-insert files new name bytes e = (insert files name bytes, e, λ other differs. get-insert-other files name bytes other differs)
 
 -- a write that left the files as before
-pub WriteKeeps-same : (old new : Shelved) (name : List ℕ) → new.held ≡ old.held → old.write_faults ≤ new.write_faults → new.read_faults ≡ old.read_faults → new.read_name ≡ old.read_name → WriteKeeps old new name
+pub WriteKeeps-same : (old new : Shelved) (name : List ℕ) → new.held ≡ old.held
+    → old.write_faults ≤ new.write_faults → new.read_faults ≡ old.read_faults → new.read_name ≡ old.read_name → WriteKeeps old new name
 WriteKeeps-same old new name held counted faults beside = record {
   others = OnlyFileDiffers-same old.held new.held name held;
   counted = counted;
@@ -23,7 +24,8 @@ WriteKeeps-same old new name held counted faults beside = record {
 }
 
 -- a write that made the file
-pub WriteKeeps-insert : (old new : Shelved) (name bytes : List ℕ) (files : Files) → old.held ≡ Some files → new.held ≡ Some (insert files name bytes) → old.write_faults ≤ new.write_faults → new.read_faults ≡ old.read_faults → new.read_name ≡ old.read_name → WriteKeeps old new name
+pub WriteKeeps-insert : (old new : Shelved) (name bytes : List ℕ) (files : Files) → old.held ≡ Some files → new.held ≡ Some (insert files name bytes)
+    → old.write_faults ≤ new.write_faults → new.read_faults ≡ old.read_faults → new.read_name ≡ old.read_name → WriteKeeps old new name
 WriteKeeps-insert old new name bytes files was held counted faults beside = record {
   others = rw was (OnlyFileDiffers-insert files new.held name bytes held);
   counted = counted;

@@ -13,11 +13,6 @@ one_more count = min (count + 1) (2 ^ 64 - 1)
 abbrev pub Rose : ℕ → ℕ → Type 0
 Rose before now = one_more before ≤ now
 
--- a count of faults, and beside it the name of the last
-pub record Faults : Type 0 where
-  pub count : ℕ
-  pub name : List ℕ
-
 -- the count rose, and the name beside it is this one
 pub record FaultOf (before now : ℕ) (beside name : List ℕ) : Type 0 where
   pub rose : Rose before now

@@ -5,11 +5,6 @@ use Rattle.std.specs.FinMap as map
 use Rattle.pc_outside.specs.Fault.{one_more}
 use Rattle.pc_outside.specs.Shelf.{Files, Shelved}
 
--- a place for bytes: what it has taken, and how many bytes it can take in all
-pub record RoomState : Type 0 where
-  pub taken : List ℕ
-  pub room : ℕ
-
 -- a source: what it has left, its faults, how many calls it has had, and the numbers of those that are to fail
 pub record SourceState : Type 0 where
   pub left : List ℕ

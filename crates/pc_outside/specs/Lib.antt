@@ -1,6 +1,5 @@
+pub mod models
 pub mod Fault
-pub mod Files
 pub mod InMemory
 pub mod Shelf
 pub mod Stream
-pub mod Stored

@@ -1,5 +1,6 @@
 -- What reads and writes do to the bytes that a source has left and a sink has taken, where these are told.
-use Rattle.std.specs.Prelude.{◌≡◌, ℕ, ◌<◌, ◌≤◌, List, length, take, drop, Option, Some, IfSome, Result, MatchResult}
+use Rattle.std.specs.Prelude.{◌≡◌, ℕ, zero, suc, ◌-◌, ◌<◌, ◌≤◌, List, length, take, drop, Option, Some, IfSome, Result, MatchResult}
+use Rattle.std.specs.Option.{option_map}
 use Rattle.std.specs.Io.KnownBytes.{Appends, Consumes}
 
 -- a read that gave n bytes left the rest of its slice as before, and one that failed all of it
@@ -23,3 +24,8 @@ pub record AppendsPart (old new : Option (List ℕ)) (bs : List ℕ) : Type 0 wh
   pub sent : ℕ
   pub short : sent < length bs
   pub grew : Appends old new (take sent bs)
+
+-- of what a writer took, all but the last bytes, so many as no flush has confirmed
+abbrev pub flushed : ℕ → Option (List ℕ) → Option (List ℕ)
+flushed zero told = told
+flushed (suc n) told = option_map (λ bytes. take (length bytes - suc n) bytes) told

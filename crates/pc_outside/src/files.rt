@@ -15,8 +15,8 @@ pub(crate) struct HeldFiles {
 
 impl Model for HeldFiles {
     ghost use Rattle.pc_outside.specs.Shelf.{Files};
-    ghost use Rattle.pc_outside.specs.Files.{files_of};
-    ghost use Rattle.pc_outside.specs.Stored.{files_code};
+    ghost use Rattle.pc_outside.specs.models.Files.{files_of};
+    ghost use Rattle.pc_outside.specs.models.Stored.{files_code};
 
     ghost Value = { Files };
 

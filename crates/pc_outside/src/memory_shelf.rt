@@ -27,7 +27,7 @@ pub struct MemoryShelf {
 
 impl Model for MemoryShelf {
     ghost use Rattle.pc_outside.specs.InMemory.{ShelfState};
-    ghost use Rattle.pc_outside.specs.Stored.{shelf_code};
+    ghost use Rattle.pc_outside.specs.models.Stored.{shelf_code};
 
     ghost Value = { ShelfState };
 

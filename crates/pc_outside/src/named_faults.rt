@@ -14,7 +14,7 @@ pub(crate) struct NamedFaults {
 
 impl Model for NamedFaults {
     ghost use Rattle.std.specs.Prelude.{string_bytes};
-    ghost use Rattle.pc_outside.specs.Fault.{Faults};
+    ghost use Rattle.pc_outside.specs.models.Parts.{Faults};
 
     ghost Value = { Faults };
 

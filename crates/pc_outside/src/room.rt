@@ -14,7 +14,7 @@ pub(crate) struct Room {
 
 impl Model for Room {
     ghost use Rattle.std.specs.Prelude.{◌≤◌, length, vec_capacity};
-    ghost use Rattle.pc_outside.specs.InMemory.{RoomState};
+    ghost use Rattle.pc_outside.specs.models.Parts.{RoomState};
 
     ghost Value = { RoomState };
 

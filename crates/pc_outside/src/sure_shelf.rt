@@ -22,7 +22,7 @@ pub struct SureShelf {
 
 impl Model for SureShelf {
     ghost use Rattle.pc_outside.specs.InMemory.{SureShelfState};
-    ghost use Rattle.pc_outside.specs.Stored.{sure_shelf_code};
+    ghost use Rattle.pc_outside.specs.models.Stored.{sure_shelf_code};
 
     ghost Value = { SureShelfState };
 

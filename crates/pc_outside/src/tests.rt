@@ -1,8 +1,9 @@
 //! Tables over sources, sinks and shelves.
 use super::*;
 use std::alloc::{AllocError, Global};
-use std::fs;
+use std::io::{ErrorKind, Write};
 use std::test::Fail;
+use std::{fs, io};
 
 /// A source that moves one byte a call, over a source that may move many.
 #[derive(Drop)]
@@ -204,11 +205,67 @@ fn a_folder_is_a_shelf(rt: HostRuntime) -> Result<(), Fail> {
     Ok(())
 }
 
+/// A writer that takes so many bytes a call at most, and flushes or fails to.
+#[derive(Drop)]
+struct Fake {
+    bytes: Vec<u8>,
+    at_once: usize,
+    flushes: bool,
+}
+
+impl Write for Fake {
+    ghost use Rattle.std.specs.Prelude.{Some};
+
+    ghost contents = { λ s. Some s.bytes.items };
+
+    fn write(&mut self, from: &[u8]) -> io::Result<usize> {
+        let n = from.len().min(self.at_once);
+        self.bytes.extend_from_slice(&from[..n])?;
+        Ok(n)
+    }
+
+    fn flush(&mut self) -> io::Result<()> {
+        if self.flushes {
+            return Ok(());
+        }
+        Err(io::Error::from(ErrorKind::BrokenPipe))
+    }
+}
+
 #[test]
-fn the_real_streams_open(rt: HostRuntime) -> Result<(), Fail> {
-    assert!(rt; send(&mut StdSink::new(rt.stdout()), b"").is_ok());
+fn a_real_sink_tells_what_was_taken(rt: HostRuntime) -> Result<(), Fail> {
+    // Where a flush fails, the write has failed, though the writer took bytes.
+    let rows = [
+        (1, true, true, 9),
+        (4, true, true, 9),
+        (99, true, true, 9),
+        (0, true, false, 0),
+        (1, false, false, 1),
+        (4, false, false, 4),
+        (99, false, false, 9),
+    ];
+    for (at_once, flushes, whole, taken) in rows {
+        let mut fake = Fake {
+            bytes: Vec::new(rt.alloc()),
+            at_once,
+            flushes,
+        };
+        let sent = send(&mut StdSink::new(&mut fake), TEXT);
+        assert_eq!(rt; sent.is_ok(), whole, "{at_once} at once");
+        assert_eq!(rt;
+            fake.bytes.as_slice(),
+            &TEXT[..taken.min(TEXT.len())],
+            "{at_once} at once"
+        );
+    }
+    Ok(())
+}
+
+#[test]
+fn a_real_source_gives_what_is_left(rt: HostRuntime) -> Result<(), Fail> {
     let mut bytes = b"abc".as_slice();
     let taken = take_all(rt.alloc(), &mut StdSource::new(&mut bytes), 2)?;
     assert_eq!(rt; taken.as_slice(), b"ab".as_slice());
+    assert_eq!(rt; bytes, b"c".as_slice());
     Ok(())
 }

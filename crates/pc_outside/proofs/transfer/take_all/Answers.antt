@@ -8,7 +8,8 @@ use Rattle.pc_outside.proofs.transfer.take_all.Goals.{else-loop-piece-test, then
 pub returns-in_err-extend_from_slice-clause-lost :
     goal.returns-in_err-extend_from_slice-clause-lost
 returns-in_err-extend_from_slice-clause-lost g c =
-    let fits : length c.loop-piece.all.items + length (take c.in_ok-n.n c.read.new.into) ≤ c.args.most = grind (arith, common_steps, c.loop-piece.all.ok.0, c.in_ok-n.ensures.bound, c.read.auto.into) in
+    let fits : length c.loop-piece.all.items + length (take c.in_ok-n.n c.read.new.into) ≤ c.args.most =
+    grind (arith, common_steps, c.loop-piece.all.ok.0, c.in_ok-n.ensures.bound, c.read.auto.into) in
     let p = err_from_is_err_and c.from_residual-in_err-extend_from_slice.result c.from_residual-in_err-extend_from_slice.ensures.1 in
     rw p.1 (LosesFront-more _ _ _ c.args.most c.loop-piece.all.items _ fits c.loop-piece.invariant.taken c.in_ok-n.ensures.bytes.0)
 

@@ -1,4 +1,4 @@
--- How files and shelves in memory are stored as values.
+-- How files and shelves in memory are written as codes, which the toolchain asks for.
 use Rattle.std.specs.Prelude.{ℕ, List, refl}
 use Rattle.std.specs.Coded.{Coded, code_by, coded×, coded_ℕ, coded_list}
 use Rattle.std.specs.FinMap as map

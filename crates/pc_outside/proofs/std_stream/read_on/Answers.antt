@@ -1,0 +1,17 @@
+use Rattle.pc_outside.proofs.StreamLemmas.{Keeps-refl, Keeps-trans, ReadConsumes-kept}
+use Rattle.pc_outside.proofs.std_stream.read_on.Goals as goal
+
+pub loop-init : goal.loop-init
+loop-init g c = Keeps-refl _
+
+pub returns-in_default-clause-bytes : goal.returns-in_default-clause-bytes
+returns-in_default-clause-bytes g c = Keeps-trans _ _ _ c.loop.invariant c.in-Err.ensures.bytes
+
+pub returns-in_default-2-clause-bytes : goal.returns-in_default-2-clause-bytes
+returns-in_default-2-clause-bytes g c = ReadConsumes-kept _ _ _ c.read.result _ c.loop.invariant c.read.ensures.bytes
+
+pub loop-preserved : goal.loop-preserved
+loop-preserved g c = Keeps-trans _ _ _ c.loop.invariant c.in-Err.ensures.bytes
+
+pub returns-clause-bytes : goal.returns-clause-bytes
+returns-clause-bytes g c = c.loop.invariant
