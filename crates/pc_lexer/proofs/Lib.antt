@@ -1,7 +1,5 @@
-pub mod Booleans
 pub mod Digits
 pub mod Comments
-pub mod Plain
 pub mod Fronts
 pub mod Begun
 pub mod Names

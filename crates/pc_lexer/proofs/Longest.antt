@@ -1,5 +1,6 @@
 -- The cut of a text is of the longest pieces, and they make up the text.
-use Rattle.std.proofs.Common.{◌≡◌, ℕ, zero, suc, ◌+◌, ◌<◌, ◌≤◌, List, [], ◌∷◌, ◌++◌, Bool, true, false, ◌&&◌, ◌||◌, cond, nat_eq, Option, Some, None, Result, Ok, Err, take, drop, length, get_or, refl, sym, ap, ◌∙◌, subst, arith}
+use Rattle.std.proofs.Common.{◌≡◌, ℕ, zero, suc, ◌+◌, ◌<◌, ◌≤◌, List, [], ◌∷◌, ◌++◌, Bool, true, false, ◌&&◌, ◌||◌, cond, nat_eq, Option, Some, None, Result, Ok, Err, take, drop, length}
+use Rattle.std.proofs.Common.{get_or, refl, sym, ap, ◌∙◌, subst, arith}
 use Rattle.std.specs.Prelude.{codes, ◌==◌, bytes_eq}
 use Rattle.std.specs.List.{list_all, prefix_len, starts_with}
 use Rattle.std.specs.Option.{option_map}
@@ -11,27 +12,27 @@ use Rattle.std.proofs.lemmas.List.Sums.{prefix_len_stops}
 use Rattle.pc_lexer.specs.Bytes.{is_blank, is_letter, is_digit, is_word_byte}
 use Rattle.pc_lexer.specs.Spelling.{mark_at}
 use Rattle.pc_lexer.specs.Number.{is_exponent, is_sign, number_length, number_value}
-use Rattle.pc_lexer.specs.Piece.{front_or, line_length, comment_length, include_length, block_comment_at, skipped_line_at, number_of, number_at, mark_piece, mark_piece_at, piece_at}
+use Rattle.pc_lexer.specs.Piece.{piece_or, line_length, comment_length, include_length, block_comment_at, skipped_line_at, number_of, number_at, mark_piece, mark_piece_at, piece_at}
 use Rattle.pc_lexer.specs.Cut.{cut, fresh_after}
-use Rattle.pc_lexer.specs.Laws.{is_word, is_number_rest, is_number, is_mark, is_token, NoTokenBeyond, IsSpelled, IsStuck, text_of, AreLongest, CutsIntoLongest}
+use Rattle.pc_lexer.specs.Laws.{is_word_spelling, is_number_rest, is_number, is_mark, is_token, NoTokenBeyond, IsSpelled, IsStuck, cut_text, AreLongest, CutsIntoLongest}
 use Rattle.pc_lexer.specs.declared.mark.Mark.{Mark}
 use Rattle.pc_lexer.specs.declared.piece.Shape.TheVariants as shape
 use Rattle.pc_lexer.specs.declared.piece.Piece.{Piece}
 use Rattle.pc_lexer.specs.declared.piece.Trouble.{Trouble}
 use Rattle.pc_lexer.specs.declared.piece.Trouble.TheVariants as trouble
-use Rattle.pc_lexer.proofs.Booleans.{and_made, and_made_false, or_made_false}
+use Rattle.pc_word.proofs.Truth.{and_made, and_made_false, or_made_false}
 use Rattle.pc_lexer.proofs.Fronts.{slashes_front, mark_spelled, prefix_is}
 use Rattle.pc_lexer.proofs.Begun.{Begun, a_blank, a_word, a_number, a_skipped_line, a_bad_hash, a_line_comment, a_block_comment, a_mark, begun, piece_fits}
 use Rattle.pc_lexer.proofs.Marks.{begins_other, no_mark_behind, no_mark_in_comment, no_longer_mark, no_mark}
 use Rattle.pc_lexer.proofs.Reading.{cut-piece, cut-stuck}
 
 -- what has none of the three forms is no token
-no_form : (bytes : List ℕ) → is_word bytes ≡ false → is_number bytes ≡ false → is_mark bytes ≡ false → is_token bytes ≡ false
+no_form : (bytes : List ℕ) → is_word_spelling bytes ≡ false → is_number bytes ≡ false → is_mark bytes ≡ false → is_token bytes ≡ false
 unfolding is_token
-no_form bytes w n m = or_made_false (is_word bytes || is_number bytes) (is_mark bytes) (or_made_false (is_word bytes) (is_number bytes) w n) m
+no_form bytes w n m = or_made_false (is_word_spelling bytes || is_number bytes) (is_mark bytes) (or_made_false (is_word_spelling bytes) (is_number bytes) w n) m
 
 -- no word and no number begins with a byte that is neither letter nor digit
-no_word : (b : ℕ) (bytes : List ℕ) → is_letter b ≡ false → is_word (b ∷ bytes) ≡ false
+no_word : (b : ℕ) (bytes : List ℕ) → is_letter b ≡ false → is_word_spelling (b ∷ bytes) ≡ false
 no_word b bytes h = and_made_false (is_letter b) (list_all is_word_byte bytes) h
 
 no_number : (b : ℕ) (bytes : List ℕ) → is_digit b ≡ false → is_number (b ∷ bytes) ≡ false
@@ -45,7 +46,8 @@ beyond_more m n text le h k lt within = h k (omega arith) within
 other_beyond : (text : List ℕ) → is_letter (get_or text 0 0) ≡ false → is_digit (get_or text 0 0) ≡ false → begins_other (get_or text 0 0) ≡ true → NoTokenBeyond 0 text
 other_beyond [] l d o k lt within = absurd (omega arith)
 other_beyond (b ∷ text) l d o zero lt within = absurd (omega arith)
-other_beyond (b ∷ text) l d o (suc k) lt within = no_form (b ∷ take k text) (no_word b (take k text) l) (no_number b (take k text) d) (no_mark_behind b (take k text) o)
+other_beyond (b ∷ text) l d o (suc k) lt within =
+    no_form (b ∷ take k text) (no_word b (take k text) l) (no_number b (take k text) d) (no_mark_behind b (take k text) o)
 
 blank_classes : (b : ℕ) → is_blank b ≡ true → (is_letter b ≡ false) × (is_digit b ≡ false) × (begins_other b ≡ true)
 blank_classes b h = (grind (arith, nat_tests), grind (arith, nat_tests), ap (λ t. t || is_letter b || is_digit b || b == 35) h)
@@ -63,7 +65,9 @@ hash_beyond text h = let c = hash_classes (get_or text 0 0) h in other_beyond te
 comment_beyond : (text : List ℕ) → get_or text 0 0 ≡ 47 → (starts_with nat_eq text (codes "//") || starts_with nat_eq text (codes "/*")) ≡ true → NoTokenBeyond 1 text
 comment_beyond [] first opens k lt within = absurd (omega arith)
 comment_beyond (b ∷ text) first opens zero lt within = absurd (omega arith)
-comment_beyond (b ∷ text) first opens (suc k) lt within = no_form (b ∷ take k text) (no_word b (take k text) (ap is_letter first)) (no_number b (take k text) (ap is_digit first)) (no_mark_in_comment (b ∷ text) (suc k) (omega arith) opens)
+comment_beyond (b ∷ text) first opens (suc k) lt within =
+    no_form (b ∷ take k text) (no_word b (take k text) (ap is_letter first)) (no_number b (take k text) (ap is_digit first))
+    (no_mark_in_comment (b ∷ text) (suc k) (omega arith) opens)
 
 letter_classes : (b : ℕ) → is_letter b ≡ true → (is_word_byte b ≡ true) × (is_digit b ≡ false) × (begins_other b ≡ true)
 letter_classes b h = (ap (λ t. t || is_digit b) h, grind (arith, nat_tests), grind (arith, nat_tests))
@@ -76,7 +80,8 @@ word_beyond (b ∷ text) h (suc k) lt within =
     let c = letter_classes b h in
     let n = prefix_len is_word_byte (b ∷ text) in
     let long : n < length (take (suc k) (b ∷ text)) = omega (arith, length-take-le (suc k) (b ∷ text) within) in
-    let stops : is_word_byte (get_or (take (suc k) (b ∷ text)) n 0) ≡ false = ap is_word_byte (get_or-take (suc k) (b ∷ text) n 0 lt) ∙ prefix_len_stops is_word_byte (b ∷ text) 0 (omega arith) in
+    let stops : is_word_byte (get_or (take (suc k) (b ∷ text)) n 0) ≡ false
+    = ap is_word_byte (get_or-take (suc k) (b ∷ text) n 0 lt) ∙ prefix_len_stops is_word_byte (b ∷ text) 0 (omega arith) in
     let fails : (is_word_byte b && list_all is_word_byte (take k text)) ≡ false = list_all_at is_word_byte (take (suc k) (b ∷ text)) n 0 long stops in
     let rest : list_all is_word_byte (take k text) ≡ false = sym (ap (λ t. t && list_all is_word_byte (take k text)) c.0) ∙ fails in
     no_form (b ∷ take k text) (ap (λ t. is_letter b && t) rest ∙ and_no (is_letter b)) (no_number b (take k text) c.1) (no_mark_behind b (take k text) c.2)
@@ -93,11 +98,12 @@ all_prefix p (b ∷ text) = by (p b) refl (all_prefix p text)
     by true e rest = rw one-add (and_made (p b) _ e rest)
     by false e rest = refl
 
-word_spelled : (text : List ℕ) → is_letter (get_or text 0 0) ≡ true → is_word (take (prefix_len is_word_byte text) text) ≡ true
+word_spelled : (text : List ℕ) → is_letter (get_or text 0 0) ≡ true → is_word_spelling (take (prefix_len is_word_byte text) text) ≡ true
 word_spelled [] h = cc
 word_spelled (b ∷ text) h =
     let c = letter_classes b h in
-    let n : prefix_len is_word_byte (b ∷ text) ≡ suc (prefix_len is_word_byte text) = ap (λ t. cond t (1 + prefix_len is_word_byte text) 0) c.0 ∙ one-add (prefix_len is_word_byte text) in
+    let n : prefix_len is_word_byte (b ∷ text) ≡ suc (prefix_len is_word_byte text)
+    = ap (λ t. cond t (1 + prefix_len is_word_byte text) 0) c.0 ∙ one-add (prefix_len is_word_byte text) in
     rw n (and_made (is_letter b) _ h (all_prefix is_word_byte text))
 
 -- the longest number
@@ -118,7 +124,8 @@ unfolding number_length
 number_prefix e [] = refl
 number_prefix e (b ∷ bytes) = by (is_word_byte b || e && is_sign b) refl (number_prefix (is_exponent b) bytes)
   where
-    by : (t : Bool) → (is_word_byte b || e && is_sign b) ≡ t → is_number_rest (is_exponent b) (take (number_length (is_exponent b) bytes) bytes) ≡ true
+    by : (t : Bool) → (is_word_byte b || e && is_sign b) ≡ t
+        → is_number_rest (is_exponent b) (take (number_length (is_exponent b) bytes) bytes) ≡ true
         → is_number_rest e (take (cond t (suc (number_length (is_exponent b) bytes)) 0) (b ∷ bytes)) ≡ true
     by true h rest = and_made (is_word_byte b || e && is_sign b) _ h rest
     by false h rest = refl
@@ -155,7 +162,7 @@ LongestAt text (Ok piece) = IsLongestPiece text piece
 LongestAt text (Err why) = IsStuck why text
 
 number_longest : (text : List ℕ) (value : Option ℕ) → number_value (take (1 + number_length false (drop 1 text)) text) ≡ value
-    → is_letter (get_or text 0 0) ≡ false → is_digit (get_or text 0 0) ≡ true → LongestAt text (number_of text (1 + number_length false (drop 1 text)) value)
+    → is_letter (get_or text 0 0) ≡ false → is_digit (get_or text 0 0) ≡ true → LongestAt text (number_of (1 + number_length false (drop 1 text)) value)
 number_longest text None e l d = (1 + number_length false (drop 1 text), number_spelled text d, e, number_beyond text l d)
 number_longest text (Some v) e l d = record { spelled = (number_spelled text d, v, e, refl); beyond = number_beyond text l d }
 
@@ -180,7 +187,7 @@ slashes_two text h =
     omega (arith, size)
 
 skipped_longest : (text : List ℕ) (found : Option ℕ) → (get_or text 0 0 == 35) ≡ true
-    → LongestAt text (front_or trouble.NoPiece shape.Skipped (option_map (λ n. 1 + n) found) text)
+    → LongestAt text (piece_or trouble.NoPiece shape.Skipped (option_map (λ n. 1 + n) found))
 skipped_longest text None h = hash_beyond text h
 skipped_longest text (Some n) h = record { spelled = hash_spelled text n h; beyond = beyond_more 0 (1 + n) text (omega arith) (hash_beyond text h) }
 
@@ -196,11 +203,15 @@ block_opens text h = by (starts_with nat_eq text (codes "//")) (starts_with nat_
     by false s h = h
 
 comment_longest : (text : List ℕ) (found : Option ℕ) → starts_with nat_eq text (codes "/*") ≡ true
-    → LongestAt text (front_or trouble.OpenComment shape.Comment (option_map (λ n. 2 + n) found) text)
+    → LongestAt text (piece_or trouble.OpenComment shape.Comment (option_map (λ n. 2 + n) found))
 comment_longest text None h = h
-comment_longest text (Some n) h = record { spelled = comment_spelled text (2 + n) (omega arith) (block_opens text h); beyond = beyond_more 1 (2 + n) text (omega arith) (comment_beyond text (slash_first text 42 h) (block_opens text h)) }
+comment_longest text (Some n) h = record {
+  spelled = comment_spelled text (2 + n) (omega arith) (block_opens text h);
+  beyond = beyond_more 1 (2 + n) text (omega arith) (comment_beyond text (slash_first text 42 h) (block_opens text h));
+}
 
-mark_longest : (text : List ℕ) (found : Option Mark) → mark_at text ≡ found → is_letter (get_or text 0 0) ≡ false → is_digit (get_or text 0 0) ≡ false → LongestAt text (mark_piece text found)
+mark_longest : (text : List ℕ) (found : Option Mark) → mark_at text ≡ found
+    → is_letter (get_or text 0 0) ≡ false → is_digit (get_or text 0 0) ≡ false → LongestAt text (mark_piece found)
 mark_longest text None e l d = λ k some within. mark_beyond text None e l d k some within (no_mark text k e within)
 mark_longest text (Some m) e l d = record {
   spelled = mark_spelled text m e;
@@ -210,32 +221,33 @@ mark_longest text (Some m) e l d = record {
 longest : (fresh : Bool) (text : List ℕ) (r : Result Piece Trouble) → Begun fresh text r → LongestAt text r
 unfolding number_at skipped_line_at block_comment_at mark_piece_at
 longest fresh text _ (a_blank h) = record { spelled = blank_spelled text h; beyond = beyond_more 0 1 text (omega arith) (blank_beyond text h) }
-longest fresh text _ (a_word b h) = record { spelled = word_spelled text h; beyond = word_beyond text h }
-longest fresh text _ (a_number b l h) = number_longest text (number_value (take (1 + number_length false (drop 1 text)) text)) refl l h
+longest fresh text _ (a_word h) = record { spelled = word_spelled text h; beyond = word_beyond text h }
+longest fresh text _ (a_number l h) = number_longest text (number_value (take (1 + number_length false (drop 1 text)) text)) refl l h
 longest fresh text _ (a_skipped_line h) = skipped_longest text (include_length (drop 1 text)) h
 longest fresh text _ (a_bad_hash h) = hash_beyond text h
 longest fresh text _ (a_line_comment h) = record {
   spelled = comment_spelled text (line_length text) (slashes_two text h) (ap (λ t. t || starts_with nat_eq text (codes "/*")) h);
-  beyond = beyond_more 1 (line_length text) text ((slashes_front text h).some) (comment_beyond text (slash_first text 47 h) (ap (λ t. t || starts_with nat_eq text (codes "/*")) h));
+  beyond = beyond_more 1 (line_length text) text ((slashes_front text h).some)
+      (comment_beyond text (slash_first text 47 h) (ap (λ t. t || starts_with nat_eq text (codes "/*")) h));
 }
 longest fresh text _ (a_block_comment h) = comment_longest text (comment_length false (drop 2 text)) h
-longest fresh text _ (a_mark b l d) = mark_longest text (mark_at text) refl l d
+longest fresh text _ (a_mark l d) = mark_longest text (mark_at text) refl l d
 
 longest_at : (fresh : Bool) (text : List ℕ) (r : Result Piece Trouble) → piece_at fresh text ≡ r → LongestAt text r
 longest_at fresh text r h = subst (LongestAt text) h (longest fresh text (piece_at fresh text) (begun fresh text))
 
 -- the same behind any bytes
-cuts : (fuel : ℕ) (bytes before : List ℕ) → length bytes ≤ fuel → (text_of (cut bytes 0 before) ≡ bytes) × AreLongest (cut bytes 0 before)
+cuts : (fuel : ℕ) (bytes before : List ℕ) → length bytes ≤ fuel → (cut_text (cut bytes 0 before) ≡ bytes) × AreLongest (cut bytes 0 before)
 unfolding cut
 cuts fuel [] before enough = (refl, tt)
 cuts zero (b ∷ rest) before enough = absurd (omega arith)
 cuts (suc fuel) (b ∷ rest) before enough = by (piece_at (fresh_after true before) (b ∷ rest)) refl (λ bytes before enough. cuts fuel bytes before enough)
   where
     by : (r : Result Piece Trouble) → piece_at (fresh_after true before) (b ∷ rest) ≡ r
-        → ((bytes before : List ℕ) → length bytes ≤ fuel → (text_of (cut bytes 0 before) ≡ bytes) × AreLongest (cut bytes 0 before))
-        → (text_of (cut (b ∷ rest) 0 before) ≡ b ∷ rest) × AreLongest (cut (b ∷ rest) 0 before)
+        → ((bytes before : List ℕ) → length bytes ≤ fuel → (cut_text (cut bytes 0 before) ≡ bytes) × AreLongest (cut bytes 0 before))
+        → (cut_text (cut (b ∷ rest) 0 before) ≡ b ∷ rest) × AreLongest (cut (b ∷ rest) 0 before)
     by (Err why) e more =
-        subst (λ c. (text_of c ≡ b ∷ rest) × AreLongest c) (sym (cut-stuck (b ∷ rest) before why (omega arith) e))
+        subst (λ c. (cut_text c ≡ b ∷ rest) × AreLongest c) (sym (cut-stuck (b ∷ rest) before why (omega arith) e))
         (refl, longest_at (fresh_after true before) (b ∷ rest) (Err why) e)
     by (Ok piece) e more =
         let text = b ∷ rest in
@@ -243,10 +255,17 @@ cuts (suc fuel) (b ∷ rest) before enough = by (piece_at (fresh_after true befo
         let l = longest_at (fresh_after true before) (b ∷ rest) (Ok piece) e in
         let size : length (take piece.length (b ∷ rest)) ≡ piece.length = length-take-le piece.length (b ∷ rest) f.within in
         let m = more (drop piece.length (b ∷ rest)) (before ++ take piece.length (b ∷ rest)) (omega (arith, f.some, length-drop piece.length (b ∷ rest))) in
-        let whole : take piece.length (b ∷ rest) ++ text_of (cut (drop piece.length (b ∷ rest)) 0 (before ++ take piece.length (b ∷ rest))) ≡ b ∷ rest
+        let whole : take piece.length (b ∷ rest) ++ cut_text (cut (drop piece.length (b ∷ rest)) 0 (before ++ take piece.length (b ∷ rest))) ≡ b ∷ rest
         = ap (λ t. take piece.length (b ∷ rest) ++ t) m.0 ∙ take-append-drop piece.length (b ∷ rest) in
-        subst (λ c. (text_of c ≡ b ∷ rest) × AreLongest c) (sym (cut-piece (b ∷ rest) before piece (omega arith) e))
-        (whole, (omega (arith, size, f.some), l.spelled, (λ k longer within. ap (λ t. is_token (take k t)) whole ∙ l.beyond k (omega (arith, size)) (omega (arith, ap length whole))), m.1))
+        subst (λ c. (cut_text c ≡ b ∷ rest) × AreLongest c) (sym (cut-piece (b ∷ rest) before piece (omega arith) e)) (
+          whole,
+          (
+            omega (arith, size, f.some),
+            l.spelled,
+            (λ k longer within. ap (λ t. is_token (take k t)) whole ∙ l.beyond k (omega (arith, size)) (omega (arith, ap length whole))),
+            m.1,
+          ),
+        )
 
 pub cuts_into_longest : CutsIntoLongest
 cuts_into_longest text = cuts (length text) text [] (omega arith)

@@ -10,7 +10,7 @@ use Rattle.pc_lexer.specs.Spelling.{mark_spelling, marks, mark_at}
 use Rattle.pc_lexer.specs.Laws.{is_mark}
 use Rattle.pc_lexer.specs.declared.mark.Mark.{Mark}
 use Rattle.pc_lexer.specs.declared.mark.Mark.TheVariants as mark
-use Rattle.pc_lexer.proofs.Booleans.{and_true}
+use Rattle.pc_word.proofs.Truth.{and_true}
 
 -- a test that cannot pass fails
 pub fails : (t : Bool) → (t ≡ true → ⊥) → t ≡ false
@@ -53,9 +53,11 @@ mark_opens _ = refl
 pub no_mark_in_comment : (text : List ℕ) (k : ℕ) → 2 ≤ k → (starts_with nat_eq text (codes "//") || starts_with nat_eq text (codes "/*")) ≡ true → is_mark (take k text) ≡ false
 no_mark_in_comment text k two opens = fails (is_mark (take k text)) (λ h.
     let f = mark_found (take k text) h in
-    let e : (starts_with nat_eq (take k text) (codes "//") || starts_with nat_eq (take k text) (codes "/*")) ≡ false = sym (ap (λ l. starts_with nat_eq l (codes "//") || starts_with nat_eq l (codes "/*")) f.1) ∙ mark_opens f.0 in
+    let e : (starts_with nat_eq (take k text) (codes "//") || starts_with nat_eq (take k text) (codes "/*")) ≡ false
+    = sym (ap (λ l. starts_with nat_eq l (codes "//") || starts_with nat_eq l (codes "/*")) f.1) ∙ mark_opens f.0 in
     let same : take 2 (take k text) ≡ take 2 text = take-take 2 k text two in
-    let t : (starts_with nat_eq (take k text) (codes "//") || starts_with nat_eq (take k text) (codes "/*")) ≡ true = ap (λ l. bytes_eq (codes "//") l || bytes_eq (codes "/*") l) same ∙ opens in
+    let t : (starts_with nat_eq (take k text) (codes "//") || starts_with nat_eq (take k text) (codes "/*")) ≡ true
+    = ap (λ l. bytes_eq (codes "//") l || bytes_eq (codes "/*") l) same ∙ opens in
     cc)
 
 -- each element is at least as large as those behind it
@@ -95,7 +97,8 @@ module _ {X : Type 0} (size : X → ℕ) (p q : X → Bool) (k : ℕ) (narrow : 
   find-none [] f any = cc
   find-none (x ∷ xs) f any = by (p x) refl (q x) refl f any (find-none xs)
     where
-      by : (t : Bool) → p x ≡ t → (s : Bool) → q x ≡ s → cond t (Some x) (find p xs) ≡ None → (s || list_any q xs) ≡ true → (find p xs ≡ None → list_any q xs ≡ true → ⊥) → ⊥
+      by : (t : Bool) → p x ≡ t → (s : Bool) → q x ≡ s → cond t (Some x) (find p xs) ≡ None → (s || list_any q xs) ≡ true
+          → (find p xs ≡ None → list_any q xs ≡ true → ⊥) → ⊥
       by true e s g f any rest = cc
       by false e true g f any rest = let t = (narrow x g).0 in cc
       by false e false g f any rest = rest f any
@@ -112,10 +115,12 @@ front_narrow text k within m h =
 pub no_longer_mark : (text : List ℕ) (m : Mark) (k : ℕ) → mark_at text ≡ Some m → length (mark_spelling m) < k → k ≤ length text → is_mark (take k text) ≡ false
 unfolding mark_at
 no_longer_mark text m k found longer within = fails (is_mark (take k text)) (λ h.
-    let le = find-largest (λ mark. length (mark_spelling mark)) (λ mark. starts_with nat_eq text (mark_spelling mark)) (λ mark. bytes_eq (mark_spelling mark) (take k text)) k (front_narrow text k within) marks m marks_descend found h in
+    let le = find-largest (λ mark. length (mark_spelling mark)) (λ mark. starts_with nat_eq text (mark_spelling mark))
+    (λ mark. bytes_eq (mark_spelling mark) (take k text)) k (front_narrow text k within) marks m marks_descend found h in
     omega arith)
 
 pub no_mark : (text : List ℕ) (k : ℕ) → mark_at text ≡ None → k ≤ length text → is_mark (take k text) ≡ false
 unfolding mark_at
 no_mark text k none within = fails (is_mark (take k text)) (λ h.
-    find-none (λ mark. length (mark_spelling mark)) (λ mark. starts_with nat_eq text (mark_spelling mark)) (λ mark. bytes_eq (mark_spelling mark) (take k text)) k (front_narrow text k within) marks none h)
+    find-none (λ mark. length (mark_spelling mark)) (λ mark. starts_with nat_eq text (mark_spelling mark))
+    (λ mark. bytes_eq (mark_spelling mark) (take k text)) k (front_narrow text k within) marks none h)

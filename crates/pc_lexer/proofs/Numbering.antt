@@ -1,5 +1,6 @@
 -- Symbols number the names of a text.
-use Rattle.std.proofs.Common.{◌≡◌, ℕ, zero, suc, ◌+◌, ◌<◌, max, List, [], ◌∷◌, ◌++◌, Bool, true, false, ◌||◌, cond, not, nat_lt, Option, Some, None, Result, Ok, Err, map, length, get_or, refl, sym, ap, ◌∙◌, subst, append_assoc, arith}
+use Rattle.std.proofs.Common.{◌≡◌, ℕ, zero, suc, ◌+◌, ◌<◌, max, List, [], ◌∷◌, ◌++◌, Bool, true, false, ◌||◌, cond, not, nat_lt, Option, Some, None, Result, Ok, Err, map, length, get_or}
+use Rattle.std.proofs.Common.{refl, sym, ap, ◌∙◌, subst, append_assoc, arith}
 use Rattle.std.specs.Prelude.{bytes_eq, slice_get}
 use Rattle.std.specs.List.{list_any, list_all, position_or_len}
 use Rattle.std.specs.Cmp.Lexicographic.{same_text}
@@ -8,7 +9,8 @@ use Rattle.std.proofs.Math.Numerals.{one-add}
 use Rattle.std.proofs.lemmas.Cmp.{nat_list_eq_equiv}
 use Rattle.pc_lexer.specs.Spelling.{keyword_of}
 use Rattle.pc_lexer.specs.Cut.{Cut, Done, Next, Stuck, line_behind, pieces_of}
-use Rattle.pc_lexer.specs.Tokens.{token_limit, kind_of, names_after, word_kind, names_after_word, symbol_of, names_with, token_before, read}
+use Rattle.pc_word.specs.SourceLimits.{most_tokens}
+use Rattle.pc_lexer.specs.Tokens.{kind_of, names_after, word_kind, names_after_word, symbol_of, names_with, token_before, read}
 use Rattle.pc_lexer.specs.Laws.{name_before, names_in, symbols_in, AreInOrder, SameWhereAlike, NumbersNames}
 use Rattle.pc_lexer.specs.declared.keyword.Keyword.{Keyword}
 use Rattle.pc_lexer.specs.declared.piece.Shape.TheVariants as shape
@@ -16,7 +18,7 @@ use Rattle.pc_lexer.specs.declared.token.Token.{Token}
 use Rattle.pc_lexer.specs.declared.token.TokenKind.TheVariants as kind
 use Rattle.pc_lexer.specs.declared.error.LexError.{LexError}
 use Rattle.pc_lexer.specs.declared.error.LexError.TheVariants as error
-use Rattle.pc_lexer.proofs.Booleans.{and_true, and_made}
+use Rattle.pc_word.proofs.Truth.{and_true, and_made}
 
 -- a name that is used keeps its place when others follow
 place_kept : (p : List ℕ → Bool) (xs ys : List (List ℕ)) → list_any p xs ≡ true → position_or_len p (xs ++ ys) ≡ position_or_len p xs
@@ -75,7 +77,8 @@ place_passes : (p : List ℕ → Bool) (xs : List (List ℕ)) → list_any p xs 
 place_passes p [] h = cc
 place_passes p (x ∷ xs) h = by (p x) refl h (place_passes p xs)
   where
-    by : (t : Bool) → p x ≡ t → (t || list_any p xs) ≡ true → (list_any p xs ≡ true → p (get_or xs (position_or_len p xs) []) ≡ true) → p (get_or (x ∷ xs) (cond (not t) (1 + position_or_len p xs) 0) []) ≡ true
+    by : (t : Bool) → p x ≡ t → (t || list_any p xs) ≡ true → (list_any p xs ≡ true → p (get_or xs (position_or_len p xs) []) ≡ true)
+        → p (get_or (x ∷ xs) (cond (not t) (1 + position_or_len p xs) 0) []) ≡ true
     by true e h rest = e
     by false e h rest = rw one-add (rest h)
 
@@ -128,8 +131,9 @@ name_numbered names name tokens line used n = by (list_any (bytes_eq name) names
 
 -- what was read behind a token
 token_first : (count : ℕ) (token : Token) (r : Result (List Token) LexError) (tokens : List Token) (full : Result (List Token) LexError)
-    → ((tokens : List Token) → full ≡ Ok tokens → ⊥) → cond (nat_lt count token_limit) (token_before token r) full ≡ Ok tokens → (rest : List Token) × (r ≡ Ok rest) × (token ∷ rest ≡ tokens)
-token_first count token r tokens full never h = by (nat_lt count token_limit) r h
+    → ((tokens : List Token) → full ≡ Ok tokens → ⊥) → cond (nat_lt count most_tokens) (token_before token r) full ≡ Ok tokens
+    → (rest : List Token) × (r ≡ Ok rest) × (token ∷ rest ≡ tokens)
+token_first count token r tokens full never h = by (nat_lt count most_tokens) r h
   where
     by : (t : Bool) (r : Result (List Token) LexError) → cond t (token_before token r) full ≡ Ok tokens → (rest : List Token) × (r ≡ Ok rest) × (token ∷ rest ≡ tokens)
     by true (Ok rest) h = (rest, refl, cc)
@@ -161,7 +165,9 @@ numbered (Next before spelling (shape.Mark mark) others) count names tokens h =
 numbered (Next before spelling shape.Word others) count names tokens h = by (keyword_of spelling) h (λ names rest h. numbered others (count + 1) names rest h)
   where
     by : (k : Option Keyword)
-        → cond (nat_lt count token_limit) (token_before (record { kind = word_kind names spelling k; line = line_behind before }) (read (count + 1) (names_after_word names spelling k) others)) (Err error.TooManyTokens) ≡ Ok tokens
+        → cond (nat_lt count most_tokens)
+        (token_before (record { kind = word_kind names spelling k; line = line_behind before }) (read (count + 1) (names_after_word names spelling k) others))
+        (Err error.TooManyTokens) ≡ Ok tokens
         → ((names : List (List ℕ)) (rest : List Token) → read (count + 1) names others ≡ Ok rest → Numbered names rest (names_in others))
         → Numbered names tokens (name_before spelling k (names_in others))
     by (Some key) h more =
@@ -201,7 +207,10 @@ same_where_alike all used present i j li lj =
     let na = slice_get-at used i li in
     let nb = slice_get-at used j lj in (
       (λ h. let e : symbol_of all a ≡ symbol_of all b = cc in
-          na ∙ ap Some (sym (named all a (all_at (λ name. list_any (bytes_eq name) all) used i present li)) ∙ ap (λ n. get_or all n []) e ∙ named all b (all_at (λ name. list_any (bytes_eq name) all) used j present lj)) ∙ sym nb),
+          na
+          ∙ ap Some (sym (named all a (all_at (λ name. list_any (bytes_eq name) all) used i present li)) ∙ ap (λ n. get_or all n []) e
+          ∙ named all b (all_at (λ name. list_any (bytes_eq name) all) used j present lj))
+          ∙ sym nb),
       (λ h. let e : a ≡ b = cc in sa ∙ ap (λ name. Some (symbol_of all name)) e ∙ sym sb),
     )
 

@@ -1,5 +1,6 @@
 -- What the cut of a text is, said of spellings and symbols alone.
-use Rattle.std.specs.Prelude.{◌≡◌, ◌↔◌, ℕ, ◌+◌, ◌<◌, ◌≤◌, max, Bool, true, false, ◌&&◌, ◌||◌, IsTrue, List, [], ◌∷◌, ◌++◌, Option, Some, None, Ok, pos, take, length, slice_get, bytes_eq, nat_eq, codes}
+use Rattle.std.specs.Prelude.{◌≡◌, ◌↔◌, ℕ, ◌+◌, ◌<◌, ◌≤◌, max, Bool, true, false, ◌&&◌, ◌||◌, IsTrue, List, [], ◌∷◌, ◌++◌, Option, Some, None, Ok, pos, take, length, slice_get, bytes_eq}
+use Rattle.std.specs.Prelude.{nat_eq, codes}
 use Rattle.std.specs.List.{list_any, list_all, starts_with}
 use Rattle.pc_lexer.specs.Bytes.{is_blank, is_letter, is_digit, is_word_byte}
 use Rattle.pc_lexer.specs.Spelling.{mark_spelling, marks, keyword_of}
@@ -16,9 +17,9 @@ use Rattle.pc_lexer.specs.declared.token.TokenKind.{TokenKind}
 use Rattle.pc_lexer.specs.declared.token.TokenKind.TheVariants as kind
 
 -- a letter or `_`, and then letters, digits and `_`
-abbrev pub is_word : List ℕ → Bool
-is_word [] = false
-is_word (b ∷ bytes) = is_letter b && list_all is_word_byte bytes
+abbrev pub is_word_spelling : List ℕ → Bool
+is_word_spelling [] = false
+is_word_spelling (b ∷ bytes) = is_letter b && list_all is_word_byte bytes
 
 -- letters, digits, `_`, and signs directly behind `e`, `E`, `p` and `P`
 abbrev pub is_number_rest : Bool → List ℕ → Bool
@@ -36,7 +37,7 @@ is_mark bytes = list_any (λ mark. bytes_eq (mark_spelling mark) bytes) marks
 
 -- whether bytes have the form of a token
 unfoldable pub is_token : List ℕ → Bool
-is_token bytes = is_word bytes || is_number bytes || is_mark bytes
+is_token bytes = is_word_spelling bytes || is_number bytes || is_mark bytes
 
 -- no front of the text with more than n bytes has the form of a token
 abbrev pub NoTokenBeyond : ℕ → List ℕ → Type 0
@@ -47,7 +48,7 @@ abbrev pub IsSpelled : Shape → List ℕ → Type 0
 IsSpelled shape.Blank spelling = (b : ℕ) × (spelling ≡ b ∷ []) × IsTrue (is_blank b)
 IsSpelled shape.Comment spelling = IsTrue (starts_with nat_eq spelling (codes "//") || starts_with nat_eq spelling (codes "/*"))
 IsSpelled shape.Skipped spelling = IsTrue (starts_with nat_eq spelling (codes "#"))
-IsSpelled shape.Word spelling = IsTrue (is_word spelling)
+IsSpelled shape.Word spelling = IsTrue (is_word_spelling spelling)
 IsSpelled (shape.Number value) spelling = IsTrue (is_number spelling) × (n : ℕ) × (number_value spelling ≡ Some n) × (value ≡ pos n)
 IsSpelled (shape.Mark mark) spelling = spelling ≡ mark_spelling mark
 
@@ -58,21 +59,21 @@ IsStuck trouble.Misspelt text = (n : ℕ) × IsTrue (is_number (take n text)) ×
 IsStuck trouble.OpenComment text = IsTrue (starts_with nat_eq text (codes "/*"))
 
 -- the spellings of the pieces and what is left behind them, in a row
-abbrev pub text_of : Cut → List ℕ
-text_of Done = []
-text_of (Next before spelling shape others) = spelling ++ text_of others
-text_of (Stuck before rest why) = rest
+abbrev pub cut_text : Cut → List ℕ
+cut_text Done = []
+cut_text (Next before spelling shape others) = spelling ++ cut_text others
+cut_text (Stuck before rest why) = rest
 
 -- each piece is spelled as its shape says, and where a piece begins no token could be longer than it
 abbrev pub AreLongest : Cut → Type 0
 AreLongest Done = Unit {0}
 AreLongest (Next before spelling shape others) =
-    (0 < length spelling) × IsSpelled shape spelling × NoTokenBeyond (length spelling) (spelling ++ text_of others) × AreLongest others
+    (0 < length spelling) × IsSpelled shape spelling × NoTokenBeyond (length spelling) (spelling ++ cut_text others) × AreLongest others
 AreLongest (Stuck before rest why) = IsStuck why rest
 
 -- the pieces of a text and what is left behind them are the text, and no token could be longer
 abbrev pub CutsIntoLongest : Type 0
-CutsIntoLongest = (text : List ℕ) → (text_of (pieces_of text) ≡ text) × AreLongest (pieces_of text)
+CutsIntoLongest = (text : List ℕ) → (cut_text (pieces_of text) ≡ text) × AreLongest (pieces_of text)
 
 -- a word that spells no keyword, before others
 abbrev pub name_before : List ℕ → Option Keyword → List (List ℕ) → List (List ℕ)

@@ -1,3 +1,4 @@
+pub mod models
 pub mod Bytes
 pub mod Spelling
 pub mod Number
@@ -5,4 +6,3 @@ pub mod Piece
 pub mod Cut
 pub mod Tokens
 pub mod Laws
-pub mod Steps

@@ -59,7 +59,12 @@ keyword_spelling key.Read = codes "read"
 -- each keyword once
 abbrev pub keywords : List Keyword
 keywords =
-    key.Auto ∷ key.Break ∷ key.Case ∷ key.Char ∷ key.Const ∷ key.Continue ∷ key.Default ∷ key.Do ∷ key.Double ∷ key.Else ∷ key.Enum ∷ key.Extern ∷ key.Float ∷ key.For ∷ key.Goto ∷ key.If ∷ key.Inline ∷ key.Int ∷ key.Long ∷ key.Register ∷ key.Restrict ∷ key.Return ∷ key.Short ∷ key.Signed ∷ key.Sizeof ∷ key.Static ∷ key.Struct ∷ key.Switch ∷ key.Typedef ∷ key.Union ∷ key.Unsigned ∷ key.Void ∷ key.Volatile ∷ key.While ∷ key.AlignAs ∷ key.AlignOf ∷ key.Atomic ∷ key.Bool ∷ key.Complex ∷ key.Generic ∷ key.Imaginary ∷ key.NoReturn ∷ key.StaticAssert ∷ key.ThreadLocal ∷ key.Main ∷ key.Print ∷ key.Read ∷ []
+    key.Auto ∷ key.Break ∷ key.Case ∷ key.Char ∷ key.Const ∷ key.Continue ∷ key.Default ∷ key.Do ∷
+    key.Double ∷ key.Else ∷ key.Enum ∷ key.Extern ∷ key.Float ∷ key.For ∷ key.Goto ∷ key.If ∷ key.Inline ∷
+    key.Int ∷ key.Long ∷ key.Register ∷ key.Restrict ∷ key.Return ∷ key.Short ∷ key.Signed ∷ key.Sizeof ∷
+    key.Static ∷ key.Struct ∷ key.Switch ∷ key.Typedef ∷ key.Union ∷ key.Unsigned ∷ key.Void ∷ key.Volatile ∷
+    key.While ∷ key.AlignAs ∷ key.AlignOf ∷ key.Atomic ∷ key.Bool ∷ key.Complex ∷ key.Generic ∷
+    key.Imaginary ∷ key.NoReturn ∷ key.StaticAssert ∷ key.ThreadLocal ∷ key.Main ∷ key.Print ∷ key.Read ∷ []
 
 -- the keyword that a word spells, if it spells one
 unfoldable pub keyword_of : List ℕ → Option Keyword
@@ -114,7 +119,13 @@ mark_spelling mark.Not = codes "!"
 -- each mark once, longer ones before shorter ones
 abbrev pub marks : List Mark
 marks =
-    mark.ShiftLeftAssign ∷ mark.ShiftRightAssign ∷ mark.AddAssign ∷ mark.SubAssign ∷ mark.MulAssign ∷ mark.DivAssign ∷ mark.RemAssign ∷ mark.AndAssign ∷ mark.XorAssign ∷ mark.OrAssign ∷ mark.PlusPlus ∷ mark.MinusMinus ∷ mark.OrOr ∷ mark.AndAnd ∷ mark.EqualEqual ∷ mark.NotEqual ∷ mark.LessEqual ∷ mark.GreaterEqual ∷ mark.ShiftLeft ∷ mark.ShiftRight ∷ mark.LeftParen ∷ mark.RightParen ∷ mark.LeftBrace ∷ mark.RightBrace ∷ mark.LeftBracket ∷ mark.RightBracket ∷ mark.Semicolon ∷ mark.Comma ∷ mark.Question ∷ mark.Colon ∷ mark.Assign ∷ mark.Or ∷ mark.Xor ∷ mark.And ∷ mark.Less ∷ mark.Greater ∷ mark.Plus ∷ mark.Minus ∷ mark.Star ∷ mark.Slash ∷ mark.Percent ∷ mark.Tilde ∷ mark.Not ∷ []
+    mark.ShiftLeftAssign ∷ mark.ShiftRightAssign ∷ mark.AddAssign ∷ mark.SubAssign ∷ mark.MulAssign ∷
+    mark.DivAssign ∷ mark.RemAssign ∷ mark.AndAssign ∷ mark.XorAssign ∷ mark.OrAssign ∷ mark.PlusPlus ∷
+    mark.MinusMinus ∷ mark.OrOr ∷ mark.AndAnd ∷ mark.EqualEqual ∷ mark.NotEqual ∷ mark.LessEqual ∷
+    mark.GreaterEqual ∷ mark.ShiftLeft ∷ mark.ShiftRight ∷ mark.LeftParen ∷ mark.RightParen ∷ mark.LeftBrace ∷
+    mark.RightBrace ∷ mark.LeftBracket ∷ mark.RightBracket ∷ mark.Semicolon ∷ mark.Comma ∷ mark.Question ∷
+    mark.Colon ∷ mark.Assign ∷ mark.Or ∷ mark.Xor ∷ mark.And ∷ mark.Less ∷ mark.Greater ∷ mark.Plus ∷
+    mark.Minus ∷ mark.Star ∷ mark.Slash ∷ mark.Percent ∷ mark.Tilde ∷ mark.Not ∷ []
 
 -- the longest mark that the text begins with
 unfoldable pub mark_at : List ℕ → Option Mark

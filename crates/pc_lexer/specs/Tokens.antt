@@ -1,6 +1,7 @@
 -- The tokens of a text, or its first fault.
-use Rattle.std.specs.Prelude.{◌≡◌, ℕ, ◌+◌, List, [], ◌∷◌, ◌++◌, Option, Some, None, Result, Ok, Err, nat_lt, bytes_eq, if◌then◌else◌, length}
+use Rattle.std.specs.Prelude.{ℕ, ◌+◌, List, [], ◌∷◌, ◌++◌, Option, Some, None, Result, Ok, Err, nat_lt, bytes_eq, if◌then◌else◌, length}
 use Rattle.std.specs.List.{list_any, position_or_len}
+use Rattle.pc_word.specs.SourceLimits.{most_tokens}
 use Rattle.pc_lexer.specs.Spelling.{keyword_of}
 use Rattle.pc_lexer.specs.Cut.{Cut, Done, Next, Stuck, line_behind, pieces_of}
 use Rattle.pc_lexer.specs.declared.keyword.Keyword.{Keyword}
@@ -13,10 +14,6 @@ use Rattle.pc_lexer.specs.declared.token.TokenKind.{TokenKind}
 use Rattle.pc_lexer.specs.declared.token.TokenKind.TheVariants as kind
 use Rattle.pc_lexer.specs.declared.error.LexError.{LexError}
 use Rattle.pc_lexer.specs.declared.error.LexError.TheVariants as error
-
--- the most tokens that a text may have
-abbrev pub token_limit : ℕ
-token_limit = 65536
 
 -- a name's symbol: its place among the names in the order of first use, where a new one goes last
 abbrev pub symbol_of : List (List ℕ) → List ℕ → ℕ
@@ -59,7 +56,7 @@ fault_of trouble.OpenComment before = error.OpenComment (line_behind before)
 -- whether a fault stands also where no more token may follow: only a comment that stays open does
 abbrev pub fault_at : ℕ → Trouble → List ℕ → LexError
 fault_at count trouble.OpenComment before = fault_of trouble.OpenComment before
-fault_at count why before = if nat_lt count token_limit then fault_of why before else error.TooManyTokens
+fault_at count why before = if nat_lt count most_tokens then fault_of why before else error.TooManyTokens
 
 -- a token before others
 abbrev pub token_before : Token → Result (List Token) LexError → Result (List Token) LexError
@@ -73,7 +70,7 @@ read count names (Stuck before rest why) = Err (fault_at count why before)
 read count names (Next before spelling shape others) =
     elim (kind_of names spelling shape) [
       | None ↦ read count names others
-      | Some kind ↦ if nat_lt count token_limit
+      | Some kind ↦ if nat_lt count most_tokens
           then token_before (record { kind = kind; line = line_behind before }) (read (count + 1) (names_after names spelling shape) others)
           else Err error.TooManyTokens
     ]
@@ -82,8 +79,7 @@ read count names (Next before spelling shape others) =
 abbrev pub lexed : List ℕ → Result (List Token) LexError
 lexed text = read 0 [] (pieces_of text)
 
--- an answer for a text that reads so: it is the reading, and `Memory` is the only other answer, free to come at any text
-abbrev pub Answers : Result (List Token) LexError → Result (List Token) LexError → Type 0
-Answers (Ok tokens) reading = reading ≡ Ok tokens
-Answers (Err error.Memory) reading = Unit {0}
-Answers (Err fault) reading = reading ≡ Err fault
+-- an error is its own cause, but for want of memory, which has none
+abbrev pub lex_cause : LexError → Option LexError
+lex_cause error.Memory = None
+lex_cause fault = Some fault

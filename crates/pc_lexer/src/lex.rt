@@ -1,23 +1,23 @@
 ghost use Rattle.std.specs.Prelude.{◌≡◌, ℕ, ◌≤◌, ◌<◌, ◌+◌, List, IfSome, IfOk, IfErr, OnOk, is_some, if◌then◌else◌, length};
 ghost use Rattle.indexmap.specs.IndexSet.{index_set_len};
+ghost use Rattle.pc_word.specs.Exact.{IsExact};
+ghost use Rattle.pc_word.specs.SourceLimits.{most_source, most_tokens};
 ghost use Rattle.pc_lexer.specs.Cut.{line_behind};
 ghost use Rattle.pc_lexer.specs.Spelling.{keyword_of};
-ghost use Rattle.pc_lexer.specs.Tokens.{Answers, lexed, token_limit, kind_of, word_kind, symbol_of, names_with, names_after, names_after_word, fault_at};
-ghost use Rattle.pc_lexer.specs.Steps.{fresh_behind, with_token, IsRefusal, spellings};
+ghost use Rattle.pc_lexer.specs.Tokens.{lex_cause, lexed, kind_of, word_kind, symbol_of, names_with, names_after, names_after_word, fault_at};
+ghost use Rattle.pc_lexer.specs.models.Steps.{with_token, RefusesToken, spellings};
 
+use crate::bytes::{fresh_after, line_feeds};
 use crate::keyword::keyword_of;
-use crate::piece::{Piece, Shape, Trouble, piece_at};
+use crate::piece::{Shape, Trouble, piece_at};
 use crate::{LexError, Token, TokenKind, TokenList};
 use indexmap::IndexSet;
-use pc_word::Seq;
+use pc_word::{MOST_TOKENS, Seq};
 use std::alloc::Global;
-
-/// The most tokens that a text may have.
-const TOKEN_LIMIT: usize = 65_536;
 
 /// A name's symbol. A new name is kept behind the others.
 fn symbol_of<'a>(names: &mut IndexSet<&'a [u8]>, name: &'a [u8]) -> Result<u32, LexError>
-    requires { index_set_len names.old ≤ token_limit }
+    requires { index_set_len names.old ≤ most_tokens }
     ensures symbol { IfOk result (λ symbol. symbol ≡ symbol_of (spellings names.old.keys) name.now) }
     ensures kept { OnOk result (spellings names.new.keys ≡ names_with (spellings names.old.keys) name.now) }
     ensures refused { IfErr result (λ fault. fault ≡ LexError.Memory) }
@@ -29,7 +29,7 @@ fn symbol_of<'a>(names: &mut IndexSet<&'a [u8]>, name: &'a [u8]) -> Result<u32, 
 
 /// What token a word is.
 fn word_kind<'a>(names: &mut IndexSet<&'a [u8]>, word: &'a [u8]) -> Result<TokenKind, LexError>
-    requires { index_set_len names.old ≤ token_limit }
+    requires { index_set_len names.old ≤ most_tokens }
     ensures kind { IfOk result (λ kind. kind ≡ word_kind (spellings names.old.keys) word.now (keyword_of word.now)) }
     ensures kept { OnOk result (spellings names.new.keys ≡ names_after_word (spellings names.old.keys) word.now (keyword_of word.now)) }
     ensures refused { IfErr result (λ fault. fault ≡ LexError.Memory) }
@@ -51,7 +51,7 @@ fn kind_of<'a>(
     spelling: &'a [u8],
     shape: Shape,
 ) -> Result<Option<TokenKind>, LexError>
-    requires { index_set_len names.old ≤ token_limit }
+    requires { index_set_len names.old ≤ most_tokens }
     ensures kind { IfOk result (λ kind. kind ≡ kind_of (spellings names.old.keys) spelling.now shape) }
     ensures kept { OnOk result (spellings names.new.keys ≡ names_after (spellings names.old.keys) spelling.now shape) }
     ensures refused { IfErr result (λ fault. fault ≡ LexError.Memory) }
@@ -73,32 +73,22 @@ fn fault_at(count: usize, why: Trouble, offset: u32, line: u32) -> LexError
 {
     match why {
         Trouble::OpenComment => LexError::OpenComment { line },
-        _ if count >= TOKEN_LIMIT => LexError::TooManyTokens,
+        _ if count >= MOST_TOKENS => LexError::TooManyTokens,
         Trouble::NoPiece => LexError::BadByte { offset },
         Trouble::Misspelt => LexError::BadLiteral { line },
-    }
-}
-
-/// Whether only blanks stand in the line behind a piece.
-fn is_fresh_behind(fresh: bool, piece: Piece) -> bool
-    ensures { result ≡ fresh_behind fresh piece }
-{
-    match piece.shape {
-        Shape::Blank => fresh || piece.line_feeds > 0,
-        _ => false,
     }
 }
 
 /// Puts the token that a piece is, if it is one, behind the others.
 fn keep(found: &mut TokenList, kind: Option<TokenKind>, line: u32) -> Result<(), LexError>
     ensures kept { OnOk result (found.new ≡ with_token found.old kind line) }
-    ensures room { OnOk result (IfSome kind (λ _. length found.old < token_limit)) }
-    ensures refused { IfErr result (IsRefusal found.old kind) }
+    ensures room { OnOk result (IfSome kind (λ _. length found.old < most_tokens)) }
+    ensures refused { IfErr result (RefusesToken found.old kind) }
 {
     let Some(kind) = kind else {
         return Ok(());
     };
-    if found.len() >= TOKEN_LIMIT {
+    if found.len() >= MOST_TOKENS {
         return Err(LexError::TooManyTokens);
     }
     found.push(Token { kind, line })?;
@@ -114,8 +104,8 @@ fn keep(found: &mut TokenList, kind: Option<TokenKind>, line: u32) -> Result<(),
 /// `Memory` alone may come at any text. The time is linear in the text's length; of the text nothing
 /// is copied.
 pub fn tokens(alloc: Global, text: &[u8]) -> Result<TokenList, LexError>
-    requires { length text.now ≤ 1048576 }
-    ensures { Answers result (lexed text.now) }
+    requires { length text.now ≤ most_source }
+    ensures { IsExact (λ tokens. tokens) lex_cause result (lexed text.now) }
 {
     let mut found = Seq::new(alloc);
     let mut names = IndexSet::new(alloc);
@@ -128,11 +118,12 @@ pub fn tokens(alloc: Global, text: &[u8]) -> Result<TokenList, LexError>
             Ok(piece) => piece,
             Err(why) => return Err(fault_at(found.len(), why, offset as u32, line)),
         };
-        let kind = kind_of(&mut names, &rest[..piece.length], piece.shape)?;
+        let spelling = &rest[..piece.length];
+        let kind = kind_of(&mut names, spelling, piece.shape)?;
         keep(&mut found, kind, line)?;
         offset += piece.length;
-        line += piece.line_feeds as u32;
-        fresh = is_fresh_behind(fresh, piece);
+        line += line_feeds(spelling) as u32;
+        fresh = fresh_after(fresh, spelling);
     }
     Ok(found)
 }

@@ -1,8 +1,7 @@
-ghost use Rattle.std.specs.Prelude.{◌≡◌, ◌≤◌, ◌<◌, ◌==◌, true, false, length, take, nat_eq, codes, slice_index, IfSome};
-ghost use Rattle.std.specs.Option.{option_map};
-ghost use Rattle.std.specs.List.{prefix_len, starts_with};
-ghost use Rattle.pc_lexer.specs.Bytes.{is_letter, is_digit, is_word_byte, line_feeds};
-ghost use Rattle.pc_lexer.specs.Piece.{front, line_length, comment_length, is_inner_blank, goes_on, include_length, block_comment_at, skipped_line_at, number_at, mark_piece_at, piece_at};
+ghost use Rattle.std.specs.Prelude.{◌≡◌, ◌≤◌, ◌<◌, false, length, IfSome};
+ghost use Rattle.std.specs.List.{prefix_len};
+ghost use Rattle.pc_lexer.specs.Bytes.{is_word_byte};
+ghost use Rattle.pc_lexer.specs.Piece.{line_length, comment_length, is_inner_blank, goes_on, include_length, block_comment_at, skipped_line_at, number_at, mark_piece_at, piece_at};
 
 use crate::Mark;
 use crate::bytes::{is_blank, is_digit, is_letter, is_word_byte};
@@ -20,12 +19,11 @@ pub enum Shape {
     Mark { mark: Mark },
 }
 
-/// A piece of a text: how many bytes it has, and how many line feeds among them.
+/// A piece of a text: what it is, and how many bytes it has.
 #[derive(Clone, Copy)]
 pub struct Piece {
     pub shape: Shape,
     pub length: usize,
-    pub line_feeds: usize,
 }
 
 /// Why no piece begins at a place.
@@ -62,23 +60,18 @@ fn line_length(text: &[u8]) -> usize
     text.len()
 }
 
-/// How many bytes and line feeds the text has up to the end of its first `*/`.
+/// How many bytes the text has up to the end of its first `*/`.
 #[tactic(auto, using(crate::proofs::Comments::comment_step), unfolding(crate::specs::Piece::comment_length))]
-fn comment_length(text: &[u8]) -> Option<(usize, usize)>
-    ensures length { option_map (λ found. found.0) result ≡ comment_length false text.now }
-    ensures feeds { IfSome result (λ found. found.1 ≡ line_feeds (take found.0 text.now)) }
-    ensures within { IfSome result (λ found. found.0 ≤ length text.now) }
+fn comment_length(text: &[u8]) -> Option<usize>
+    ensures value { result ≡ comment_length false text.now }
+    ensures within { IfSome result (λ n. n ≤ length text.now) }
 {
     let mut star = false;
-    let mut line_feeds = 0;
     for (at, byte) in text.iter().enumerate() {
         if star && *byte == b'/' {
-            return Some((at + 1, line_feeds));
+            return Some(at + 1);
         }
         star = *byte == b'*';
-        if *byte == b'\n' {
-            line_feeds += 1;
-        }
     }
     None
 }
@@ -124,35 +117,9 @@ fn include_length(text: &[u8]) -> Option<usize>
     Some(blanks + 7 + line_length(after))
 }
 
-/// The blank that the text begins with.
-fn blank(text: &[u8]) -> Piece
-    requires { 0 < length text.now }
-    ensures { result ≡ front Shape.Blank 1 text.now }
-{
-    let line_feeds = if text[0] == b'\n' { 1 } else { 0 };
-    Piece {
-        shape: Shape::Blank,
-        length: 1,
-        line_feeds,
-    }
-}
-
-/// The word that the text begins with.
-fn word(text: &[u8]) -> Piece
-    requires { is_letter (slice_index text.now 0) ≡ true }
-    ensures { result ≡ front Shape.Word (prefix_len is_word_byte text.now) text.now }
-{
-    Piece {
-        shape: Shape::Word,
-        length: word_length(text),
-        line_feeds: 0,
-    }
-}
-
 /// The number that the text begins with.
 fn number(text: &[u8]) -> Result<Piece, Trouble>
     requires some { 0 < length text.now }
-    requires digit { is_digit (slice_index text.now 0) ≡ true }
     ensures { result ≡ number_at text.now }
 {
     let length = 1 + number_length(&text[1..]);
@@ -162,7 +129,6 @@ fn number(text: &[u8]) -> Result<Piece, Trouble>
                 value: value as i32,
             },
             length,
-            line_feeds: 0,
         }),
         None => Err(Trouble::Misspelt),
     }
@@ -171,42 +137,26 @@ fn number(text: &[u8]) -> Result<Piece, Trouble>
 /// The line that is skipped from a `#` on, which the text begins with.
 fn skipped_line(text: &[u8]) -> Result<Piece, Trouble>
     requires some { 0 < length text.now }
-    requires hash { (slice_index text.now 0 == 35) ≡ true }
     ensures { result ≡ skipped_line_at text.now }
 {
     match include_length(&text[1..]) {
         Some(length) => Ok(Piece {
             shape: Shape::Skipped,
             length: 1 + length,
-            line_feeds: 0,
         }),
         None => Err(Trouble::NoPiece),
     }
 }
 
-/// The comment up to the end of the line that the text begins with.
-fn line_comment(text: &[u8]) -> Piece
-    requires { starts_with nat_eq text.now (codes "//") ≡ true }
-    ensures { result ≡ front Shape.Comment (line_length text.now) text.now }
-{
-    Piece {
-        shape: Shape::Comment,
-        length: line_length(text),
-        line_feeds: 0,
-    }
-}
-
 /// The comment up to its `*/` that the text begins with.
 fn block_comment(text: &[u8]) -> Result<Piece, Trouble>
-    requires opens { starts_with nat_eq text.now (codes "/*") ≡ true }
     requires two { 2 ≤ length text.now }
     ensures { result ≡ block_comment_at text.now }
 {
     match comment_length(&text[2..]) {
-        Some((length, line_feeds)) => Ok(Piece {
+        Some(length) => Ok(Piece {
             shape: Shape::Comment,
             length: 2 + length,
-            line_feeds,
         }),
         None => Err(Trouble::OpenComment),
     }
@@ -220,7 +170,6 @@ fn mark(text: &[u8]) -> Result<Piece, Trouble>
         Some(mark) => Ok(Piece {
             shape: Shape::Mark { mark },
             length: mark.spelling().len(),
-            line_feeds: 0,
         }),
         None => Err(Trouble::NoPiece),
     }
@@ -235,9 +184,15 @@ pub(crate) fn piece_at(fresh: bool, text: &[u8]) -> Result<Piece, Trouble>
 {
     let first = text[0];
     if is_blank(first) {
-        Ok(blank(text))
+        Ok(Piece {
+            shape: Shape::Blank,
+            length: 1,
+        })
     } else if is_letter(first) {
-        Ok(word(text))
+        Ok(Piece {
+            shape: Shape::Word,
+            length: word_length(text),
+        })
     } else if is_digit(first) {
         number(text)
     } else if first == b'#' {
@@ -247,7 +202,10 @@ pub(crate) fn piece_at(fresh: bool, text: &[u8]) -> Result<Piece, Trouble>
             Err(Trouble::NoPiece)
         }
     } else if text.starts_with(b"//") {
-        Ok(line_comment(text))
+        Ok(Piece {
+            shape: Shape::Comment,
+            length: line_length(text),
+        })
     } else if text.starts_with(b"/*") {
         block_comment(text)
     } else {

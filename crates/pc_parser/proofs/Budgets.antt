@@ -3,15 +3,16 @@ use Rattle.std.proofs.Common.{◌≡◌, refl, sym, ap, ◌∙◌, subst, ℕ, s
 use Rattle.std.specs.Prelude.{Some}
 use Rattle.pc_lexer.specs.declared.token.Token.{Token}
 use Rattle.pc_syntax.specs.Source.{SourceExpression}
+use Rattle.pc_syntax.proofs.ErasureLaws.{statement_forms, expression_forms}
 use Rattle.pc_parser.specs.declared.operator.Operator.{Operator}
 use Rattle.pc_parser.specs.declared.outcome.Failure.{Failure}
 use Rattle.pc_parser.specs.declared.outcome.Failure.TheVariants as failures
 use Rattle.pc_parser.specs.Places.{kind_at}
-use Rattle.pc_parser.specs.Outcome.{Outcome, Parsed, TooHigh, after}
-use Rattle.pc_parser.specs.Gives.{Fails}
+use Rattle.pc_parser.specs.models.Outcome.{ParseOutcome, Parsed, TooHigh, after}
+use Rattle.pc_parser.specs.models.Parsing.{FailsParsing}
 use Rattle.pc_parser.proofs.Finds.{climb-ends}
-use Rattle.pc_parser.specs.ExpressionParser.{Inner, operator_from, joined_at, last_turn, turn, climb, expression_at, below, part, operand}
-use Rattle.pc_parser.specs.StatementParser.{statement_at, statement_from, statement_below}
+use Rattle.pc_parser.specs.models.ExpressionParser.{Inner, operator_from, joined_at, last_turn, turn, climb, expression_at, below, part, operand}
+use Rattle.pc_parser.specs.models.StatementParser.{statement_at, statement_from, statement_below}
 
 -- the parser of expressions below a budget
 pub below-expression : (tokens : List Token) (budget level from : ℕ) → 1 ≤ budget →
@@ -48,7 +49,7 @@ part-operand tokens inner budget zero from above = absurd (omega arith)
 part-operand tokens inner budget (suc level) from above = refl
 
 -- a failure of the first parser is one of the two after one another
-pub fails-after : {A B : Type 0} (failure : Failure) (x : Outcome A) (f : A → ℕ → ℕ → Outcome B) → Fails failure x → Fails failure (after x f)
+pub fails-after : {A B : Type 0} (failure : Failure) (x : ParseOutcome A) (f : A → ℕ → ℕ → ParseOutcome B) → FailsParsing failure x → FailsParsing failure (after x f)
 fails-after failures.Memory x f fails = tt
 fails-after (failures.Syntax at) x f fails = ap (λ o. after o f) fails
 fails-after (failures.TooNested at) x f fails = ap (λ o. after o f) fails
@@ -60,25 +61,32 @@ module _ (tokens : List Token) (inner : Inner) (budget level : ℕ) where
   unfolding climb turn
   climb-turned zero tree height at found some is = absurd (omega arith)
   climb-turned (suc turns) tree height at found some is = let same : turns ≡ suc turns - 1 = omega arith in
-      ap (turn tokens inner budget (climb tokens inner budget level turns) tree height at) is ∙ ap (λ n. after (joined_at tokens inner budget tree height at found) (climb tokens inner budget level n)) same
+      ap (turn tokens inner budget (climb tokens inner budget level turns) tree height at) is
+      ∙ ap (λ n. after (joined_at tokens inner budget tree height at found) (climb tokens inner budget level n)) same
 
   -- what a loop over the operators has so far, one operator later
-  pub climb-goes-on : (turns : ℕ) (tree : SourceExpression) (height at : ℕ) (found : Operator × ℕ) (more : SourceExpression) (raised to : ℕ) (whole : Outcome SourceExpression) → 1 ≤ turns →
+  pub climb-goes-on : (turns : ℕ) (tree : SourceExpression) (height at : ℕ) (found : Operator × ℕ) (more : SourceExpression) (raised to : ℕ) (whole : ParseOutcome SourceExpression) → 1 ≤ turns →
       operator_from level (kind_at tokens at) ≡ Some found → joined_at tokens inner budget tree height at found ≡ Parsed more raised to → whole ≡ climb tokens inner budget level turns tree height at →
       whole ≡ climb tokens inner budget level (turns - 1) more raised to
   climb-goes-on turns tree height at found more raised to whole some is joined_is same =
       same ∙ climb-turned turns tree height at found some is ∙ ap (λ o. after o (climb tokens inner budget level (turns - 1))) joined_is
 
   -- and where the next operand fails
-  pub climb-fails : (turns : ℕ) (tree : SourceExpression) (height at : ℕ) (found : Operator × ℕ) (failure : Failure) (whole : Outcome SourceExpression) → 1 ≤ turns →
-      operator_from level (kind_at tokens at) ≡ Some found → Fails failure (joined_at tokens inner budget tree height at found) → whole ≡ climb tokens inner budget level turns tree height at → Fails failure whole
+  pub climb-fails : (turns : ℕ) (tree : SourceExpression) (height at : ℕ) (found : Operator × ℕ) (failure : Failure) (whole : ParseOutcome SourceExpression) → 1 ≤ turns →
+      operator_from level (kind_at tokens at) ≡ Some found → FailsParsing failure (joined_at tokens inner budget tree height at found) →
+      whole ≡ climb tokens inner budget level turns tree height at → FailsParsing failure whole
   climb-fails turns tree height at found failure whole some is fails same =
-      subst (λ o. Fails failure o) (sym (same ∙ climb-turned turns tree height at found some is)) (fails-after failure (joined_at tokens inner budget tree height at found) (climb tokens inner budget level (turns - 1)) fails)
+      subst (λ o. FailsParsing failure o) (sym (same ∙ climb-turned turns tree height at found some is))
+      (fails-after failure (joined_at tokens inner budget tree height at found) (climb tokens inner budget level (turns - 1)) fails)
 
   -- where an operator follows, and no turn is left, it is too high
-  pub climb-spent : (tree : SourceExpression) (height at : ℕ) (found : Operator × ℕ) → operator_from level (kind_at tokens at) ≡ Some found → climb tokens inner budget level 0 tree height at ≡ TooHigh at
+  pub climb-spent : (tree : SourceExpression) (height at : ℕ) (found : Operator × ℕ) → operator_from level (kind_at tokens at) ≡ Some found →
+      climb tokens inner budget level 0 tree height at ≡ TooHigh at
   unfolding climb last_turn
   climb-spent tree height at found is = ap (last_turn tokens inner budget tree height at) is
 
 -- the parsers below a budget, and in terms of those
 pub ruleset budgets = (below-expression, below-statement, expression_at-part, statement_at-from, part-operand, fails-after, climb-ends, climb-turned, climb-spent)
+
+-- what trees in memory are, and those that are made
+pub ruleset tree_forms = (statement_forms, expression_forms)

@@ -12,17 +12,17 @@ use Rattle.pc_syntax.specs.Source.{SourceExpression}
 use Rattle.pc_parser.specs.declared.operator.Operator.{Operator}
 use Rattle.pc_parser.specs.Places.{kind_at}
 use Rattle.pc_parser.specs.Operators.{operator_of}
-use Rattle.pc_parser.specs.Outcome.{Outcome, Parsed, Unreadable, TooHigh, after, allowed, expect, expect_key}
-use Rattle.pc_parser.specs.ExpressionParser.{Inner, operator_from, tight, joined_at, last_turn, turn, climb}
+use Rattle.pc_parser.specs.models.Outcome.{ParseOutcome, Parsed, Unreadable, TooHigh, after, allowed, expect, expect_key}
+use Rattle.pc_parser.specs.models.ExpressionParser.{Inner, operator_from, tight, joined_at, last_turn, turn, climb}
 use Rattle.pc_parser.proofs.Tokens.{is_mark-of, is_key-of}
 
-pub allowed-yes : {A : Type 0} (least budget at : ℕ) (rest : Outcome A) → least ≤ budget → allowed least budget at rest ≡ rest
+pub allowed-yes : {A : Type 0} (least budget at : ℕ) (rest : ParseOutcome A) → least ≤ budget → allowed least budget at rest ≡ rest
 allowed-yes least budget at rest low = ap (λ t. cond t rest (TooHigh at)) (le-leb least budget low)
 
-pub expect-yes : {A : Type 0} (tokens : List Token) (mark : Mark) (at : ℕ) (rest : Outcome A) → kind_at tokens at ≡ Some (kinds.Mark mark) → expect tokens mark at rest ≡ rest
+pub expect-yes : {A : Type 0} (tokens : List Token) (mark : Mark) (at : ℕ) (rest : ParseOutcome A) → kind_at tokens at ≡ Some (kinds.Mark mark) → expect tokens mark at rest ≡ rest
 expect-yes tokens mark at rest is = ap (λ t. cond t rest (Unreadable at)) (is_mark-of mark (kind_at tokens at) is)
 
-pub expect_key-yes : {A : Type 0} (tokens : List Token) (key : Keyword) (at : ℕ) (rest : Outcome A) → kind_at tokens at ≡ Some (kinds.Key key) → expect_key tokens key at rest ≡ rest
+pub expect_key-yes : {A : Type 0} (tokens : List Token) (key : Keyword) (at : ℕ) (rest : ParseOutcome A) → kind_at tokens at ≡ Some (kinds.Key key) → expect_key tokens key at rest ≡ rest
 expect_key-yes tokens key at rest is = ap (λ t. cond t rest (Unreadable at)) (is_key-of key (kind_at tokens at) is)
 
 pub false_from : (t : Bool) → (t ≡ true → ⊥) → t ≡ false
@@ -36,7 +36,7 @@ pub cond-no : {A : Type 0} (t : Bool) (x y : A) → t ≡ false → cond t x y �
 cond-no t x y is = ap (λ t. cond t x y) is
 
 -- one parser after another that gave a tree
-pub after-parsed : {A B : Type 0} (x : Outcome A) (f : A → ℕ → ℕ → Outcome B) (tree : A) (height to : ℕ) → x ≡ Parsed tree height to → after x f ≡ f tree height to
+pub after-parsed : {A B : Type 0} (x : ParseOutcome A) (f : A → ℕ → ℕ → ParseOutcome B) (tree : A) (height to : ℕ) → x ≡ Parsed tree height to → after x f ≡ f tree height to
 after-parsed x f tree height to is = ap (λ o. after o f) is
 
 -- a level that a tighter one passes
@@ -50,7 +50,8 @@ tight-higher low high (Some found) h is = passed (nat_le low found.1) refl
 
     passed : (t : Bool) → nat_le low found.1 ≡ t → cond (nat_le high found.1) (Some found) None ≡ None
     passed true yes' = let bad : Some found ≡ None = sym (ap (λ t. cond t (Some found) None) yes') ∙ is in cc
-    passed false no' = ap (λ t. cond t (Some found) None) (false_from (nat_le high found.1) (λ yes'. let a = leb-true high found.1 yes' in let b : nat_le low found.1 ≡ true = le-leb low found.1 (omega arith) in cc))
+    passed false no' = ap (λ t. cond t (Some found) None)
+        (false_from (nat_le high found.1) (λ yes'. let a = leb-true high found.1 yes' in let b : nat_le low found.1 ≡ true = le-leb low found.1 (omega arith) in cc))
 
 pub operator_from-higher : (low high : ℕ) (kind : Option TokenKind) → low ≤ high → operator_from low kind ≡ None → operator_from high kind ≡ None
 unfolding operator_from

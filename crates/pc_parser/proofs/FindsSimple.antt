@@ -10,13 +10,17 @@ use Rattle.pc_lexer.specs.declared.keyword.Keyword.TheVariants as keys
 use Rattle.pc_syntax.specs.declared.operator.BinaryOp.{BinaryOp}
 use Rattle.pc_syntax.specs.Source.{SourceExpression, SourceStatement, SourceList, OptionalStatement, Literal, Printing, Evaluation}
 use Rattle.pc_parser.specs.declared.operator.Operator.{Operator}
-use Rattle.pc_parser.specs.Places.{kind_at, line_at, is_mark, is_key}
+use Rattle.pc_parser.specs.Places.{kind_at, line_at}
+use Rattle.pc_parser.specs.models.Tests.{is_mark, is_key}
 use Rattle.pc_parser.specs.Operators.{operator_of, assignment_of, step_of}
 use Rattle.pc_parser.specs.Expressions.{ReadsExpression}
 use Rattle.pc_parser.specs.Statements.{Target, assigned, ReadsTarget, ReadsTest, ReadsSimple, ReadsDeclarator, ReadsDeclarators, ReadsDeclaration, ReadsFirst, ReadsCondition, ReadsStep}
-use Rattle.pc_parser.specs.Outcome.{Outcome, Parsed, Unreadable, TooHigh, after}
-use Rattle.pc_parser.specs.ExpressionParser.{operator_from, tight, sign_of, target_named, target_tree, target_height, primary_on, name_at, unary_on, unary_at, climb, choice, operand, part, expression_at, below}
-use Rattle.pc_parser.specs.StatementParser.{assignment_from, step_from, symbol_of, length_of, name_budget, test_at, closed_behind, closed, target_on, target_at, evaluation, evaluation_from, print_at, step_before, assignment, behind_target, on_target, named, marked, simple_on, simple_at, ended_at, array, initialised, declarator_on, declarator_at, last_declarator, declarators_at, declaration_at, first_at, condition_at, step_at}
+use Rattle.pc_parser.specs.models.Outcome.{ParseOutcome, Parsed, Unreadable, TooHigh, after}
+use Rattle.pc_parser.specs.models.ExpressionParser.{operator_from, tight, sign_of, target_named, target_tree, target_height, primary_on, name_at, unary_on, unary_at, climb, choice, operand}
+use Rattle.pc_parser.specs.models.ExpressionParser.{part, expression_at, below}
+use Rattle.pc_parser.specs.models.StatementParser.{assignment_from, step_from, symbol_of, length_of, name_budget, test_at, closed_behind, closed, target_on, target_at, evaluation}
+use Rattle.pc_parser.specs.models.StatementParser.{evaluation_from, print_at, step_before, assignment, behind_target, on_target, named, marked, simple_on, simple_at, ended_at, array}
+use Rattle.pc_parser.specs.models.StatementParser.{initialised, declarator_on, declarator_at, last_declarator, declarators_at, declaration_at, first_at, condition_at, step_at}
 use Rattle.pc_parser.proofs.Budgets.{expression_at-part}
 use Rattle.pc_parser.proofs.Tokens.{is_mark-of, is_key-of, is_mark-true}
 use Rattle.pc_parser.proofs.Finds.{allowed-yes, expect-yes, after-parsed, cond-yes, cond-no, climb-ends}
@@ -82,7 +86,7 @@ unfolding assignment_from step_from assignment_of step_of
 question-assigns kind is = (ap assignment_from is, ap step_from is)
 
 -- where an outcome that is gone on with gives a tree, it gave one
-pub gave : {A B : Type 0} (x : Outcome A) (f : A → ℕ → ℕ → Outcome B) (tree : B) (height to : ℕ) → after x f ≡ Parsed tree height to →
+pub gave : {A B : Type 0} (x : ParseOutcome A) (f : A → ℕ → ℕ → ParseOutcome B) (tree : B) (height to : ℕ) → after x f ≡ Parsed tree height to →
     (first : A) × (i : ℕ) × (q : ℕ) × (x ≡ Parsed first i q) × (f first i q ≡ Parsed tree height to)
 gave (Parsed first i q) f tree height to is = (first, i, q, refl, is)
 gave (Unreadable at) f tree height to is = cc
@@ -92,7 +96,9 @@ module _ (tokens : List Token) where
   pub finds-test : (b p : ℕ) (t : SourceExpression) (h q : ℕ) → ReadsTest tokens p t h q → h ≤ b → test_at tokens b p ≡ Parsed t h q
   unfolding test_at
   finds-test b p t h q (ReadsTest.tested {q = r} is d close') fits =
-      expect-yes tokens marks.LeftParen p _ is ∙ after-parsed (expression_at tokens b 0 (p + 1)) _ t h r (finds-expression tokens b (p + 1) t h r d (follows-paren (kind_at tokens r) close') fits) ∙ expect-yes tokens marks.RightParen r _ close'
+      expect-yes tokens marks.LeftParen p _ is
+      ∙ after-parsed (expression_at tokens b 0 (p + 1)) _ t h r (finds-expression tokens b (p + 1) t h r d (follows-paren (kind_at tokens r) close') fits)
+      ∙ expect-yes tokens marks.RightParen r _ close'
 
   pub test-positive : (p : ℕ) (t : SourceExpression) (h q : ℕ) → ReadsTest tokens p t h q → 1 ≤ h
   test-positive p t h q (ReadsTest.tested {q = r} is d close') = expression-positive tokens (p + 1) t h r d
@@ -106,7 +112,8 @@ module _ (tokens : List Token) where
     finds-target p target i q (ReadsTarget.element {symbol = symbol} {height = height} {q = r} {index = index} is open' d close') bracket fits =
         let some = expression-positive tokens (p + 2) index height r d in
         ap (λ k. target_on tokens b (symbol_of k) p) is ∙
-        finds-indexed tokens (name_budget b) p symbol index height r open' (finds-expression tokens (name_budget b - 1) (p + 2) index height r d (follows-bracket (kind_at tokens r) close') (omega arith)) close' (omega arith)
+        finds-indexed tokens (name_budget b) p symbol index height r open'
+        (finds-expression tokens (name_budget b - 1) (p + 2) index height r d (follows-bracket (kind_at tokens r) close') (omega arith)) close' (omega arith)
 
     -- a name at the beginning
     named-at : (p : ℕ) (target : Target) (i q : ℕ) → ReadsTarget tokens p target i q → simple_at tokens b p ≡ named tokens b p
@@ -117,14 +124,16 @@ module _ (tokens : List Token) where
     assignment-bracket : (q : ℕ) (mark : Mark) (op : Option BinaryOp) → kind_at tokens q ≡ Some (kinds.Mark mark) → assignment_of mark ≡ Some op → is_mark marks.LeftBracket (kind_at tokens q) ≡ false
     assignment-bracket q mark op is found = ap (is_mark marks.LeftBracket) is ∙ by (assigns-only mark)
       where
-        by : ((assignment_of mark ≡ None) ⊎ ((operator_of mark ≡ None) × (step_of mark ≡ None) × (is_mark marks.LeftBracket (Some (kinds.Mark mark)) ≡ false))) → is_mark marks.LeftBracket (Some (kinds.Mark mark)) ≡ false
+        by : ((assignment_of mark ≡ None) ⊎ ((operator_of mark ≡ None) × (step_of mark ≡ None) × (is_mark marks.LeftBracket (Some (kinds.Mark mark)) ≡ false))) →
+            is_mark marks.LeftBracket (Some (kinds.Mark mark)) ≡ false
         by (inl no') = cc
         by (inr w) = w.2
 
     step-bracket : (q : ℕ) (mark : Mark) (op : BinaryOp) → kind_at tokens q ≡ Some (kinds.Mark mark) → step_of mark ≡ Some op → is_mark marks.LeftBracket (kind_at tokens q) ≡ false
     step-bracket q mark op is found = ap (is_mark marks.LeftBracket) is ∙ by (steps-only mark)
       where
-        by : ((step_of mark ≡ None) ⊎ ((operator_of mark ≡ None) × (assignment_of mark ≡ None) × (is_mark marks.LeftBracket (Some (kinds.Mark mark)) ≡ false))) → is_mark marks.LeftBracket (Some (kinds.Mark mark)) ≡ false
+        by : ((step_of mark ≡ None) ⊎ ((operator_of mark ≡ None) × (assignment_of mark ≡ None) × (is_mark marks.LeftBracket (Some (kinds.Mark mark)) ≡ false))) →
+            is_mark marks.LeftBracket (Some (kinds.Mark mark)) ≡ false
         by (inl no') = cc
         by (inr w) = w.2
 
@@ -173,10 +182,14 @@ module _ (tokens : List Token) where
 
     -- an expression that begins with a name, by its target
     split-name : (e p symbol : ℕ) → kind_at tokens p ≡ Some (kinds.Name symbol) → 1 ≤ e →
-        expression_at tokens e 0 p ≡ after (after (after (target_named tokens (below tokens e) e symbol p) (λ target height to. Parsed (target_tree target) (target_height target height) to)) (λ tree height to. climb tokens (below tokens e) e 1 e tree height to)) (choice tokens (below tokens e) e)
+        expression_at tokens e 0 p
+        ≡ after (after (after (target_named tokens (below tokens e) e symbol p) (λ target height to. Parsed (target_tree target) (target_height target height) to))
+        (λ tree height to. climb tokens (below tokens e) e 1 e tree height to)) (choice tokens (below tokens e) e)
     unfolding part operand unary_at unary_on sign_of primary_on name_at
     split-name e p symbol is low =
-        expression_at-part tokens e 0 p ∙ ap (λ k. after (after (unary_on tokens (below tokens e) e (sign_of k) p) (λ tree height to. climb tokens (below tokens e) e 1 e tree height to)) (choice tokens (below tokens e) e)) is ∙
+        expression_at-part tokens e 0 p
+        ∙ ap (λ k. after (after (unary_on tokens (below tokens e) e (sign_of k) p) (λ tree height to. climb tokens (below tokens e) e 1 e tree height to))
+        (choice tokens (below tokens e) e)) is ∙
         ap (λ k. after (after (primary_on tokens (below tokens e) e k p) (λ tree height to. climb tokens (below tokens e) e 1 e tree height to)) (choice tokens (below tokens e) e)) is ∙
         ap (λ o. after (after o (λ tree height to. climb tokens (below tokens e) e 1 e tree height to)) (choice tokens (below tokens e) e)) (allowed-yes 1 e p _ low)
 
@@ -187,10 +200,12 @@ module _ (tokens : List Token) where
     unfolding choice
     goes-on e at tree height value h q closes is = by_operator (operator_from 1 (kind_at tokens at)) refl
       where
-        by_question : (t : Bool) → is_mark marks.Question (kind_at tokens at) ≡ t → operator_from 1 (kind_at tokens at) ≡ None → (assignment_from (kind_at tokens at) ≡ None) × (step_from (kind_at tokens at) ≡ None)
+        by_question : (t : Bool) → is_mark marks.Question (kind_at tokens at) ≡ t → operator_from 1 (kind_at tokens at) ≡ None →
+            (assignment_from (kind_at tokens at) ≡ None) × (step_from (kind_at tokens at) ≡ None)
         by_question true yes' none = question-assigns (kind_at tokens at) (is_mark-true marks.Question (kind_at tokens at) yes')
         by_question false no' none =
-            let ends : Parsed tree height at ≡ Parsed value h q = sym (ap (λ o. after o (choice tokens (below tokens e) e)) (climb-ends tokens (below tokens e) e 1 e tree height at none) ∙ cond-no _ _ _ no') ∙ is in
+            let ends : Parsed tree height at ≡ Parsed value h q =
+            sym (ap (λ o. after o (choice tokens (below tokens e) e)) (climb-ends tokens (below tokens e) e 1 e tree height at none) ∙ cond-no _ _ _ no') ∙ is in
             let same : at ≡ q = cc in
             (ap (λ n. assignment_from (kind_at tokens n)) same ∙ closes.assignment_not, ap (λ n. step_from (kind_at tokens n)) same ∙ closes.step_not)
 
@@ -198,7 +213,8 @@ module _ (tokens : List Token) where
         by_operator (Some found) found_is = operator-assigns (kind_at tokens at) found found_is
         by_operator None none = by_question (is_mark marks.Question (kind_at tokens at)) refl none
 
-    finds-evaluation-name : (p : ℕ) (value : SourceExpression) (h q symbol : ℕ) → kind_at tokens p ≡ Some (kinds.Name symbol) → expression_at tokens (b - 1) 0 p ≡ Parsed value h q → Closes (kind_at tokens q) → 1 ≤ h → h + 1 ≤ b →
+    finds-evaluation-name : (p : ℕ) (value : SourceExpression) (h q symbol : ℕ) → kind_at tokens p ≡ Some (kinds.Name symbol) →
+        expression_at tokens (b - 1) 0 p ≡ Parsed value h q → Closes (kind_at tokens q) → 1 ≤ h → h + 1 ≤ b →
         simple_at tokens b p ≡ Parsed (Evaluation (line_at tokens p) value) (h + 1) q
     unfolding simple_at simple_on named target_at target_on symbol_of on_target behind_target evaluation_from
     finds-evaluation-name p value h q symbol is found closes some fits =
@@ -210,41 +226,51 @@ module _ (tokens : List Token) where
         let first = gave _ _ inner.0 inner.1 inner.2 inner.3 in
         let target = first.0 in
         let same : Parsed (target_tree first.0) (target_height first.0 first.1) first.2 ≡ Parsed inner.0 inner.1 inner.2 = first.4 in
-        let rest : after (climb tokens (below tokens (b - 1)) (b - 1) 1 (b - 1) (target_tree first.0) (target_height first.0 first.1) first.2) (choice tokens (below tokens (b - 1)) (b - 1)) ≡ Parsed value h q =
-        ap (λ o. after (after o (λ tree height to. climb tokens (below tokens (b - 1)) (b - 1) 1 (b - 1) tree height to)) (choice tokens (below tokens (b - 1)) (b - 1))) same ∙ ap (λ o. after o (choice tokens (below tokens (b - 1)) (b - 1))) inner.4 ∙ outer.4 in
+        let rest : after (climb tokens (below tokens (b - 1)) (b - 1) 1 (b - 1) (target_tree first.0) (target_height first.0 first.1) first.2)
+        (choice tokens (below tokens (b - 1)) (b - 1)) ≡ Parsed value h q =
+        ap (λ o. after (after o (λ tree height to. climb tokens (below tokens (b - 1)) (b - 1) 1 (b - 1) tree height to))
+        (choice tokens (below tokens (b - 1)) (b - 1))) same ∙ ap (λ o. after o (choice tokens (below tokens (b - 1)) (b - 1))) inner.4 ∙ outer.4 in
         let none = goes-on (b - 1) first.2 (target_tree first.0) (target_height first.0 first.1) value h q closes rest in
         ap (λ k. simple_on tokens b k p) is ∙ allowed-yes 1 b p _ (omega arith) ∙
         after-parsed (target_at tokens b p) _ first.0 first.1 first.2 (ap (λ k. target_on tokens b (symbol_of k) p) is ∙ ap (λ n. target_named tokens (below tokens n) n symbol p) budget ∙ first.3) ∙
         ap (on_target tokens b p first.0 first.1 first.2) none.0 ∙ ap (behind_target tokens b p first.0 first.1 first.2) none.1 ∙
-        ap (λ n. after (climb tokens (below tokens n) n 1 n (target_tree first.0) (target_height first.0 first.1) first.2) (λ left i r. after (choice tokens (below tokens n) n left i r) (λ value' j to. Parsed (Evaluation (line_at tokens p) value') (j + 1) to))) budget ∙
-        regrouped (climb tokens (below tokens (b - 1)) (b - 1) 1 (b - 1) (target_tree first.0) (target_height first.0 first.1) first.2) (choice tokens (below tokens (b - 1)) (b - 1)) (λ value' j to. Parsed (Evaluation (line_at tokens p) value') (j + 1) to) ∙
+        ap (λ n. after (climb tokens (below tokens n) n 1 n (target_tree first.0) (target_height first.0 first.1) first.2)
+        (λ left i r. after (choice tokens (below tokens n) n left i r) (λ value' j to. Parsed (Evaluation (line_at tokens p) value') (j + 1) to))) budget ∙
+        regrouped (climb tokens (below tokens (b - 1)) (b - 1) 1 (b - 1) (target_tree first.0) (target_height first.0 first.1) first.2)
+        (choice tokens (below tokens (b - 1)) (b - 1)) (λ value' j to. Parsed (Evaluation (line_at tokens p) value') (j + 1) to) ∙
         ap (λ o. after o (λ value' j to. Parsed (Evaluation (line_at tokens p) value') (j + 1) to)) rest
       where
-        regrouped : (x : Outcome SourceExpression) (f : SourceExpression → ℕ → ℕ → Outcome SourceExpression) (g : SourceExpression → ℕ → ℕ → Outcome SourceStatement) → after x (λ tree height to. after (f tree height to) g) ≡ after (after x f) g
+        regrouped : (x : ParseOutcome SourceExpression) (f : SourceExpression → ℕ → ℕ → ParseOutcome SourceExpression)
+            (g : SourceExpression → ℕ → ℕ → ParseOutcome SourceStatement) → after x (λ tree height to. after (f tree height to) g) ≡ after (after x f) g
         regrouped (Parsed tree height to) f g = refl
         regrouped (Unreadable at) f g = refl
         regrouped (TooHigh at) f g = refl
 
-    finds-evaluation : (p : ℕ) (value : SourceExpression) (h q : ℕ) → ReadsExpression tokens p value h q → Closes (kind_at tokens q) → h + 1 ≤ b → simple_at tokens b p ≡ Parsed (Evaluation (line_at tokens p) value) (h + 1) q
+    finds-evaluation : (p : ℕ) (value : SourceExpression) (h q : ℕ) → ReadsExpression tokens p value h q → Closes (kind_at tokens q) → h + 1 ≤ b →
+        simple_at tokens b p ≡ Parsed (Evaluation (line_at tokens p) value) (h + 1) q
     unfolding simple_at evaluation
     finds-evaluation p value h q d closes fits = by (expression-begins tokens p value h q d).route
       where
         found : expression_at tokens (b - 1) 0 p ≡ Parsed value h q
         found = finds-expression tokens (b - 1) p value h q d closes.follows (omega arith)
 
-        by : (((symbol : ℕ) × (kind_at tokens p ≡ Some (kinds.Name symbol))) ⊎ ((tokens' : List Token) (budget from : ℕ) → simple_on tokens' budget (kind_at tokens p) from ≡ evaluation tokens' budget from)) →
+        by : (((symbol : ℕ) × (kind_at tokens p ≡ Some (kinds.Name symbol))) ⊎
+            ((tokens' : List Token) (budget from : ℕ) → simple_on tokens' budget (kind_at tokens p) from ≡ evaluation tokens' budget from)) →
             simple_on tokens b (kind_at tokens p) p ≡ Parsed (Evaluation (line_at tokens p) value) (h + 1) q
         by (inl (symbol, is)) = finds-evaluation-name p value h q symbol is found closes (expression-positive tokens p value h q d) fits
         by (inr route) = route tokens b p ∙ after-parsed (expression_at tokens (b - 1) 0 p) _ value h q found
 
     pub finds-simple : (p : ℕ) (s : SourceStatement) (h q : ℕ) → ReadsSimple tokens p s h q → Closes (kind_at tokens q) → h ≤ b → simple_at tokens b p ≡ Parsed s h q
-    finds-simple p s h q (ReadsSimple.assignment {i = i} {q = r} {j = j} {target = target} {mark = mark} {op = op} {value = value} d is found e) closes fits = finds-assignment p target i r mark op value j q d is found e closes.follows fits
+    finds-simple p s h q (ReadsSimple.assignment {i = i} {q = r} {j = j} {target = target} {mark = mark} {op = op} {value = value} d is found e) closes fits =
+        finds-assignment p target i r mark op value j q d is found e closes.follows fits
     finds-simple p s h q (ReadsSimple.step_behind {height = i} {q = r} {target = target} {mark = mark} {op = op} d is found) closes fits = finds-step_behind p target i r mark op d is found fits
-    finds-simple p s h q (ReadsSimple.step_before {height = i} {target = target} {mark = mark} {op = op} is found d) closes fits = finds-step_before p target i q mark op is found d closes.follows.bracket fits
+    finds-simple p s h q (ReadsSimple.step_before {height = i} {target = target} {mark = mark} {op = op} is found d) closes fits =
+        finds-step_before p target i q mark op is found d closes.follows.bracket fits
     finds-simple p s h q (ReadsSimple.print {height = i} {value = value} is d) closes fits = finds-print p value i q is d fits
     finds-simple p s h q (ReadsSimple.evaluation {height = i} {value = value} d) closes fits = finds-evaluation p value i q d closes fits
 
-    pub closed-yes : (mark : Mark) (x : Outcome SourceStatement) (s : SourceStatement) (h q : ℕ) → x ≡ Parsed s h q → kind_at tokens q ≡ Some (kinds.Mark mark) → h ≤ b → closed tokens mark b x ≡ Parsed s h (q + 1)
+    pub closed-yes : (mark : Mark) (x : ParseOutcome SourceStatement) (s : SourceStatement) (h q : ℕ) → x ≡ Parsed s h q → kind_at tokens q ≡ Some (kinds.Mark mark) →
+        h ≤ b → closed tokens mark b x ≡ Parsed s h (q + 1)
     unfolding closed closed_behind
     closed-yes mark x s h q is close' fits = after-parsed x _ s h q is ∙ expect-yes tokens mark q _ close' ∙ allowed-yes h b q _ fits
 
@@ -329,7 +355,9 @@ module _ (tokens : List Token) where
     unfolding condition_at
     finds-condition p t h q (ReadsCondition.given {q = r} d close') fits =
         let begins = expression-begins tokens p t h r d in
-        cond-no _ _ _ begins.simple.semicolon_not ∙ after-parsed (expression_at tokens b 0 p) _ t h r (finds-expression tokens b p t h r d (follows-semicolon (kind_at tokens r) close') fits) ∙ expect-yes tokens marks.Semicolon r _ close'
+        cond-no _ _ _ begins.simple.semicolon_not
+        ∙ after-parsed (expression_at tokens b 0 p) _ t h r (finds-expression tokens b p t h r d (follows-semicolon (kind_at tokens r) close') fits)
+        ∙ expect-yes tokens marks.Semicolon r _ close'
     finds-condition p t h q (ReadsCondition.none is) fits = cond-yes _ _ _ (is_mark-of marks.Semicolon (kind_at tokens p) is)
 
     pub finds-step : (p : ℕ) (t : OptionalStatement) (h q : ℕ) → ReadsStep tokens p t h q → h ≤ b → step_at tokens b p ≡ Parsed t h q

@@ -6,17 +6,20 @@ use Rattle.pc_lexer.specs.declared.token.TokenKind.{TokenKind}
 use Rattle.pc_lexer.specs.declared.token.TokenKind.TheVariants as kinds
 use Rattle.pc_lexer.specs.declared.mark.Mark.TheVariants as marks
 use Rattle.pc_lexer.specs.declared.keyword.Keyword.TheVariants as keys
-use Rattle.pc_syntax.specs.Source.{SourceExpression, SourceStatement, SourceList, OptionalStatement, SourceProgram, Scope, Branch, WhileLoop, DoLoop, ForLoop, BreakOut, ContinueOn, ReturnFrom, Nothing, Absent, Present, No_more, More, appended}
-use Rattle.pc_parser.specs.Places.{kind_at, line_at, is_mark, is_key}
+use Rattle.pc_syntax.specs.Source.{SourceExpression, SourceStatement, SourceList, OptionalStatement, SourceProgram, Scope, Branch, WhileLoop, DoLoop, ForLoop, BreakOut, ContinueOn}
+use Rattle.pc_syntax.specs.Source.{ReturnFrom, Nothing, Absent, Present, No_more, More, appended}
+use Rattle.pc_parser.specs.Places.{kind_at, line_at}
+use Rattle.pc_parser.specs.models.Tests.{is_mark, is_key}
 use Rattle.pc_parser.specs.Statements.{ends_open, ReadsTest, ReadsSimple, ReadsDeclaration, ReadsFirst, ReadsCondition, ReadsStep, ReadsStatement, ReadsItems, ReadsProgram}
-use Rattle.pc_parser.specs.Outcome.{Parsed, after}
-use Rattle.pc_parser.specs.ExpressionParser.{expression_at}
-use Rattle.pc_parser.specs.StatementParser.{test_at, first_at, condition_at, step_at, item_at, items_at, block_at, otherwise_at, branch_at, while_at, do_at, for_body, for_at, lone, return_at, keyed, started, statement_on, statement_from, statement_at, statement_below, nothing_behind, main_block, program_at}
+use Rattle.pc_parser.specs.models.Outcome.{Parsed, after}
+use Rattle.pc_parser.specs.models.ExpressionParser.{expression_at}
+use Rattle.pc_parser.specs.models.StatementParser.{test_at, first_at, condition_at, step_at, item_at, items_at, block_at, otherwise_at, branch_at, while_at, do_at, for_body, for_at, lone}
+use Rattle.pc_parser.specs.models.StatementParser.{return_at, keyed, started, statement_on, statement_from, statement_at, statement_below, nothing_behind, main_block, program_at}
 use Rattle.pc_parser.proofs.Budgets.{below-statement, statement_at-from}
 use Rattle.pc_parser.proofs.Tokens.{is_mark-of, is_key-of}
 use Rattle.pc_parser.proofs.Finds.{allowed-yes, expect-yes, expect_key-yes, after-parsed, cond-yes, cond-no}
 use Rattle.pc_parser.proofs.FindsExpressions.{follows-semicolon, finds-expression, expression-positive}
-use Rattle.pc_parser.proofs.Starts.{Begins, simple-begins, statement-begins}
+use Rattle.pc_parser.proofs.Starts.{CanBegin, simple-begins, statement-begins}
 use Rattle.pc_parser.proofs.Onward.{inside, declaration-onward, statement-onward}
 use Rattle.pc_parser.proofs.FindsSimple.{finds-test, test-positive, finds-ended, finds-declaration, declaration-int, finds-first, finds-condition, finds-step}
 
@@ -63,15 +66,18 @@ module _ (tokens : List Token) where
     inner : (p : ℕ) (s : SourceStatement) (h q : ℕ) → 1 ≤ b → statement_at tokens (b - 1) p ≡ Parsed s h q → statement_below tokens b p ≡ Parsed s h q
     inner p s h q some is = below-statement tokens b p some ∙ is
 
-    finds-simple_statement : (p : ℕ) (s : SourceStatement) (h q : ℕ) → ReadsSimple tokens p s h q → kind_at tokens q ≡ Some (kinds.Mark marks.Semicolon) → h ≤ b → statement_at tokens b p ≡ Parsed s h (q + 1)
+    finds-simple_statement : (p : ℕ) (s : SourceStatement) (h q : ℕ) → ReadsSimple tokens p s h q → kind_at tokens q ≡ Some (kinds.Mark marks.Semicolon) → h ≤ b →
+        statement_at tokens b p ≡ Parsed s h (q + 1)
     finds-simple_statement p s h q d close' fits =
         by_token p (kind_at tokens p) refl ∙ (simple-begins tokens p s h q d).ended tokens (statement_below tokens b) b p ∙ finds-ended tokens b p s h q d close' fits
 
-    finds-block : (p : ℕ) (items : SourceList) (h q : ℕ) → kind_at tokens p ≡ Some (kinds.Mark marks.LeftBrace) → items_at tokens (statement_below tokens b) b (length tokens + 1) (p + 1) ≡ Parsed items h q → 1 ≤ b →
+    finds-block : (p : ℕ) (items : SourceList) (h q : ℕ) → kind_at tokens p ≡ Some (kinds.Mark marks.LeftBrace) →
+        items_at tokens (statement_below tokens b) b (length tokens + 1) (p + 1) ≡ Parsed items h q → 1 ≤ b →
         statement_at tokens b p ≡ Parsed (Scope items) (h + 1) q
     unfolding statement_on started block_at
     finds-block p items h q is found some =
-        by_token p _ is ∙ ap (λ o. after o (λ items' height to. Parsed (Scope items') height to)) (allowed-yes 1 b p _ some ∙ after-parsed (items_at tokens (statement_below tokens b) b (length tokens + 1) (p + 1)) _ items h q found)
+        by_token p _ is ∙ ap (λ o. after o (λ items' height to. Parsed (Scope items') height to))
+        (allowed-yes 1 b p _ some ∙ after-parsed (items_at tokens (statement_below tokens b) b (length tokens + 1) (p + 1)) _ items h q found)
 
     finds-empty : (p : ℕ) → kind_at tokens p ≡ Some (kinds.Mark marks.Semicolon) → 1 ≤ b → statement_at tokens b p ≡ Parsed Nothing 1 (p + 1)
     unfolding statement_on started
@@ -91,7 +97,8 @@ module _ (tokens : List Token) where
     unfolding otherwise_at
     without-else line test body i j at no' = cond-no _ _ _ no'
 
-    with-else : (line : ℕ) (test : SourceExpression) (body other : SourceStatement) (i j at l to : ℕ) → kind_at tokens at ≡ Some (kinds.Key keys.Else) → statement_at tokens (b - 1) (at + 1) ≡ Parsed other l to → 1 ≤ b →
+    with-else : (line : ℕ) (test : SourceExpression) (body other : SourceStatement) (i j at l to : ℕ) → kind_at tokens at ≡ Some (kinds.Key keys.Else) →
+        statement_at tokens (b - 1) (at + 1) ≡ Parsed other l to → 1 ≤ b →
         otherwise_at tokens (statement_below tokens b) b line test body i j at ≡ Parsed (Branch line test body (Present other)) (max i (max j l) + 1) to
     unfolding otherwise_at
     with-else line test body other i j at l to is found some =
@@ -112,10 +119,12 @@ module _ (tokens : List Token) where
     finds-do p body i q test j r is found is' d close' fits =
         let some = test-positive tokens (q + 1) test j r d in
         by_token p _ is ∙ allowed-yes 2 b p _ (omega arith) ∙ after-parsed (statement_below tokens b (p + 1)) _ body i q (inner (p + 1) body i q (omega arith) found) ∙
-        expect_key-yes tokens keys.While q _ is' ∙ after-parsed (test_at tokens (b - 1) (q + 1)) _ test j r (finds-test tokens (b - 1) (q + 1) test j r d (omega arith)) ∙ expect-yes tokens marks.Semicolon r _ close'
+        expect_key-yes tokens keys.While q _ is' ∙ after-parsed (test_at tokens (b - 1) (q + 1)) _ test j r (finds-test tokens (b - 1) (q + 1) test j r d (omega arith))
+        ∙ expect-yes tokens marks.Semicolon r _ close'
 
     finds-for : (p : ℕ) (first : SourceList) (i q : ℕ) (test : SourceExpression) (j r : ℕ) (step : OptionalStatement) (k' s : ℕ) (body : SourceStatement) (l to : ℕ) →
-        kind_at tokens p ≡ Some (kinds.Key keys.For) → kind_at tokens (p + 1) ≡ Some (kinds.Mark marks.LeftParen) → ReadsFirst tokens (p + 2) first i q → ReadsCondition tokens q test j r → ReadsStep tokens r step k' s →
+        kind_at tokens p ≡ Some (kinds.Key keys.For) → kind_at tokens (p + 1) ≡ Some (kinds.Mark marks.LeftParen) → ReadsFirst tokens (p + 2) first i q →
+        ReadsCondition tokens q test j r → ReadsStep tokens r step k' s →
         statement_at tokens (b - 1) s ≡ Parsed body l to → 1 ≤ l → max (max i (max j k')) l + 1 ≤ b →
         statement_at tokens b p ≡ Parsed (ForLoop (line_at tokens p) first test step body) (max (max i (max j k')) l + 1) to
     unfolding statement_on keyed for_at for_body
@@ -126,18 +135,22 @@ module _ (tokens : List Token) where
         after-parsed (step_at tokens (b - 1) r) _ step k' s (finds-step tokens (b - 1) r step k' s f (omega arith)) ∙
         after-parsed (statement_below tokens b s) _ body l to (inner s body l to (omega arith) found)
 
-    finds-break : (p : ℕ) → kind_at tokens p ≡ Some (kinds.Key keys.Break) → kind_at tokens (p + 1) ≡ Some (kinds.Mark marks.Semicolon) → 1 ≤ b → statement_at tokens b p ≡ Parsed (BreakOut (line_at tokens p)) 1 (p + 2)
+    finds-break : (p : ℕ) → kind_at tokens p ≡ Some (kinds.Key keys.Break) → kind_at tokens (p + 1) ≡ Some (kinds.Mark marks.Semicolon) → 1 ≤ b →
+        statement_at tokens b p ≡ Parsed (BreakOut (line_at tokens p)) 1 (p + 2)
     unfolding statement_on keyed lone
     finds-break p is close' some = by_token p _ is ∙ allowed-yes 1 b p _ some ∙ expect-yes tokens marks.Semicolon (p + 1) _ close'
 
-    finds-continue : (p : ℕ) → kind_at tokens p ≡ Some (kinds.Key keys.Continue) → kind_at tokens (p + 1) ≡ Some (kinds.Mark marks.Semicolon) → 1 ≤ b → statement_at tokens b p ≡ Parsed (ContinueOn (line_at tokens p)) 1 (p + 2)
+    finds-continue : (p : ℕ) → kind_at tokens p ≡ Some (kinds.Key keys.Continue) → kind_at tokens (p + 1) ≡ Some (kinds.Mark marks.Semicolon) → 1 ≤ b →
+        statement_at tokens b p ≡ Parsed (ContinueOn (line_at tokens p)) 1 (p + 2)
     unfolding statement_on keyed lone
     finds-continue p is close' some = by_token p _ is ∙ allowed-yes 1 b p _ some ∙ expect-yes tokens marks.Semicolon (p + 1) _ close'
 
-    finds-return : (p : ℕ) (value : SourceExpression) (h q : ℕ) → kind_at tokens p ≡ Some (kinds.Key keys.Return) → expression_at tokens (b - 1) 0 (p + 1) ≡ Parsed value h q → kind_at tokens q ≡ Some (kinds.Mark marks.Semicolon) → 2 ≤ b →
+    finds-return : (p : ℕ) (value : SourceExpression) (h q : ℕ) → kind_at tokens p ≡ Some (kinds.Key keys.Return) →
+        expression_at tokens (b - 1) 0 (p + 1) ≡ Parsed value h q → kind_at tokens q ≡ Some (kinds.Mark marks.Semicolon) → 2 ≤ b →
         statement_at tokens b p ≡ Parsed (ReturnFrom (line_at tokens p) value) (h + 1) (q + 1)
     unfolding statement_on keyed return_at
-    finds-return p value h q is found close' low = by_token p _ is ∙ allowed-yes 2 b p _ low ∙ after-parsed (expression_at tokens (b - 1) 0 (p + 1)) _ value h q found ∙ expect-yes tokens marks.Semicolon q _ close'
+    finds-return p value h q is found close' low = by_token p _ is ∙ allowed-yes 2 b p _ low ∙ after-parsed (expression_at tokens (b - 1) 0 (p + 1)) _ value h q found
+        ∙ expect-yes tokens marks.Semicolon q _ close'
 
     -- the items of a block
     closes-items : (n p : ℕ) → kind_at tokens p ≡ Some (kinds.Mark marks.RightBrace) → items_at tokens (statement_below tokens b) b (suc n) p ≡ Parsed No_more 0 (p + 1)
@@ -153,16 +166,19 @@ module _ (tokens : List Token) where
         after-parsed (item_at tokens (statement_below tokens b) b p) _ trees i q (cond-yes _ _ _ (is_key-of keys.Int (kind_at tokens p) int) ∙ finds-declaration tokens (b - 1) p trees i q d fits) ∙
         after-parsed (items_at tokens (statement_below tokens b) b n q) _ rest j to found
 
-    states-item : (n p : ℕ) (tree : SourceStatement) (rest : SourceList) (i q j to : ℕ) → Begins (kind_at tokens p) → statement_at tokens (b - 1) p ≡ Parsed tree i q → 1 ≤ b → items_at tokens (statement_below tokens b) b n q ≡ Parsed rest j to →
+    states-item : (n p : ℕ) (tree : SourceStatement) (rest : SourceList) (i q j to : ℕ) → CanBegin (kind_at tokens p) → statement_at tokens (b - 1) p ≡ Parsed tree i q →
+        1 ≤ b → items_at tokens (statement_below tokens b) b n q ≡ Parsed rest j to →
         items_at tokens (statement_below tokens b) b (suc n) p ≡ Parsed (More tree rest) (max i j) to
     unfolding items_at item_at
     states-item n p tree rest i q j to begins one some found =
         cond-no _ _ _ begins.brace_not ∙
-        after-parsed (item_at tokens (statement_below tokens b) b p) _ (More tree No_more) i q (cond-no _ _ _ begins.int_not ∙ after-parsed (statement_below tokens b p) _ tree i q (inner p tree i q some one)) ∙
+        after-parsed (item_at tokens (statement_below tokens b) b p) _ (More tree No_more) i q
+        (cond-no _ _ _ begins.int_not ∙ after-parsed (statement_below tokens b p) _ tree i q (inner p tree i q some one)) ∙
         after-parsed (items_at tokens (statement_below tokens b) b n q) _ rest j to found
 
   mutual
-    pub finds-statement : (b p : ℕ) (s : SourceStatement) (h q : ℕ) → ReadsStatement tokens p s h q → (ends_open s ≡ true → is_key keys.Else (kind_at tokens q) ≡ false) → h ≤ b → statement_at tokens b p ≡ Parsed s h q
+    pub finds-statement : (b p : ℕ) (s : SourceStatement) (h q : ℕ) → ReadsStatement tokens p s h q → (ends_open s ≡ true → is_key keys.Else (kind_at tokens q) ≡ false) →
+        h ≤ b → statement_at tokens b p ≡ Parsed s h q
     finds-statement b p s h q (ReadsStatement.block {height = i} {items = items} is d) open' fits =
         finds-block b p items i q is (finds-items b (length tokens + 1) (p + 1) items i q d (omega arith) (omega arith) (omega arith)) (omega arith)
     finds-statement b p s h q (ReadsStatement.empty is) open' fits = finds-empty b p is fits
@@ -184,7 +200,8 @@ module _ (tokens : List Token) where
         let some = expression-positive tokens (p + 1) value i r d in
         finds-return b p value i r is (finds-expression tokens (b - 1) (p + 1) value i r d (follows-semicolon (kind_at tokens r) close') (omega arith)) close' (omega arith)
 
-    pub finds-items : (b n p : ℕ) (trees : SourceList) (h q : ℕ) → ReadsItems tokens p trees h q → length tokens < p + n → h ≤ b - 1 → 1 ≤ b → items_at tokens (statement_below tokens b) b n p ≡ Parsed trees h q
+    pub finds-items : (b n p : ℕ) (trees : SourceList) (h q : ℕ) → ReadsItems tokens p trees h q → length tokens < p + n → h ≤ b - 1 → 1 ≤ b →
+        items_at tokens (statement_below tokens b) b n p ≡ Parsed trees h q
     finds-items b zero p trees h q d enough fits some = let a = items-inside p trees h q d in absurd (omega arith)
     finds-items b (suc n) p trees h q (ReadsItems.close is) enough fits some = closes-items b n p is
     finds-items b (suc n) p trees h q (ReadsItems.declared {i = i} {q = r} {j = j} {trees = some'} {rest = rest} d e) enough fits some =
@@ -192,22 +209,32 @@ module _ (tokens : List Token) where
         declares-item b n p some' rest i r j q d (omega arith) (finds-items b n r rest j q e (omega arith) (omega arith) some)
     finds-items b (suc n) p trees h q (ReadsItems.stated {i = i} {q = r} {j = j} {tree = tree} {rest = rest} d e) enough fits some =
         let onward = statement-onward tokens p tree i r d in
-        states-item b n p tree rest i r j q (statement-begins tokens p tree i r d) (finds-statement (b - 1) p tree i r d (λ o. items-else r rest j q e) (omega arith)) some (finds-items b n r rest j q e (omega arith) (omega arith) some)
+        states-item b n p tree rest i r j q (statement-begins tokens p tree i r d)
+        (finds-statement (b - 1) p tree i r d (λ o. items-else r rest j q e) (omega arith)) some (finds-items b n r rest j q e (omega arith) (omega arith) some)
 
   -- the block of a program
-  finds-main : (b p : ℕ) (items : SourceList) (h q : ℕ) → kind_at tokens p ≡ Some (kinds.Mark marks.RightParen) → kind_at tokens (p + 1) ≡ Some (kinds.Mark marks.LeftBrace) → ReadsItems tokens (p + 1 + 1) items h q → kind_at tokens q ≡ None → h + 1 ≤ b →
+  finds-main : (b p : ℕ) (items : SourceList) (h q : ℕ) → kind_at tokens p ≡ Some (kinds.Mark marks.RightParen) →
+      kind_at tokens (p + 1) ≡ Some (kinds.Mark marks.LeftBrace) → ReadsItems tokens (p + 1 + 1) items h q → kind_at tokens q ≡ None → h + 1 ≤ b →
       main_block tokens b p ≡ Parsed items (h + 1) q
   unfolding main_block block_at nothing_behind
   finds-main b p items h q close' open' d end' fits =
       expect-yes tokens marks.RightParen p _ close' ∙ expect-yes tokens marks.LeftBrace (p + 1) _ open' ∙
       after-parsed (block_at tokens (statement_below tokens b) b (p + 1)) _ items (h + 1) q
-      (allowed-yes 1 b (p + 1) _ (omega arith) ∙ after-parsed (items_at tokens (statement_below tokens b) b (length tokens + 1) (p + 1 + 1)) _ items h q (finds-items b (length tokens + 1) (p + 1 + 1) items h q d (omega arith) (omega arith) (omega arith))) ∙
+      (allowed-yes 1 b (p + 1) _ (omega arith)
+      ∙ after-parsed (items_at tokens (statement_below tokens b) b (length tokens + 1) (p + 1 + 1)) _ items h q
+      (finds-items b (length tokens + 1) (p + 1 + 1) items h q d (omega arith) (omega arith) (omega arith))) ∙
       ap (nothing_behind items (h + 1) q) end'
 
   -- a program that the budget allows is found
   pub finds-program : (b : ℕ) (program : SourceProgram) (h : ℕ) → ReadsProgram tokens program h → h ≤ b → (to : ℕ) × (program_at tokens b ≡ Parsed program.items h to)
   unfolding program_at
-  finds-program b program h (ReadsProgram.without_void {height = i} {to = to} {items = items} int main open' close' brace d end') fits =
-      (to, expect_key-yes tokens keys.Int 0 _ int ∙ expect_key-yes tokens keys.Main 1 _ main ∙ expect-yes tokens marks.LeftParen 2 _ open' ∙ cond-no _ _ _ (ap (is_key keys.Void) close') ∙ finds-main b 3 items i to close' brace d end' fits)
-  finds-program b program h (ReadsProgram.with_void {height = i} {to = to} {items = items} int main open' void close' brace d end') fits =
-      (to, expect_key-yes tokens keys.Int 0 _ int ∙ expect_key-yes tokens keys.Main 1 _ main ∙ expect-yes tokens marks.LeftParen 2 _ open' ∙ cond-yes _ _ _ (is_key-of keys.Void (kind_at tokens 3) void) ∙ finds-main b 4 items i to close' brace d end' fits)
+  finds-program b program h (ReadsProgram.without_void {height = i} {to = to} {items = items} int main open' close' brace d end') fits = (
+    to,
+    expect_key-yes tokens keys.Int 0 _ int ∙ expect_key-yes tokens keys.Main 1 _ main ∙ expect-yes tokens marks.LeftParen 2 _ open'
+        ∙ cond-no _ _ _ (ap (is_key keys.Void) close') ∙ finds-main b 3 items i to close' brace d end' fits,
+  )
+  finds-program b program h (ReadsProgram.with_void {height = i} {to = to} {items = items} int main open' void close' brace d end') fits = (
+    to,
+    expect_key-yes tokens keys.Int 0 _ int ∙ expect_key-yes tokens keys.Main 1 _ main ∙ expect-yes tokens marks.LeftParen 2 _ open'
+        ∙ cond-yes _ _ _ (is_key-of keys.Void (kind_at tokens 3) void) ∙ finds-main b 4 items i to close' brace d end' fits,
+  )

@@ -11,56 +11,60 @@ use Rattle.pc_lexer.specs.declared.mark.Mark.TheVariants as marks
 use Rattle.pc_lexer.specs.declared.keyword.Keyword.{Keyword}
 use Rattle.pc_syntax.specs.Source.{SourceExpression}
 use Rattle.pc_parser.specs.declared.operator.Operator.{Operator}
-use Rattle.pc_parser.specs.Places.{kind_at, is_mark, is_key}
+use Rattle.pc_parser.specs.Places.{kind_at}
+use Rattle.pc_parser.specs.models.Tests.{is_mark, is_key}
 use Rattle.pc_parser.specs.Operators.{operator_of}
 use Rattle.pc_parser.specs.Expressions.{ReadsLevel}
-use Rattle.pc_parser.specs.Outcome.{Outcome, Parsed, Unreadable, TooHigh, after, allowed, expect, expect_key}
-use Rattle.pc_parser.specs.ExpressionParser.{operator_from, tight}
+use Rattle.pc_parser.specs.models.Outcome.{ParseOutcome, Parsed, Unreadable, TooHigh, after, allowed, expect, expect_key}
+use Rattle.pc_parser.specs.models.ExpressionParser.{operator_from, tight}
 use Rattle.pc_parser.proofs.Tokens.{is_mark-true, is_key-true}
 use Rattle.pc_parser.proofs.Onward.{inside}
 
 -- An outcome is good: a tree has the property, a place is among the tokens, and what is too high comes late.
-abbrev pub Good : {A : Type 0} → (most late : ℕ) → (A → ℕ → ℕ → Type 0) → Outcome A → Type 0
+abbrev pub Good : {A : Type 0} → (most late : ℕ) → (A → ℕ → ℕ → Type 0) → ParseOutcome A → Type 0
 Good most late P (Parsed tree height to) = P tree height to
 Good most late P (Unreadable at) = at ≤ most
 Good most late P (TooHigh at) = (late ≤ at + 2) × (at ≤ most)
 
 module _ (most : ℕ) where
   -- one parser after another
-  pub after-good : {A B : Type 0} (late later : ℕ) (Q : A → ℕ → ℕ → Type 0) (P : B → ℕ → ℕ → Type 0) (x : Outcome A) (f : A → ℕ → ℕ → Outcome B) → late ≤ later → Good most later Q x →
+  pub after-good : {A B : Type 0} (late later : ℕ) (Q : A → ℕ → ℕ → Type 0) (P : B → ℕ → ℕ → Type 0) (x : ParseOutcome A) (f : A → ℕ → ℕ → ParseOutcome B) → late ≤ later → Good most later Q x →
       ((tree : A) (height to : ℕ) → Q tree height to → Good most late P (f tree height to)) → Good most late P (after x f)
   after-good late later Q P (Parsed tree height to) f le good each = each tree height to good
   after-good late later Q P (Unreadable at) f le good each = good
   after-good late later Q P (TooHigh at) f le good each = let a = good.0 in (omega arith, good.1)
 
-  pub cond-good : {A : Type 0} (late : ℕ) (P : A → ℕ → ℕ → Type 0) (t : Bool) (x y : Outcome A) → (t ≡ true → Good most late P x) → (t ≡ false → Good most late P y) → Good most late P (cond t x y)
+  pub cond-good : {A : Type 0} (late : ℕ) (P : A → ℕ → ℕ → Type 0) (t : Bool) (x y : ParseOutcome A) → (t ≡ true → Good most late P x) →
+      (t ≡ false → Good most late P y) → Good most late P (cond t x y)
   cond-good late P true x y one other = one refl
   cond-good late P false x y one other = other refl
 
   -- what is allowed
-  pub allowed-good : {A : Type 0} (late least budget at : ℕ) (P : A → ℕ → ℕ → Type 0) (x : Outcome A) → (budget < least → late ≤ at + 2) → at ≤ most → (least ≤ budget → Good most late P x) → Good most late P (allowed least budget at x)
-  allowed-good late least budget at P x lateness inside' rest = cond-good late P (nat_le least budget) x (TooHigh at) (λ yes'. rest (leb-true least budget yes')) (λ no'. (lateness (grind (arith, nat_tests)), inside'))
+  pub allowed-good : {A : Type 0} (late least budget at : ℕ) (P : A → ℕ → ℕ → Type 0) (x : ParseOutcome A) → (budget < least → late ≤ at + 2) → at ≤ most →
+      (least ≤ budget → Good most late P x) → Good most late P (allowed least budget at x)
+  allowed-good late least budget at P x lateness inside' rest =
+      cond-good late P (nat_le least budget) x (TooHigh at) (λ yes'. rest (leb-true least budget yes')) (λ no'. (lateness (grind (arith, nat_tests)), inside'))
 
 module _ (tokens : List Token) where
   -- what follows a mark
-  pub expect-good : {A : Type 0} (late : ℕ) (mark : Mark) (at : ℕ) (P : A → ℕ → ℕ → Type 0) (x : Outcome A) → at ≤ length tokens →
+  pub expect-good : {A : Type 0} (late : ℕ) (mark : Mark) (at : ℕ) (P : A → ℕ → ℕ → Type 0) (x : ParseOutcome A) → at ≤ length tokens →
       (kind_at tokens at ≡ Some (kinds.Mark mark) → at < length tokens → Good (length tokens) late P x) → Good (length tokens) late P (expect tokens mark at x)
   expect-good late mark at P x inside' rest = cond-good (length tokens) late P (is_mark mark (kind_at tokens at)) x (Unreadable at)
       (λ yes'. let is = is_mark-true mark (kind_at tokens at) yes' in rest is (inside tokens at _ is)) (λ no'. inside')
 
-  pub expect_key-good : {A : Type 0} (late : ℕ) (key : Keyword) (at : ℕ) (P : A → ℕ → ℕ → Type 0) (x : Outcome A) → at ≤ length tokens →
+  pub expect_key-good : {A : Type 0} (late : ℕ) (key : Keyword) (at : ℕ) (P : A → ℕ → ℕ → Type 0) (x : ParseOutcome A) → at ≤ length tokens →
       (kind_at tokens at ≡ Some (kinds.Key key) → at < length tokens → Good (length tokens) late P x) → Good (length tokens) late P (expect_key tokens key at x)
   expect_key-good late key at P x inside' rest = cond-good (length tokens) late P (is_key key (kind_at tokens at)) x (Unreadable at)
       (λ yes'. let is = is_key-true key (kind_at tokens at) yes' in rest is (inside tokens at _ is)) (λ no'. inside')
 
   -- a test of a mark or a keyword
-  pub on_mark-good : {A : Type 0} (late : ℕ) (mark : Mark) (at : ℕ) (P : A → ℕ → ℕ → Type 0) (x y : Outcome A) →
+  pub on_mark-good : {A : Type 0} (late : ℕ) (mark : Mark) (at : ℕ) (P : A → ℕ → ℕ → Type 0) (x y : ParseOutcome A) →
       (kind_at tokens at ≡ Some (kinds.Mark mark) → at < length tokens → Good (length tokens) late P x) → (is_mark mark (kind_at tokens at) ≡ false → Good (length tokens) late P y) →
       Good (length tokens) late P (cond (is_mark mark (kind_at tokens at)) x y)
   on_mark-good late mark at P x y one other = cond-good (length tokens) late P (is_mark mark (kind_at tokens at)) x y
       (λ yes'. let is = is_mark-true mark (kind_at tokens at) yes' in one is (inside tokens at _ is)) other
 
-  pub on_key-good : {A : Type 0} (late : ℕ) (key : Keyword) (at : ℕ) (P : A → ℕ → ℕ → Type 0) (x y : Outcome A) →
+  pub on_key-good : {A : Type 0} (late : ℕ) (key : Keyword) (at : ℕ) (P : A → ℕ → ℕ → Type 0) (x y : ParseOutcome A) →
       (kind_at tokens at ≡ Some (kinds.Key key) → at < length tokens → Good (length tokens) late P x) → (is_key key (kind_at tokens at) ≡ false → Good (length tokens) late P y) →
       Good (length tokens) late P (cond (is_key key (kind_at tokens at)) x y)
   on_key-good late key at P x y one other = cond-good (length tokens) late P (is_key key (kind_at tokens at)) x y
@@ -113,7 +117,8 @@ tight-found level None found is = cc
 tight-found level (Some f) found is = by (nat_le level f.1) refl
   where
     by : (t : Bool) → nat_le level f.1 ≡ t → (Some f ≡ Some found) × (level ≤ found.1)
-    by true yes' = let same : Some f ≡ Some found = sym (ap (λ t. cond t (Some f) None) yes') ∙ is in let same' : f ≡ found = cc in (same, subst (λ (x : Operator × ℕ). level ≤ x.1) same' (leb-true level f.1 yes'))
+    by true yes' = let same : Some f ≡ Some found = sym (ap (λ t. cond t (Some f) None) yes') ∙ is in let same' : f ≡ found = cc in
+        (same, subst (λ (x : Operator × ℕ). level ≤ x.1) same' (leb-true level f.1 yes'))
     by false no' = let bad : None ≡ Some found = sym (ap (λ t. cond t (Some f) None) no') ∙ is in cc
 
 pub found-is : (level : ℕ) (kind : Option TokenKind) (found : Operator × ℕ) → operator_from level kind ≡ Some found → Found level kind found

@@ -10,12 +10,14 @@ use Rattle.pc_lexer.specs.declared.keyword.Keyword.TheVariants as keys
 use Rattle.pc_syntax.specs.declared.operator.UnaryOp.{UnaryOp}
 use Rattle.pc_syntax.specs.Source.{SourceExpression}
 use Rattle.pc_parser.specs.declared.operator.Operator.{Operator}
-use Rattle.pc_parser.specs.Places.{kind_at, line_at, mark_is, key_is}
+use Rattle.pc_parser.specs.Places.{kind_at, line_at}
+use Rattle.pc_parser.specs.models.Tests.{mark_is, key_is}
 use Rattle.pc_parser.specs.Operators.{prefix_of, joined}
 use Rattle.pc_parser.specs.Expressions.{ReadsExpression, ReadsLevel, ReadsUnary, ReadsPrimary}
 use Rattle.pc_parser.specs.Statements.{Target, ReadsTarget}
-use Rattle.pc_parser.specs.Outcome.{Outcome, Parsed, Unreadable, TooHigh}
-use Rattle.pc_parser.specs.ExpressionParser.{Inner, operator_from, sign_of, target_tree, target_height, target_named, number_at, name_at, grouped, input, primary_on, signed, unary_on, unary_at, joined_at, last_turn, turn, climb, choice, operand, part, expression_at, below}
+use Rattle.pc_parser.specs.models.Outcome.{ParseOutcome, Parsed, Unreadable, TooHigh}
+use Rattle.pc_parser.specs.models.ExpressionParser.{Inner, operator_from, sign_of, target_tree, target_height, target_named, number_at, name_at, grouped, input, primary_on, signed, unary_on}
+use Rattle.pc_parser.specs.models.ExpressionParser.{unary_at, joined_at, last_turn, turn, climb, choice, operand, part, expression_at, below}
 use Rattle.pc_parser.proofs.Tokens.{mark_is-true, key_is-true}
 use Rattle.pc_parser.proofs.Onward.{inside}
 use Rattle.pc_parser.proofs.Holds.{Good, after-good, cond-good, allowed-good, expect-good, on_mark-good, rank-most, found-is, found-below, looser-to}
@@ -75,7 +77,8 @@ module _ (tokens : List Token) where
         let within = inside tokens p _ is in
         on_mark-good tokens (b + p) marks.LeftBracket (p + 1) (IsTarget b p) _ _
         (λ open' below. allowed-good (length tokens) (b + p) 2 b (p + 1) (IsTarget b p) _ (λ high. omega arith) (omega arith) (λ low.
-        after-good (length tokens) (b + p) (b - 1 + (p + 2)) (Sound (b - 1) 0 (p + 2)) (IsTarget b p) (inner 0 (p + 2)) _ (omega arith) (holds 0 (p + 2) (omega arith) (omega arith)) (λ index h q sound.
+        after-good (length tokens) (b + p) (b - 1 + (p + 2)) (Sound (b - 1) 0 (p + 2)) (IsTarget b p) (inner 0 (p + 2)) _ (omega arith)
+        (holds 0 (p + 2) (omega arith) (omega arith)) (λ index h q sound.
         let size = sound.size in let a = size.low in let l = size.long in let w = size.within in
         expect-good tokens (b + p) marks.RightBracket q (IsTarget b p) _ w (λ close' further.
         record { reads = ReadsTarget.element is open' (sound.whole refl) close'; size = record { low = omega arith; long = omega arith; within = omega arith } }))))
@@ -125,7 +128,8 @@ module _ (tokens : List Token) where
         (λ yes'. grouped-holds p (is ∙ ap (λ m. Some (kinds.Mark m)) (mark_is-true mark marks.LeftParen yes'))) (λ no'. within)
     primary_on-holds None p is within = within
 
-    signed-holds : (mark : Mark) (sign : Option UnaryOp) (p : ℕ) → kind_at tokens p ≡ Some (kinds.Mark mark) → prefix_of mark ≡ Some sign → Good (length tokens) (b + p) (IsUnary b p) (signed tokens inner b sign p)
+    signed-holds : (mark : Mark) (sign : Option UnaryOp) (p : ℕ) → kind_at tokens p ≡ Some (kinds.Mark mark) → prefix_of mark ≡ Some sign →
+        Good (length tokens) (b + p) (IsUnary b p) (signed tokens inner b sign p)
     unfolding signed
     signed-holds mark sign p is prefix =
         let within = inside tokens p _ is in
@@ -141,12 +145,13 @@ module _ (tokens : List Token) where
         as_primary : (kind : Option TokenKind) → kind_at tokens p ≡ kind → Good (length tokens) (b + p) (IsUnary b p) (primary_on tokens inner b (kind_at tokens p) p)
         as_primary kind is = weaker (primary_on tokens inner b (kind_at tokens p) p) (primary_on-holds (kind_at tokens p) p refl within)
           where
-            weaker : (o : Outcome SourceExpression) → Good (length tokens) (b + p) (IsPrimary b p) o → Good (length tokens) (b + p) (IsUnary b p) o
+            weaker : (o : ParseOutcome SourceExpression) → Good (length tokens) (b + p) (IsPrimary b p) o → Good (length tokens) (b + p) (IsUnary b p) o
             weaker (Parsed t h q) good = record { reads = ReadsUnary.primary good.reads; size = good.size }
             weaker (Unreadable at) good = good
             weaker (TooHigh at) good = good
 
-        by_sign : (mark : Mark) (sign : Option (Option UnaryOp)) → kind_at tokens p ≡ Some (kinds.Mark mark) → prefix_of mark ≡ sign → Good (length tokens) (b + p) (IsUnary b p) (unary_on tokens inner b sign p)
+        by_sign : (mark : Mark) (sign : Option (Option UnaryOp)) → kind_at tokens p ≡ Some (kinds.Mark mark) → prefix_of mark ≡ sign →
+            Good (length tokens) (b + p) (IsUnary b p) (unary_on tokens inner b sign p)
         by_sign mark (Some sign) is prefix = signed-holds mark sign p is prefix
         by_sign mark None is prefix = as_primary _ refl
 
@@ -183,7 +188,8 @@ module _ (tokens : List Token) where
         let within = inside tokens at _ f.is in
         let most = f.low in let above = f.above in let first_size = first.size in let first_low = first_size.low in let first_long = first_size.long in
         allowed-good (length tokens) (b + p) (h + 1) b at (Joined level p h) _ (λ high. omega arith) (omega arith) (λ low.
-        after-good (length tokens) (b + p) (b - 1 + (at + 1)) (Sound (b - 1) (found.1 + 1) (at + 1)) (Joined level p h) (inner (found.1 + 1) (at + 1)) _ (omega arith) (holds (found.1 + 1) (at + 1) (omega arith) (omega arith)) (λ right j q sound.
+        after-good (length tokens) (b + p) (b - 1 + (at + 1)) (Sound (b - 1) (found.1 + 1) (at + 1)) (Joined level p h) (inner (found.1 + 1) (at + 1)) _ (omega arith)
+        (holds (found.1 + 1) (at + 1) (omega arith) (omega arith)) (λ right j q sound.
         let size = sound.size in let a = size.low in let l = size.long in let w = size.within in
         let both : ReadsLevel tokens found.1 p (joined found.0 (line_at tokens at) left right) (max h j + 1) q = ReadsLevel.binary (first.ready found is) f.is f.operator (sound.part (omega arith)) in
         record {
@@ -198,20 +204,25 @@ module _ (tokens : List Token) where
     done : (level p : ℕ) (left : SourceExpression) (h at : ℕ) → 1 ≤ level → Left level p left h at → operator_from level (kind_at tokens at) ≡ None → Sound b level p left h at
     done level p left h at above first none = record { whole = λ z. absurd (omega arith); part = λ some. first.reads; ends = λ some. none; size = first.size }
 
-    pub climb-holds : (level p turns : ℕ) (left : SourceExpression) (h at : ℕ) → 1 ≤ level → Left level p left h at → b ≤ turns + h → Good (length tokens) (b + p) (Sound b level p) (climb tokens inner b level turns left h at)
+    pub climb-holds : (level p turns : ℕ) (left : SourceExpression) (h at : ℕ) → 1 ≤ level → Left level p left h at → b ≤ turns + h →
+        Good (length tokens) (b + p) (Sound b level p) (climb tokens inner b level turns left h at)
     unfolding climb last_turn turn
     climb-holds level p zero left h at above first enough = by (operator_from level (kind_at tokens at)) refl
       where
         by : (found : Option (Operator × ℕ)) → operator_from level (kind_at tokens at) ≡ found → Good (length tokens) (b + p) (Sound b level p) (last_turn tokens inner b left h at found)
         by None is = done level p left h at above first is
         by (Some found) is = let size = first.size in let l = size.long in (omega arith, size.within)
-    climb-holds level p (suc turns) left h at above first enough = by (climb tokens inner b level turns) (λ left' h' at' first' enough'. climb-holds level p turns left' h' at' above first' enough') (operator_from level (kind_at tokens at)) refl
+    climb-holds level p (suc turns) left h at above first enough =
+        by (climb tokens inner b level turns) (λ left' h' at' first' enough'. climb-holds level p turns left' h' at' above first' enough')
+        (operator_from level (kind_at tokens at)) refl
       where
-        by : (f : SourceExpression → (h at : ℕ) → Outcome SourceExpression) →
+        by : (f : SourceExpression → (h at : ℕ) → ParseOutcome SourceExpression) →
             ((left' : SourceExpression) (h' at' : ℕ) → Left level p left' h' at' → b ≤ turns + h' → Good (length tokens) (b + p) (Sound b level p) (f left' h' at')) →
             (found : Option (Operator × ℕ)) → operator_from level (kind_at tokens at) ≡ found → Good (length tokens) (b + p) (Sound b level p) (turn tokens inner b f left h at found)
         by f next None is = done level p left h at above first is
-        by f next (Some found) is = after-good (length tokens) (b + p) (b + p) (Joined level p h) (Sound b level p) (joined_at tokens inner b left h at found) f (omega arith) (joined_at-holds level p left h at found first is)
+        by f next (Some found) is =
+            after-good (length tokens) (b + p) (b + p) (Joined level p h) (Sound b level p) (joined_at tokens inner b left h at found) f (omega arith)
+            (joined_at-holds level p left h at found first is)
             (λ left' h' at' good. let rises = good.rises in next left' h' at' good.left (omega arith))
 
     pub choice-holds : (p : ℕ) (test : SourceExpression) (h at : ℕ) → Sound b 1 p test h at → Good (length tokens) (b + p) (Sound b 0 p) (choice tokens inner b test h at)
@@ -220,7 +231,8 @@ module _ (tokens : List Token) where
         let size = first.size in let low' = size.low in let long' = size.long in let within' = size.within in
         on_mark-good tokens (b + p) marks.Question at (Sound b 0 p) _ _
         (λ question below. allowed-good (length tokens) (b + p) (h + 1) b at (Sound b 0 p) _ (λ high. omega arith) within' (λ low.
-        after-good (length tokens) (b + p) (b - 1 + (at + 1)) (Sound (b - 1) 0 (at + 1)) (Sound b 0 p) (inner 0 (at + 1)) _ (omega arith) (holds 0 (at + 1) (omega arith) (omega arith)) (λ one i q sound.
+        after-good (length tokens) (b + p) (b - 1 + (at + 1)) (Sound (b - 1) 0 (at + 1)) (Sound b 0 p) (inner 0 (at + 1)) _ (omega arith)
+        (holds 0 (at + 1) (omega arith) (omega arith)) (λ one i q sound.
         let size' = sound.size in let a = size'.low in let l = size'.long in let w = size'.within in
         expect-good tokens (b + p) marks.Colon q (Sound b 0 p) _ w (λ colon further.
         after-good (length tokens) (b + p) (b - 1 + (q + 1)) (Sound (b - 1) 0 (q + 1)) (Sound b 0 p) (inner 0 (q + 1)) _ (omega arith) (holds 0 (q + 1) (omega arith) (omega arith)) (λ other j to last.
@@ -240,15 +252,19 @@ module _ (tokens : List Token) where
 
     part-holds : (level p : ℕ) → level ≤ 11 → p ≤ length tokens → Good (length tokens) (b + p) (Sound b level p) (part tokens inner b level p)
     unfolding part
-    part-holds zero p low within = after-good (length tokens) (b + p) (b + p) (Sound b 1 p) (Sound b 0 p) (operand tokens inner b 1 p) _ (omega arith) (operand-holds 1 p (omega arith) (omega arith) within) (λ t h q good. choice-holds p t h q good)
+    part-holds zero p low within =
+        after-good (length tokens) (b + p) (b + p) (Sound b 1 p) (Sound b 0 p) (operand tokens inner b 1 p) _ (omega arith)
+        (operand-holds 1 p (omega arith) (omega arith) within) (λ t h q good. choice-holds p t h q good)
     part-holds (suc level) p low within = operand-holds (suc level) p (omega arith) low within
 
   pub expression_at-holds : (b level p : ℕ) → level ≤ 11 → p ≤ length tokens → Good (length tokens) (b + p) (Sound b level p) (expression_at tokens b level p)
   unfolding expression_at
   expression_at-holds zero level p low within = part-holds (λ level' from. TooHigh from) 0 (λ level' from low' within'. (omega arith, within')) level p low within
-  expression_at-holds (suc b) level p low within = part-holds (expression_at tokens b) (suc b) (λ level' from low' within'. lower b level' from (expression_at-holds b level' from low' within')) level p low within
+  expression_at-holds (suc b) level p low within =
+      part-holds (expression_at tokens b) (suc b) (λ level' from low' within'. lower b level' from (expression_at-holds b level' from low' within')) level p low within
     where
-      lower : (b level from : ℕ) → Good (length tokens) (b + from) (Sound b level from) (expression_at tokens b level from) → Good (length tokens) (suc b - 1 + from) (Sound (suc b - 1) level from) (expression_at tokens b level from)
+      lower : (b level from : ℕ) → Good (length tokens) (b + from) (Sound b level from) (expression_at tokens b level from) →
+          Good (length tokens) (suc b - 1 + from) (Sound (suc b - 1) level from) (expression_at tokens b level from)
       lower b level from good = let same : b ≡ suc b - 1 = omega arith in subst (λ n. Good (length tokens) (n + from) (Sound n level from) (expression_at tokens b level from)) same good
 
   pub below-holds : (b : ℕ) → InnerHolds b (below tokens b)

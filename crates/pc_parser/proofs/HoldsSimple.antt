@@ -9,13 +9,16 @@ use Rattle.pc_lexer.specs.declared.mark.Mark.TheVariants as marks
 use Rattle.pc_lexer.specs.declared.keyword.Keyword.TheVariants as keys
 use Rattle.pc_syntax.specs.declared.operator.BinaryOp.{BinaryOp}
 use Rattle.pc_syntax.specs.Source.{SourceExpression, SourceStatement, SourceList, OptionalStatement, Present, No_more, More}
-use Rattle.pc_parser.specs.Places.{kind_at, key_is}
+use Rattle.pc_parser.specs.Places.{kind_at}
+use Rattle.pc_parser.specs.models.Tests.{key_is}
 use Rattle.pc_parser.specs.Operators.{assignment_of, step_of}
 use Rattle.pc_parser.specs.Expressions.{ReadsUnary}
 use Rattle.pc_parser.specs.Statements.{Target, ReadsTest, ReadsSimple, ReadsDeclarator, ReadsDeclarators, ReadsDeclaration, ReadsFirst, ReadsCondition, ReadsStep}
-use Rattle.pc_parser.specs.Outcome.{Outcome, Parsed, Unreadable, TooHigh}
-use Rattle.pc_parser.specs.ExpressionParser.{target_tree, target_height, climb, choice, expression_at, below}
-use Rattle.pc_parser.specs.StatementParser.{assignment_from, step_from, symbol_of, length_of, natural, name_budget, test_at, closed_behind, closed, target_on, target_at, evaluation, evaluation_from, print_at, step_before, assignment, behind_target, on_target, named, marked, simple_on, simple_at, ended_at, array, initialised, declarator_on, declarator_at, last_declarator, declarators_at, declaration_at, first_at, condition_at, step_at}
+use Rattle.pc_parser.specs.models.Outcome.{ParseOutcome, Parsed, Unreadable, TooHigh}
+use Rattle.pc_parser.specs.models.ExpressionParser.{target_tree, target_height, climb, choice, expression_at, below}
+use Rattle.pc_parser.specs.models.StatementParser.{assignment_from, step_from, symbol_of, length_of, natural, name_budget, test_at, closed_behind, closed, target_on, target_at, evaluation}
+use Rattle.pc_parser.specs.models.StatementParser.{evaluation_from, print_at, step_before, assignment, behind_target, on_target, named, marked, simple_on, simple_at, ended_at, array}
+use Rattle.pc_parser.specs.models.StatementParser.{initialised, declarator_on, declarator_at, last_declarator, declarators_at, declaration_at, first_at, condition_at, step_at}
 use Rattle.pc_parser.proofs.Tokens.{key_is-true}
 use Rattle.pc_parser.proofs.Onward.{inside, simple-onward, declarators-onward}
 use Rattle.pc_parser.proofs.Holds.{Good, after-good, cond-good, allowed-good, expect-good, on_mark-good, on_key-good}
@@ -84,16 +87,20 @@ module _ (tokens : List Token) where
   unfolding test_at
   test_at-holds b p within =
       expect-good tokens (b + p) marks.LeftParen p (IsTest b p) _ within (λ open' below'.
-      after-good (length tokens) (b + p) (b + (p + 1)) (Sound tokens b 0 (p + 1)) (IsTest b p) (expression_at tokens b 0 (p + 1)) _ (omega arith) (expression_at-holds tokens b 0 (p + 1) (omega arith) (omega arith)) (λ t h q sound.
+      after-good (length tokens) (b + p) (b + (p + 1)) (Sound tokens b 0 (p + 1)) (IsTest b p) (expression_at tokens b 0 (p + 1)) _ (omega arith)
+      (expression_at-holds tokens b 0 (p + 1) (omega arith) (omega arith)) (λ t h q sound.
       let size = sound.size in let a = size.low in let l = size.long in let w = size.within in
-      expect-good tokens (b + p) marks.RightParen q (IsTest b p) _ w (λ close' further. record { reads = ReadsTest.tested open' (sound.whole refl) close'; low = a; within = omega arith; long = omega arith })))
+      expect-good tokens (b + p) marks.RightParen q (IsTest b p) _ w
+      (λ close' further. record { reads = ReadsTest.tested open' (sound.whole refl) close'; low = a; within = omega arith; long = omega arith })))
 
-  pub closed-holds : (mark : Mark) (b p late : ℕ) (x : Outcome SourceStatement) → late ≤ b + p → Good (length tokens) late (IsSimple b p) x → Good (length tokens) late (IsClosed mark b p) (closed tokens mark b x)
+  pub closed-holds : (mark : Mark) (b p late : ℕ) (x : ParseOutcome SourceStatement) → late ≤ b + p → Good (length tokens) late (IsSimple b p) x →
+      Good (length tokens) late (IsClosed mark b p) (closed tokens mark b x)
   unfolding closed closed_behind
   closed-holds mark b p late x le good = after-good (length tokens) late late (IsSimple b p) (IsClosed mark b p) x _ (omega arith) good (λ s h q simple.
       let low = simple.low in let long = simple.long in let w = simple.within in
       expect-good tokens late mark q (IsClosed mark b p) _ w (λ behind below'.
-      allowed-good (length tokens) late h b q (IsClosed mark b p) _ (λ high. omega arith) w (λ fits. record { at = q; is = refl; reads = simple.reads; behind = behind; low = fits; within = omega arith })))
+      allowed-good (length tokens) late h b q (IsClosed mark b p) _ (λ high. omega arith) w
+      (λ fits. record { at = q; is = refl; reads = simple.reads; behind = behind; low = fits; within = omega arith })))
 
   module _ (b : ℕ) where
     target_at-holds : (p : ℕ) → p ≤ length tokens → Good (length tokens) (name_budget b + p) (IsTarget tokens (name_budget b) p) (target_at tokens b p)
@@ -106,11 +113,14 @@ module _ (tokens : List Token) where
 
     evaluation-holds : (p : ℕ) → p ≤ length tokens → Good (length tokens) (b - 1 + p) (IsSimple b p) (evaluation tokens b p)
     unfolding evaluation
-    evaluation-holds p within = after-good (length tokens) (b - 1 + p) (b - 1 + p) (Sound tokens (b - 1) 0 p) (IsSimple b p) (expression_at tokens (b - 1) 0 p) _ (omega arith) (expression_at-holds tokens (b - 1) 0 p (omega arith) within) (λ t h q sound.
+    evaluation-holds p within =
+        after-good (length tokens) (b - 1 + p) (b - 1 + p) (Sound tokens (b - 1) 0 p) (IsSimple b p) (expression_at tokens (b - 1) 0 p) _ (omega arith)
+        (expression_at-holds tokens (b - 1) 0 p (omega arith) within) (λ t h q sound.
         let size = sound.size in let a = size.low in let l = size.long in
         record { reads = ReadsSimple.evaluation (sound.whole refl); low = omega arith; long = omega arith; within = size.within })
 
-    evaluation_from-holds : (p : ℕ) (target : Target) (i at : ℕ) → 1 ≤ b → IsTarget tokens (name_budget b) p target i at → Good (length tokens) (b - 1 + p) (IsSimple b p) (evaluation_from tokens b p target i at)
+    evaluation_from-holds : (p : ℕ) (target : Target) (i at : ℕ) → 1 ≤ b → IsTarget tokens (name_budget b) p target i at →
+        Good (length tokens) (b - 1 + p) (IsSimple b p) (evaluation_from tokens b p target i at)
     unfolding evaluation_from
     evaluation_from-holds p target i at some is =
         let e = name_budget b in
@@ -121,7 +131,8 @@ module _ (tokens : List Token) where
         after-good (length tokens) (b - 1 + p) (name_budget b + p) (Sound tokens (name_budget b) 1 p) (IsSimple b p)
         (climb tokens (below tokens (name_budget b)) (name_budget b) 1 (name_budget b) (target_tree target) (target_height target i) at) _ (omega arith)
         (climb-holds tokens (below tokens (name_budget b)) (name_budget b) (below-holds tokens (name_budget b)) 1 p (name_budget b) (target_tree target) (target_height target i) at (omega arith)
-        (fresh tokens (below tokens (name_budget b)) (name_budget b) (below-holds tokens (name_budget b)) 1 p (target_tree target) (target_height target i) at (omega arith) unary) (omega arith)) (λ left h q first.
+        (fresh tokens (below tokens (name_budget b)) (name_budget b) (below-holds tokens (name_budget b)) 1 p (target_tree target) (target_height target i) at
+        (omega arith) unary) (omega arith)) (λ left h q first.
         after-good (length tokens) (b - 1 + p) (name_budget b + p) (Sound tokens (name_budget b) 0 p) (IsSimple b p)
         (choice tokens (below tokens (name_budget b)) (name_budget b) left h q) _ (omega arith)
         (choice-holds tokens (below tokens (name_budget b)) (name_budget b) (below-holds tokens (name_budget b)) p left h q first) (λ t j to sound.
@@ -133,29 +144,35 @@ module _ (tokens : List Token) where
     print_at-holds p is =
         let within = inside tokens p _ is in
         allowed-good (length tokens) (b - 1 + p) 2 b p (IsSimple b p) _ (λ high. omega arith) (omega arith) (λ low.
-        after-good (length tokens) (b - 1 + p) (b - 1 + (p + 1)) (IsTest (b - 1) (p + 1)) (IsSimple b p) (test_at tokens (b - 1) (p + 1)) _ (omega arith) (test_at-holds (b - 1) (p + 1) (omega arith)) (λ t h q test.
+        after-good (length tokens) (b - 1 + p) (b - 1 + (p + 1)) (IsTest (b - 1) (p + 1)) (IsSimple b p) (test_at tokens (b - 1) (p + 1)) _ (omega arith)
+        (test_at-holds (b - 1) (p + 1) (omega arith)) (λ t h q test.
         let a = test.low in let l = test.long in record { reads = ReadsSimple.print is test.reads; low = omega arith; long = omega arith; within = test.within }))
 
-    step_before-holds : (mark : Mark) (op : BinaryOp) (p : ℕ) → kind_at tokens p ≡ Some (kinds.Mark mark) → step_of mark ≡ Some op → Good (length tokens) (b - 1 + p) (IsSimple b p) (step_before tokens b op p)
+    step_before-holds : (mark : Mark) (op : BinaryOp) (p : ℕ) → kind_at tokens p ≡ Some (kinds.Mark mark) → step_of mark ≡ Some op →
+        Good (length tokens) (b - 1 + p) (IsSimple b p) (step_before tokens b op p)
     unfolding step_before
     step_before-holds mark op p is found =
         let within = inside tokens p _ is in
         allowed-good (length tokens) (b - 1 + p) 1 b p (IsSimple b p) _ (λ high. omega arith) (omega arith) (λ low.
-        after-good (length tokens) (b - 1 + p) (name_budget b + (p + 1)) (IsTarget tokens (name_budget b) (p + 1)) (IsSimple b p) (target_at tokens b (p + 1)) _ (omega arith) (target_at-holds (p + 1) (omega arith)) (λ target i q is'.
+        after-good (length tokens) (b - 1 + p) (name_budget b + (p + 1)) (IsTarget tokens (name_budget b) (p + 1)) (IsSimple b p) (target_at tokens b (p + 1)) _
+        (omega arith) (target_at-holds (p + 1) (omega arith)) (λ target i q is'.
         let size = is'.size in let a = size.low in let l = size.long in record { reads = ReadsSimple.step_before is found is'.reads; low = omega arith; long = omega arith; within = size.within }))
 
-    assignment-holds : (p : ℕ) (target : Target) (op : Option BinaryOp) (i at : ℕ) → IsTarget tokens (name_budget b) p target i at → assignment_from (kind_at tokens at) ≡ Some op → Good (length tokens) (b - 1 + p) (IsSimple b p) (assignment tokens b target op i at)
+    assignment-holds : (p : ℕ) (target : Target) (op : Option BinaryOp) (i at : ℕ) → IsTarget tokens (name_budget b) p target i at →
+        assignment_from (kind_at tokens at) ≡ Some op → Good (length tokens) (b - 1 + p) (IsSimple b p) (assignment tokens b target op i at)
     unfolding assignment
     assignment-holds p target op i at first assigns =
         let w = assignment-is (kind_at tokens at) op assigns in
         let within = inside tokens at _ w.1 in
         let size' = first.size in let a' = size'.low in let l' = size'.long in
         allowed-good (length tokens) (b - 1 + p) 2 b at (IsSimple b p) _ (λ high. omega arith) (omega arith) (λ low.
-        after-good (length tokens) (b - 1 + p) (b - 1 + (at + 1)) (Sound tokens (b - 1) 0 (at + 1)) (IsSimple b p) (expression_at tokens (b - 1) 0 (at + 1)) _ (omega arith) (expression_at-holds tokens (b - 1) 0 (at + 1) (omega arith) (omega arith)) (λ t j q sound.
+        after-good (length tokens) (b - 1 + p) (b - 1 + (at + 1)) (Sound tokens (b - 1) 0 (at + 1)) (IsSimple b p) (expression_at tokens (b - 1) 0 (at + 1)) _
+        (omega arith) (expression_at-holds tokens (b - 1) 0 (at + 1) (omega arith) (omega arith)) (λ t j q sound.
         let size = sound.size in let a = size.low in let l = size.long in
         record { reads = ReadsSimple.assignment first.reads w.1 w.2 (sound.whole refl); low = omega arith; long = omega arith; within = size.within }))
 
-    behind_target-holds : (p : ℕ) (target : Target) (i at : ℕ) (op : Option BinaryOp) → 1 ≤ b → IsTarget tokens (name_budget b) p target i at → step_from (kind_at tokens at) ≡ op → Good (length tokens) (b - 1 + p) (IsSimple b p) (behind_target tokens b p target i at op)
+    behind_target-holds : (p : ℕ) (target : Target) (i at : ℕ) (op : Option BinaryOp) → 1 ≤ b → IsTarget tokens (name_budget b) p target i at →
+        step_from (kind_at tokens at) ≡ op → Good (length tokens) (b - 1 + p) (IsSimple b p) (behind_target tokens b p target i at op)
     unfolding behind_target
     behind_target-holds p target i at (Some op) some first steps =
         let w = step-is (kind_at tokens at) op steps in
@@ -164,7 +181,8 @@ module _ (tokens : List Token) where
         record { reads = ReadsSimple.step_behind first.reads w.1 w.2; low = omega arith; long = omega arith; within = omega arith }
     behind_target-holds p target i at None some first steps = evaluation_from-holds p target i at some first
 
-    on_target-holds : (p : ℕ) (target : Target) (i at : ℕ) (op : Option (Option BinaryOp)) → 1 ≤ b → IsTarget tokens (name_budget b) p target i at → assignment_from (kind_at tokens at) ≡ op → Good (length tokens) (b - 1 + p) (IsSimple b p) (on_target tokens b p target i at op)
+    on_target-holds : (p : ℕ) (target : Target) (i at : ℕ) (op : Option (Option BinaryOp)) → 1 ≤ b → IsTarget tokens (name_budget b) p target i at →
+        assignment_from (kind_at tokens at) ≡ op → Good (length tokens) (b - 1 + p) (IsSimple b p) (on_target tokens b p target i at op)
     unfolding on_target
     on_target-holds p target i at (Some op) some first assigns = assignment-holds p target op i at first assigns
     on_target-holds p target i at None some first assigns = behind_target-holds p target i at (step_from (kind_at tokens at)) some first refl
@@ -173,7 +191,8 @@ module _ (tokens : List Token) where
     unfolding named
     named-holds p within =
         allowed-good (length tokens) (b - 1 + p) 1 b p (IsSimple b p) _ (λ high. omega arith) within (λ low.
-        after-good (length tokens) (b - 1 + p) (name_budget b + p) (IsTarget tokens (name_budget b) p) (IsSimple b p) (target_at tokens b p) _ (omega arith) (target_at-holds p within) (λ target i at first.
+        after-good (length tokens) (b - 1 + p) (name_budget b + p) (IsTarget tokens (name_budget b) p) (IsSimple b p) (target_at tokens b p) _ (omega arith)
+        (target_at-holds p within) (λ target i at first.
         on_target-holds p target i at (assignment_from (kind_at tokens at)) low first refl))
 
     pub simple_at-holds : (p : ℕ) → p ≤ length tokens → Good (length tokens) (b - 1 + p) (IsSimple b p) (simple_at tokens b p)
@@ -214,7 +233,7 @@ module _ (tokens : List Token) where
     pub within : q ≤ length tokens
     pub onward : p ≤ q
 
-  pub record IsFirst (b p : ℕ) (trees : SourceList) (h q : ℕ) : Type 0 where
+  pub record FirstPart (b p : ℕ) (trees : SourceList) (h q : ℕ) : Type 0 where
     pub reads : ReadsFirst tokens p trees h q
     pub low : h ≤ b
     pub within : q ≤ length tokens
@@ -232,22 +251,26 @@ module _ (tokens : List Token) where
     pub within : q ≤ length tokens
     pub onward : p ≤ q
 
-  array-holds : (b symbol p : ℕ) (size : Option ℕ) → 1 ≤ b → kind_at tokens p ≡ Some (kinds.Name symbol) → kind_at tokens (p + 1) ≡ Some (kinds.Mark marks.LeftBracket) → length_of (kind_at tokens (p + 2)) ≡ size →
+  array-holds : (b symbol p : ℕ) (size : Option ℕ) → 1 ≤ b → kind_at tokens p ≡ Some (kinds.Name symbol) → kind_at tokens (p + 1) ≡ Some (kinds.Mark marks.LeftBracket) →
+      length_of (kind_at tokens (p + 2)) ≡ size →
       Good (length tokens) (b - 1 + p) (IsDeclarator b p) (array tokens symbol p size)
   unfolding array
   array-holds b symbol p (Some size) some is open' found =
       let number = length-is (kind_at tokens (p + 2)) size found in
       let within = inside tokens (p + 2) _ number in
-      expect-good tokens (b - 1 + p) marks.RightBracket (p + 3) (IsDeclarator b p) _ (omega arith) (λ close' below'. record { reads = ReadsDeclarator.array is open' number close'; low = some; within = omega arith; onward = omega arith })
+      expect-good tokens (b - 1 + p) marks.RightBracket (p + 3) (IsDeclarator b p) _ (omega arith)
+      (λ close' below'. record { reads = ReadsDeclarator.array is open' number close'; low = some; within = omega arith; onward = omega arith })
   array-holds b symbol p None some is open' found = let within = inside tokens (p + 1) _ open' in omega arith
 
   module _ (b : ℕ) (some : 1 ≤ b) where
-    initialised-holds : (symbol p : ℕ) → kind_at tokens p ≡ Some (kinds.Name symbol) → kind_at tokens (p + 1) ≡ Some (kinds.Mark marks.Assign) → Good (length tokens) (b - 1 + p) (IsDeclarator b p) (initialised tokens b symbol p)
+    initialised-holds : (symbol p : ℕ) → kind_at tokens p ≡ Some (kinds.Name symbol) → kind_at tokens (p + 1) ≡ Some (kinds.Mark marks.Assign) →
+        Good (length tokens) (b - 1 + p) (IsDeclarator b p) (initialised tokens b symbol p)
     unfolding initialised
     initialised-holds symbol p is assign =
         let within = inside tokens (p + 1) _ assign in
         allowed-good (length tokens) (b - 1 + p) 2 b (p + 1) (IsDeclarator b p) _ (λ high. omega arith) (omega arith) (λ low.
-        after-good (length tokens) (b - 1 + p) (b - 1 + (p + 2)) (Sound tokens (b - 1) 0 (p + 2)) (IsDeclarator b p) (expression_at tokens (b - 1) 0 (p + 2)) _ (omega arith) (expression_at-holds tokens (b - 1) 0 (p + 2) (omega arith) (omega arith)) (λ t h q sound.
+        after-good (length tokens) (b - 1 + p) (b - 1 + (p + 2)) (Sound tokens (b - 1) 0 (p + 2)) (IsDeclarator b p) (expression_at tokens (b - 1) 0 (p + 2)) _
+        (omega arith) (expression_at-holds tokens (b - 1) 0 (p + 2) (omega arith) (omega arith)) (λ t h q sound.
         let size = sound.size in let a = size.low in let l = size.long in
         record { reads = ReadsDeclarator.initialised is assign (sound.whole refl); low = omega arith; within = size.within; onward = omega arith }))
 
@@ -271,9 +294,11 @@ module _ (tokens : List Token) where
         after-good (length tokens) (b - 1 + p) (b - 1 + p) (IsDeclarator b p) (IsDeclarators b p) (declarator_at tokens b p) _ (omega arith) (declarator_at-holds p within) (λ s h q first.
         let low' = first.low in let onward' = first.onward in
         on_mark-good tokens (b - 1 + p) marks.Comma q (IsDeclarators b p) _ _
-        (λ comma below'. after-good (length tokens) (b - 1 + p) (b - 1 + (q + 1)) (IsDeclarators b (q + 1)) (IsDeclarators b p) (declarators_at tokens b n (q + 1)) _ (omega arith) (declarators_at-holds n (q + 1) (omega arith)) (λ rest j to others.
+        (λ comma below'. after-good (length tokens) (b - 1 + p) (b - 1 + (q + 1)) (IsDeclarators b (q + 1)) (IsDeclarators b p) (declarators_at tokens b n (q + 1)) _
+        (omega arith) (declarators_at-holds n (q + 1) (omega arith)) (λ rest j to others.
         let low'' = others.low in record { reads = ReadsDeclarators.comma first.reads comma others.reads; low = omega arith; within = others.within }))
-        (λ no'. expect-good tokens (b - 1 + p) marks.Semicolon q (IsDeclarators b p) _ first.within (λ close' below'. record { reads = ReadsDeclarators.last first.reads close'; low = low'; within = omega arith })))
+        (λ no'. expect-good tokens (b - 1 + p) marks.Semicolon q (IsDeclarators b p) _ first.within
+        (λ close' below'. record { reads = ReadsDeclarators.last first.reads close'; low = low'; within = omega arith })))
 
   pub declaration_at-holds : (b p : ℕ) → kind_at tokens p ≡ Some (kinds.Key keys.Int) → Good (length tokens) (b - 1 + p) (IsDeclaration b p) (declaration_at tokens b p)
   unfolding declaration_at
@@ -282,21 +307,23 @@ module _ (tokens : List Token) where
       allowed-good (length tokens) (b - 1 + p) 1 b p (IsDeclaration b p) _ (λ high. omega arith) (omega arith) (λ low.
       weaker low (declarators_at tokens b (length tokens + 1) (p + 1)) (declarators_at-holds b low (length tokens + 1) (p + 1) (omega arith)))
     where
-      weaker : 1 ≤ b → (o : Outcome SourceList) → Good (length tokens) (b - 1 + (p + 1)) (IsDeclarators b (p + 1)) o → Good (length tokens) (b - 1 + p) (IsDeclaration b p) o
-      weaker low (Parsed t h q) good = let onward = declarators-onward tokens (p + 1) t h q good.reads in record { reads = ReadsDeclaration.declaration is good.reads; low = good.low; within = good.within; onward = omega arith }
+      weaker : 1 ≤ b → (o : ParseOutcome SourceList) → Good (length tokens) (b - 1 + (p + 1)) (IsDeclarators b (p + 1)) o → Good (length tokens) (b - 1 + p) (IsDeclaration b p) o
+      weaker low (Parsed t h q) good = let onward = declarators-onward tokens (p + 1) t h q good.reads in
+          record { reads = ReadsDeclaration.declaration is good.reads; low = good.low; within = good.within; onward = omega arith }
       weaker low (Unreadable at) good = good
       weaker low (TooHigh at) good = let a = good.0 in (omega arith, good.1)
 
-  pub first_at-holds : (b p : ℕ) → p ≤ length tokens → Good (length tokens) (b - 1 + p) (IsFirst b p) (first_at tokens b p)
+  pub first_at-holds : (b p : ℕ) → p ≤ length tokens → Good (length tokens) (b - 1 + p) (FirstPart b p) (first_at tokens b p)
   unfolding first_at
   first_at-holds b p within =
-      on_key-good tokens (b - 1 + p) keys.Int p (IsFirst b p) _ _ (λ int below'. weaker (declaration_at tokens b p) (declaration_at-holds b p int)) (λ no'.
-      on_mark-good tokens (b - 1 + p) marks.Semicolon p (IsFirst b p) _ _ (λ semicolon below'. record { reads = ReadsFirst.none semicolon; low = omega arith; within = omega arith; onward = omega arith }) (λ no''.
-      after-good (length tokens) (b - 1 + p) (b - 1 + p) (IsClosed marks.Semicolon b p) (IsFirst b p) (ended_at tokens b p) _ (omega arith) (ended_at-holds b p within) (λ s h q closed'.
+      on_key-good tokens (b - 1 + p) keys.Int p (FirstPart b p) _ _ (λ int below'. weaker (declaration_at tokens b p) (declaration_at-holds b p int)) (λ no'.
+      on_mark-good tokens (b - 1 + p) marks.Semicolon p (FirstPart b p) _ _
+      (λ semicolon below'. record { reads = ReadsFirst.none semicolon; low = omega arith; within = omega arith; onward = omega arith }) (λ no''.
+      after-good (length tokens) (b - 1 + p) (b - 1 + p) (IsClosed marks.Semicolon b p) (FirstPart b p) (ended_at tokens b p) _ (omega arith) (ended_at-holds b p within) (λ s h q closed'.
       let onward = simple-onward tokens p s h closed'.at closed'.reads in let is = closed'.is in
       record { reads = subst (ReadsFirst tokens p (More s No_more) h) closed'.is (ReadsFirst.simple closed'.reads closed'.behind); low = closed'.low; within = closed'.within; onward = omega arith })))
     where
-      weaker : (o : Outcome SourceList) → Good (length tokens) (b - 1 + p) (IsDeclaration b p) o → Good (length tokens) (b - 1 + p) (IsFirst b p) o
+      weaker : (o : ParseOutcome SourceList) → Good (length tokens) (b - 1 + p) (IsDeclaration b p) o → Good (length tokens) (b - 1 + p) (FirstPart b p) o
       weaker (Parsed t h q) good = record { reads = ReadsFirst.declared good.reads; low = good.low; within = good.within; onward = good.onward }
       weaker (Unreadable at) good = good
       weaker (TooHigh at) good = good
@@ -304,15 +331,19 @@ module _ (tokens : List Token) where
   pub condition_at-holds : (b p : ℕ) → p ≤ length tokens → Good (length tokens) (b - 1 + p) (IsCondition b p) (condition_at tokens b p)
   unfolding condition_at
   condition_at-holds b p within =
-      on_mark-good tokens (b - 1 + p) marks.Semicolon p (IsCondition b p) _ _ (λ semicolon below'. record { reads = ReadsCondition.none semicolon; low = omega arith; within = omega arith; onward = omega arith }) (λ no'.
-      after-good (length tokens) (b - 1 + p) (b + p) (Sound tokens b 0 p) (IsCondition b p) (expression_at tokens b 0 p) _ (omega arith) (expression_at-holds tokens b 0 p (omega arith) within) (λ t h q sound.
+      on_mark-good tokens (b - 1 + p) marks.Semicolon p (IsCondition b p) _ _
+      (λ semicolon below'. record { reads = ReadsCondition.none semicolon; low = omega arith; within = omega arith; onward = omega arith }) (λ no'.
+      after-good (length tokens) (b - 1 + p) (b + p) (Sound tokens b 0 p) (IsCondition b p) (expression_at tokens b 0 p) _ (omega arith)
+      (expression_at-holds tokens b 0 p (omega arith) within) (λ t h q sound.
       let size = sound.size in let a = size.low in let l = size.long in
-      expect-good tokens (b - 1 + p) marks.Semicolon q (IsCondition b p) _ size.within (λ close' below'. record { reads = ReadsCondition.given (sound.whole refl) close'; low = a; within = omega arith; onward = omega arith })))
+      expect-good tokens (b - 1 + p) marks.Semicolon q (IsCondition b p) _ size.within
+      (λ close' below'. record { reads = ReadsCondition.given (sound.whole refl) close'; low = a; within = omega arith; onward = omega arith })))
 
   pub step_at-holds : (b p : ℕ) → p ≤ length tokens → Good (length tokens) (b - 1 + p) (IsStep b p) (step_at tokens b p)
   unfolding step_at
   step_at-holds b p within =
-      on_mark-good tokens (b - 1 + p) marks.RightParen p (IsStep b p) _ _ (λ close' below'. record { reads = ReadsStep.none close'; low = omega arith; within = omega arith; onward = omega arith }) (λ no'.
+      on_mark-good tokens (b - 1 + p) marks.RightParen p (IsStep b p) _ _
+      (λ close' below'. record { reads = ReadsStep.none close'; low = omega arith; within = omega arith; onward = omega arith }) (λ no'.
       after-good (length tokens) (b - 1 + p) (b - 1 + p) (IsClosed marks.RightParen b p) (IsStep b p) (closed tokens marks.RightParen b (simple_at tokens b p)) _ (omega arith)
       (closed-holds marks.RightParen b p (b - 1 + p) (simple_at tokens b p) (omega arith) (simple_at-holds b p within)) (λ s h q closed'.
       let onward = simple-onward tokens p s h closed'.at closed'.reads in let is = closed'.is in

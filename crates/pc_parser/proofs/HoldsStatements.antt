@@ -9,17 +9,21 @@ use Rattle.pc_lexer.specs.declared.mark.Mark.TheVariants as marks
 use Rattle.pc_lexer.specs.declared.keyword.Keyword.{Keyword}
 use Rattle.pc_lexer.specs.declared.keyword.Keyword.TheVariants as keys
 use Rattle.pc_syntax.specs.Source.{SourceExpression, SourceStatement, SourceList, Scope, BreakOut, ContinueOn, No_more, More, appended}
-use Rattle.pc_parser.specs.Places.{kind_at, line_at, is_key, mark_is, key_is}
+use Rattle.pc_parser.specs.Places.{kind_at, line_at}
+use Rattle.pc_parser.specs.models.Tests.{is_key, mark_is, key_is}
 use Rattle.pc_parser.specs.Statements.{ends_open, ReadsSimple, ReadsStatement, ReadsItems, ReadsProgram}
-use Rattle.pc_parser.specs.Outcome.{Outcome, Parsed, Unreadable, TooHigh, after}
-use Rattle.pc_parser.specs.ExpressionParser.{expression_at}
-use Rattle.pc_parser.specs.StatementParser.{test_at, ended_at, declaration_at, first_at, condition_at, step_at, item_at, items_at, block_at, otherwise_at, branch_at, while_at, do_at, for_body, for_at, lone, return_at, keyed, started, statement_on, statement_from, statement_at, statement_below, nothing_behind, main_block, program_at}
+use Rattle.pc_parser.specs.models.Outcome.{ParseOutcome, Parsed, Unreadable, TooHigh, after}
+use Rattle.pc_parser.specs.models.ExpressionParser.{expression_at}
+use Rattle.pc_parser.specs.models.StatementParser.{test_at, ended_at, declaration_at, first_at, condition_at, step_at, item_at, items_at, block_at, otherwise_at, branch_at, while_at, do_at}
+use Rattle.pc_parser.specs.models.StatementParser.{for_body, for_at, lone, return_at, keyed, started, statement_on, statement_from, statement_at, statement_below, nothing_behind, main_block}
+use Rattle.pc_parser.specs.models.StatementParser.{program_at}
 use Rattle.pc_parser.proofs.Tokens.{is_key-of, mark_is-true, key_is-true}
 use Rattle.pc_parser.proofs.Finds.{false_from}
 use Rattle.pc_parser.proofs.Onward.{inside, test-onward, simple-onward, items-onward}
 use Rattle.pc_parser.proofs.Holds.{Good, after-good, cond-good, allowed-good, expect-good, expect_key-good, on_mark-good, on_key-good}
 use Rattle.pc_parser.proofs.HoldsExpressions.{Sound, expression_at-holds}
-use Rattle.pc_parser.proofs.HoldsSimple.{IsTest, IsClosed, IsDeclaration, IsFirst, IsCondition, IsStep, test_at-holds, ended_at-holds, declaration_at-holds, first_at-holds, condition_at-holds, step_at-holds}
+use Rattle.pc_parser.proofs.HoldsSimple.{IsTest, IsClosed, IsDeclaration, FirstPart, IsCondition, IsStep, test_at-holds, ended_at-holds, declaration_at-holds, first_at-holds}
+use Rattle.pc_parser.proofs.HoldsSimple.{condition_at-holds, step_at-holds}
 
 module _ (tokens : List Token) where
   -- a statement that the budget allows, and behind which no `else` stands that would be its own
@@ -55,26 +59,26 @@ module _ (tokens : List Token) where
   simple-shut p s h q (ReadsSimple.print is d) = refl
   simple-shut p s h q (ReadsSimple.evaluation d) = refl
 
-  abbrev pub InnerHolds : ℕ → ((from : ℕ) → Outcome SourceStatement) → Type 0
+  abbrev pub InnerHolds : ℕ → ((from : ℕ) → ParseOutcome SourceStatement) → Type 0
   InnerHolds b inner = (from : ℕ) → from ≤ length tokens → Good (length tokens) (b - 1 - 1 + from) (IsStatement (b - 1) from) (inner from)
 
   ended-holds : (b p : ℕ) → p ≤ length tokens → Good (length tokens) (b - 1 + p) (IsStatement b p) (ended_at tokens b p)
   ended-holds b p within = weaker (ended_at tokens b p) (ended_at-holds tokens b p within)
     where
-      weaker : (o : Outcome SourceStatement) → Good (length tokens) (b - 1 + p) (IsClosed tokens marks.Semicolon b p) o → Good (length tokens) (b - 1 + p) (IsStatement b p) o
+      weaker : (o : ParseOutcome SourceStatement) → Good (length tokens) (b - 1 + p) (IsClosed tokens marks.Semicolon b p) o → Good (length tokens) (b - 1 + p) (IsStatement b p) o
       weaker (Parsed s h q) good = let onward = simple-onward tokens p s h good.at good.reads in let is = good.is in let shut = simple-shut p s h good.at good.reads in
           record { reads = subst (ReadsStatement tokens p s h) good.is (ReadsStatement.simple good.reads good.behind); low = good.low; within = good.within; onward = omega arith; shut = λ t. cc }
       weaker (Unreadable at) good = good
       weaker (TooHigh at) good = good
 
-  module _ (inner : (from : ℕ) → Outcome SourceStatement) (b : ℕ) (holds : InnerHolds b inner) where
+  module _ (inner : (from : ℕ) → ParseOutcome SourceStatement) (b : ℕ) (holds : InnerHolds b inner) where
     item_at-holds : (p : ℕ) → 1 ≤ b → p ≤ length tokens → Good (length tokens) (b - 1 - 1 + p) (IsItem (b - 1) p) (item_at tokens inner b p)
     unfolding item_at
     item_at-holds p some within =
         on_key-good tokens (b - 1 - 1 + p) keys.Int p (IsItem (b - 1) p) _ _ (λ int below'. weaker (declaration_at tokens (b - 1) p) (declaration_at-holds tokens (b - 1) p int)) (λ no'.
         after-good (length tokens) (b - 1 - 1 + p) (b - 1 - 1 + p) (IsStatement (b - 1) p) (IsItem (b - 1) p) (inner p) _ (omega arith) (holds p within) (λ s h q good. IsItem.stated good))
       where
-        weaker : (o : Outcome SourceList) → Good (length tokens) (b - 1 - 1 + p) (IsDeclaration tokens (b - 1) p) o → Good (length tokens) (b - 1 - 1 + p) (IsItem (b - 1) p) o
+        weaker : (o : ParseOutcome SourceList) → Good (length tokens) (b - 1 - 1 + p) (IsDeclaration tokens (b - 1) p) o → Good (length tokens) (b - 1 - 1 + p) (IsItem (b - 1) p) o
         weaker (Parsed t h q) good = IsItem.declared good
         weaker (Unreadable at) good = good
         weaker (TooHigh at) good = good
@@ -94,7 +98,8 @@ module _ (tokens : List Token) where
         on_mark-good tokens (b - 1 - 1 + p) marks.RightBrace p (IsItems (b - 1) p) _ _ (λ close' below'. record { reads = ReadsItems.close close'; low = omega arith; within = omega arith }) (λ no'.
         after-good (length tokens) (b - 1 - 1 + p) (b - 1 - 1 + p) (IsItem (b - 1) p) (IsItems (b - 1) p) (item_at tokens inner b p) _ (omega arith) (item_at-holds p some within) (λ trees h q item.
         let w = item-inside p trees h q item in let w0 = w.0 in let w1 = w.1 in let w2 = w.2 in
-        after-good (length tokens) (b - 1 - 1 + p) (b - 1 - 1 + q) (IsItems (b - 1) q) (IsItems (b - 1) p) (items_at tokens inner b n q) _ (omega arith) (items_at-holds n q some w0) (λ rest j to others.
+        after-good (length tokens) (b - 1 - 1 + p) (b - 1 - 1 + q) (IsItems (b - 1) q) (IsItems (b - 1) p) (items_at tokens inner b n q) _ (omega arith)
+        (items_at-holds n q some w0) (λ rest j to others.
         let low' = others.low in record { reads = item-reads p trees rest h q j to item others.reads; low = omega arith; within = others.within })))
 
     pub block_at-holds : (p : ℕ) → kind_at tokens p ≡ Some (kinds.Mark marks.LeftBrace) → Good (length tokens) (b - 1 + p) (IsBlock b p) (block_at tokens inner b p)
@@ -102,15 +107,18 @@ module _ (tokens : List Token) where
     block_at-holds p is =
         let within = inside tokens p _ is in
         allowed-good (length tokens) (b - 1 + p) 1 b p (IsBlock b p) _ (λ high. omega arith) (omega arith) (λ low.
-        after-good (length tokens) (b - 1 + p) (b - 1 - 1 + (p + 1)) (IsItems (b - 1) (p + 1)) (IsBlock b p) (items_at tokens inner b (length tokens + 1) (p + 1)) _ (omega arith) (items_at-holds (length tokens + 1) (p + 1) low (omega arith)) (λ trees h q items. record { height = h; is = refl; items = items; some = low }))
+        after-good (length tokens) (b - 1 + p) (b - 1 - 1 + (p + 1)) (IsItems (b - 1) (p + 1)) (IsBlock b p) (items_at tokens inner b (length tokens + 1) (p + 1)) _
+        (omega arith) (items_at-holds (length tokens + 1) (p + 1) low (omega arith)) (λ trees h q items. record { height = h; is = refl; items = items; some = low }))
 
-    otherwise_at-holds : (p : ℕ) (test : SourceExpression) (body : SourceStatement) (i q j at : ℕ) → 2 ≤ b → kind_at tokens p ≡ Some (kinds.Key keys.If) → IsTest tokens (b - 1) (p + 1) test i q → IsStatement (b - 1) q body j at →
+    otherwise_at-holds : (p : ℕ) (test : SourceExpression) (body : SourceStatement) (i q j at : ℕ) → 2 ≤ b → kind_at tokens p ≡ Some (kinds.Key keys.If) →
+        IsTest tokens (b - 1) (p + 1) test i q → IsStatement (b - 1) q body j at →
         Good (length tokens) (b - 1 + p) (IsStatement b p) (otherwise_at tokens inner b (line_at tokens p) test body i j at)
     unfolding otherwise_at
     otherwise_at-holds p test body i q j at low is first good =
         let a = first.low in let c = good.low in let onward = test-onward tokens (p + 1) test i q first.reads in let onward' = good.onward in
         on_key-good tokens (b - 1 + p) keys.Else at (IsStatement b p) _ _
-        (λ else' below'. after-good (length tokens) (b - 1 + p) (b - 1 - 1 + (at + 1)) (IsStatement (b - 1) (at + 1)) (IsStatement b p) (inner (at + 1)) _ (omega arith) (holds (at + 1) (omega arith)) (λ other l to last.
+        (λ else' below'. after-good (length tokens) (b - 1 + p) (b - 1 - 1 + (at + 1)) (IsStatement (b - 1) (at + 1)) (IsStatement b p) (inner (at + 1)) _ (omega arith)
+        (holds (at + 1) (omega arith)) (λ other l to last.
         let e = last.low in let onward'' = last.onward in
         let closed : ends_open body ≡ false = false_from (ends_open body) (λ open'. let no' = good.shut open' in let yes' = is_key-of keys.Else (kind_at tokens at) else' in cc) in
         record { reads = ReadsStatement.branch_else is first.reads good.reads closed else' last.reads; low = omega arith; within = last.within; onward = omega arith; shut = last.shut }))
@@ -121,7 +129,8 @@ module _ (tokens : List Token) where
     branch_at-holds p is =
         let within = inside tokens p _ is in
         allowed-good (length tokens) (b - 1 + p) 2 b p (IsStatement b p) _ (λ high. omega arith) (omega arith) (λ low.
-        after-good (length tokens) (b - 1 + p) (b - 1 + (p + 1)) (IsTest tokens (b - 1) (p + 1)) (IsStatement b p) (test_at tokens (b - 1) (p + 1)) _ (omega arith) (test_at-holds tokens (b - 1) (p + 1) (omega arith)) (λ test i q first.
+        after-good (length tokens) (b - 1 + p) (b - 1 + (p + 1)) (IsTest tokens (b - 1) (p + 1)) (IsStatement b p) (test_at tokens (b - 1) (p + 1)) _ (omega arith)
+        (test_at-holds tokens (b - 1) (p + 1) (omega arith)) (λ test i q first.
         let onward = test-onward tokens (p + 1) test i q first.reads in
         after-good (length tokens) (b - 1 + p) (b - 1 - 1 + q) (IsStatement (b - 1) q) (IsStatement b p) (inner q) _ (omega arith) (holds q first.within) (λ body j at good.
         otherwise_at-holds p test body i q j at low is first good)))
@@ -131,7 +140,8 @@ module _ (tokens : List Token) where
     while_at-holds p is =
         let within = inside tokens p _ is in
         allowed-good (length tokens) (b - 1 + p) 2 b p (IsStatement b p) _ (λ high. omega arith) (omega arith) (λ low.
-        after-good (length tokens) (b - 1 + p) (b - 1 + (p + 1)) (IsTest tokens (b - 1) (p + 1)) (IsStatement b p) (test_at tokens (b - 1) (p + 1)) _ (omega arith) (test_at-holds tokens (b - 1) (p + 1) (omega arith)) (λ test i q first.
+        after-good (length tokens) (b - 1 + p) (b - 1 + (p + 1)) (IsTest tokens (b - 1) (p + 1)) (IsStatement b p) (test_at tokens (b - 1) (p + 1)) _ (omega arith)
+        (test_at-holds tokens (b - 1) (p + 1) (omega arith)) (λ test i q first.
         let a = first.low in let onward = test-onward tokens (p + 1) test i q first.reads in
         after-good (length tokens) (b - 1 + p) (b - 1 - 1 + q) (IsStatement (b - 1) q) (IsStatement b p) (inner q) _ (omega arith) (holds q first.within) (λ body j to good.
         let c = good.low in let onward' = good.onward in
@@ -145,7 +155,8 @@ module _ (tokens : List Token) where
         after-good (length tokens) (b - 1 + p) (b - 1 - 1 + (p + 1)) (IsStatement (b - 1) (p + 1)) (IsStatement b p) (inner (p + 1)) _ (omega arith) (holds (p + 1) (omega arith)) (λ body i q good.
         let c = good.low in let onward' = good.onward in
         expect_key-good tokens (b - 1 + p) keys.While q (IsStatement b p) _ good.within (λ while' below'.
-        after-good (length tokens) (b - 1 + p) (b - 1 + (q + 1)) (IsTest tokens (b - 1) (q + 1)) (IsStatement b p) (test_at tokens (b - 1) (q + 1)) _ (omega arith) (test_at-holds tokens (b - 1) (q + 1) (omega arith)) (λ test j r last.
+        after-good (length tokens) (b - 1 + p) (b - 1 + (q + 1)) (IsTest tokens (b - 1) (q + 1)) (IsStatement b p) (test_at tokens (b - 1) (q + 1)) _ (omega arith)
+        (test_at-holds tokens (b - 1) (q + 1) (omega arith)) (λ test j r last.
         let a = last.low in let onward = test-onward tokens (q + 1) test j r last.reads in
         expect-good tokens (b - 1 + p) marks.Semicolon r (IsStatement b p) _ last.within (λ close' below''.
         record { reads = ReadsStatement.do_loop is good.reads while' last.reads close'; low = omega arith; within = omega arith; onward = omega arith; shut = λ t. cc })))))
@@ -156,11 +167,14 @@ module _ (tokens : List Token) where
         let here = inside tokens p _ is in
         allowed-good (length tokens) (b - 1 + p) 2 b p (IsStatement b p) _ (λ high. omega arith) (omega arith) (λ low.
         expect-good tokens (b - 1 + p) marks.LeftParen (p + 1) (IsStatement b p) _ (omega arith) (λ open' below'.
-        after-good (length tokens) (b - 1 + p) (b - 1 - 1 + (p + 2)) (IsFirst tokens (b - 1) (p + 2)) (IsStatement b p) (first_at tokens (b - 1) (p + 2)) _ (omega arith) (first_at-holds tokens (b - 1) (p + 2) (omega arith)) (λ first i q one.
+        after-good (length tokens) (b - 1 + p) (b - 1 - 1 + (p + 2)) (FirstPart tokens (b - 1) (p + 2)) (IsStatement b p) (first_at tokens (b - 1) (p + 2)) _
+        (omega arith) (first_at-holds tokens (b - 1) (p + 2) (omega arith)) (λ first i q one.
         let a = one.low in let on1 = one.onward in
-        after-good (length tokens) (b - 1 + p) (b - 1 - 1 + q) (IsCondition tokens (b - 1) q) (IsStatement b p) (condition_at tokens (b - 1) q) _ (omega arith) (condition_at-holds tokens (b - 1) q one.within) (λ test j r two.
+        after-good (length tokens) (b - 1 + p) (b - 1 - 1 + q) (IsCondition tokens (b - 1) q) (IsStatement b p) (condition_at tokens (b - 1) q) _ (omega arith)
+        (condition_at-holds tokens (b - 1) q one.within) (λ test j r two.
         let c = two.low in let on2 = two.onward in
-        after-good (length tokens) (b - 1 + p) (b - 1 - 1 + r) (IsStep tokens (b - 1) r) (IsStatement b p) (step_at tokens (b - 1) r) _ (omega arith) (step_at-holds tokens (b - 1) r two.within) (λ step l s three.
+        after-good (length tokens) (b - 1 + p) (b - 1 - 1 + r) (IsStep tokens (b - 1) r) (IsStatement b p) (step_at tokens (b - 1) r) _ (omega arith)
+        (step_at-holds tokens (b - 1) r two.within) (λ step l s three.
         let d = three.low in let on3 = three.onward in
         after-good (length tokens) (b - 1 + p) (b - 1 - 1 + s) (IsStatement (b - 1) s) (IsStatement b p) (inner s) _ (omega arith) (holds s three.within) (λ body m to good.
         let e = good.low in let on4 = good.onward in
@@ -187,7 +201,8 @@ module _ (tokens : List Token) where
     return_at-holds p is =
         let within = inside tokens p _ is in
         allowed-good (length tokens) (b - 1 + p) 2 b p (IsStatement b p) _ (λ high. omega arith) (omega arith) (λ low.
-        after-good (length tokens) (b - 1 + p) (b - 1 + (p + 1)) (Sound tokens (b - 1) 0 (p + 1)) (IsStatement b p) (expression_at tokens (b - 1) 0 (p + 1)) _ (omega arith) (expression_at-holds tokens (b - 1) 0 (p + 1) (omega arith) (omega arith)) (λ t h q sound.
+        after-good (length tokens) (b - 1 + p) (b - 1 + (p + 1)) (Sound tokens (b - 1) 0 (p + 1)) (IsStatement b p) (expression_at tokens (b - 1) 0 (p + 1)) _
+        (omega arith) (expression_at-holds tokens (b - 1) 0 (p + 1) (omega arith) (omega arith)) (λ t h q sound.
         let size = sound.size in let a = size.low in let l = size.long in
         expect-good tokens (b - 1 + p) marks.Semicolon q (IsStatement b p) _ size.within (λ close' below'.
         record { reads = ReadsStatement.return_from is (sound.whole refl) close'; low = omega arith; within = omega arith; onward = omega arith; shut = λ t. cc })))
@@ -203,8 +218,12 @@ module _ (tokens : List Token) where
         (either keys.Continue _ _ (λ e. continue-holds p e)
         (either keys.Return _ _ (λ e. return_at-holds p e) (ended-holds b p within)))))))
       where
-        either : (key' : Keyword) (x y : Outcome SourceStatement) → (kind_at tokens p ≡ Some (kinds.Key key') → Good (length tokens) (b - 1 + p) (IsStatement b p) x) → Good (length tokens) (b - 1 + p) (IsStatement b p) y → Good (length tokens) (b - 1 + p) (IsStatement b p) (cond (key_is key key') x y)
-        either key' x y one other = cond-good (length tokens) (b - 1 + p) (IsStatement b p) (key_is key key') x y (λ yes'. one (is ∙ ap (λ k. Some (kinds.Key k)) (key_is-true key key' yes'))) (λ no'. other)
+        either : (key' : Keyword) (x y : ParseOutcome SourceStatement) →
+            (kind_at tokens p ≡ Some (kinds.Key key') → Good (length tokens) (b - 1 + p) (IsStatement b p) x) → Good (length tokens) (b - 1 + p) (IsStatement b p) y →
+            Good (length tokens) (b - 1 + p) (IsStatement b p) (cond (key_is key key') x y)
+        either key' x y one other =
+            cond-good (length tokens) (b - 1 + p) (IsStatement b p) (key_is key key') x y (λ yes'. one (is ∙ ap (λ k. Some (kinds.Key k)) (key_is-true key key' yes')))
+            (λ no'. other)
 
     started-holds : (mark : Mark) (p : ℕ) → kind_at tokens p ≡ Some (kinds.Mark mark) → p ≤ length tokens → Good (length tokens) (b - 1 + p) (IsStatement b p) (started tokens inner b mark p)
     unfolding started
@@ -217,10 +236,18 @@ module _ (tokens : List Token) where
         record { reads = ReadsStatement.empty (is ∙ ap (λ m. Some (kinds.Mark m)) (mark_is-true mark marks.Semicolon yes')); low = low; within = omega arith; onward = omega arith; shut = λ t. cc }))
         (λ no''. ended-holds b p within))
       where
-        block-holds : kind_at tokens p ≡ Some (kinds.Mark marks.LeftBrace) → Good (length tokens) (b - 1 + p) (IsStatement b p) (after (block_at tokens inner b p) (λ items height to. Parsed (Scope items) height to))
+        block-holds : kind_at tokens p ≡ Some (kinds.Mark marks.LeftBrace) →
+            Good (length tokens) (b - 1 + p) (IsStatement b p) (after (block_at tokens inner b p) (λ items height to. Parsed (Scope items) height to))
         block-holds brace = after-good (length tokens) (b - 1 + p) (b - 1 + p) (IsBlock b p) (IsStatement b p) (block_at tokens inner b p) _ (omega arith) (block_at-holds p brace) (λ items h q block.
             let low = block.items.low in let onward = items-onward tokens (p + 1) items block.height q block.items.reads in let is' = block.is in let some = block.some in
-            record { reads = subst (λ n. ReadsStatement tokens p (Scope items) n q) block.is (ReadsStatement.block brace block.items.reads); low = omega arith; within = block.items.within; onward = omega arith; shut = λ t. cc })
+            record {
+              reads = subst (λ n. ReadsStatement tokens p (Scope items) n q) block.is (ReadsStatement.block brace block.items.reads);
+              low = omega arith;
+              within =
+                  block.items.within;
+              onward = omega arith;
+              shut = λ t. cc;
+            })
 
     statement_from-holds : (p : ℕ) → p ≤ length tokens → Good (length tokens) (b - 1 + p) (IsStatement b p) (statement_from tokens inner b p)
     unfolding statement_from statement_on
@@ -238,7 +265,8 @@ module _ (tokens : List Token) where
   statement_at-holds zero p within = statement_from-holds (λ from. TooHigh from) 0 (λ from within'. (omega arith, within')) p within
   statement_at-holds (suc b) p within = statement_from-holds (statement_at tokens b) (suc b) (λ from within'. lower b from (statement_at-holds b from within')) p within
     where
-      lower : (b from : ℕ) → Good (length tokens) (b - 1 + from) (IsStatement b from) (statement_at tokens b from) → Good (length tokens) (suc b - 1 - 1 + from) (IsStatement (suc b - 1) from) (statement_at tokens b from)
+      lower : (b from : ℕ) → Good (length tokens) (b - 1 + from) (IsStatement b from) (statement_at tokens b from) →
+          Good (length tokens) (suc b - 1 - 1 + from) (IsStatement (suc b - 1) from) (statement_at tokens b from)
       lower b from good = let same : b ≡ suc b - 1 = omega arith in subst (λ n. Good (length tokens) (n - 1 + from) (IsStatement n from) (statement_at tokens b from)) same good
 
   below-holds : (b : ℕ) → InnerHolds b (statement_below tokens b)
@@ -262,10 +290,12 @@ module _ (tokens : List Token) where
   main_block-holds b p within =
       expect-good tokens (b - 1 + p) marks.RightParen p (IsMain b p) _ within (λ close' below'.
       expect-good tokens (b - 1 + p) marks.LeftBrace (p + 1) (IsMain b p) _ (omega arith) (λ open' below''.
-      after-good (length tokens) (b - 1 + p) (b - 1 + (p + 1)) (IsBlock b (p + 1)) (IsMain b p) (block_at tokens (statement_below tokens b) b (p + 1)) _ (omega arith) (block_at-holds (statement_below tokens b) b (below-holds b) (p + 1) open') (λ items h q block.
+      after-good (length tokens) (b - 1 + p) (b - 1 + (p + 1)) (IsBlock b (p + 1)) (IsMain b p) (block_at tokens (statement_below tokens b) b (p + 1)) _ (omega arith)
+      (block_at-holds (statement_below tokens b) b (below-holds b) (p + 1) open') (λ items h q block.
       by close' open' items h q block (kind_at tokens q) refl)))
     where
-      by : kind_at tokens p ≡ Some (kinds.Mark marks.RightParen) → kind_at tokens (p + 1) ≡ Some (kinds.Mark marks.LeftBrace) → (items : SourceList) (h q : ℕ) → IsBlock b (p + 1) items h q → (kind : Option TokenKind) → kind_at tokens q ≡ kind →
+      by : kind_at tokens p ≡ Some (kinds.Mark marks.RightParen) → kind_at tokens (p + 1) ≡ Some (kinds.Mark marks.LeftBrace) → (items : SourceList) (h q : ℕ) →
+          IsBlock b (p + 1) items h q → (kind : Option TokenKind) → kind_at tokens q ≡ kind →
           Good (length tokens) (b - 1 + p) (IsMain b p) (nothing_behind items h q kind)
       by close' open' items h q block None is = let low = block.items.low in let is' = block.is in let some = block.some in
           record { height = block.height; is = block.is; close = close'; open' = open'; reads = block.items.reads; end' = is; low = omega arith }
@@ -286,14 +316,25 @@ module _ (tokens : List Token) where
       (λ void below3. with-void int main open' void (main_block tokens b 4) (main_block-holds b 4 (omega arith)))
       (λ no'. without-void int main open' (main_block tokens b 3) (main_block-holds b 3 (omega arith))))))
     where
-      with-void : kind_at tokens 0 ≡ Some (kinds.Key keys.Int) → kind_at tokens 1 ≡ Some (kinds.Key keys.Main) → kind_at tokens 2 ≡ Some (kinds.Mark marks.LeftParen) → kind_at tokens 3 ≡ Some (kinds.Key keys.Void) →
-          (o : Outcome SourceList) → Good (length tokens) (b - 1 + 4) (IsMain b 4) o → Good (length tokens) (b - 1 + 3) (IsProgram b) o
-      with-void int main open' void (Parsed items h q) good = record { reads = subst (ReadsProgram tokens record { items = items }) good.is (ReadsProgram.with_void int main open' void good.close good.open' good.reads good.end'); low = good.low }
+      with-void : kind_at tokens 0 ≡ Some (kinds.Key keys.Int) → kind_at tokens 1 ≡ Some (kinds.Key keys.Main) → kind_at tokens 2 ≡ Some (kinds.Mark marks.LeftParen) →
+          kind_at tokens 3 ≡ Some (kinds.Key keys.Void) →
+          (o : ParseOutcome SourceList) → Good (length tokens) (b - 1 + 4) (IsMain b 4) o → Good (length tokens) (b - 1 + 3) (IsProgram b) o
+      with-void int main open' void (Parsed items h q) good =
+          record {
+            reads = subst (ReadsProgram tokens record { items = items }) good.is
+                (ReadsProgram.with_void int main open' void good.close good.open' good.reads good.end');
+            low = good.low;
+          }
       with-void int main open' void (Unreadable at) good = good
       with-void int main open' void (TooHigh at) good = let a = good.0 in (omega arith, good.1)
 
       without-void : kind_at tokens 0 ≡ Some (kinds.Key keys.Int) → kind_at tokens 1 ≡ Some (kinds.Key keys.Main) → kind_at tokens 2 ≡ Some (kinds.Mark marks.LeftParen) →
-          (o : Outcome SourceList) → Good (length tokens) (b - 1 + 3) (IsMain b 3) o → Good (length tokens) (b - 1 + 3) (IsProgram b) o
-      without-void int main open' (Parsed items h q) good = record { reads = subst (ReadsProgram tokens record { items = items }) good.is (ReadsProgram.without_void int main open' good.close good.open' good.reads good.end'); low = good.low }
+          (o : ParseOutcome SourceList) → Good (length tokens) (b - 1 + 3) (IsMain b 3) o → Good (length tokens) (b - 1 + 3) (IsProgram b) o
+      without-void int main open' (Parsed items h q) good =
+          record {
+            reads = subst (ReadsProgram tokens record { items = items }) good.is
+                (ReadsProgram.without_void int main open' good.close good.open' good.reads good.end');
+            low = good.low;
+          }
       without-void int main open' (Unreadable at) good = good
       without-void int main open' (TooHigh at) good = good

@@ -16,4 +16,4 @@ pub mod HoldsStatements
 pub mod Lists
 pub mod Top
 pub mod Further
-pub mod Loops
+pub mod DoLoops

@@ -9,36 +9,41 @@ use Rattle.pc_lexer.specs.declared.keyword.Keyword.TheVariants as keys
 use Rattle.pc_syntax.specs.declared.operator.UnaryOp.{UnaryOp}
 use Rattle.pc_syntax.specs.Source.{SourceExpression, Input, Conditional}
 use Rattle.pc_parser.specs.declared.operator.Operator.{Operator}
-use Rattle.pc_parser.specs.Places.{kind_at, line_at, is_mark, mark_is, key_is}
+use Rattle.pc_parser.specs.Places.{kind_at, line_at}
+use Rattle.pc_parser.specs.models.Tests.{is_mark, mark_is, key_is}
 use Rattle.pc_parser.specs.Operators.{joined}
 use Rattle.pc_parser.specs.Statements.{Target}
-use Rattle.pc_parser.specs.Outcome.{Outcome, Parsed, Unreadable, TooHigh, after, allowed, expect}
-use Rattle.pc_parser.specs.ExpressionParser.{Inner, operator_from, sign_of, target_named, number_at, name_at, grouped, input, primary_on, signed, unary_on, unary_at, joined_at, last_turn, turn, climb, choice, operand, part, expression_at, below}
+use Rattle.pc_parser.specs.models.Outcome.{ParseOutcome, Parsed, Unreadable, TooHigh, after, allowed, expect}
+use Rattle.pc_parser.specs.models.ExpressionParser.{Inner, operator_from, sign_of, target_named, number_at, name_at, grouped, input, primary_on, signed, unary_on, unary_at, joined_at}
+use Rattle.pc_parser.specs.models.ExpressionParser.{last_turn, turn, climb, choice, operand, part, expression_at, below}
 use Rattle.pc_parser.proofs.Local.{Budgets, Local, parsed, unreadable, too_high, earlier, after-local, allowed-local, look, look_line, if-local, expect-local}
 
 -- the target at a name, with the lines of the name and of the bracket
-abbrev target_with : List Token → Inner → (budget symbol from line bracket : ℕ) → Outcome Target
+abbrev target_with : List Token → Inner → (budget symbol from line bracket : ℕ) → ParseOutcome Target
 target_with tokens inner budget symbol from line bracket =
     cond (is_mark marks.LeftBracket (kind_at tokens (from + 1)))
     (allowed 2 budget (from + 1) (after (inner 0 (from + 2)) (λ index height to.
     expect tokens marks.RightBracket to (Parsed record { symbol = symbol; line = line; index = Some index; bracket = bracket } (height + 1) (to + 1)))))
     (Parsed record { symbol = symbol; line = line; index = None; bracket = line } 0 (from + 1))
 
-abbrev input_with : List Token → Inner → (budget from line : ℕ) → Outcome SourceExpression
+abbrev input_with : List Token → Inner → (budget from line : ℕ) → ParseOutcome SourceExpression
 input_with tokens inner budget from line = allowed 1 budget from
     (expect tokens marks.LeftParen (from + 1)
     (expect tokens marks.RightParen (from + 2)
     (Parsed (Input line) 1 (from + 3))))
 
-abbrev joined_with : List Token → Inner → ℕ → SourceExpression → (height at : ℕ) → Operator × ℕ → (line : ℕ) → Outcome SourceExpression
+abbrev joined_with : List Token → Inner → ℕ → SourceExpression → (height at : ℕ) → Operator × ℕ → (line : ℕ) → ParseOutcome SourceExpression
 joined_with tokens inner budget left height at found line = allowed (height + 1) budget at (after (inner (found.1 + 1) (at + 1)) (λ right other to.
     Parsed (joined found.0 line left right) (max height other + 1) to))
 
-module _ (k : ℕ) (E : Type 0) (ts ws : List Token) (kinds_agree : (i : ℕ) → i ≤ k → kind_at ws i ≡ kind_at ts i) (lines_agree : (i : ℕ) → i ≤ k → line_at ws i ≡ line_at ts i) (inner other : Inner) (b c : ℕ) (budgets : Budgets E b c) (inners : (level from : ℕ) → Local k E 1 from (inner level from) (other level from)) where
+module _ (k : ℕ) (E : Type 0) (ts ws : List Token) (kinds_agree : (i : ℕ) → i ≤ k → kind_at ws i ≡ kind_at ts i)
+    (lines_agree : (i : ℕ) → i ≤ k → line_at ws i ≡ line_at ts i) (inner other : Inner) (b c : ℕ) (budgets : Budgets E b c)
+    (inners : (level from : ℕ) → Local k E 1 from (inner level from) (other level from)) where
   pub target_named-local : (symbol from : ℕ) → Local k E 1 from (target_named ts inner b symbol from) (target_named ws other c symbol from)
   unfolding target_named
   target_named-local symbol from =
-      look_line k E ts ws kinds_agree lines_agree 1 from (λ line. target_with ts inner b symbol from line (line_at ts (from + 1))) (λ line. target_with ws other c symbol from line (line_at ws (from + 1))) (λ line.
+      look_line k E ts ws kinds_agree lines_agree 1 from (λ line. target_with ts inner b symbol from line (line_at ts (from + 1)))
+      (λ line. target_with ws other c symbol from line (line_at ws (from + 1))) (λ line.
       earlier k E 0 (from + 1) 1 from _ _ (omega arith) (omega arith)
       (look_line k E ts ws kinds_agree lines_agree 0 (from + 1) (λ bracket. target_with ts inner b symbol from line bracket) (λ bracket. target_with ws other c symbol from line bracket) (λ bracket.
       if-local k E ts ws kinds_agree lines_agree (is_mark marks.LeftBracket) 0 (from + 1) _ _ _ _
@@ -73,7 +78,8 @@ module _ (k : ℕ) (E : Type 0) (ts ws : List Token) (kinds_agree : (i : ℕ) �
   pub name_at-local : (symbol from : ℕ) → Local k E 1 from (name_at ts inner b symbol from) (name_at ws other c symbol from)
   unfolding name_at
   name_at-local symbol from = allowed-local k E 1 b c from 1 from _ _ budgets (omega arith)
-      (after-local k E 1 0 from (target_named ts inner b symbol from) (target_named ws other c symbol from) _ _ (target_named-local symbol from) (λ target height to onward. parsed k E 0 to _ _ to (omega arith)))
+      (after-local k E 1 0 from (target_named ts inner b symbol from) (target_named ws other c symbol from) _ _ (target_named-local symbol from)
+      (λ target height to onward. parsed k E 0 to _ _ to (omega arith)))
 
   pub primary_on-local : (kind : Option TokenKind) (from : ℕ) → Local k E 1 from (primary_on ts inner b kind from) (primary_on ws other c kind from)
   unfolding primary_on
@@ -111,9 +117,10 @@ module _ (k : ℕ) (E : Type 0) (ts ws : List Token) (kinds_agree : (i : ℕ) �
       look_line k E ts ws kinds_agree lines_agree 0 at (joined_with ts inner b left height at found) (joined_with ws other c left height at found) (λ line.
       allowed-local k E (height + 1) b c at 0 at _ _ budgets (omega arith)
       (earlier k E 1 (at + 1) 0 at _ _ (omega arith) (omega arith)
-      (after-local k E 1 0 (at + 1) (inner (found.1 + 1) (at + 1)) (other (found.1 + 1) (at + 1)) _ _ (inners (found.1 + 1) (at + 1)) (λ right height' to onward. parsed k E 0 to _ _ to (omega arith)))))
+      (after-local k E 1 0 (at + 1) (inner (found.1 + 1) (at + 1)) (other (found.1 + 1) (at + 1)) _ _ (inners (found.1 + 1) (at + 1))
+      (λ right height' to onward. parsed k E 0 to _ _ to (omega arith)))))
 
-  abbrev choice_on : List Token → Inner → ℕ → SourceExpression → (height at : ℕ) → Outcome SourceExpression
+  abbrev choice_on : List Token → Inner → ℕ → SourceExpression → (height at : ℕ) → ParseOutcome SourceExpression
   choice_on tokens within budget test height at = allowed (height + 1) budget at (after (within 0 (at + 1)) (λ one i q.
       expect tokens marks.Colon q (after (within 0 (q + 1)) (λ other j to.
       Parsed (Conditional test one other) (max height (max i j) + 1) to))))
@@ -121,7 +128,8 @@ module _ (k : ℕ) (E : Type 0) (ts ws : List Token) (kinds_agree : (i : ℕ) �
   pub choice-local : (test : SourceExpression) (height at : ℕ) → Local k E 0 at (choice ts inner b test height at) (choice ws other c test height at)
   unfolding choice
   choice-local test height at =
-      if-local k E ts ws kinds_agree lines_agree (is_mark marks.Question) 0 at (choice_on ts inner b test height at) (choice_on ws other c test height at) (Parsed test height at) (Parsed test height at)
+      if-local k E ts ws kinds_agree lines_agree (is_mark marks.Question) 0 at (choice_on ts inner b test height at) (choice_on ws other c test height at)
+      (Parsed test height at) (Parsed test height at)
       (allowed-local k E (height + 1) b c at 0 at _ _ budgets (omega arith)
       (earlier k E 1 (at + 1) 0 at _ _ (omega arith) (omega arith)
       (after-local k E 1 1 (at + 1) (inner 0 (at + 1)) (other 0 (at + 1)) _ _ (inners 0 (at + 1)) (λ one i q onward.
@@ -134,34 +142,41 @@ module _ (k : ℕ) (E : Type 0) (ts ws : List Token) (kinds_agree : (i : ℕ) �
       Local k E 0 at (climb ts inner b level n left height at) (climb ws other c level m left height at)
   unfolding climb last_turn turn
   climb-local level zero zero left height at turns =
-      look k E ts ws kinds_agree lines_agree 0 at (λ kind. last_turn ts inner b left height at (operator_from level kind)) (λ kind. last_turn ws other c left height at (operator_from level kind)) (λ kind. on (operator_from level kind))
+      look k E ts ws kinds_agree lines_agree 0 at (λ kind. last_turn ts inner b left height at (operator_from level kind))
+      (λ kind. last_turn ws other c left height at (operator_from level kind)) (λ kind. on (operator_from level kind))
     where
       on : (found : Option (Operator × ℕ)) → Local k E 0 at (last_turn ts inner b left height at found) (last_turn ws other c left height at found)
       on None = parsed k E 0 at left height at (omega arith)
       on (Some found) = too_high k E 0 at at (omega arith)
   climb-local level zero (suc m) left height at turns =
-      look k E ts ws kinds_agree lines_agree 0 at (λ kind. last_turn ts inner b left height at (operator_from level kind)) (λ kind. turn ws other c (climb ws other c level m) left height at (operator_from level kind)) (λ kind. on (operator_from level kind))
+      look k E ts ws kinds_agree lines_agree 0 at (λ kind. last_turn ts inner b left height at (operator_from level kind))
+      (λ kind. turn ws other c (climb ws other c level m) left height at (operator_from level kind)) (λ kind. on (operator_from level kind))
     where
       on : (found : Option (Operator × ℕ)) → Local k E 0 at (last_turn ts inner b left height at found) (turn ws other c (climb ws other c level m) left height at found)
       on None = parsed k E 0 at left height at (omega arith)
       on (Some found) = record { goes = omega arith; carries = λ s e. let same = turns.same (e refl) in absurd (omega arith) }
   climb-local level (suc n) zero left height at turns = let low = turns.low in absurd (omega arith)
   climb-local level (suc n) (suc m) left height at turns =
-      look k E ts ws kinds_agree lines_agree 0 at (λ kind. turn ts inner b (climb ts inner b level n) left height at (operator_from level kind)) (λ kind. turn ws other c (climb ws other c level m) left height at (operator_from level kind))
+      look k E ts ws kinds_agree lines_agree 0 at (λ kind. turn ts inner b (climb ts inner b level n) left height at (operator_from level kind))
+      (λ kind. turn ws other c (climb ws other c level m) left height at (operator_from level kind))
       (λ kind. turned left height at (climb ts inner b level n) (climb ws other c level m) (λ left' height' at'. climb-local level n m left' height' at' (fewer n m turns)) (operator_from level kind))
     where
       fewer : (n m : ℕ) → Budgets E (suc n) (suc m) → Budgets E n m
       fewer n m turns = let low = turns.low in record { low = omega arith; same = λ e. let same = turns.same e in omega arith }
 
-      turned : (left : SourceExpression) (height at : ℕ) (f g : SourceExpression → (height at : ℕ) → Outcome SourceExpression) →
+      turned : (left : SourceExpression) (height at : ℕ) (f g : SourceExpression → (height at : ℕ) → ParseOutcome SourceExpression) →
           ((left' : SourceExpression) (height' at' : ℕ) → Local k E 0 at' (f left' height' at') (g left' height' at')) →
           (found : Option (Operator × ℕ)) → Local k E 0 at (turn ts inner b f left height at found) (turn ws other c g left height at found)
       turned left height at f g next None = parsed k E 0 at left height at (omega arith)
-      turned left height at f g next (Some found) = after-local k E 0 0 at (joined_at ts inner b left height at found) (joined_at ws other c left height at found) f g (joined_at-local left height at found) (λ left' height' at' onward. next left' height' at')
+      turned left height at f g next (Some found) =
+          after-local k E 0 0 at (joined_at ts inner b left height at found) (joined_at ws other c left height at found) f g (joined_at-local left height at found)
+          (λ left' height' at' onward. next left' height' at')
 
   pub operand-local : (level from : ℕ) → Local k E 1 from (operand ts inner b level from) (operand ws other c level from)
   unfolding operand
-  operand-local level from = after-local k E 1 0 from (unary_at ts inner b from) (unary_at ws other c from) _ _ (unary_at-local from) (λ tree height to onward. climb-local level b c tree height to budgets)
+  operand-local level from =
+      after-local k E 1 0 from (unary_at ts inner b from) (unary_at ws other c from) _ _ (unary_at-local from)
+      (λ tree height to onward. climb-local level b c tree height to budgets)
 
   pub part-local : (level from : ℕ) → Local k E 1 from (part ts inner b level from) (part ws other c level from)
   unfolding part

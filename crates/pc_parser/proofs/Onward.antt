@@ -6,7 +6,8 @@ use Rattle.pc_lexer.specs.declared.token.TokenKind.{TokenKind}
 use Rattle.pc_syntax.specs.Source.{SourceExpression, SourceStatement, SourceList, OptionalStatement}
 use Rattle.pc_parser.specs.Places.{kind_at}
 use Rattle.pc_parser.specs.Expressions.{ReadsExpression, ReadsLevel, ReadsUnary, ReadsPrimary}
-use Rattle.pc_parser.specs.Statements.{Target, ReadsTarget, ReadsTest, ReadsSimple, ReadsDeclarator, ReadsDeclarators, ReadsDeclaration, ReadsFirst, ReadsCondition, ReadsStep, ReadsStatement, ReadsItems}
+use Rattle.pc_parser.specs.Statements.{Target, ReadsTarget, ReadsTest, ReadsSimple, ReadsDeclarator, ReadsDeclarators, ReadsDeclaration, ReadsFirst, ReadsCondition, ReadsStep}
+use Rattle.pc_parser.specs.Statements.{ReadsStatement, ReadsItems}
 
 -- where there is a token, there is a place
 pub inside : (tokens : List Token) (p : ℕ) (kind : TokenKind) → kind_at tokens p ≡ Some kind → p < length tokens
@@ -47,7 +48,8 @@ module _ (tokens : List Token) where
   test-onward p t h q (ReadsTest.tested {q = r} is d close') = let a = expression-onward (p + 1) t h r d in omega arith
 
   pub simple-onward : (p : ℕ) (s : SourceStatement) (h q : ℕ) → ReadsSimple tokens p s h q → p < q
-  simple-onward p s h q (ReadsSimple.assignment {i = i} {q = r} {j = j} {target = target} {value = value} d is found e) = let a = target-onward p target i r d in let b = expression-onward (r + 1) value j q e in omega arith
+  simple-onward p s h q (ReadsSimple.assignment {i = i} {q = r} {j = j} {target = target} {value = value} d is found e) = let a = target-onward p target i r d in
+      let b = expression-onward (r + 1) value j q e in omega arith
   simple-onward p s h q (ReadsSimple.step_behind {height = i} {q = r} {target = target} d is found) = let a = target-onward p target i r d in omega arith
   simple-onward p s h q (ReadsSimple.step_before {height = i} {target = target} is found d) = let a = target-onward (p + 1) target i q d in omega arith
   simple-onward p s h q (ReadsSimple.print {height = i} {value = value} is d) = let a = test-onward (p + 1) value i q d in omega arith
@@ -60,7 +62,8 @@ module _ (tokens : List Token) where
 
   pub declarators-onward : (p : ℕ) (trees : SourceList) (h q : ℕ) → ReadsDeclarators tokens p trees h q → p < q
   declarators-onward p trees h q (ReadsDeclarators.last {q = r} {tree = tree} d close') = let a = declarator-onward p tree h r d in omega arith
-  declarators-onward p trees h q (ReadsDeclarators.comma {i = i} {q = r} {j = j} {tree = tree} {rest = rest} d comma e) = let a = declarator-onward p tree i r d in let b = declarators-onward (r + 1) rest j q e in omega arith
+  declarators-onward p trees h q (ReadsDeclarators.comma {i = i} {q = r} {j = j} {tree = tree} {rest = rest} d comma e) = let a = declarator-onward p tree i r d in
+      let b = declarators-onward (r + 1) rest j q e in omega arith
 
   pub declaration-onward : (p : ℕ) (trees : SourceList) (h q : ℕ) → ReadsDeclaration tokens p trees h q → p < q
   declaration-onward p trees h q (ReadsDeclaration.declaration is d) = let a = declarators-onward (p + 1) trees h q d in omega arith
@@ -83,11 +86,14 @@ module _ (tokens : List Token) where
     statement-onward p s h q (ReadsStatement.block {height = i} {items = items} is d) = let a = items-onward (p + 1) items i q d in omega arith
     statement-onward p s h q (ReadsStatement.empty is) = omega arith
     statement-onward p s h q (ReadsStatement.simple {q = r} d is) = let a = simple-onward p s h r d in omega arith
-    statement-onward p s h q (ReadsStatement.branch {i = i} {q = r} {j = j} {test = test} {body = body} is d e) = let a = test-onward (p + 1) test i r d in let b = statement-onward r body j q e in omega arith
+    statement-onward p s h q (ReadsStatement.branch {i = i} {q = r} {j = j} {test = test} {body = body} is d e) = let a = test-onward (p + 1) test i r d in
+        let b = statement-onward r body j q e in omega arith
     statement-onward p s h q (ReadsStatement.branch_else {i = i} {q = r} {j = j} {r = t} {k = k'} {test = test} {body = body} {other = other} is d e closed is' f) =
         let a = test-onward (p + 1) test i r d in let b = statement-onward r body j t e in let c = statement-onward (t + 1) other k' q f in omega arith
-    statement-onward p s h q (ReadsStatement.while_loop {i = i} {q = r} {j = j} {test = test} {body = body} is d e) = let a = test-onward (p + 1) test i r d in let b = statement-onward r body j q e in omega arith
-    statement-onward p s h q (ReadsStatement.do_loop {i = i} {q = r} {j = j} {r = t} {body = body} {test = test} is d is' e close') = let a = statement-onward (p + 1) body i r d in let b = test-onward (r + 1) test j t e in omega arith
+    statement-onward p s h q (ReadsStatement.while_loop {i = i} {q = r} {j = j} {test = test} {body = body} is d e) = let a = test-onward (p + 1) test i r d in
+        let b = statement-onward r body j q e in omega arith
+    statement-onward p s h q (ReadsStatement.do_loop {i = i} {q = r} {j = j} {r = t} {body = body} {test = test} is d is' e close') = let a =
+        statement-onward (p + 1) body i r d in let b = test-onward (r + 1) test j t e in omega arith
     statement-onward p s h q (ReadsStatement.for_loop {i = i} {q = r} {j = j} {r = t} {k = k'} {s = u} {l = l} {first = first} {test = test} {step = step} {body = body} is open' d e f g) =
         let a = first-onward (p + 2) first i r d in let b = condition-onward r test j t e in let c = step-onward t step k' u f in let c' = statement-onward u body l q g in omega arith
     statement-onward p s h q (ReadsStatement.break_out is close') = omega arith
@@ -96,5 +102,6 @@ module _ (tokens : List Token) where
 
     pub items-onward : (p : ℕ) (trees : SourceList) (h q : ℕ) → ReadsItems tokens p trees h q → p < q
     items-onward p trees h q (ReadsItems.close is) = omega arith
-    items-onward p trees h q (ReadsItems.declared {i = i} {q = r} {j = j} {trees = some} {rest = rest} d e) = let a = declaration-onward p some i r d in let b = items-onward r rest j q e in omega arith
+    items-onward p trees h q (ReadsItems.declared {i = i} {q = r} {j = j} {trees = some} {rest = rest} d e) = let a = declaration-onward p some i r d in
+        let b = items-onward r rest j q e in omega arith
     items-onward p trees h q (ReadsItems.stated {i = i} {q = r} {j = j} {tree = tree} {rest = rest} d e) = let a = statement-onward p tree i r d in let b = items-onward r rest j q e in omega arith

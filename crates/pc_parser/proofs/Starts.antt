@@ -10,25 +10,26 @@ use Rattle.pc_lexer.specs.declared.keyword.Keyword.TheVariants as keys
 use Rattle.pc_syntax.specs.declared.operator.UnaryOp.{UnaryOp}
 use Rattle.pc_syntax.specs.declared.operator.BinaryOp.{BinaryOp}
 use Rattle.pc_syntax.specs.Source.{SourceExpression, SourceStatement}
-use Rattle.pc_parser.specs.Places.{kind_at, is_mark, is_key}
+use Rattle.pc_parser.specs.Places.{kind_at}
+use Rattle.pc_parser.specs.models.Tests.{is_mark, is_key}
 use Rattle.pc_parser.specs.Operators.{prefix_of, step_of}
 use Rattle.pc_parser.specs.Expressions.{ReadsExpression, ReadsLevel, ReadsUnary, ReadsPrimary}
 use Rattle.pc_parser.specs.Statements.{Target, ReadsTarget, ReadsSimple, ReadsStatement}
-use Rattle.pc_parser.specs.Outcome.{Outcome}
-use Rattle.pc_parser.specs.StatementParser.{simple_on, marked, evaluation, ended_at, keyed, started, statement_on}
+use Rattle.pc_parser.specs.models.Outcome.{ParseOutcome}
+use Rattle.pc_parser.specs.models.StatementParser.{simple_on, marked, evaluation, ended_at, keyed, started, statement_on}
 
 -- a token that begins no `else`, declaration or end of a block
-pub record Begins (kind : Option TokenKind) : Type 0 where
+pub record CanBegin (kind : Option TokenKind) : Type 0 where
   pub else_not : is_key keys.Else kind ≡ false
   pub int_not : is_key keys.Int kind ≡ false
   pub brace_not : is_mark marks.RightBrace kind ≡ false
 
 -- a token that begins a simple statement
 pub record BeginsSimple (kind : Option TokenKind) : Type 0 where
-  pub begins : Begins kind
+  pub begins : CanBegin kind
   pub semicolon_not : is_mark marks.Semicolon kind ≡ false
   pub paren_not : is_mark marks.RightParen kind ≡ false
-  pub ended : (tokens : List Token) (inner : (from : ℕ) → Outcome SourceStatement) (budget from : ℕ) → statement_on tokens inner budget kind from ≡ ended_at tokens budget from
+  pub ended : (tokens : List Token) (inner : (from : ℕ) → ParseOutcome SourceStatement) (budget from : ℕ) → statement_on tokens inner budget kind from ≡ ended_at tokens budget from
 
 -- a token that begins an expression: a name, or one that an evaluation begins with
 pub record BeginsExpression (kind : Option TokenKind) : Type 0 where
@@ -37,26 +38,94 @@ pub record BeginsExpression (kind : Option TokenKind) : Type 0 where
 
 begins-name : (symbol : ℕ) → BeginsExpression (Some (kinds.Name symbol))
 unfolding statement_on
-begins-name symbol = record { simple = record { begins = record { else_not = refl; int_not = refl; brace_not = refl }; semicolon_not = refl; paren_not = refl; ended = λ tokens inner budget from. refl }; route = inl (symbol, refl) }
+begins-name symbol =
+    record {
+      simple = record {
+        begins = record { else_not = refl; int_not = refl; brace_not = refl };
+        semicolon_not = refl;
+        paren_not = refl;
+        ended =
+            λ tokens inner budget from. refl;
+      };
+      route = inl (symbol, refl);
+    }
 
 begins-number : (value : ℤ) → BeginsExpression (Some (kinds.Number value))
 unfolding statement_on simple_on
-begins-number value = record { simple = record { begins = record { else_not = refl; int_not = refl; brace_not = refl }; semicolon_not = refl; paren_not = refl; ended = λ tokens inner budget from. refl }; route = inr (λ tokens budget from. refl) }
+begins-number value =
+    record {
+      simple = record {
+        begins = record { else_not = refl; int_not = refl; brace_not = refl };
+        semicolon_not = refl;
+        paren_not = refl;
+        ended =
+            λ tokens inner budget from. refl;
+      };
+      route = inr (λ tokens budget from. refl);
+    }
 
 begins-read : BeginsExpression (Some (kinds.Key keys.Read))
 unfolding statement_on keyed simple_on
-begins-read = record { simple = record { begins = record { else_not = refl; int_not = refl; brace_not = refl }; semicolon_not = refl; paren_not = refl; ended = λ tokens inner budget from. refl }; route = inr (λ tokens budget from. refl) }
+begins-read = record {
+  simple =
+      record { begins = record { else_not = refl; int_not = refl; brace_not = refl }; semicolon_not = refl; paren_not = refl; ended = λ tokens inner budget from. refl };
+  route = inr (λ tokens budget from. refl);
+}
 
 begins-paren : BeginsExpression (Some (kinds.Mark marks.LeftParen))
 unfolding statement_on started simple_on marked step_of
-begins-paren = record { simple = record { begins = record { else_not = refl; int_not = refl; brace_not = refl }; semicolon_not = refl; paren_not = refl; ended = λ tokens inner budget from. refl }; route = inr (λ tokens budget from. refl) }
+begins-paren = record {
+  simple =
+      record { begins = record { else_not = refl; int_not = refl; brace_not = refl }; semicolon_not = refl; paren_not = refl; ended = λ tokens inner budget from. refl };
+  route = inr (λ tokens budget from. refl);
+}
 
 begins-sign : (mark : Mark) (sign : Option UnaryOp) → prefix_of mark ≡ Some sign → BeginsExpression (Some (kinds.Mark mark))
 unfolding statement_on started simple_on marked step_of prefix_of
-begins-sign marks.Plus sign is = record { simple = record { begins = record { else_not = refl; int_not = refl; brace_not = refl }; semicolon_not = refl; paren_not = refl; ended = λ tokens inner budget from. refl }; route = inr (λ tokens budget from. refl) }
-begins-sign marks.Minus sign is = record { simple = record { begins = record { else_not = refl; int_not = refl; brace_not = refl }; semicolon_not = refl; paren_not = refl; ended = λ tokens inner budget from. refl }; route = inr (λ tokens budget from. refl) }
-begins-sign marks.Tilde sign is = record { simple = record { begins = record { else_not = refl; int_not = refl; brace_not = refl }; semicolon_not = refl; paren_not = refl; ended = λ tokens inner budget from. refl }; route = inr (λ tokens budget from. refl) }
-begins-sign marks.Not sign is = record { simple = record { begins = record { else_not = refl; int_not = refl; brace_not = refl }; semicolon_not = refl; paren_not = refl; ended = λ tokens inner budget from. refl }; route = inr (λ tokens budget from. refl) }
+begins-sign marks.Plus sign is =
+    record {
+      simple = record {
+        begins = record { else_not = refl; int_not = refl; brace_not = refl };
+        semicolon_not = refl;
+        paren_not = refl;
+        ended =
+            λ tokens inner budget from. refl;
+      };
+      route = inr (λ tokens budget from. refl);
+    }
+begins-sign marks.Minus sign is =
+    record {
+      simple = record {
+        begins = record { else_not = refl; int_not = refl; brace_not = refl };
+        semicolon_not = refl;
+        paren_not = refl;
+        ended =
+            λ tokens inner budget from. refl;
+      };
+      route = inr (λ tokens budget from. refl);
+    }
+begins-sign marks.Tilde sign is =
+    record {
+      simple = record {
+        begins = record { else_not = refl; int_not = refl; brace_not = refl };
+        semicolon_not = refl;
+        paren_not = refl;
+        ended =
+            λ tokens inner budget from. refl;
+      };
+      route = inr (λ tokens budget from. refl);
+    }
+begins-sign marks.Not sign is =
+    record {
+      simple = record {
+        begins = record { else_not = refl; int_not = refl; brace_not = refl };
+        semicolon_not = refl;
+        paren_not = refl;
+        ended =
+            λ tokens inner budget from. refl;
+      };
+      route = inr (λ tokens budget from. refl);
+    }
 begins-sign mark sign is = cc
 
 begins-step : (mark : Mark) (op : BinaryOp) → step_of mark ≡ Some op → BeginsSimple (Some (kinds.Mark mark))
@@ -102,15 +171,15 @@ module _ (tokens : List Token) where
   simple-begins p s h q (ReadsSimple.print is d) = subst BeginsSimple (sym is) begins-print
   simple-begins p s h q (ReadsSimple.evaluation {height = i} {value = value} d) = (expression-begins p value i q d).simple
 
-  pub statement-begins : (p : ℕ) (s : SourceStatement) (h q : ℕ) → ReadsStatement tokens p s h q → Begins (kind_at tokens p)
-  statement-begins p s h q (ReadsStatement.block is d) = subst Begins (sym is) record { else_not = refl; int_not = refl; brace_not = refl }
-  statement-begins p s h q (ReadsStatement.empty is) = subst Begins (sym is) record { else_not = refl; int_not = refl; brace_not = refl }
+  pub statement-begins : (p : ℕ) (s : SourceStatement) (h q : ℕ) → ReadsStatement tokens p s h q → CanBegin (kind_at tokens p)
+  statement-begins p s h q (ReadsStatement.block is d) = subst CanBegin (sym is) record { else_not = refl; int_not = refl; brace_not = refl }
+  statement-begins p s h q (ReadsStatement.empty is) = subst CanBegin (sym is) record { else_not = refl; int_not = refl; brace_not = refl }
   statement-begins p s h q (ReadsStatement.simple {height = i} {q = r} {tree = tree} d is) = (simple-begins p tree i r d).begins
-  statement-begins p s h q (ReadsStatement.branch is d e) = subst Begins (sym is) record { else_not = refl; int_not = refl; brace_not = refl }
-  statement-begins p s h q (ReadsStatement.branch_else is d e closed is' f) = subst Begins (sym is) record { else_not = refl; int_not = refl; brace_not = refl }
-  statement-begins p s h q (ReadsStatement.while_loop is d e) = subst Begins (sym is) record { else_not = refl; int_not = refl; brace_not = refl }
-  statement-begins p s h q (ReadsStatement.do_loop is d is' e close') = subst Begins (sym is) record { else_not = refl; int_not = refl; brace_not = refl }
-  statement-begins p s h q (ReadsStatement.for_loop is open' d e f g) = subst Begins (sym is) record { else_not = refl; int_not = refl; brace_not = refl }
-  statement-begins p s h q (ReadsStatement.break_out is close') = subst Begins (sym is) record { else_not = refl; int_not = refl; brace_not = refl }
-  statement-begins p s h q (ReadsStatement.continue_on is close') = subst Begins (sym is) record { else_not = refl; int_not = refl; brace_not = refl }
-  statement-begins p s h q (ReadsStatement.return_from is d close') = subst Begins (sym is) record { else_not = refl; int_not = refl; brace_not = refl }
+  statement-begins p s h q (ReadsStatement.branch is d e) = subst CanBegin (sym is) record { else_not = refl; int_not = refl; brace_not = refl }
+  statement-begins p s h q (ReadsStatement.branch_else is d e closed is' f) = subst CanBegin (sym is) record { else_not = refl; int_not = refl; brace_not = refl }
+  statement-begins p s h q (ReadsStatement.while_loop is d e) = subst CanBegin (sym is) record { else_not = refl; int_not = refl; brace_not = refl }
+  statement-begins p s h q (ReadsStatement.do_loop is d is' e close') = subst CanBegin (sym is) record { else_not = refl; int_not = refl; brace_not = refl }
+  statement-begins p s h q (ReadsStatement.for_loop is open' d e f g) = subst CanBegin (sym is) record { else_not = refl; int_not = refl; brace_not = refl }
+  statement-begins p s h q (ReadsStatement.break_out is close') = subst CanBegin (sym is) record { else_not = refl; int_not = refl; brace_not = refl }
+  statement-begins p s h q (ReadsStatement.continue_on is close') = subst CanBegin (sym is) record { else_not = refl; int_not = refl; brace_not = refl }
+  statement-begins p s h q (ReadsStatement.return_from is d close') = subst CanBegin (sym is) record { else_not = refl; int_not = refl; brace_not = refl }

@@ -8,7 +8,7 @@ use Rattle.pc_lexer.specs.declared.mark.Mark.{Mark}
 use Rattle.pc_lexer.specs.declared.keyword.Keyword.{Keyword}
 use Rattle.pc_lexer.specs.contracts.mark.Mark as of_marks
 use Rattle.pc_lexer.specs.contracts.keyword.Keyword as of_keywords
-use Rattle.pc_parser.specs.Places.{is_mark, is_key, mark_is, key_is}
+use Rattle.pc_parser.specs.models.Tests.{is_mark, is_key, mark_is, key_is}
 
 -- a mark is this mark where the test says so
 pub mark_is-true : (found mark : Mark) → mark_is found mark ≡ true → found ≡ mark

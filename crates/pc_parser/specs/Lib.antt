@@ -1,9 +1,6 @@
+pub mod models
 pub mod Places
 pub mod Operators
 pub mod Expressions
 pub mod Statements
-pub mod Outcome
-pub mod ExpressionParser
-pub mod StatementParser
-pub mod Gives
 pub mod Parse

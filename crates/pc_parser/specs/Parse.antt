@@ -3,8 +3,6 @@ use Rattle.std.specs.Prelude.{◌≡◌, ℕ, ◌-◌, ◌≤◌, Option, option
 use Rattle.pc_lexer.specs.declared.token.Token.{Token}
 use Rattle.pc_syntax.specs.Source.{SourceProgram}
 use Rattle.pc_syntax.specs.declared.program.Program.{Program}
-use Rattle.pc_parser.specs.declared.outcome.Failure.{Failure}
-use Rattle.pc_parser.specs.declared.outcome.Failure.TheVariants as failures
 use Rattle.pc_parser.specs.declared.unit.ParseError.{ParseError}
 use Rattle.pc_parser.specs.declared.unit.ParseError.TheVariants as errors
 use Rattle.pc_parser.specs.Statements.{ReadsProgram}
@@ -20,39 +18,29 @@ AgreeUpTo at others tokens = (place : ℕ) → place ≤ at → slice_get others
 
 -- no program, however high, reads what begins with the tokens up to a place
 abbrev pub NothingReads : List Token → ℕ → Type 0
-NothingReads tokens at = (others : List Token) (program : SourceProgram) (height : ℕ) → AgreeUpTo at others tokens → ReadsProgram others program height → ⊥
+NothingReads tokens at =
+    (others : List Token) (program : SourceProgram) (height : ℕ) → AgreeUpTo at others tokens → ReadsProgram others program height → ⊥
 
 -- no program of at most this height reads what begins with the tokens up to a place
 abbrev pub NothingReadsWithin : ℕ → List Token → ℕ → Type 0
-NothingReadsWithin most tokens at = (others : List Token) (program : SourceProgram) (height : ℕ) → AgreeUpTo at others tokens → height ≤ most → ReadsProgram others program height → ⊥
+NothingReadsWithin most tokens at =
+    (others : List Token) (program : SourceProgram) (height : ℕ) → AgreeUpTo at others tokens → height ≤ most → ReadsProgram others program height → ⊥
 
 -- the line of the token at a place, where there is one
 abbrev pub line_told : List Token → ℕ → Option ℕ
 line_told tokens at = option_map (λ token. token.line) (slice_get tokens at)
 
--- the line of the token at a place, or of the last token, or 1
-abbrev pub line_of : List Token → ℕ → ℕ
-line_of tokens at = unwrap_or (line_told tokens at) (unwrap_or (line_told tokens (length tokens - 1)) 1)
+-- the line that an error tells: of the token at a place, or of the last token, or 1
+abbrev pub error_line : List Token → ℕ → ℕ
+error_line tokens at = unwrap_or (line_told tokens at) (unwrap_or (line_told tokens (length tokens - 1)) 1)
 
 -- a token's place, or the number of tokens, with the line that is told
 abbrev pub IsPlaceOfLine : List Token → (at line : ℕ) → Type 0
-IsPlaceOfLine tokens at line = (at ≤ length tokens) × (line ≡ line_of tokens at)
+IsPlaceOfLine tokens at line = (at ≤ length tokens) × (line ≡ error_line tokens at)
 
 -- the tokens are refused, other than for want of memory
-abbrev pub Refuses : Result Program ParseError → Type 0
-Refuses (Ok program) = ⊥
-Refuses (Err (errors.Syntax at line)) = Unit {0}
-Refuses (Err (errors.TooNested at line)) = Unit {0}
-Refuses (Err errors.Memory) = ⊥
-
--- a failure's place is among the tokens
-abbrev pub FailsInside : Failure → ℕ → Type 0
-FailsInside failures.Memory most = Unit {0}
-FailsInside (failures.Syntax at) most = at ≤ most
-FailsInside (failures.TooNested at) most = at ≤ most
-
--- the error that tells a failure
-abbrev pub located : List Token → Failure → ParseError
-located tokens failures.Memory = errors.Memory
-located tokens (failures.Syntax at) = errors.Syntax at (line_of tokens at)
-located tokens (failures.TooNested at) = errors.TooNested at (line_of tokens at)
+abbrev pub RefusesTokens : Result Program ParseError → Type 0
+RefusesTokens (Ok program) = ⊥
+RefusesTokens (Err (errors.Syntax at line)) = Unit {0}
+RefusesTokens (Err (errors.TooNested at line)) = Unit {0}
+RefusesTokens (Err errors.Memory) = ⊥

@@ -1,13 +1,7 @@
 -- The tokens of a list by their places, counted from 0.
-use Rattle.std.specs.Prelude.{ℕ, Bool, false, Option, Some, None, option_map, unwrap_or, List, slice_get}
-use denote.Enum.Bare.{sameb}
+use Rattle.std.specs.Prelude.{ℕ, Option, option_map, unwrap_or, List, slice_get}
 use Rattle.pc_lexer.specs.declared.token.Token.{Token}
 use Rattle.pc_lexer.specs.declared.token.TokenKind.{TokenKind}
-use Rattle.pc_lexer.specs.declared.token.TokenKind.TheVariants as kinds
-use Rattle.pc_lexer.specs.declared.mark.Mark.{Mark}
-use Rattle.pc_lexer.specs.declared.keyword.Keyword.{Keyword}
-use Rattle.pc_lexer.specs.contracts.mark.Mark as of_marks
-use Rattle.pc_lexer.specs.contracts.keyword.Keyword as of_keywords
 
 -- what the token at a place is, where there is one
 unfoldable pub kind_at : List Token → ℕ → Option TokenKind
@@ -16,27 +10,3 @@ kind_at tokens place = option_map (λ token. token.kind) (slice_get tokens place
 -- the line of the token at a place, and 0 where there is none
 unfoldable pub line_at : List Token → ℕ → ℕ
 line_at tokens place = unwrap_or (option_map (λ token. token.line) (slice_get tokens place)) 0
-
--- whether two marks are one
-abbrev pub mark_is : Mark → Mark → Bool
-mark_is one other = sameb of_marks.the_type one other
-
--- whether two keywords are one
-abbrev pub key_is : Keyword → Keyword → Bool
-key_is one other = sameb of_keywords.the_type one other
-
--- whether a token is this mark
-abbrev pub is_mark : Mark → Option TokenKind → Bool
-is_mark mark (Some (kinds.Mark found)) = mark_is found mark
-is_mark mark (Some (kinds.Key found)) = false
-is_mark mark (Some (kinds.Name symbol)) = false
-is_mark mark (Some (kinds.Number value)) = false
-is_mark mark None = false
-
--- whether a token is this keyword
-abbrev pub is_key : Keyword → Option TokenKind → Bool
-is_key key (Some (kinds.Key found)) = key_is found key
-is_key key (Some (kinds.Mark found)) = false
-is_key key (Some (kinds.Name symbol)) = false
-is_key key (Some (kinds.Number value)) = false
-is_key key None = false

@@ -1,9 +1,10 @@
 ghost use Rattle.std.specs.Prelude.{◌≡◌, ℕ, ◌+◌, ◌<◌, ◌≤◌, None, length, IfOk};
+ghost use Rattle.pc_word.specs.SourceLimits.{most_tokens};
 ghost use Rattle.pc_syntax.specs.Erasure.{statement_of, list_of};
 ghost use Rattle.pc_parser.specs.Places.{kind_at, line_at};
 ghost use Rattle.pc_syntax.specs.Source.{ScalarDeclaration};
-ghost use Rattle.pc_parser.specs.StatementParser.{array, initialised, declarator_at, declarators_at, declaration_at, length_of};
-ghost use Rattle.pc_parser.specs.Gives.{Gives, Stands, Ends, behind};
+ghost use Rattle.pc_parser.specs.models.StatementParser.{array, initialised, declarator_at, declarators_at, declaration_at, length_of};
+ghost use Rattle.pc_parser.specs.models.Parsing.{GivesParsed, AtPlace, UpTo, behind};
 
 use crate::expression::{EXPRESSION, expression};
 use crate::outcome::{Failure, Parsed, within};
@@ -14,7 +15,7 @@ use std::alloc::Global;
 
 /// Reads a declaration, whose `int` stands at the place, and puts a statement for each declarator behind
 /// the items before it. The height is that of the declarators.
-#[tactic(auto, using(crate::proofs::Budgets::budgets), unfolding(crate::specs::StatementParser::declaration_at))]
+#[tactic(auto, using(crate::proofs::Budgets::budgets), unfolding(crate::specs::models::StatementParser::declaration_at))]
 pub(crate) fn declaration(
     alloc: Global,
     tokens: &[Token],
@@ -22,10 +23,10 @@ pub(crate) fn declaration(
     items: StmtList,
     place: usize,
 ) -> Result<Parsed<StmtList>, Failure>
-    requires stands { Stands tokens.now budget place }
+    requires stands { AtPlace tokens.now budget place }
     requires more { place + 1 ≤ length tokens.now }
-    ensures gives { Gives list_of result (behind (list_of items) (declaration_at tokens.now budget place)) }
-    ensures ends { IfOk result (λ parsed. Ends tokens.now budget parsed.height parsed.next) }
+    ensures gives { GivesParsed list_of result (behind (list_of items) (declaration_at tokens.now budget place)) }
+    ensures ends { IfOk result (λ parsed. UpTo tokens.now budget parsed.height parsed.next) }
     ensures further { IfOk result (λ parsed. place < parsed.next) }
 {
     within(1, budget, place)?;
@@ -40,10 +41,10 @@ fn declarators(
     mut items: StmtList,
     place: usize,
 ) -> Result<Parsed<StmtList>, Failure>
-    requires stands { Stands tokens.now budget place }
+    requires stands { AtPlace tokens.now budget place }
     requires some { 1 ≤ budget }
-    ensures gives { Gives list_of result (behind (list_of items) (declarators_at tokens.now budget (length tokens.now + 1) place)) }
-    ensures ends { IfOk result (λ parsed. Ends tokens.now budget parsed.height parsed.next) }
+    ensures gives { GivesParsed list_of result (behind (list_of items) (declarators_at tokens.now budget (length tokens.now + 1) place)) }
+    ensures ends { IfOk result (λ parsed. UpTo tokens.now budget parsed.height parsed.next) }
     ensures further { IfOk result (λ parsed. place < parsed.next) }
 {
     let first = declarator(alloc, tokens, budget, place)?;
@@ -65,17 +66,17 @@ fn declarators(
 }
 
 /// Reads a declarator.
-#[tactic(auto, using(crate::proofs::Budgets::budgets), unfolding(crate::specs::StatementParser::declarator_at, crate::specs::StatementParser::declarator_on))]
+#[tactic(auto, using(crate::proofs::Budgets::budgets), unfolding(crate::specs::models::StatementParser::declarator_at, crate::specs::models::StatementParser::declarator_on))]
 fn declarator(
     alloc: Global,
     tokens: &[Token],
     budget: usize,
     place: usize,
 ) -> Result<Parsed<Stmt>, Failure>
-    requires stands { Stands tokens.now budget place }
+    requires stands { AtPlace tokens.now budget place }
     requires some { 1 ≤ budget }
-    ensures gives { Gives statement_of result (declarator_at tokens.now budget place) }
-    ensures ends { IfOk result (λ parsed. Ends tokens.now budget parsed.height parsed.next) }
+    ensures gives { GivesParsed statement_of result (declarator_at tokens.now budget place) }
+    ensures ends { IfOk result (λ parsed. UpTo tokens.now budget parsed.height parsed.next) }
     ensures further { IfOk result (λ parsed. place < parsed.next) }
 {
     match symbol_at(tokens, place) {
@@ -93,9 +94,9 @@ fn declarator(
 }
 
 /// The declarator of a scalar without an initialiser.
-#[tactic(auto, using(pc_syntax::proofs::ErasureLaws::statement_forms, pc_syntax::proofs::ErasureLaws::expression_forms))]
+#[tactic(auto, using(crate::proofs::Budgets::tree_forms))]
 fn scalar(tokens: &[Token], symbol: u32, place: usize) -> Parsed<Stmt>
-    requires { place < 65536 }
+    requires { place < most_tokens }
     ensures tree { statement_of result.tree ≡ ScalarDeclaration symbol (line_at tokens.now place) None }
     ensures height { result.height ≡ 1 }
     ensures next { result.next ≡ place + 1 }
@@ -113,7 +114,7 @@ fn scalar(tokens: &[Token], symbol: u32, place: usize) -> Parsed<Stmt>
 }
 
 /// Reads the initialiser of a scalar.
-#[tactic(auto, using(crate::proofs::Budgets::budgets, pc_syntax::proofs::ErasureLaws::statement_forms, pc_syntax::proofs::ErasureLaws::expression_forms), unfolding(crate::specs::StatementParser::initialised))]
+#[tactic(auto, using(crate::proofs::Budgets::budgets, crate::proofs::Budgets::tree_forms), unfolding(crate::specs::models::StatementParser::initialised))]
 fn initialised(
     alloc: Global,
     tokens: &[Token],
@@ -121,10 +122,10 @@ fn initialised(
     symbol: u32,
     place: usize,
 ) -> Result<Parsed<Stmt>, Failure>
-    requires stands { Stands tokens.now budget place }
+    requires stands { AtPlace tokens.now budget place }
     requires more { place + 2 ≤ length tokens.now }
-    ensures gives { Gives statement_of result (initialised tokens.now budget symbol place) }
-    ensures ends { IfOk result (λ parsed. Ends tokens.now budget parsed.height parsed.next) }
+    ensures gives { GivesParsed statement_of result (initialised tokens.now budget symbol place) }
+    ensures ends { IfOk result (λ parsed. UpTo tokens.now budget parsed.height parsed.next) }
     ensures further { IfOk result (λ parsed. place < parsed.next) }
 {
     within(2, budget, place + 1)?;
@@ -142,10 +143,10 @@ fn initialised(
 }
 
 /// Reads the length of an array.
-#[tactic(auto, using(crate::proofs::Budgets::budgets, pc_syntax::proofs::ErasureLaws::statement_forms, pc_syntax::proofs::ErasureLaws::expression_forms), unfolding(crate::specs::StatementParser::array))]
+#[tactic(auto, using(crate::proofs::Budgets::budgets, crate::proofs::Budgets::tree_forms), unfolding(crate::specs::models::StatementParser::array))]
 fn array(tokens: &[Token], symbol: u32, place: usize) -> Result<Parsed<Stmt>, Failure>
     requires { place + 2 ≤ length tokens.now }
-    ensures gives { Gives statement_of result (array tokens.now symbol place (length_of (kind_at tokens.now (place + 2)))) }
+    ensures gives { GivesParsed statement_of result (array tokens.now symbol place (length_of (kind_at tokens.now (place + 2)))) }
     ensures ends { IfOk result (λ parsed. (parsed.height ≡ 1) × (parsed.next ≤ length tokens.now) × (place < parsed.next)) }
 {
     match length_at(tokens, place + 2) {

@@ -1,7 +1,8 @@
 ghost use Rattle.std.specs.Prelude.{◌≡◌, ℕ, ◌+◌, ◌<◌, ◌≤◌, None, length, IfOk};
+ghost use Rattle.pc_word.specs.SourceLimits.{most_tokens};
 ghost use Rattle.pc_syntax.specs.Erasure.{expression_of};
-ghost use Rattle.pc_parser.specs.ExpressionParser.{target_named, name_at, number_at, grouped, input, primary_on, signed, unary_at, joined_at, choice, climb, operand, expression_at, below};
-ghost use Rattle.pc_parser.specs.Gives.{Gives, target_of, Stands, Ends};
+ghost use Rattle.pc_parser.specs.models.ExpressionParser.{target_named, name_at, number_at, grouped, input, primary_on, signed, unary_at, joined_at, choice, climb, operand, expression_at, below};
+ghost use Rattle.pc_parser.specs.models.Parsing.{GivesParsed, target_of, AtPlace, UpTo};
 ghost use Rattle.pc_parser.specs.Places.{kind_at};
 
 use crate::operator::Operator;
@@ -24,7 +25,7 @@ const UNARY: usize = 11;
 
 /// Reads what stands at a level, of at most the budget's height.
 #[cycle(expression)]
-#[tactic(auto, using(crate::proofs::Budgets::budgets), unfolding(crate::specs::ExpressionParser::part))]
+#[tactic(auto, using(crate::proofs::Budgets::budgets), unfolding(crate::specs::models::ExpressionParser::part))]
 pub(crate) fn expression(
     alloc: Global,
     tokens: &[Token],
@@ -32,9 +33,9 @@ pub(crate) fn expression(
     level: usize,
     place: usize,
 ) -> Result<Parsed<Expr>, Failure>
-    requires { Stands tokens.now budget place }
-    ensures gives { Gives expression_of result (expression_at tokens.now budget level place) }
-    ensures ends { IfOk result (λ parsed. Ends tokens.now budget parsed.height parsed.next) }
+    requires { AtPlace tokens.now budget place }
+    ensures gives { GivesParsed expression_of result (expression_at tokens.now budget level place) }
+    ensures ends { IfOk result (λ parsed. UpTo tokens.now budget parsed.height parsed.next) }
 {
     if level == EXPRESSION {
         let test = operand(alloc, tokens, budget, LOOSEST, place)?;
@@ -45,17 +46,17 @@ pub(crate) fn expression(
 
 /// Reads the rest of `?:` behind its test, where it follows.
 #[cycle(expression)]
-#[tactic(auto, using(crate::proofs::Budgets::budgets), unfolding(crate::specs::ExpressionParser::choice))]
+#[tactic(auto, using(crate::proofs::Budgets::budgets), unfolding(crate::specs::models::ExpressionParser::choice))]
 pub(crate) fn choice(
     alloc: Global,
     tokens: &[Token],
     budget: usize,
     test: Parsed<Expr>,
 ) -> Result<Parsed<Expr>, Failure>
-    requires stands { Stands tokens.now budget test.next }
+    requires stands { AtPlace tokens.now budget test.next }
     requires low { test.height ≤ budget }
-    ensures gives { Gives expression_of result (choice tokens.now (below tokens.now budget) budget (expression_of test.tree) test.height test.next) }
-    ensures ends { IfOk result (λ parsed. Ends tokens.now budget parsed.height parsed.next) }
+    ensures gives { GivesParsed expression_of result (choice tokens.now (below tokens.now budget) budget (expression_of test.tree) test.height test.next) }
+    ensures ends { IfOk result (λ parsed. UpTo tokens.now budget parsed.height parsed.next) }
 {
     let question = test.next;
     if !is_mark(tokens, Mark::Question, question) {
@@ -74,7 +75,7 @@ pub(crate) fn choice(
 /// Reads an operand of a level: what is tighter, and the operators of the level or a tighter one that
 /// follow it. Each of them raises the height, so there are at most `budget` of them.
 #[cycle(expression)]
-#[tactic(auto, using(crate::proofs::Budgets::budgets), unfolding(crate::specs::ExpressionParser::operand))]
+#[tactic(auto, using(crate::proofs::Budgets::budgets), unfolding(crate::specs::models::ExpressionParser::operand))]
 fn operand(
     alloc: Global,
     tokens: &[Token],
@@ -82,9 +83,9 @@ fn operand(
     level: usize,
     place: usize,
 ) -> Result<Parsed<Expr>, Failure>
-    requires { Stands tokens.now budget place }
-    ensures gives { Gives expression_of result (operand tokens.now (below tokens.now budget) budget level place) }
-    ensures ends { IfOk result (λ parsed. Ends tokens.now budget parsed.height parsed.next) }
+    requires { AtPlace tokens.now budget place }
+    ensures gives { GivesParsed expression_of result (operand tokens.now (below tokens.now budget) budget level place) }
+    ensures ends { IfOk result (λ parsed. UpTo tokens.now budget parsed.height parsed.next) }
 {
     let left = unary(alloc, tokens, budget, place)?;
     climb(alloc, tokens, budget, level, left)
@@ -100,10 +101,10 @@ pub(crate) fn climb(
     level: usize,
     mut left: Parsed<Expr>,
 ) -> Result<Parsed<Expr>, Failure>
-    requires stands { Stands tokens.now budget left.next }
+    requires stands { AtPlace tokens.now budget left.next }
     requires low { left.height ≤ budget }
-    ensures gives { Gives expression_of result (climb tokens.now (below tokens.now budget) budget level budget (expression_of left.tree) left.height left.next) }
-    ensures ends { IfOk result (λ parsed. Ends tokens.now budget parsed.height parsed.next) }
+    ensures gives { GivesParsed expression_of result (climb tokens.now (below tokens.now budget) budget level budget (expression_of left.tree) left.height left.next) }
+    ensures ends { IfOk result (λ parsed. UpTo tokens.now budget parsed.height parsed.next) }
 {
     let mut turns = budget;
     while let Some((operator, rank)) = operator_at(tokens, level, left.next) {
@@ -118,7 +119,7 @@ pub(crate) fn climb(
 
 /// Reads the operand behind an operator, and joins the two.
 #[cycle(expression)]
-#[tactic(auto, using(crate::proofs::Budgets::budgets), unfolding(crate::specs::ExpressionParser::joined_at))]
+#[tactic(auto, using(crate::proofs::Budgets::budgets), unfolding(crate::specs::models::ExpressionParser::joined_at))]
 fn join(
     alloc: Global,
     tokens: &[Token],
@@ -127,12 +128,12 @@ fn join(
     operator: Operator,
     rank: usize,
 ) -> Result<Parsed<Expr>, Failure>
-    requires stands { Stands tokens.now budget left.next }
+    requires stands { AtPlace tokens.now budget left.next }
     requires low { left.height ≤ budget }
     requires tight { rank ≤ 10 }
     requires more { left.next + 1 ≤ length tokens.now }
-    ensures gives { Gives expression_of result (joined_at tokens.now (below tokens.now budget) budget (expression_of left.tree) left.height left.next (operator, rank)) }
-    ensures ends { IfOk result (λ parsed. Ends tokens.now budget parsed.height parsed.next) }
+    ensures gives { GivesParsed expression_of result (joined_at tokens.now (below tokens.now budget) budget (expression_of left.tree) left.height left.next (operator, rank)) }
+    ensures ends { IfOk result (λ parsed. UpTo tokens.now budget parsed.height parsed.next) }
 {
     let at = left.next;
     within(left.height + 1, budget, at)?;
@@ -146,16 +147,16 @@ fn join(
 
 /// Reads a primary expression, with the unary operators before it.
 #[cycle(expression)]
-#[tactic(auto, using(crate::proofs::Budgets::budgets), unfolding(crate::specs::ExpressionParser::unary_at, crate::specs::ExpressionParser::unary_on))]
+#[tactic(auto, using(crate::proofs::Budgets::budgets), unfolding(crate::specs::models::ExpressionParser::unary_at, crate::specs::models::ExpressionParser::unary_on))]
 fn unary(
     alloc: Global,
     tokens: &[Token],
     budget: usize,
     place: usize,
 ) -> Result<Parsed<Expr>, Failure>
-    requires { Stands tokens.now budget place }
-    ensures gives { Gives expression_of result (unary_at tokens.now (below tokens.now budget) budget place) }
-    ensures ends { IfOk result (λ parsed. Ends tokens.now budget parsed.height parsed.next) }
+    requires { AtPlace tokens.now budget place }
+    ensures gives { GivesParsed expression_of result (unary_at tokens.now (below tokens.now budget) budget place) }
+    ensures ends { IfOk result (λ parsed. UpTo tokens.now budget parsed.height parsed.next) }
 {
     match sign_at(tokens, place) {
         Some(sign) => signed(alloc, tokens, budget, sign, place),
@@ -165,7 +166,7 @@ fn unary(
 
 /// Reads the operand of a unary operator.
 #[cycle(expression)]
-#[tactic(auto, using(crate::proofs::Budgets::budgets), unfolding(crate::specs::ExpressionParser::signed))]
+#[tactic(auto, using(crate::proofs::Budgets::budgets), unfolding(crate::specs::models::ExpressionParser::signed))]
 fn signed(
     alloc: Global,
     tokens: &[Token],
@@ -173,10 +174,10 @@ fn signed(
     sign: Option<UnaryOp>,
     place: usize,
 ) -> Result<Parsed<Expr>, Failure>
-    requires stands { Stands tokens.now budget place }
+    requires stands { AtPlace tokens.now budget place }
     requires more { place + 1 ≤ length tokens.now }
-    ensures gives { Gives expression_of result (signed tokens.now (below tokens.now budget) budget sign place) }
-    ensures ends { IfOk result (λ parsed. Ends tokens.now budget parsed.height parsed.next) }
+    ensures gives { GivesParsed expression_of result (signed tokens.now (below tokens.now budget) budget sign place) }
+    ensures ends { IfOk result (λ parsed. UpTo tokens.now budget parsed.height parsed.next) }
 {
     within(2, budget, place)?;
     let operand = expression(alloc, tokens, budget - 1, UNARY, place + 1)?;
@@ -188,16 +189,16 @@ fn signed(
 
 /// Reads a primary expression.
 #[cycle(expression)]
-#[tactic(auto, using(crate::proofs::Budgets::budgets), unfolding(crate::specs::ExpressionParser::primary_on))]
+#[tactic(auto, using(crate::proofs::Budgets::budgets), unfolding(crate::specs::models::ExpressionParser::primary_on))]
 fn primary(
     alloc: Global,
     tokens: &[Token],
     budget: usize,
     place: usize,
 ) -> Result<Parsed<Expr>, Failure>
-    requires { Stands tokens.now budget place }
-    ensures gives { Gives expression_of result (primary_on tokens.now (below tokens.now budget) budget (kind_at tokens.now place) place) }
-    ensures ends { IfOk result (λ parsed. Ends tokens.now budget parsed.height parsed.next) }
+    requires { AtPlace tokens.now budget place }
+    ensures gives { GivesParsed expression_of result (primary_on tokens.now (below tokens.now budget) budget (kind_at tokens.now place) place) }
+    ensures ends { IfOk result (λ parsed. UpTo tokens.now budget parsed.height parsed.next) }
 {
     match kind_at(tokens, place) {
         Some(TokenKind::Number { value }) => number(tokens, budget, value, place),
@@ -219,17 +220,17 @@ fn primary(
 }
 
 /// A number.
-#[tactic(auto, using(crate::proofs::Budgets::budgets, pc_syntax::proofs::ErasureLaws::statement_forms, pc_syntax::proofs::ErasureLaws::expression_forms), unfolding(crate::specs::ExpressionParser::number_at))]
+#[tactic(auto, using(crate::proofs::Budgets::budgets, crate::proofs::Budgets::tree_forms), unfolding(crate::specs::models::ExpressionParser::number_at))]
 fn number(
     tokens: &[Token],
     budget: usize,
     value: i32,
     place: usize,
 ) -> Result<Parsed<Expr>, Failure>
-    requires stands { Stands tokens.now budget place }
+    requires stands { AtPlace tokens.now budget place }
     requires more { place + 1 ≤ length tokens.now }
-    ensures ends { IfOk result (λ parsed. Ends tokens.now budget parsed.height parsed.next) }
-    ensures gives { Gives expression_of result (number_at tokens.now (below tokens.now budget) budget value place) }
+    ensures ends { IfOk result (λ parsed. UpTo tokens.now budget parsed.height parsed.next) }
+    ensures gives { GivesParsed expression_of result (number_at tokens.now (below tokens.now budget) budget value place) }
 {
     within(1, budget, place)?;
     Ok(Parsed {
@@ -241,7 +242,7 @@ fn number(
 
 /// A name, or an element of the array with the name.
 #[cycle(expression)]
-#[tactic(auto, using(crate::proofs::Budgets::budgets), unfolding(crate::specs::ExpressionParser::name_at))]
+#[tactic(auto, using(crate::proofs::Budgets::budgets), unfolding(crate::specs::models::ExpressionParser::name_at))]
 fn name(
     alloc: Global,
     tokens: &[Token],
@@ -249,10 +250,10 @@ fn name(
     symbol: u32,
     place: usize,
 ) -> Result<Parsed<Expr>, Failure>
-    requires stands { Stands tokens.now budget place }
+    requires stands { AtPlace tokens.now budget place }
     requires more { place + 1 ≤ length tokens.now }
-    ensures gives { Gives expression_of result (name_at tokens.now (below tokens.now budget) budget symbol place) }
-    ensures ends { IfOk result (λ parsed. Ends tokens.now budget parsed.height parsed.next) }
+    ensures gives { GivesParsed expression_of result (name_at tokens.now (below tokens.now budget) budget symbol place) }
+    ensures ends { IfOk result (λ parsed. UpTo tokens.now budget parsed.height parsed.next) }
 {
     within(1, budget, place)?;
     let target = target_named(alloc, tokens, budget, symbol, place)?;
@@ -264,7 +265,7 @@ fn name(
 
 /// Reads the target at a name: the name, or the element of the array with the name.
 #[cycle(expression)]
-#[tactic(auto, using(crate::proofs::Budgets::budgets), unfolding(crate::specs::ExpressionParser::target_named))]
+#[tactic(auto, using(crate::proofs::Budgets::budgets), unfolding(crate::specs::models::ExpressionParser::target_named))]
 pub(crate) fn target_named(
     alloc: Global,
     tokens: &[Token],
@@ -272,10 +273,10 @@ pub(crate) fn target_named(
     symbol: u32,
     place: usize,
 ) -> Result<Parsed<Target>, Failure>
-    requires stands { Stands tokens.now budget place }
+    requires stands { AtPlace tokens.now budget place }
     requires more { place + 1 ≤ length tokens.now }
-    ensures gives { Gives target_of result (target_named tokens.now (below tokens.now budget) budget symbol place) }
-    ensures ends { IfOk result (λ parsed. Ends tokens.now budget parsed.height parsed.next) }
+    ensures gives { GivesParsed target_of result (target_named tokens.now (below tokens.now budget) budget symbol place) }
+    ensures ends { IfOk result (λ parsed. UpTo tokens.now budget parsed.height parsed.next) }
 {
     let line = line_at(tokens, place);
     let bracket = line_at(tokens, place + 1);
@@ -299,7 +300,7 @@ pub(crate) fn target_named(
 
 /// A name as a target. Its height is that of no expression.
 fn lone_name(symbol: u32, line: u32, place: usize) -> Parsed<Target>
-    requires { place < 65536 }
+    requires { place < most_tokens }
     ensures tree { target_of result.tree ≡ record { symbol = symbol; line = line; index = None; bracket = line } }
     ensures height { result.height ≡ 0 }
     ensures next { result.next ≡ place + 1 }
@@ -317,11 +318,11 @@ fn lone_name(symbol: u32, line: u32, place: usize) -> Parsed<Target>
 }
 
 /// `read()`.
-#[tactic(auto, using(crate::proofs::Budgets::budgets, pc_syntax::proofs::ErasureLaws::statement_forms, pc_syntax::proofs::ErasureLaws::expression_forms), unfolding(crate::specs::ExpressionParser::input))]
+#[tactic(auto, using(crate::proofs::Budgets::budgets, crate::proofs::Budgets::tree_forms), unfolding(crate::specs::models::ExpressionParser::input))]
 fn input(tokens: &[Token], budget: usize, place: usize) -> Result<Parsed<Expr>, Failure>
-    requires { Stands tokens.now budget place }
-    ensures gives { Gives expression_of result (input tokens.now (below tokens.now budget) budget place) }
-    ensures ends { IfOk result (λ parsed. Ends tokens.now budget parsed.height parsed.next) }
+    requires { AtPlace tokens.now budget place }
+    ensures gives { GivesParsed expression_of result (input tokens.now (below tokens.now budget) budget place) }
+    ensures ends { IfOk result (λ parsed. UpTo tokens.now budget parsed.height parsed.next) }
 {
     within(1, budget, place)?;
     expect(tokens, Mark::LeftParen, place + 1)?;
@@ -336,17 +337,17 @@ fn input(tokens: &[Token], budget: usize, place: usize) -> Result<Parsed<Expr>, 
 
 /// Reads an expression in parentheses.
 #[cycle(expression)]
-#[tactic(auto, using(crate::proofs::Budgets::budgets), unfolding(crate::specs::ExpressionParser::grouped))]
+#[tactic(auto, using(crate::proofs::Budgets::budgets), unfolding(crate::specs::models::ExpressionParser::grouped))]
 fn grouped(
     alloc: Global,
     tokens: &[Token],
     budget: usize,
     place: usize,
 ) -> Result<Parsed<Expr>, Failure>
-    requires stands { Stands tokens.now budget place }
+    requires stands { AtPlace tokens.now budget place }
     requires more { place + 1 ≤ length tokens.now }
-    ensures gives { Gives expression_of result (grouped tokens.now (below tokens.now budget) budget place) }
-    ensures ends { IfOk result (λ parsed. Ends tokens.now budget parsed.height parsed.next) }
+    ensures gives { GivesParsed expression_of result (grouped tokens.now (below tokens.now budget) budget place) }
+    ensures ends { IfOk result (λ parsed. UpTo tokens.now budget parsed.height parsed.next) }
 {
     within(2, budget, place)?;
     let inner = expression(alloc, tokens, budget - 1, EXPRESSION, place + 1)?;

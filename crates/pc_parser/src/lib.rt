@@ -3,6 +3,7 @@
 
 mod declaration;
 mod expression;
+mod loops;
 mod operator;
 mod outcome;
 mod place;
@@ -12,7 +13,7 @@ mod target;
 mod tree;
 mod unit;
 
-pub use unit::{MOST_HEIGHT, ParseError, one_program, parse};
+pub use unit::{ParseError, one_program, parse};
 
 #[cfg(test)]
 mod tests;

@@ -1,8 +1,9 @@
 ghost use Rattle.std.specs.Prelude.{◌≡◌, ℕ, ◌+◌, ◌<◌, ◌≤◌, true, false, length, OnSome, IfSome, OnOk, MatchResult};
 ghost use Rattle.std.specs.Bool.{OnTrue};
-ghost use Rattle.pc_parser.specs.Places.{kind_at, line_at, is_mark, is_key};
-ghost use Rattle.pc_parser.specs.ExpressionParser.{operator_from, sign_of};
-ghost use Rattle.pc_parser.specs.StatementParser.{assignment_from, step_from, symbol_of, length_of};
+ghost use Rattle.pc_parser.specs.Places.{kind_at, line_at};
+ghost use Rattle.pc_parser.specs.models.Tests.{is_mark, is_key};
+ghost use Rattle.pc_parser.specs.models.ExpressionParser.{operator_from, sign_of};
+ghost use Rattle.pc_parser.specs.models.StatementParser.{assignment_from, step_from, symbol_of, length_of};
 
 use crate::operator::{Operator, assignment_of, operator_of, prefix_of, step_of};
 use crate::outcome::Failure;
@@ -83,7 +84,7 @@ pub(crate) fn expect_key(tokens: &[Token], key: Keyword, at: usize) -> Result<()
 }
 
 /// The binary operator at a place, with its level, where that is this level or a tighter one.
-#[tactic(auto, unfolding(crate::specs::ExpressionParser::operator_from))]
+#[tactic(auto, unfolding(crate::specs::models::ExpressionParser::operator_from))]
 pub(crate) fn operator_at(tokens: &[Token], level: usize, place: usize) -> Option<(Operator, usize)>
     ensures value { result ≡ operator_from level (kind_at tokens.now place) }
     ensures low { IfSome result (λ found. found.1 ≤ 10) }
@@ -103,7 +104,7 @@ pub(crate) fn operator_at(tokens: &[Token], level: usize, place: usize) -> Optio
 }
 
 /// The unary operator at a place.
-#[tactic(auto, unfolding(crate::specs::ExpressionParser::sign_of))]
+#[tactic(auto, unfolding(crate::specs::models::ExpressionParser::sign_of))]
 pub(crate) fn sign_at(tokens: &[Token], place: usize) -> Option<Option<UnaryOp>>
     ensures value { result ≡ sign_of (kind_at tokens.now place) }
     ensures inside { OnSome result (place < length tokens.now) }
@@ -118,7 +119,7 @@ pub(crate) fn sign_at(tokens: &[Token], place: usize) -> Option<Option<UnaryOp>>
 }
 
 /// What the mark at a place assigns by.
-#[tactic(auto, unfolding(crate::specs::StatementParser::assignment_from))]
+#[tactic(auto, unfolding(crate::specs::models::StatementParser::assignment_from))]
 pub(crate) fn assignment_at(tokens: &[Token], place: usize) -> Option<Option<BinaryOp>>
     ensures value { result ≡ assignment_from (kind_at tokens.now place) }
     ensures inside { OnSome result (place < length tokens.now) }
@@ -133,7 +134,7 @@ pub(crate) fn assignment_at(tokens: &[Token], place: usize) -> Option<Option<Bin
 }
 
 /// What the mark at a place steps by.
-#[tactic(auto, unfolding(crate::specs::StatementParser::step_from))]
+#[tactic(auto, unfolding(crate::specs::models::StatementParser::step_from))]
 pub(crate) fn step_at(tokens: &[Token], place: usize) -> Option<BinaryOp>
     ensures value { result ≡ step_from (kind_at tokens.now place) }
     ensures inside { OnSome result (place < length tokens.now) }
@@ -148,7 +149,7 @@ pub(crate) fn step_at(tokens: &[Token], place: usize) -> Option<BinaryOp>
 }
 
 /// The symbol of the name at a place.
-#[tactic(auto, unfolding(crate::specs::StatementParser::symbol_of))]
+#[tactic(auto, unfolding(crate::specs::models::StatementParser::symbol_of))]
 pub(crate) fn symbol_at(tokens: &[Token], place: usize) -> Option<u32>
     ensures value { result ≡ symbol_of (kind_at tokens.now place) }
     ensures inside { OnSome result (place < length tokens.now) }
@@ -163,7 +164,7 @@ pub(crate) fn symbol_at(tokens: &[Token], place: usize) -> Option<u32>
 }
 
 /// The length that the number at a place gives.
-#[tactic(auto, unfolding(crate::specs::StatementParser::length_of))]
+#[tactic(auto, unfolding(crate::specs::models::StatementParser::length_of))]
 pub(crate) fn length_at(tokens: &[Token], place: usize) -> Option<u32>
     ensures value { result ≡ length_of (kind_at tokens.now place) }
     ensures inside { OnSome result (place < length tokens.now) }

@@ -1,10 +1,12 @@
 ghost use Rattle.std.specs.Prelude.{◌≡◌, ℕ, pos, ◌+◌, ◌-◌, ◌<◌, ◌≤◌, Some, length, IfOk};
+ghost use Rattle.pc_word.specs.SourceLimits.{most_tokens};
 ghost use Rattle.pc_syntax.specs.Erasure.{expression_of, statement_of};
 ghost use Rattle.pc_parser.specs.Places.{kind_at, line_at};
 ghost use Rattle.pc_syntax.specs.Source.{Evaluation, Literal};
 ghost use Rattle.pc_parser.specs.Statements.{assigned};
-ghost use Rattle.pc_parser.specs.StatementParser.{test_at, closed_behind, name_budget, target_at, evaluation, evaluation_from, print_at, step_before, assignment, behind_target, on_target, named, marked, simple_on, simple_at, assignment_from, step_from};
-ghost use Rattle.pc_parser.specs.Gives.{Gives, target_of, Stands, Ends};
+ghost use Rattle.pc_parser.specs.models.StatementParser.{test_at, closed_behind, name_budget, target_at, evaluation, evaluation_from, print_at, step_before, assignment, behind_target};
+ghost use Rattle.pc_parser.specs.models.StatementParser.{on_target, named, marked, simple_on, simple_at, assignment_from, step_from};
+ghost use Rattle.pc_parser.specs.models.Parsing.{GivesParsed, target_of, AtPlace, UpTo};
 
 use crate::expression::{EXPRESSION, LOOSEST, choice, climb, expression, target_named};
 use crate::operator::step_of;
@@ -16,16 +18,16 @@ use pc_syntax::{BinaryOp, Expr, Stmt};
 use std::alloc::Global;
 
 /// Reads an expression in the parentheses that a keyword wants.
-#[tactic(auto, using(crate::proofs::Budgets::budgets), unfolding(crate::specs::StatementParser::test_at))]
+#[tactic(auto, using(crate::proofs::Budgets::budgets), unfolding(crate::specs::models::StatementParser::test_at))]
 pub(crate) fn test(
     alloc: Global,
     tokens: &[Token],
     budget: usize,
     place: usize,
 ) -> Result<Parsed<Expr>, Failure>
-    requires { Stands tokens.now budget place }
-    ensures gives { Gives expression_of result (test_at tokens.now budget place) }
-    ensures ends { IfOk result (λ parsed. Ends tokens.now budget parsed.height parsed.next) }
+    requires { AtPlace tokens.now budget place }
+    ensures gives { GivesParsed expression_of result (test_at tokens.now budget place) }
+    ensures ends { IfOk result (λ parsed. UpTo tokens.now budget parsed.height parsed.next) }
 {
     expect(tokens, Mark::LeftParen, place)?;
     let inner = expression(alloc, tokens, budget, EXPRESSION, place + 1)?;
@@ -39,16 +41,16 @@ pub(crate) fn test(
 
 /// Goes past the mark behind a simple statement. Its height is compared only here: a lone name is one
 /// higher than `x++;`, and is told apart from it by what follows.
-#[tactic(auto, using(crate::proofs::Budgets::budgets), unfolding(crate::specs::StatementParser::closed_behind))]
+#[tactic(auto, using(crate::proofs::Budgets::budgets), unfolding(crate::specs::models::StatementParser::closed_behind))]
 pub(crate) fn close(
     tokens: &[Token],
     mark: Mark,
     budget: usize,
     statement: Parsed<Stmt>,
 ) -> Result<Parsed<Stmt>, Failure>
-    requires { Stands tokens.now budget statement.next }
-    ensures gives { Gives statement_of result (closed_behind tokens.now mark budget (statement_of statement.tree) statement.height statement.next) }
-    ensures ends { IfOk result (λ parsed. Ends tokens.now budget parsed.height parsed.next) }
+    requires { AtPlace tokens.now budget statement.next }
+    ensures gives { GivesParsed statement_of result (closed_behind tokens.now mark budget (statement_of statement.tree) statement.height statement.next) }
+    ensures ends { IfOk result (λ parsed. UpTo tokens.now budget parsed.height parsed.next) }
 {
     let at = statement.next;
     expect(tokens, mark, at)?;
@@ -70,17 +72,17 @@ fn name_budget(budget: usize) -> usize
 }
 
 /// Reads a target.
-#[tactic(auto, using(crate::proofs::Budgets::budgets), unfolding(crate::specs::StatementParser::target_at, crate::specs::StatementParser::target_on))]
+#[tactic(auto, using(crate::proofs::Budgets::budgets), unfolding(crate::specs::models::StatementParser::target_at, crate::specs::models::StatementParser::target_on))]
 fn target(
     alloc: Global,
     tokens: &[Token],
     budget: usize,
     place: usize,
 ) -> Result<Parsed<Target>, Failure>
-    requires stands { Stands tokens.now budget place }
+    requires stands { AtPlace tokens.now budget place }
     requires some { 1 ≤ budget }
-    ensures gives { Gives target_of result (target_at tokens.now budget place) }
-    ensures ends { IfOk result (λ parsed. Ends tokens.now (name_budget budget) parsed.height parsed.next) }
+    ensures gives { GivesParsed target_of result (target_at tokens.now budget place) }
+    ensures ends { IfOk result (λ parsed. UpTo tokens.now (name_budget budget) parsed.height parsed.next) }
 {
     match symbol_at(tokens, place) {
         Some(symbol) => target_named(alloc, tokens, name_budget(budget), symbol, place),
@@ -89,9 +91,9 @@ fn target(
 }
 
 /// An expression as a statement that begins at a place.
-#[tactic(auto, using(pc_syntax::proofs::ErasureLaws::statement_forms, pc_syntax::proofs::ErasureLaws::expression_forms))]
+#[tactic(auto, using(crate::proofs::Budgets::tree_forms))]
 fn evaluated(tokens: &[Token], place: usize, value: Parsed<Expr>) -> Parsed<Stmt>
-    requires { value.height < 65536 }
+    requires { value.height < most_tokens }
     ensures tree { statement_of result.tree ≡ Evaluation (line_at tokens.now place) (expression_of value.tree) }
     ensures height { result.height ≡ value.height + 1 }
     ensures next { result.next ≡ value.next }
@@ -108,23 +110,23 @@ fn evaluated(tokens: &[Token], place: usize, value: Parsed<Expr>) -> Parsed<Stmt
 }
 
 /// Reads an expression as a statement.
-#[tactic(auto, using(crate::proofs::Budgets::budgets), unfolding(crate::specs::StatementParser::evaluation))]
+#[tactic(auto, using(crate::proofs::Budgets::budgets), unfolding(crate::specs::models::StatementParser::evaluation))]
 fn evaluation(
     alloc: Global,
     tokens: &[Token],
     budget: usize,
     place: usize,
 ) -> Result<Parsed<Stmt>, Failure>
-    requires { Stands tokens.now budget place }
-    ensures gives { Gives statement_of result (evaluation tokens.now budget place) }
-    ensures ends { IfOk result (λ parsed. Ends tokens.now (budget + 1) parsed.height parsed.next) }
+    requires { AtPlace tokens.now budget place }
+    ensures gives { GivesParsed statement_of result (evaluation tokens.now budget place) }
+    ensures ends { IfOk result (λ parsed. UpTo tokens.now (budget + 1) parsed.height parsed.next) }
 {
     let value = expression(alloc, tokens, budget.saturating_sub(1), EXPRESSION, place)?;
     Ok(evaluated(tokens, place, value))
 }
 
 /// Reads the expression that goes on behind a target, as a statement.
-#[tactic(auto, using(crate::proofs::Budgets::budgets), unfolding(crate::specs::StatementParser::evaluation_from))]
+#[tactic(auto, using(crate::proofs::Budgets::budgets), unfolding(crate::specs::models::StatementParser::evaluation_from))]
 fn evaluation_from(
     alloc: Global,
     tokens: &[Token],
@@ -132,11 +134,11 @@ fn evaluation_from(
     place: usize,
     target: Parsed<Target>,
 ) -> Result<Parsed<Stmt>, Failure>
-    requires stands { Stands tokens.now budget target.next }
+    requires stands { AtPlace tokens.now budget target.next }
     requires some { 1 ≤ budget }
     requires low { target.height ≤ name_budget budget }
-    ensures gives { Gives statement_of result (evaluation_from tokens.now budget place (target_of target.tree) target.height target.next) }
-    ensures ends { IfOk result (λ parsed. Ends tokens.now (budget + 1) parsed.height parsed.next) }
+    ensures gives { GivesParsed statement_of result (evaluation_from tokens.now budget place (target_of target.tree) target.height target.next) }
+    ensures ends { IfOk result (λ parsed. UpTo tokens.now (budget + 1) parsed.height parsed.next) }
 {
     let budget = name_budget(budget);
     let next = target.next;
@@ -154,17 +156,17 @@ fn evaluation_from(
 }
 
 /// Reads `print` and its value.
-#[tactic(auto, using(crate::proofs::Budgets::budgets, pc_syntax::proofs::ErasureLaws::statement_forms, pc_syntax::proofs::ErasureLaws::expression_forms), unfolding(crate::specs::StatementParser::print_at))]
+#[tactic(auto, using(crate::proofs::Budgets::budgets, crate::proofs::Budgets::tree_forms), unfolding(crate::specs::models::StatementParser::print_at))]
 fn print(
     alloc: Global,
     tokens: &[Token],
     budget: usize,
     place: usize,
 ) -> Result<Parsed<Stmt>, Failure>
-    requires stands { Stands tokens.now budget place }
+    requires stands { AtPlace tokens.now budget place }
     requires more { place + 1 ≤ length tokens.now }
-    ensures gives { Gives statement_of result (print_at tokens.now budget place) }
-    ensures ends { IfOk result (λ parsed. Ends tokens.now (budget + 1) parsed.height parsed.next) }
+    ensures gives { GivesParsed statement_of result (print_at tokens.now budget place) }
+    ensures ends { IfOk result (λ parsed. UpTo tokens.now (budget + 1) parsed.height parsed.next) }
 {
     within(2, budget, place)?;
     let value = test(alloc, tokens, budget - 1, place + 1)?;
@@ -180,7 +182,7 @@ fn print(
 }
 
 /// An assignment of 1 by `+` or `-`, whose mark stands at a place.
-#[tactic(auto, using(pc_syntax::proofs::ErasureLaws::statement_forms, pc_syntax::proofs::ErasureLaws::expression_forms))]
+#[tactic(auto, using(crate::proofs::Budgets::tree_forms))]
 fn stepped(tokens: &[Token], at: usize, op: BinaryOp, target: Target) -> Stmt
     ensures { statement_of result ≡ assigned (target_of target) (Some op) (line_at tokens.now at) (Literal (pos 1)) }
 {
@@ -202,7 +204,7 @@ fn stepped(tokens: &[Token], at: usize, op: BinaryOp, target: Target) -> Stmt
 }
 
 /// Reads a statement that `++` or `--` begins.
-#[tactic(auto, using(crate::proofs::Budgets::budgets), unfolding(crate::specs::StatementParser::step_before))]
+#[tactic(auto, using(crate::proofs::Budgets::budgets), unfolding(crate::specs::models::StatementParser::step_before))]
 fn step_before(
     alloc: Global,
     tokens: &[Token],
@@ -210,10 +212,10 @@ fn step_before(
     op: BinaryOp,
     place: usize,
 ) -> Result<Parsed<Stmt>, Failure>
-    requires stands { Stands tokens.now budget place }
+    requires stands { AtPlace tokens.now budget place }
     requires more { place + 1 ≤ length tokens.now }
-    ensures gives { Gives statement_of result (step_before tokens.now budget op place) }
-    ensures ends { IfOk result (λ parsed. Ends tokens.now (budget + 1) parsed.height parsed.next) }
+    ensures gives { GivesParsed statement_of result (step_before tokens.now budget op place) }
+    ensures ends { IfOk result (λ parsed. UpTo tokens.now (budget + 1) parsed.height parsed.next) }
 {
     within(1, budget, place)?;
     let target = target(alloc, tokens, budget, place + 1)?;
@@ -226,7 +228,7 @@ fn step_before(
 }
 
 /// Reads what is assigned to a target.
-#[tactic(auto, using(crate::proofs::Budgets::budgets), unfolding(crate::specs::StatementParser::assignment))]
+#[tactic(auto, using(crate::proofs::Budgets::budgets), unfolding(crate::specs::models::StatementParser::assignment))]
 fn assignment(
     alloc: Global,
     tokens: &[Token],
@@ -234,11 +236,11 @@ fn assignment(
     target: Parsed<Target>,
     op: Option<BinaryOp>,
 ) -> Result<Parsed<Stmt>, Failure>
-    requires stands { Stands tokens.now budget target.next }
+    requires stands { AtPlace tokens.now budget target.next }
     requires more { target.next + 1 ≤ length tokens.now }
     requires low { target.height ≤ name_budget budget }
-    ensures gives { Gives statement_of result (assignment tokens.now budget (target_of target.tree) op target.height target.next) }
-    ensures ends { IfOk result (λ parsed. Ends tokens.now (budget + 1) parsed.height parsed.next) }
+    ensures gives { GivesParsed statement_of result (assignment tokens.now budget (target_of target.tree) op target.height target.next) }
+    ensures ends { IfOk result (λ parsed. UpTo tokens.now (budget + 1) parsed.height parsed.next) }
 {
     let at = target.next;
     within(2, budget, at)?;
@@ -251,7 +253,7 @@ fn assignment(
 }
 
 /// An assignment, compound where there is an operator.
-#[tactic(auto, using(pc_syntax::proofs::ErasureLaws::statement_forms, pc_syntax::proofs::ErasureLaws::expression_forms))]
+#[tactic(auto, using(crate::proofs::Budgets::tree_forms))]
 fn assign(target: Target, op: Option<BinaryOp>, at: u32, value: Expr) -> Stmt
     ensures { statement_of result ≡ assigned (target_of target) op at (expression_of value) }
 {
@@ -273,7 +275,7 @@ fn assign(target: Target, op: Option<BinaryOp>, at: u32, value: Expr) -> Stmt
 }
 
 /// Reads what goes on behind a target that is not assigned to: `++` or `--`, or an expression.
-#[tactic(auto, using(crate::proofs::Budgets::budgets), unfolding(crate::specs::StatementParser::behind_target))]
+#[tactic(auto, using(crate::proofs::Budgets::budgets), unfolding(crate::specs::models::StatementParser::behind_target))]
 fn behind_target(
     alloc: Global,
     tokens: &[Token],
@@ -281,11 +283,11 @@ fn behind_target(
     place: usize,
     target: Parsed<Target>,
 ) -> Result<Parsed<Stmt>, Failure>
-    requires stands { Stands tokens.now budget target.next }
+    requires stands { AtPlace tokens.now budget target.next }
     requires some { 1 ≤ budget }
     requires low { target.height ≤ name_budget budget }
-    ensures gives { Gives statement_of result (behind_target tokens.now budget place (target_of target.tree) target.height target.next (step_from (kind_at tokens.now target.next))) }
-    ensures ends { IfOk result (λ parsed. Ends tokens.now (budget + 1) parsed.height parsed.next) }
+    ensures gives { GivesParsed statement_of result (behind_target tokens.now budget place (target_of target.tree) target.height target.next (step_from (kind_at tokens.now target.next))) }
+    ensures ends { IfOk result (λ parsed. UpTo tokens.now (budget + 1) parsed.height parsed.next) }
 {
     let at = target.next;
     match step_at(tokens, at) {
@@ -302,16 +304,16 @@ fn behind_target(
 }
 
 /// Reads a statement that a name begins.
-#[tactic(auto, using(crate::proofs::Budgets::budgets), unfolding(crate::specs::StatementParser::named, crate::specs::StatementParser::on_target))]
+#[tactic(auto, using(crate::proofs::Budgets::budgets), unfolding(crate::specs::models::StatementParser::named, crate::specs::models::StatementParser::on_target))]
 fn named(
     alloc: Global,
     tokens: &[Token],
     budget: usize,
     place: usize,
 ) -> Result<Parsed<Stmt>, Failure>
-    requires { Stands tokens.now budget place }
-    ensures gives { Gives statement_of result (named tokens.now budget place) }
-    ensures ends { IfOk result (λ parsed. Ends tokens.now (budget + 1) parsed.height parsed.next) }
+    requires { AtPlace tokens.now budget place }
+    ensures gives { GivesParsed statement_of result (named tokens.now budget place) }
+    ensures ends { IfOk result (λ parsed. UpTo tokens.now (budget + 1) parsed.height parsed.next) }
 {
     within(1, budget, place)?;
     let target = target(alloc, tokens, budget, place)?;
@@ -323,16 +325,16 @@ fn named(
 
 /// Reads a simple statement. Its height is one above the budget where a lone name is the whole of it
 /// and the budget is 1.
-#[tactic(auto, using(crate::proofs::Budgets::budgets), unfolding(crate::specs::StatementParser::simple_at, crate::specs::StatementParser::simple_on, crate::specs::StatementParser::marked))]
+#[tactic(auto, using(crate::proofs::Budgets::budgets), unfolding(crate::specs::models::StatementParser::simple_at, crate::specs::models::StatementParser::simple_on, crate::specs::models::StatementParser::marked))]
 pub(crate) fn simple(
     alloc: Global,
     tokens: &[Token],
     budget: usize,
     place: usize,
 ) -> Result<Parsed<Stmt>, Failure>
-    requires { Stands tokens.now budget place }
-    ensures gives { Gives statement_of result (simple_at tokens.now budget place) }
-    ensures ends { IfOk result (λ parsed. Ends tokens.now (budget + 1) parsed.height parsed.next) }
+    requires { AtPlace tokens.now budget place }
+    ensures gives { GivesParsed statement_of result (simple_at tokens.now budget place) }
+    ensures ends { IfOk result (λ parsed. UpTo tokens.now (budget + 1) parsed.height parsed.next) }
 {
     match kind_at(tokens, place) {
         Some(TokenKind::Name { .. }) => named(alloc, tokens, budget, place),

@@ -1,7 +1,7 @@
 ghost use Rattle.std.specs.Prelude.{◌≡◌, ◌≤◌, max, IfOk, MatchResult};
 ghost use Rattle.pc_syntax.specs.Erasure.{expression_of};
-ghost use Rattle.pc_parser.specs.ExpressionParser.{target_tree, target_height};
-ghost use Rattle.pc_parser.specs.Gives.{target_of};
+ghost use Rattle.pc_parser.specs.models.ExpressionParser.{target_tree, target_height};
+ghost use Rattle.pc_parser.specs.models.Parsing.{target_of};
 ghost use Rattle.pc_parser.specs.declared.outcome.Failure.TheVariants.{Memory};
 
 use crate::outcome::Failure;

@@ -1,11 +1,13 @@
 ghost use Rattle.std.specs.Prelude.{◌≡◌, ◌≤◌, true, length, IfOk, OnOk};
+ghost use Rattle.pc_word.specs.SourceLimits.{most_tokens};
 
 use crate::{ParseError, parse};
 use pc_lexer::TokenList;
+use pc_word::{MOST_SOURCE, MOST_TOKENS};
 use std::alloc::Global;
 use std::test::Fail;
 
-// Ends a test where a text is longer than its call takes.
+// UpTo a test where a text is longer than its call takes.
 fn require(fits: bool) -> Result<(), Fail>
     ensures { OnOk result (fits ≡ true) }
 {
@@ -16,11 +18,11 @@ fn require(fits: bool) -> Result<(), Fail>
 
 // The tokens of a text.
 fn tokens_of(alloc: Global, text: &str) -> Result<TokenList, Fail>
-    ensures { IfOk result (λ tokens. length tokens ≤ 65536) }
+    ensures { IfOk result (λ tokens. length tokens ≤ most_tokens) }
 {
-    require(text.len() <= 1_048_576)?;
+    require(text.len() <= MOST_SOURCE)?;
     let tokens = pc_lexer::tokens(alloc, text.as_bytes())?;
-    require(tokens.len() <= 65_536)?;
+    require(tokens.len() <= MOST_TOKENS)?;
     Ok(tokens)
 }
 

@@ -1,7 +1,7 @@
 ghost use Rattle.std.specs.Prelude.{◌≡◌, MatchResult};
 ghost use Rattle.pc_syntax.specs.Source.{Combined, Conjunction, Disjunction, Conditional, Branch, WhileLoop, DoLoop, ForLoop};
 ghost use Rattle.pc_syntax.specs.Erasure.{expression_of, statement_of, list_of, optional_of};
-ghost use Rattle.pc_parser.specs.Gives.{optional_tree};
+ghost use Rattle.pc_parser.specs.models.Parsing.{optional_tree};
 ghost use Rattle.pc_parser.specs.Operators.{joined, prefixed};
 ghost use Rattle.pc_parser.specs.declared.outcome.Failure.TheVariants.{Memory};
 
@@ -145,7 +145,8 @@ pub(crate) struct ForHead {
 /// A `for`.
 #[tactic(auto, using(pc_syntax::proofs::ErasureLaws::statement_forms))]
 pub(crate) fn for_tree(alloc: Global, head: ForHead, body: Stmt) -> Result<Stmt, Failure>
-    ensures { MatchResult result (λ tree. statement_of tree ≡ ForLoop head.line (list_of head.first) (expression_of head.condition) (optional_of head.step) (statement_of body)) (λ failure. failure ≡ Memory) }
+    ensures { MatchResult result (λ tree. statement_of tree ≡ ForLoop head.line (list_of head.first) (expression_of head.condition) (optional_of head.step)
+        (statement_of body)) (λ failure. failure ≡ Memory) }
 {
     let body = Box::new(alloc, body)?;
     let ForHead {

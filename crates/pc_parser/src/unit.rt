@@ -1,23 +1,22 @@
 ghost use Rattle.std.specs.Prelude.{◌≡◌, ℕ, ◌+◌, ◌≤◌, List, length, IfOk, IsErrOf};
+ghost use Rattle.pc_word.specs.SourceLimits.{most_tokens, most_height};
 ghost use Rattle.pc_lexer.specs.declared.token.Token.{Token as TokenValue};
 ghost use Rattle.pc_syntax.specs.Source.{SourceProgram};
 ghost use Rattle.pc_syntax.specs.Erasure.{program_of, list_of};
 ghost use Rattle.pc_parser.specs.Statements.{ReadsProgram};
-ghost use Rattle.pc_parser.specs.StatementParser.{main_block, program_at};
-ghost use Rattle.pc_parser.specs.Gives.{Gives, Stands};
-ghost use Rattle.pc_parser.specs.Parse.{IsReadWithin, NothingReads, NothingReadsWithin, IsPlaceOfLine, Refuses, FailsInside, located, line_of};
+ghost use Rattle.pc_parser.specs.models.StatementParser.{main_block, program_at};
+ghost use Rattle.pc_parser.specs.models.Parsing.{GivesParsed, AtPlace};
+ghost use Rattle.pc_parser.specs.Parse.{IsReadWithin, NothingReads, NothingReadsWithin, IsPlaceOfLine, RefusesTokens, error_line};
+ghost use Rattle.pc_parser.specs.models.Parsing.{FailsInside, located};
 
 use crate::outcome::{Failure, Parsed};
 use crate::place::{expect, expect_key, is_key, kind_at};
 use crate::statement::block;
 use pc_lexer::{Keyword, Mark, Token, TokenList};
 use pc_syntax::{Program, StmtList};
+use pc_word::MOST_HEIGHT;
 use std::alloc::Global;
 use thiserror::Error;
-
-/// The height that a program may have. A number, a name and `read()` have the height 1, and each
-/// operator, index, pair of parentheses, statement, block and loop is one higher than its highest part.
-pub const MOST_HEIGHT: usize = 256;
 
 /// Why tokens are no program that this parser takes. `at` is the place of a token, counted from 0, and
 /// `line` its line; or `at` is the number of tokens, and `line` the line of the last one, or 1 where
@@ -36,16 +35,17 @@ pub enum ParseError {
 }
 
 /// The program that the grammar reads in the tokens (C17 6.5, 6.8 and 6.9, as far as the language has
-/// them).
+/// them), where its height is at most 256: a number, a name and `read()` have the height 1, and each
+/// operator, index, pair of parentheses, statement, block and loop is one higher than its highest part.
 pub fn parse(alloc: Global, tokens: &TokenList) -> Result<Program, ParseError>
-    requires { length tokens.now ≤ 65536 }
+    requires { length tokens.now ≤ most_tokens }
     // What is given is what the grammar relates to the tokens.
-    ensures read { IfOk result (λ program. IsReadWithin MOST_HEIGHT tokens.now (program_of program)) }
+    ensures read { IfOk result (λ program. IsReadWithin most_height tokens.now (program_of program)) }
     // A refusal, other than for want of memory, comes only where there is no such program.
-    ensures refused { Refuses result → (program : SourceProgram) → IsReadWithin MOST_HEIGHT tokens.now program → ⊥ }
+    ensures refused { RefusesTokens result → (program : SourceProgram) → IsReadWithin most_height tokens.now program → ⊥ }
     // Where it comes, and why: whatever stands behind the place, nothing reads it.
     ensures syntax { (at line : ℕ) → IsErrOf result (ParseError.Syntax at line) → IsPlaceOfLine tokens.now at line × NothingReads tokens.now at }
-    ensures too_nested { (at line : ℕ) → IsErrOf result (ParseError.TooNested at line) → IsPlaceOfLine tokens.now at line × NothingReadsWithin MOST_HEIGHT tokens.now at × (250 ≤ at) }
+    ensures too_nested { (at line : ℕ) → IsErrOf result (ParseError.TooNested at line) → IsPlaceOfLine tokens.now at line × NothingReadsWithin most_height tokens.now at × (250 ≤ at) }
 {
     match translation_unit(alloc, tokens.as_slice()) {
         Ok(parsed) => Ok(Program { items: parsed.tree }),
@@ -55,7 +55,7 @@ pub fn parse(alloc: Global, tokens: &TokenList) -> Result<Program, ParseError>
 
 /// The failure with its line.
 fn located(tokens: &[Token], failure: Failure) -> ParseError
-    requires few { length tokens.now ≤ 65536 }
+    requires few { length tokens.now ≤ most_tokens }
     requires inside { FailsInside failure (length tokens.now) }
     ensures { result ≡ located tokens.now failure }
 {
@@ -63,18 +63,18 @@ fn located(tokens: &[Token], failure: Failure) -> ParseError
         Failure::Memory => ParseError::Memory,
         Failure::Syntax { at } => ParseError::Syntax {
             at: at as u32,
-            line: line_of(tokens, at),
+            line: error_line(tokens, at),
         },
         Failure::TooNested { at } => ParseError::TooNested {
             at: at as u32,
-            line: line_of(tokens, at),
+            line: error_line(tokens, at),
         },
     }
 }
 
 /// The line of the token at a place, or of the last token, or 1.
-fn line_of(tokens: &[Token], at: usize) -> u32
-    ensures { result ≡ line_of tokens.now at }
+fn error_line(tokens: &[Token], at: usize) -> u32
+    ensures { result ≡ error_line tokens.now at }
 {
     match tokens.get(at) {
         Some(token) => token.line,
@@ -86,10 +86,10 @@ fn line_of(tokens: &[Token], at: usize) -> u32
 }
 
 /// Reads the program that the tokens are.
-#[tactic(auto, using(crate::proofs::Budgets::budgets), unfolding(crate::specs::StatementParser::program_at))]
+#[tactic(auto, using(crate::proofs::Budgets::budgets), unfolding(crate::specs::models::StatementParser::program_at))]
 fn translation_unit(alloc: Global, tokens: &[Token]) -> Result<Parsed<StmtList>, Failure>
-    requires { length tokens.now ≤ 65536 }
-    ensures { Gives list_of result (program_at tokens.now MOST_HEIGHT) }
+    requires { length tokens.now ≤ most_tokens }
+    ensures { GivesParsed list_of result (program_at tokens.now most_height) }
 {
     expect_key(tokens, Keyword::Int, 0)?;
     expect_key(tokens, Keyword::Main, 1)?;
@@ -101,11 +101,11 @@ fn translation_unit(alloc: Global, tokens: &[Token]) -> Result<Parsed<StmtList>,
 }
 
 /// Reads the block of `main`, behind its parentheses, with nothing behind it.
-#[tactic(auto, using(crate::proofs::Budgets::budgets), unfolding(crate::specs::StatementParser::main_block, crate::specs::StatementParser::nothing_behind))]
+#[tactic(auto, using(crate::proofs::Budgets::budgets), unfolding(crate::specs::models::StatementParser::main_block, crate::specs::models::StatementParser::nothing_behind))]
 fn main_block(alloc: Global, tokens: &[Token], place: usize) -> Result<Parsed<StmtList>, Failure>
-    requires few { length tokens.now ≤ 65536 }
+    requires few { length tokens.now ≤ most_tokens }
     requires inside { place ≤ length tokens.now }
-    ensures { Gives list_of result (main_block tokens.now MOST_HEIGHT place) }
+    ensures { GivesParsed list_of result (main_block tokens.now most_height place) }
 {
     expect(tokens, Mark::RightParen, place)?;
     expect(tokens, Mark::LeftBrace, place + 1)?;

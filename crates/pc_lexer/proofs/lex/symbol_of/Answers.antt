@@ -1,4 +1,4 @@
-use Rattle.pc_lexer.specs.Steps.{spellings}
+use Rattle.pc_lexer.specs.models.Steps.{spellings}
 use Rattle.std.proofs.Common.{◌∙◌, ap}
 use Rattle.pc_lexer.proofs.Names.{symbol_in, names_in}
 use Rattle.pc_lexer.proofs.lex.symbol_of.Goals as goal

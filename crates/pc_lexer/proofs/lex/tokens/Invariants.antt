@@ -1,7 +1,7 @@
 use Rattle.std.proofs.Common.{◌-◌, ◌≤◌, length}
 use Rattle.indexmap.specs.IndexSet.{index_set_len}
-use Rattle.pc_lexer.specs.Tokens.{token_limit}
-use Rattle.pc_lexer.specs.Steps.{spellings}
+use Rattle.pc_word.specs.SourceLimits.{most_tokens}
+use Rattle.pc_lexer.specs.models.Steps.{spellings}
 use Rattle.pc_lexer.proofs.Reading.{Reads}
 use Rattle.pc_lexer.proofs.lex.tokens.Given as goal
 
@@ -9,7 +9,7 @@ use Rattle.pc_lexer.proofs.lex.tokens.Given as goal
 abbrev pub invariant-loop-offset : goal.invariant-loop-offset
 invariant-loop-offset l = record {
   reads : Reads l.text l.found (spellings l.names.keys) l.offset l.line l.fresh;
-  few : length l.found ≤ token_limit;
+  few : length l.found ≤ most_tokens;
   names_few : index_set_len l.names ≤ length l.found;
 }
 

@@ -5,4 +5,6 @@ use Rattle.pc_lexer.proofs.mark.first_at.Given as goal
 
 -- the text begins with none of the marks that were passed
 abbrev pub invariant-loop-mark : goal.invariant-loop-mark
-invariant-loop-mark l = find (λ mark. starts_with nat_eq l.text (mark_spelling mark)) (drop l.mark-index l.marks) ≡ find (λ mark. starts_with nat_eq l.text (mark_spelling mark)) l.marks
+invariant-loop-mark l =
+    find (λ mark. starts_with nat_eq l.text (mark_spelling mark)) (drop l.mark-index l.marks)
+    ≡ find (λ mark. starts_with nat_eq l.text (mark_spelling mark)) l.marks

@@ -36,7 +36,8 @@ returns-in_err-other-clause-gives c =
     let so_far = c.loop-alloc.invariant in
     let enough = so_far.enough in
     let inside = c.loop-alloc-test.ensures.inside in
-    rw (p.1, p.2) (declarators-fail_more c.args.tokens.now c.args.budget _ (list_of c.loop-alloc.items) c.loop-alloc.height c.loop-alloc.next so_far.turns _ so_far.same (sym c.loop-alloc-test.ensures.value) (omega arith) c.in_err-other.ensures.gives)
+    rw (p.1, p.2) (declarators-fail_more c.args.tokens.now c.args.budget _ (list_of c.loop-alloc.items) c.loop-alloc.height c.loop-alloc.next so_far.turns _ so_far.same
+    (sym c.loop-alloc-test.ensures.value) (omega arith) c.in_err-other.ensures.gives)
 
 -- one more declarator
 pub loop-alloc-preserved : goal.loop-alloc-preserved
@@ -55,7 +56,9 @@ loop-alloc-preserved c =
     record {
       turns = so_far.turns - 1;
       enough = omega arith;
-      same = declarators-more tokens c.args.budget _ (list_of c.loop-alloc.items) (list_of c.push-in-loop-alloc.new.self) c.loop-alloc.height c.loop-alloc.next so_far.turns (statement_of other.tree) other.height other.next c.max-height.result so_far.same
+      same = declarators-more tokens c.args.budget _ (list_of c.loop-alloc.items)
+          (list_of c.push-in-loop-alloc.new.self) c.loop-alloc.height c.loop-alloc.next so_far.turns
+          (statement_of other.tree) other.height other.next c.max-height.result so_far.same
           (sym c.loop-alloc-test.ensures.value) (omega arith) c.in_ok-other.ensures.gives (ap list_of c.in_ok-push-2.ensures.ok ∙ list_of-push c.loop-alloc.items other.tree) high;
       low = omega arith;
       inside = ends.inside;

@@ -1,7 +1,7 @@
 use Rattle.std.proofs.Common.{◌≡◌, ℕ, ◌+◌, ◌-◌, ◌<◌, ◌≤◌, length}
 use Rattle.pc_syntax.specs.Erasure.{list_of}
-use Rattle.pc_parser.specs.StatementParser.{declarators_at}
-use Rattle.pc_parser.specs.Gives.{behind}
+use Rattle.pc_parser.specs.models.StatementParser.{declarators_at}
+use Rattle.pc_parser.specs.models.Parsing.{behind}
 use Rattle.pc_parser.proofs.Lists.{continued}
 use Rattle.pc_parser.proofs.declaration.declarators.Given as goal
 

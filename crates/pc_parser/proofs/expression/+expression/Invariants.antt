@@ -1,6 +1,6 @@
 use Rattle.std.proofs.Common.{◌≡◌, ◌≤◌, ◌+◌, ◌*◌, length}
 use Rattle.pc_syntax.specs.Erasure.{expression_of}
-use Rattle.pc_parser.specs.ExpressionParser.{climb, below}
+use Rattle.pc_parser.specs.models.ExpressionParser.{climb, below}
 use Rattle.pc_parser.proofs.expression.+expression.Given as goal
 
 abbrev pub decreases-expression : goal.decreases-expression

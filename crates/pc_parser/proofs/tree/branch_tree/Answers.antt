@@ -1,7 +1,7 @@
 use Rattle.std.proofs.Common.{ap}
 use Rattle.std.specs.Prelude.{Some, None}
 use Rattle.pc_syntax.proofs.ErasureLaws.{statement_of-made_If, optional_of-made_None, optional_of-made_Some}
-use Rattle.pc_parser.specs.Gives.{optional_tree}
+use Rattle.pc_parser.specs.models.Parsing.{optional_tree}
 use Rattle.pc_parser.proofs.tree.branch_tree.Goals as goal
 
 -- an `if` without `else`

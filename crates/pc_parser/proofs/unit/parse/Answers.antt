@@ -1,18 +1,21 @@
 use Rattle.std.proofs.Common.{◌≡◌, sym, ap, ◌∙◌, subst, length}
 use Rattle.std.specs.Prelude.{Err}
+use Rattle.pc_word.specs.SourceLimits.{most_height}
 use Rattle.pc_syntax.specs.Erasure.{list_of}
 use Rattle.pc_parser.specs.declared.unit.ParseError.TheVariants as errors
-use Rattle.pc_parser.specs.Outcome.{Parsed}
-use Rattle.pc_parser.specs.StatementParser.{program_at}
-use Rattle.pc_parser.specs.Gives.{Fails}
-use Rattle.pc_parser.specs.Parse.{FailsInside, Refuses, located}
+use Rattle.pc_parser.specs.models.Outcome.{Parsed}
+use Rattle.pc_parser.specs.models.StatementParser.{program_at}
+use Rattle.pc_parser.specs.models.Parsing.{FailsParsing}
+use Rattle.pc_parser.specs.Parse.{RefusesTokens}
+use Rattle.pc_parser.specs.models.Parsing.{FailsInside, located}
 use Rattle.pc_parser.proofs.Top.{gives-read, fails-inside, syntax-told, nested-told, refused-none}
 use Rattle.pc_parser.proofs.unit.parse.Goals as goal
 
 -- a failure's place is among the tokens
 pub located-requires-clause-inside : goal.located-requires-clause-inside
 located-requires-clause-inside c =
-    let fails : Fails c.in-Err.failure (program_at c.args.tokens.now 256) = subst (λ tokens. Fails c.in-Err.failure (program_at tokens 256)) c.as_slice.ensures c.in-Err.ensures in
+    let fails : FailsParsing c.in-Err.failure (program_at c.args.tokens.now most_height) =
+    subst (λ tokens. FailsParsing c.in-Err.failure (program_at tokens most_height)) c.as_slice.ensures c.in-Err.ensures in
     subst (λ tokens. FailsInside c.in-Err.failure (length tokens)) (sym c.as_slice-in-Err.ensures) (fails-inside c.args.tokens.now c.in-Err.failure fails)
 
 -- what is given is read
@@ -20,25 +23,28 @@ pub returns-in-Ok-clause-read : goal.returns-in-Ok-clause-read
 returns-in-Ok-clause-read c =
     let parsed = c.in-Ok.parsed in
     gives-read c.args.tokens.now (list_of parsed.tree) parsed.height parsed.next
-    (subst (λ tokens. program_at tokens 256 ≡ Parsed (list_of parsed.tree) parsed.height parsed.next) c.as_slice.ensures c.in-Ok.ensures)
+    (subst (λ tokens. program_at tokens most_height ≡ Parsed (list_of parsed.tree) parsed.height parsed.next) c.as_slice.ensures c.in-Ok.ensures)
 
 -- a refusal comes only where there is no such program
 pub returns-in-Err-clause-refused : goal.returns-in-Err-clause-refused
 returns-in-Err-clause-refused c = λ refuses.
-    let fails : Fails c.in-Err.failure (program_at c.args.tokens.now 256) = subst (λ tokens. Fails c.in-Err.failure (program_at tokens 256)) c.as_slice.ensures c.in-Err.ensures in
+    let fails : FailsParsing c.in-Err.failure (program_at c.args.tokens.now most_height) =
+    subst (λ tokens. FailsParsing c.in-Err.failure (program_at tokens most_height)) c.as_slice.ensures c.in-Err.ensures in
     refused-none c.args.tokens.now c.in-Err.failure
-    (λ memory. subst (λ error. Refuses (Err error)) (c.located.ensures ∙ ap (located c.as_slice-in-Err.result.now) memory) refuses) fails
+    (λ memory. subst (λ error. RefusesTokens (Err error)) (c.located.ensures ∙ ap (located c.as_slice-in-Err.result.now) memory) refuses) fails
 
 -- where a syntax error is told
 pub returns-in-Err-clause-syntax : goal.returns-in-Err-clause-syntax
 returns-in-Err-clause-syntax c = λ at line is.
-    let fails : Fails c.in-Err.failure (program_at c.args.tokens.now 256) = subst (λ tokens. Fails c.in-Err.failure (program_at tokens 256)) c.as_slice.ensures c.in-Err.ensures in
+    let fails : FailsParsing c.in-Err.failure (program_at c.args.tokens.now most_height) =
+    subst (λ tokens. FailsParsing c.in-Err.failure (program_at tokens most_height)) c.as_slice.ensures c.in-Err.ensures in
     let told : c.located.result ≡ errors.Syntax at line = cc in
     syntax-told c.args.tokens.now c.in-Err.failure at line fails (ap (λ tokens. located tokens c.in-Err.failure) (sym c.as_slice-in-Err.ensures) ∙ sym c.located.ensures ∙ told)
 
 -- where too much height is told
 pub returns-in-Err-clause-too_nested : goal.returns-in-Err-clause-too_nested
 returns-in-Err-clause-too_nested c = λ at line is.
-    let fails : Fails c.in-Err.failure (program_at c.args.tokens.now 256) = subst (λ tokens. Fails c.in-Err.failure (program_at tokens 256)) c.as_slice.ensures c.in-Err.ensures in
+    let fails : FailsParsing c.in-Err.failure (program_at c.args.tokens.now most_height) =
+    subst (λ tokens. FailsParsing c.in-Err.failure (program_at tokens most_height)) c.as_slice.ensures c.in-Err.ensures in
     let told : c.located.result ≡ errors.TooNested at line = cc in
     nested-told c.args.tokens.now c.in-Err.failure at line fails (ap (λ tokens. located tokens c.in-Err.failure) (sym c.as_slice-in-Err.ensures) ∙ sym c.located.ensures ∙ told)

@@ -8,12 +8,14 @@ use Rattle.pc_lexer.specs.declared.mark.Mark.TheVariants as marks
 use Rattle.pc_lexer.specs.declared.keyword.Keyword.{Keyword}
 use Rattle.pc_lexer.specs.declared.keyword.Keyword.TheVariants as keys
 use Rattle.pc_syntax.specs.declared.operator.BinaryOp.{BinaryOp}
-use Rattle.pc_syntax.specs.Source.{SourceExpression, SourceStatement, SourceList, OptionalStatement, Literal, Scope, ScalarDeclaration, ArrayDeclaration, Printing, Evaluation, Branch, WhileLoop, DoLoop, ForLoop, BreakOut, ContinueOn, ReturnFrom, Nothing, Absent, Present, No_more, More, appended}
-use Rattle.pc_parser.specs.Places.{kind_at, line_at, is_mark, is_key, mark_is, key_is}
+use Rattle.pc_syntax.specs.Source.{SourceExpression, SourceStatement, SourceList, OptionalStatement, Literal, Scope, ScalarDeclaration, ArrayDeclaration, Printing, Evaluation, Branch}
+use Rattle.pc_syntax.specs.Source.{WhileLoop, DoLoop, ForLoop, BreakOut, ContinueOn, ReturnFrom, Nothing, Absent, Present, No_more, More, appended}
+use Rattle.pc_parser.specs.Places.{kind_at, line_at}
+use Rattle.pc_parser.specs.models.Tests.{is_mark, is_key, mark_is, key_is}
 use Rattle.pc_parser.specs.Operators.{assignment_of, step_of}
 use Rattle.pc_parser.specs.Statements.{Target, assigned}
-use Rattle.pc_parser.specs.Outcome.{Outcome, Parsed, Unreadable, TooHigh, after, allowed, expect, expect_key}
-use Rattle.pc_parser.specs.ExpressionParser.{target_named, target_tree, target_height, climb, choice, expression_at, below}
+use Rattle.pc_parser.specs.models.Outcome.{ParseOutcome, Parsed, Unreadable, TooHigh, after, allowed, expect, expect_key}
+use Rattle.pc_parser.specs.models.ExpressionParser.{target_named, target_tree, target_height, climb, choice, expression_at, below}
 
 -- what a token assigns by
 unfoldable pub assignment_from : Option TokenKind → Option (Option BinaryOp)
@@ -59,117 +61,117 @@ name_budget budget = max (budget - 1) 1
 
 module _ (tokens : List Token) where
   -- `(` expression `)`
-  unfoldable pub test_at : (budget from : ℕ) → Outcome SourceExpression
+  unfoldable pub test_at : (budget from : ℕ) → ParseOutcome SourceExpression
   test_at budget from = expect tokens marks.LeftParen from (after (expression_at tokens budget 0 (from + 1)) (λ tree height to.
       expect tokens marks.RightParen to (Parsed tree height (to + 1))))
 
   -- a statement in front of this mark; only here is its height compared
-  unfoldable pub closed_behind : Mark → (budget : ℕ) → SourceStatement → (height to : ℕ) → Outcome SourceStatement
+  unfoldable pub closed_behind : Mark → (budget : ℕ) → SourceStatement → (height to : ℕ) → ParseOutcome SourceStatement
   closed_behind mark budget tree height to = expect tokens mark to (allowed height budget to (Parsed tree height (to + 1)))
 
   -- the same of a statement that is read first
-  unfoldable pub closed : Mark → (budget : ℕ) → Outcome SourceStatement → Outcome SourceStatement
+  unfoldable pub closed : Mark → (budget : ℕ) → ParseOutcome SourceStatement → ParseOutcome SourceStatement
   closed mark budget statement = after statement (closed_behind mark budget)
 
   -- the length of an array, and its bracket
-  unfoldable pub array : (symbol from : ℕ) → Option ℕ → Outcome SourceStatement
+  unfoldable pub array : (symbol from : ℕ) → Option ℕ → ParseOutcome SourceStatement
   array symbol from (Some length) = expect tokens marks.RightBracket (from + 3)
       (Parsed (ArrayDeclaration symbol (line_at tokens from) (line_at tokens (from + 2)) length) 1 (from + 4))
   array symbol from None = Unreadable (from + 2)
 
   -- the last declarator with its `;`
-  unfoldable pub last_declarator : SourceStatement → (height at : ℕ) → Outcome SourceList
+  unfoldable pub last_declarator : SourceStatement → (height at : ℕ) → ParseOutcome SourceList
   last_declarator tree height at = expect tokens marks.Semicolon at (Parsed (More tree No_more) height (at + 1))
 
   module _ (budget : ℕ) where
     -- the target at this name, or Unreadable where there is none
-    unfoldable pub target_on : Option ℕ → (from : ℕ) → Outcome Target
+    unfoldable pub target_on : Option ℕ → (from : ℕ) → ParseOutcome Target
     target_on (Some symbol) from = target_named tokens (below tokens (name_budget budget)) (name_budget budget) symbol from
     target_on None from = Unreadable from
 
-    unfoldable pub target_at : (from : ℕ) → Outcome Target
+    unfoldable pub target_at : (from : ℕ) → ParseOutcome Target
     target_at from = target_on (symbol_of (kind_at tokens from)) from
 
     -- an expression as a statement
-    unfoldable pub evaluation : (from : ℕ) → Outcome SourceStatement
+    unfoldable pub evaluation : (from : ℕ) → ParseOutcome SourceStatement
     evaluation from = after (expression_at tokens (budget - 1) 0 from) (λ value height to.
         Parsed (Evaluation (line_at tokens from) value) (height + 1) to)
 
     -- the expression that goes on behind a target, as a statement
-    unfoldable pub evaluation_from : (from : ℕ) → Target → (height at : ℕ) → Outcome SourceStatement
+    unfoldable pub evaluation_from : (from : ℕ) → Target → (height at : ℕ) → ParseOutcome SourceStatement
     evaluation_from from target height at =
         after (climb tokens (below tokens (name_budget budget)) (name_budget budget) 1 (name_budget budget) (target_tree target) (target_height target height) at) (λ left i q.
         after (choice tokens (below tokens (name_budget budget)) (name_budget budget) left i q) (λ value j to.
         Parsed (Evaluation (line_at tokens from) value) (j + 1) to))
 
     -- `print` `(` expression `)`
-    unfoldable pub print_at : (from : ℕ) → Outcome SourceStatement
+    unfoldable pub print_at : (from : ℕ) → ParseOutcome SourceStatement
     print_at from = allowed 2 budget from (after (test_at (budget - 1) (from + 1)) (λ value height to.
         Parsed (Printing (line_at tokens from) value) (height + 1) to))
 
     -- a statement that `++` or `--` begins
-    unfoldable pub step_before : BinaryOp → (from : ℕ) → Outcome SourceStatement
+    unfoldable pub step_before : BinaryOp → (from : ℕ) → ParseOutcome SourceStatement
     step_before op from = allowed 1 budget from (after (target_at (from + 1)) (λ target height to.
         Parsed (assigned target (Some op) (line_at tokens from) (Literal (pos 1))) (height + 1) to))
 
     -- what is assigned to a target
-    unfoldable pub assignment : Target → Option BinaryOp → (height at : ℕ) → Outcome SourceStatement
+    unfoldable pub assignment : Target → Option BinaryOp → (height at : ℕ) → ParseOutcome SourceStatement
     assignment target op height at = allowed 2 budget at (after (expression_at tokens (budget - 1) 0 (at + 1)) (λ value other to.
         Parsed (assigned target op (line_at tokens at) value) (max height other + 1) to))
 
     -- what goes on behind a target that is not assigned to: `++` or `--`, or an expression
-    unfoldable pub behind_target : (from : ℕ) → Target → (height at : ℕ) → Option BinaryOp → Outcome SourceStatement
+    unfoldable pub behind_target : (from : ℕ) → Target → (height at : ℕ) → Option BinaryOp → ParseOutcome SourceStatement
     behind_target from target height at (Some op) = Parsed (assigned target (Some op) (line_at tokens at) (Literal (pos 1))) (height + 1) (at + 1)
     behind_target from target height at None = evaluation_from from target height at
 
     -- what goes on behind a target
-    unfoldable pub on_target : (from : ℕ) → Target → (height at : ℕ) → Option (Option BinaryOp) → Outcome SourceStatement
+    unfoldable pub on_target : (from : ℕ) → Target → (height at : ℕ) → Option (Option BinaryOp) → ParseOutcome SourceStatement
     on_target from target height at (Some op) = assignment target op height at
     on_target from target height at None = behind_target from target height at (step_from (kind_at tokens at))
 
     -- a statement that a name begins
-    unfoldable pub named : (from : ℕ) → Outcome SourceStatement
+    unfoldable pub named : (from : ℕ) → ParseOutcome SourceStatement
     named from = allowed 1 budget from (after (target_at from) (λ target height at.
         on_target from target height at (assignment_from (kind_at tokens at))))
 
     -- a statement that a mark begins which steps by this operator, or by none
-    unfoldable pub marked : Option BinaryOp → (from : ℕ) → Outcome SourceStatement
+    unfoldable pub marked : Option BinaryOp → (from : ℕ) → ParseOutcome SourceStatement
     marked (Some op) from = step_before op from
     marked None from = evaluation from
 
     -- a simple statement; its height is the budget and 1 more where a lone name is the whole of it
-    unfoldable pub simple_on : Option TokenKind → (from : ℕ) → Outcome SourceStatement
+    unfoldable pub simple_on : Option TokenKind → (from : ℕ) → ParseOutcome SourceStatement
     simple_on (Some (kinds.Name symbol)) from = named from
     simple_on (Some (kinds.Number value)) from = evaluation from
     simple_on (Some (kinds.Key key)) from = if key_is key keys.Print then print_at from else evaluation from
     simple_on (Some (kinds.Mark mark)) from = marked (step_of mark) from
     simple_on None from = evaluation from
 
-    unfoldable pub simple_at : (from : ℕ) → Outcome SourceStatement
+    unfoldable pub simple_at : (from : ℕ) → ParseOutcome SourceStatement
     simple_at from = simple_on (kind_at tokens from) from
 
     -- a simple statement with its `;`
-    unfoldable pub ended_at : (from : ℕ) → Outcome SourceStatement
+    unfoldable pub ended_at : (from : ℕ) → ParseOutcome SourceStatement
     ended_at from = closed marks.Semicolon budget (simple_at from)
 
     -- the initialiser of a scalar
-    unfoldable pub initialised : (symbol from : ℕ) → Outcome SourceStatement
+    unfoldable pub initialised : (symbol from : ℕ) → ParseOutcome SourceStatement
     initialised symbol from = allowed 2 budget (from + 1) (after (expression_at tokens (budget - 1) 0 (from + 2)) (λ value height to.
         Parsed (ScalarDeclaration symbol (line_at tokens from) (Some value)) (height + 1) to))
 
     -- the declarator of this name, or Unreadable where there is none
-    unfoldable pub declarator_on : Option ℕ → (from : ℕ) → Outcome SourceStatement
+    unfoldable pub declarator_on : Option ℕ → (from : ℕ) → ParseOutcome SourceStatement
     declarator_on (Some symbol) from =
         if is_mark marks.Assign (kind_at tokens (from + 1)) then initialised symbol from
         else (if is_mark marks.LeftBracket (kind_at tokens (from + 1)) then array symbol from (length_of (kind_at tokens (from + 2)))
         else Parsed (ScalarDeclaration symbol (line_at tokens from) None) 1 (from + 1))
     declarator_on None from = Unreadable from
 
-    unfoldable pub declarator_at : (from : ℕ) → Outcome SourceStatement
+    unfoldable pub declarator_at : (from : ℕ) → ParseOutcome SourceStatement
     declarator_at from = declarator_on (symbol_of (kind_at tokens from)) from
 
     -- declarators up to a `;`, as many as there are turns
-    unfoldable pub declarators_at : (turns from : ℕ) → Outcome SourceList
+    unfoldable pub declarators_at : (turns from : ℕ) → ParseOutcome SourceList
     declarators_at zero from = Unreadable from
     declarators_at (suc turns) from = after (declarator_at from) (λ tree height at.
         if is_mark marks.Comma (kind_at tokens at)
@@ -177,38 +179,38 @@ module _ (tokens : List Token) where
         else last_declarator tree height at)
 
     -- a declaration, whose `int` was seen
-    unfoldable pub declaration_at : (from : ℕ) → Outcome SourceList
+    unfoldable pub declaration_at : (from : ℕ) → ParseOutcome SourceList
     declaration_at from = allowed 1 budget from (declarators_at (length tokens + 1) (from + 1))
 
     -- the first part of a `for`, with its `;`
-    unfoldable pub first_at : (from : ℕ) → Outcome SourceList
+    unfoldable pub first_at : (from : ℕ) → ParseOutcome SourceList
     first_at from =
         if is_key keys.Int (kind_at tokens from) then declaration_at from
         else (if is_mark marks.Semicolon (kind_at tokens from) then Parsed No_more 0 (from + 1)
         else after (ended_at from) (λ tree height to. Parsed (More tree No_more) height to))
 
     -- the condition of a `for`, with its `;`
-    unfoldable pub condition_at : (from : ℕ) → Outcome SourceExpression
+    unfoldable pub condition_at : (from : ℕ) → ParseOutcome SourceExpression
     condition_at from =
         if is_mark marks.Semicolon (kind_at tokens from) then Parsed (Literal (pos 1)) 0 (from + 1)
         else after (expression_at tokens budget 0 from) (λ tree height to. expect tokens marks.Semicolon to (Parsed tree height (to + 1)))
 
     -- the step of a `for`, with its `)`
-    unfoldable pub step_at : (from : ℕ) → Outcome OptionalStatement
+    unfoldable pub step_at : (from : ℕ) → ParseOutcome OptionalStatement
     step_at from =
         if is_mark marks.RightParen (kind_at tokens from) then Parsed Absent 0 (from + 1)
         else after (closed marks.RightParen budget (simple_at from)) (λ tree height to. Parsed (Present tree) height to)
 
   -- statements: `inner` is the parser of them with a budget that is one less
-  module _ (inner : (from : ℕ) → Outcome SourceStatement) (budget : ℕ) where
+  module _ (inner : (from : ℕ) → ParseOutcome SourceStatement) (budget : ℕ) where
     -- the declaration or statement at a place
-    unfoldable pub item_at : (from : ℕ) → Outcome SourceList
+    unfoldable pub item_at : (from : ℕ) → ParseOutcome SourceList
     item_at from =
         if is_key keys.Int (kind_at tokens from) then declaration_at (budget - 1) from
         else after (inner from) (λ tree height to. Parsed (More tree No_more) height to)
 
     -- declarations and statements up to a `}`, as many as there are turns
-    unfoldable pub items_at : (turns from : ℕ) → Outcome SourceList
+    unfoldable pub items_at : (turns from : ℕ) → ParseOutcome SourceList
     items_at zero from = Unreadable from
     items_at (suc turns) from =
         if is_mark marks.RightBrace (kind_at tokens from) then Parsed No_more 0 (from + 1)
@@ -216,36 +218,36 @@ module _ (tokens : List Token) where
         after (items_at turns at) (λ rest other to. Parsed (appended trees rest) (max height other) to))
 
     -- a block, whose `{` was seen
-    unfoldable pub block_at : (from : ℕ) → Outcome SourceList
+    unfoldable pub block_at : (from : ℕ) → ParseOutcome SourceList
     block_at from = allowed 1 budget from (after (items_at (length tokens + 1) (from + 1)) (λ trees height to.
         Parsed trees (height + 1) to))
 
     -- the `else` of an `if`, where it follows
-    unfoldable pub otherwise_at : (line : ℕ) → SourceExpression → SourceStatement → (i j at : ℕ) → Outcome SourceStatement
+    unfoldable pub otherwise_at : (line : ℕ) → SourceExpression → SourceStatement → (i j at : ℕ) → ParseOutcome SourceStatement
     otherwise_at line test body i j at =
         if is_key keys.Else (kind_at tokens at)
         then after (inner (at + 1)) (λ other k to. Parsed (Branch line test body (Present other)) (max i (max j k) + 1) to)
         else Parsed (Branch line test body Absent) (max i j + 1) at
 
-    unfoldable pub branch_at : (from : ℕ) → Outcome SourceStatement
+    unfoldable pub branch_at : (from : ℕ) → ParseOutcome SourceStatement
     branch_at from = allowed 2 budget from (after (test_at (budget - 1) (from + 1)) (λ test i q.
         after (inner q) (λ body j at. otherwise_at (line_at tokens from) test body i j at)))
 
-    unfoldable pub while_at : (from : ℕ) → Outcome SourceStatement
+    unfoldable pub while_at : (from : ℕ) → ParseOutcome SourceStatement
     while_at from = allowed 2 budget from (after (test_at (budget - 1) (from + 1)) (λ test i q.
         after (inner q) (λ body j to. Parsed (WhileLoop (line_at tokens from) test body) (max i j + 1) to)))
 
-    unfoldable pub do_at : (from : ℕ) → Outcome SourceStatement
+    unfoldable pub do_at : (from : ℕ) → ParseOutcome SourceStatement
     do_at from = allowed 2 budget from (after (inner (from + 1)) (λ body i q.
         expect_key tokens keys.While q (after (test_at (budget - 1) (q + 1)) (λ test j r.
         expect tokens marks.Semicolon r (Parsed (DoLoop (line_at tokens from) body test) (max i j + 1) (r + 1))))))
 
     -- the body of a `for`, behind its `)`
-    unfoldable pub for_body : (line : ℕ) → SourceList → SourceExpression → OptionalStatement → (height at : ℕ) → Outcome SourceStatement
+    unfoldable pub for_body : (line : ℕ) → SourceList → SourceExpression → OptionalStatement → (height at : ℕ) → ParseOutcome SourceStatement
     for_body line first test step height at = after (inner at) (λ body other to.
         Parsed (ForLoop line first test step body) (max height other + 1) to)
 
-    unfoldable pub for_at : (from : ℕ) → Outcome SourceStatement
+    unfoldable pub for_at : (from : ℕ) → ParseOutcome SourceStatement
     for_at from = allowed 2 budget from (expect tokens marks.LeftParen (from + 1)
         (after (first_at (budget - 1) (from + 2)) (λ first i q.
         after (condition_at (budget - 1) q) (λ test j r.
@@ -253,15 +255,15 @@ module _ (tokens : List Token) where
         for_body (line_at tokens from) first test step (max i (max j k)) s)))))
 
     -- `break` or `continue`, with its `;`
-    unfoldable pub lone : SourceStatement → (from : ℕ) → Outcome SourceStatement
+    unfoldable pub lone : SourceStatement → (from : ℕ) → ParseOutcome SourceStatement
     lone tree from = allowed 1 budget from (expect tokens marks.Semicolon (from + 1) (Parsed tree 1 (from + 2)))
 
-    unfoldable pub return_at : (from : ℕ) → Outcome SourceStatement
+    unfoldable pub return_at : (from : ℕ) → ParseOutcome SourceStatement
     return_at from = allowed 2 budget from (after (expression_at tokens (budget - 1) 0 (from + 1)) (λ value height to.
         expect tokens marks.Semicolon to (Parsed (ReturnFrom (line_at tokens from) value) (height + 1) (to + 1))))
 
     -- the statement that a keyword begins
-    unfoldable pub keyed : Keyword → (from : ℕ) → Outcome SourceStatement
+    unfoldable pub keyed : Keyword → (from : ℕ) → ParseOutcome SourceStatement
     keyed key from =
         if key_is key keys.If then branch_at from
         else (if key_is key keys.While then while_at from
@@ -273,39 +275,39 @@ module _ (tokens : List Token) where
         else ended_at budget from))))))
 
     -- the statement that a mark begins
-    unfoldable pub started : Mark → (from : ℕ) → Outcome SourceStatement
+    unfoldable pub started : Mark → (from : ℕ) → ParseOutcome SourceStatement
     started mark from =
         if mark_is mark marks.LeftBrace then after (block_at from) (λ items height to. Parsed (Scope items) height to)
         else (if mark_is mark marks.Semicolon then allowed 1 budget from (Parsed Nothing 1 (from + 1))
         else ended_at budget from)
 
-    unfoldable pub statement_on : Option TokenKind → (from : ℕ) → Outcome SourceStatement
+    unfoldable pub statement_on : Option TokenKind → (from : ℕ) → ParseOutcome SourceStatement
     statement_on (Some (kinds.Key key)) from = keyed key from
     statement_on (Some (kinds.Mark mark)) from = started mark from
     statement_on (Some (kinds.Name symbol)) from = ended_at budget from
     statement_on (Some (kinds.Number value)) from = ended_at budget from
     statement_on None from = ended_at budget from
 
-    unfoldable pub statement_from : (from : ℕ) → Outcome SourceStatement
+    unfoldable pub statement_from : (from : ℕ) → ParseOutcome SourceStatement
     statement_from from = statement_on (kind_at tokens from) from
 
 -- the statement at a place, of at most this height
-unfoldable pub statement_at : List Token → (budget from : ℕ) → Outcome SourceStatement
+unfoldable pub statement_at : List Token → (budget from : ℕ) → ParseOutcome SourceStatement
 statement_at tokens zero = statement_from tokens (λ from. TooHigh from) 0
 statement_at tokens (suc budget) = statement_from tokens (statement_at tokens budget) (suc budget)
 
 -- the same with a budget that is one less
-unfoldable pub statement_below : List Token → (budget from : ℕ) → Outcome SourceStatement
+unfoldable pub statement_below : List Token → (budget from : ℕ) → ParseOutcome SourceStatement
 statement_below tokens zero = λ from. TooHigh from
 statement_below tokens (suc budget) = statement_at tokens budget
 
 -- items, where no token stands behind them
-unfoldable pub nothing_behind : SourceList → (height to : ℕ) → Option TokenKind → Outcome SourceList
+unfoldable pub nothing_behind : SourceList → (height to : ℕ) → Option TokenKind → ParseOutcome SourceList
 nothing_behind items height to None = Parsed items height to
 nothing_behind items height to (Some kind) = Unreadable to
 
 -- the block of `main` behind its parentheses, with nothing behind it
-unfoldable pub main_block : List Token → (budget from : ℕ) → Outcome SourceList
+unfoldable pub main_block : List Token → (budget from : ℕ) → ParseOutcome SourceList
 main_block tokens budget from =
     expect tokens marks.RightParen from
     (expect tokens marks.LeftBrace (from + 1)
@@ -313,7 +315,7 @@ main_block tokens budget from =
     nothing_behind items height to (kind_at tokens to))))
 
 -- the program that the tokens are, of at most this height
-unfoldable pub program_at : List Token → (budget : ℕ) → Outcome SourceList
+unfoldable pub program_at : List Token → (budget : ℕ) → ParseOutcome SourceList
 program_at tokens budget =
     expect_key tokens keys.Int 0
     (expect_key tokens keys.Main 1
