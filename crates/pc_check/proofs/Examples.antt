@@ -2,7 +2,10 @@
 -- stands above it; where lines are not named, a statement stands on the line of its place.
 use Rattle.std.proofs.Common.{◌≡◌, refl, ap, ℕ, zero, suc, ◌+◌, ◌*◌, pos, List, [], ◌∷◌, ◌++◌, Some, None, arith}
 use Rattle.pc_syntax.specs.declared.operator.BinaryOp.TheVariants as op
-use Rattle.pc_syntax.specs.Source.{SourceExpression, Literal, Variable, Input, Indexed, Combined, SourceStatement, Scope, ScalarDeclaration, ArrayDeclaration, Assignment, Printing, Branch, WhileLoop, DoLoop, ForLoop, BreakOut, ContinueOn, Absent, Present, SourceList, No_more, More, SourceProgram, source_list}
+use Rattle.pc_syntax.specs.Source.{SourceExpression, Literal, Variable, Input, Indexed, Combined, SourceStatement, Scope, ScalarDeclaration}
+use Rattle.pc_syntax.specs.Source.{ArrayDeclaration, Assignment, Printing, Branch, WhileLoop, DoLoop, ForLoop, BreakOut, ContinueOn, Absent, Present}
+use Rattle.pc_syntax.specs.Source.{SourceList, No_more, More, SourceProgram}
+use Rattle.pc_syntax.proofs.SourceLists.{source_list}
 use Rattle.pc_check.specs.declared.error.CheckError.TheVariants as fault
 use Rattle.pc_check.specs.Needs.{need}
 use Rattle.pc_check.specs.Sizes.{size, list_size, statement_size, expression_size}
@@ -106,7 +109,7 @@ hidden-faults = refl
 hidden-slots : resolved hidden ≡ record {
   scalars = 4;
   arrays = [];
-  body = program (int_at 1 0
+  body = source_list (int_at 1 0
       ∷ Scope (source_list (int_at 2 1 ∷ set_at 3 1 ∷ Scope (source_list (int_at 4 2 ∷ set_at 5 2 ∷ [])) ∷ []))
       ∷ int_at 6 3 ∷ assign_at 7 3 (Variable 0 7) ∷ []);
 }
@@ -125,7 +128,7 @@ numbered-faults = refl
 numbered-slots : resolved numbered ≡ record {
   scalars = 1;
   arrays = 3 ∷ 5 ∷ [];
-  body = program (array_at 1 0 3 ∷ ScalarDeclaration 0 2 (Some (Variable 0 2))
+  body = source_list (array_at 1 0 3 ∷ ScalarDeclaration 0 2 (Some (Variable 0 2))
       ∷ Scope (source_list (array_at 3 1 5 ∷ Assignment 1 4 (Some (Variable 0 4)) 4 None 4 (Indexed 0 4 4 (Literal (pos 0))) ∷ [])) ∷ []);
 }
 unfolding numbered expression_faults statement_faults names_behind need resolved_expression resolved_statement

@@ -1,8 +1,10 @@
 -- The first fault of lists of faults in a row.
 use Rattle.std.proofs.Common.{◌≡◌, sym, ap, subst, ◌∙◌, List, [], ◌∷◌, ◌++◌, Some, Result, Ok, Err, IsErrAnd, IfErr, slice_get}
+use Rattle.pc_word.specs.Exact.{checked, IsRefusal, IsExact}
 use Rattle.pc_check.specs.declared.error.CheckError.{CheckError}
 use Rattle.pc_check.specs.declared.error.CheckError.TheVariants.{Undeclared, Redeclared, NotArray, NotScalar, BadSize, OutsideLoop, TooManyScalars, TooManyArrays, TooManyElements, TooDeep, Memory}
-use Rattle.pc_check.specs.Answers.{IsFirst}
+use Rattle.pc_check.specs.Checks.{check_cause}
+use Rattle.pc_check.specs.models.Resolves.{IsFirst}
 
 -- want of memory says nothing of the faults
 pub IsFirst-memory : (e : CheckError) (found : List CheckError) → e ≡ Memory → IsFirst e found
@@ -58,11 +60,45 @@ pub IsFirst-rest : (e : CheckError) (front rest : List CheckError) → front ≡
 IsFirst-rest e front rest none is =
     let P : List CheckError → Type 0 = λ x. IsFirst e (x ++ rest) in subst P (sym none) is
 
+-- the same, where a list is known to be of two parts
+pub in_front : (e : CheckError) (whole front rest : List CheckError) → whole ≡ front ++ rest → IsFirst e front → IsFirst e whole
+in_front e whole front rest parts is = subst (IsFirst e) (sym parts) (IsFirst-front e front rest is)
+
+pub in_rest : (e : CheckError) (whole front rest : List CheckError) → whole ≡ front ++ rest → front ≡ [] → IsFirst e rest → IsFirst e whole
+in_rest e whole front rest parts none is = subst (IsFirst e) (sym parts) (IsFirst-rest e front rest none is)
+
 -- no fault in the front and none in the rest is none at all
 pub none_in_both : (front rest : List CheckError) → front ≡ [] → rest ≡ [] → front ++ rest ≡ []
 none_in_both front rest none still = ap (λ (x : List CheckError). x ++ rest) none ∙ still
 
 pub ruleset first_faults = (IsFirst-memory, IsFirst-front, IsFirst-rest, none_in_both)
+
+-- what is checked and has faults is refused with the first
+first_of : {X : Type 0} {e : CheckError} (found : List CheckError) (value : X) → slice_get found 0 ≡ Some e → checked found value ≡ Err e
+first_of [] value is = cc
+first_of (first ∷ others) value is = cc
+
+-- the first of the faults of what is checked is its answer
+IsFirst-cause : {X : Type 0} (e : CheckError) (found : List CheckError) (value : X) → IsFirst e found → IsRefusal (check_cause e) (checked found value)
+IsFirst-cause Memory found value is = tt
+IsFirst-cause (Undeclared line) found value is = first_of found value is
+IsFirst-cause (Redeclared line) found value is = first_of found value is
+IsFirst-cause (NotArray line) found value is = first_of found value is
+IsFirst-cause (NotScalar line) found value is = first_of found value is
+IsFirst-cause (BadSize line) found value is = first_of found value is
+IsFirst-cause (OutsideLoop line) found value is = first_of found value is
+IsFirst-cause (TooManyScalars line) found value is = first_of found value is
+IsFirst-cause (TooManyArrays line) found value is = first_of found value is
+IsFirst-cause (TooManyElements line) found value is = first_of found value is
+IsFirst-cause (TooDeep line) found value is = first_of found value is
+
+-- also where it is passed on by `?`
+pub exact_refusal : {X Y : Type 0} (view : X → Y) (r : Result X CheckError) (e : CheckError) (found : List CheckError) (value : Y) →
+    IsErrAnd r (λ x. x ≡ e) → IsFirst e found → IsExact view check_cause r (checked found value)
+exact_refusal view (Ok x) e found value same is = absurd same
+exact_refusal view (Err x) e found value same is =
+    let P : CheckError → Type 0 = λ y. IsRefusal (check_cause y) (checked found value) in
+    subst P (sym same) (IsFirst-cause e found value is)
 
 -- a fault that is passed on by `?` stays
 pub passed_on : {X : Type 0} (r : Result X CheckError) (e : CheckError) (found : List CheckError) →

@@ -1,7 +1,10 @@
 pub mod Rows
 pub mod SizeLaws
+pub mod ResolvedSizes
 pub mod ScopeLaws
 pub mod FaultLaws
+pub mod ExactLaws
+pub mod Rules
 pub mod ExpressionLaws
 pub mod NameLaws
 pub mod StatementLaws

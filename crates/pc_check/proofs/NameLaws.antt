@@ -1,18 +1,14 @@
 -- What statements leave of the names: the scopes round the innermost, and lists of statements in a row.
-use Rattle.std.proofs.Common.{◌≡◌, refl, ap, ◌∙◌, sym, Bool, List, [], ◌∷◌, ◌++◌, append_assoc}
-use Rattle.pc_syntax.specs.Source.{SourceStatement, Scope, ScalarDeclaration, ArrayDeclaration, Assignment, Printing, Evaluation, Branch, WhileLoop, DoLoop, ForLoop, BreakOut, ContinueOn, ReturnFrom, Nothing, OptionalStatement, Absent, Present, SourceList, No_more, More, appended}
+use Rattle.std.proofs.Common.{◌≡◌, refl, ap, ◌∙◌, sym, Bool, List, ◌∷◌, ◌++◌, append_assoc}
+use Rattle.pc_syntax.specs.Source.{SourceStatement, Scope, ScalarDeclaration, ArrayDeclaration, Assignment, Printing, Evaluation, Branch, WhileLoop}
+use Rattle.pc_syntax.specs.Source.{DoLoop, ForLoop, BreakOut, ContinueOn, ReturnFrom, Nothing, OptionalStatement, Absent, Present, SourceList}
+use Rattle.pc_syntax.specs.Source.{No_more, More, appended}
 use Rattle.pc_check.specs.declared.error.CheckError.{CheckError}
 use Rattle.pc_check.specs.Names as names
 use Rattle.pc_check.specs.Names.{Names, entered, left}
-use Rattle.pc_check.specs.Faults.{behind_declaration, names_behind, names_behind_optional, names_behind_list, list_faults, statement_faults}
+use Rattle.pc_check.specs.Faults.{names_behind, names_behind_optional, names_behind_list, list_faults, statement_faults}
 use Rattle.pc_check.specs.Resolution.{resolved_list, resolved_statement}
-use Rattle.pc_check.specs.View.{among, outwards}
-
--- a declaration leaves the scopes round the innermost as they are
-behind_declaration-outer : (found : List CheckError) (declared before : Names) → declared.outer ≡ before.outer →
-    (behind_declaration found declared before).outer ≡ before.outer
-behind_declaration-outer [] declared before same = same
-behind_declaration-outer (_ ∷ _) declared before same = refl
+use Rattle.pc_check.specs.models.View.{among, outwards}
 
 mutual
   unfolding names_behind
@@ -20,8 +16,8 @@ mutual
   -- a statement leaves the scopes round the innermost as they are
   pub names_behind-outer : (s : SourceStatement) (n : Names) → (names_behind s n).outer ≡ n.outer
   names_behind-outer (Scope items) n = refl
-  names_behind-outer (ScalarDeclaration symbol line initial) n = behind_declaration-outer _ _ n refl
-  names_behind-outer (ArrayDeclaration symbol line at size) n = behind_declaration-outer _ _ n refl
+  names_behind-outer (ScalarDeclaration symbol line initial) n = refl
+  names_behind-outer (ArrayDeclaration symbol line at size) n = refl
   names_behind-outer (Assignment symbol line index bracket op at value) n = refl
   names_behind-outer (Printing line value) n = refl
   names_behind-outer (Evaluation line value) n = refl

@@ -1,30 +1,35 @@
 -- What is told of a program by what is told of its statements.
-use Rattle.std.proofs.Common.{◌≡◌, ap, ◌∙◌, sym, ℕ, List, length, true, false}
-use Rattle.pc_syntax.specs.Source.{SourceList, SourceProgram}
+use Rattle.std.proofs.Common.{◌≡◌, ap, ◌∙◌, sym, ℕ, List, [], ◌∷◌, Ok, length, true, false}
+use Rattle.pc_word.specs.Exact.{checked}
+use Rattle.pc_syntax.specs.Source.{SourceList, SourceProgram, ResolvedProgram}
+use Rattle.pc_check.specs.declared.error.CheckError.{CheckError}
 use Rattle.pc_check.specs.Names.{Names, no_names}
-use Rattle.pc_check.specs.Faults.{list_faults, names_behind_list}
-use Rattle.pc_check.specs.Resolution.{ResolvedProgram, resolved_list}
+use Rattle.pc_check.specs.Faults.{list_faults, names_behind_list, faults}
+use Rattle.pc_check.specs.Resolution.{resolved_list, resolved}
 use Rattle.pc_check.specs.Sound.{list_is_sound}
 use Rattle.pc_check.proofs.SoundLaws.{program-sound}
-use Rattle.pc_check.specs.Answers.{ListResolves, Resolves}
+use Rattle.pc_check.specs.models.Resolves.{ListResolves}
+
+-- what is checked and has no fault is given
+given : {X : Type 0} (found : List CheckError) (value answer : X) → found ≡ [] → value ≡ answer → checked found value ≡ Ok answer
+given [] value answer none same = ap Ok same
+given (first ∷ others) value answer none same = cc
 
 -- a program is resolved to what its statements are resolved to, with what they declare
 pub program-resolves : (program : SourceProgram) (first behind : Names) (out : SourceList) (scalars : ℕ) (arrays : List ℕ) →
     first ≡ no_names → ListResolves false program.items first behind out → scalars ≡ behind.scalars → arrays ≡ behind.lengths →
-    Resolves program (record { scalars = scalars; arrays = arrays; body = record { items = out } })
+    checked (faults program) (resolved program) ≡ Ok (record { scalars = scalars; arrays = arrays; body = out })
 program-resolves program first behind out scalars arrays start some counted sized =
     let at = ap (names_behind_list program.items) (sym start) ∙ some.behind in
     let items = ap (resolved_list program.items) (sym start) ∙ some.is_resolved in
     let numbers : ℕ → List ℕ → SourceList → ResolvedProgram =
-    λ n sizes list. record { scalars = n; arrays = sizes; body = record { items = list } } in
-    record {
-      faultless = ap (list_faults false program.items) (sym start) ∙ some.faultless;
-      is_resolved = ap (λ (n : ℕ). numbers n (names_behind_list program.items no_names).lengths (resolved_list program.items no_names))
-          (ap (λ (n : Names). n.scalars) at ∙ sym counted)
-          ∙ ap (λ (sizes : List ℕ). numbers scalars sizes (resolved_list program.items no_names))
-          (ap (λ (n : Names). n.lengths) at ∙ sym sized)
-          ∙ ap (numbers scalars arrays) items;
-    }
+    λ n sizes list. record { scalars = n; arrays = sizes; body = list } in
+    given (faults program) (resolved program) _ (ap (list_faults false program.items) (sym start) ∙ some.faultless)
+    (ap (λ (n : ℕ). numbers n (names_behind_list program.items no_names).lengths (resolved_list program.items no_names))
+    (ap (λ (n : Names). n.scalars) at ∙ sym counted)
+    ∙ ap (λ (sizes : List ℕ). numbers scalars sizes (resolved_list program.items no_names))
+    (ap (λ (n : Names). n.lengths) at ∙ sym sized)
+    ∙ ap (numbers scalars arrays) items)
 
 -- what its statements are resolved to has slots below the counts of what they declare
 pub statements-sound : (items : SourceList) (first behind : Names) (out : SourceList) (scalars : ℕ) (arrays : List ℕ) →

@@ -5,8 +5,8 @@ use Rattle.pc_check.specs.declared.error.CheckError.{CheckError}
 use Rattle.pc_check.specs.Names.{Names, entered, left}
 use Rattle.pc_check.specs.Faults.{measured_faults, statement_faults, branch_faults, list_faults, names_behind, names_behind_optional, names_behind_list}
 use Rattle.pc_check.specs.Resolution.{resolved_expression, resolved_statement, resolved_branch, resolved_list}
-use Rattle.pc_check.specs.Answers.{IsFirst, MeasuredResolves, StatementResolves, BranchResolves, ListResolves}
-use Rattle.pc_check.specs.View.{outwards}
+use Rattle.pc_check.specs.models.Resolves.{IsFirst, MeasuredResolves, StatementResolves, BranchResolves, ListResolves}
+use Rattle.pc_check.specs.models.View.{outwards}
 use Rattle.pc_check.proofs.FaultLaws.{IsFirst-front, IsFirst-rest, none_in_both}
 use Rattle.pc_check.proofs.NameLaws.{names_behind-outer, names_behind_optional-outer, names_behind_list-outer, outwards-left}
 
@@ -25,15 +25,19 @@ Scope-resolves in_loop items out before opened inside after opening some closed 
       is_resolved = ap Scope (ap (resolved_list items) (sym opening) ∙ some.is_resolved);
     }
 
-module _ (in_loop : Bool) (line : ℕ) (first : SourceList) (test : SourceExpression) (step : OptionalStatement) (body : SourceStatement)
-    (before opened : Names) (opening : opened ≡ entered before) where
+module _ (in_loop : Bool) (s : SourceStatement) (line : ℕ) (first : SourceList) (test : SourceExpression) (step : OptionalStatement) (body : SourceStatement)
+    (is : s ≡ ForLoop line first test step body) (before opened : Names) (opening : opened ≡ entered before) where
+  -- a fault of a `for` is one of the statement that is that `for`
+  of_for : (e : CheckError) → IsFirst e (statement_faults in_loop (ForLoop line first test step body) before) → IsFirst e (statement_faults in_loop s before)
+  of_for e first = let P : SourceStatement → Type 0 = λ x. IsFirst e (statement_faults in_loop x before) in subst P (sym is) first
+
   -- the first part of a `for` comes first
   pub For-first : (e : CheckError) → IsFirst e (list_faults in_loop first opened) →
-      IsFirst e (statement_faults in_loop (ForLoop line first test step body) before)
+      IsFirst e (statement_faults in_loop s before)
   unfolding statement_faults
-  For-first e is =
+  For-first e refused =
       let P : Names → Type 0 = λ n. IsFirst e (list_faults in_loop first n) in
-      IsFirst-front e _ _ (subst P opening is)
+      of_for e (IsFirst-front e _ _ (subst P opening refused))
 
   module _ (inside : Names) (first' : SourceList) (starts : ListResolves in_loop first opened inside first') where
     -- the names behind the first part
@@ -46,11 +50,11 @@ module _ (in_loop : Bool) (line : ℕ) (first : SourceList) (test : SourceExpres
 
     -- then comes the condition
     pub For-test : (e : CheckError) → IsFirst e (measured_faults inside line test) →
-        IsFirst e (statement_faults in_loop (ForLoop line first test step body) before)
+        IsFirst e (statement_faults in_loop s before)
     unfolding statement_faults
-    For-test e is =
+    For-test e refused =
         let P : Names → Type 0 = λ n. IsFirst e (measured_faults n line test) in
-        IsFirst-rest e _ _ clean (IsFirst-front e _ _ (subst P (sym begun) is))
+        of_for e (IsFirst-rest e _ _ clean (IsFirst-front e _ _ (subst P (sym begun) refused)))
 
     module _ (test' : SourceExpression) (tests : MeasuredResolves inside line test test') where
       tested : measured_faults (names_behind_list first (entered before)) line test ≡ []
@@ -58,11 +62,11 @@ module _ (in_loop : Bool) (line : ℕ) (first : SourceList) (test : SourceExpres
 
       -- then the step
       pub For-step : (e : CheckError) → IsFirst e (branch_faults in_loop step inside) →
-          IsFirst e (statement_faults in_loop (ForLoop line first test step body) before)
+          IsFirst e (statement_faults in_loop s before)
       unfolding statement_faults
-      For-step e is =
+      For-step e refused =
           let P : Names → Type 0 = λ n. IsFirst e (branch_faults in_loop step n) in
-          IsFirst-rest e _ _ clean (IsFirst-rest e _ _ tested (IsFirst-front e _ _ (subst P (sym begun) is)))
+          of_for e (IsFirst-rest e _ _ clean (IsFirst-rest e _ _ tested (IsFirst-front e _ _ (subst P (sym begun) refused))))
 
       module _ (stepped : Names) (step' : OptionalStatement) (steps : BranchResolves in_loop step inside stepped step') where
         behind_step : names_behind_optional step (names_behind_list first (entered before)) ≡ stepped
@@ -73,27 +77,26 @@ module _ (in_loop : Bool) (line : ℕ) (first : SourceList) (test : SourceExpres
 
         -- and then the body
         pub For-body : (e : CheckError) → IsFirst e (statement_faults true body stepped) →
-            IsFirst e (statement_faults in_loop (ForLoop line first test step body) before)
+            IsFirst e (statement_faults in_loop s before)
         unfolding statement_faults
-        For-body e is =
+        For-body e refused =
             let P : Names → Type 0 = λ n. IsFirst e (statement_faults true body n) in
-            IsFirst-rest e _ _ clean (IsFirst-rest e _ _ tested (IsFirst-rest e _ _ stepping (subst P (sym behind_step) is)))
+            of_for e (IsFirst-rest e _ _ clean (IsFirst-rest e _ _ tested (IsFirst-rest e _ _ stepping (subst P (sym behind_step) refused))))
 
         -- a `for`, whose names are left behind it
-        pub For-resolves : (ended after : Names) (body' : SourceStatement) → StatementResolves true body stepped ended body' →
-            after ≡ outwards ended →
-            StatementResolves in_loop (ForLoop line first test step body) before after (ForLoop line first' test' step' body')
+        pub For-resolves : (ended after : Names) (body' out : SourceStatement) → StatementResolves true body stepped ended body' →
+            after ≡ outwards ended → out ≡ ForLoop line first' test' step' body' → StatementResolves in_loop s before after out
         unfolding statement_faults names_behind resolved_statement
-        For-resolves ended after body' turns closed =
+        For-resolves ended after body' out turns closed made =
             let at = ap (names_behind body) behind_step ∙ turns.behind in
             let outer = names_behind-outer body _ ∙ names_behind_optional-outer step _ ∙ names_behind_list-outer first (entered before) in
             record {
-              faultless = none_in_both _ _ clean (none_in_both _ _ tested (none_in_both _ _ stepping
+              faultless = ap (λ (x : SourceStatement). statement_faults in_loop x before) is ∙ none_in_both _ _ clean (none_in_both _ _ tested (none_in_both _ _ stepping
                   (ap (statement_faults true body) behind_step ∙ turns.faultless)));
-              behind = ap (λ (n : Names). left before n) at
+              behind = ap (λ (x : SourceStatement). names_behind x before) is ∙ ap (λ (n : Names). left before n) at
                   ∙ sym (outwards-left before ended (ap (λ (n : Names). n.outer) (sym at) ∙ outer))
                   ∙ sym closed;
-              is_resolved =
+              is_resolved = ap (λ (x : SourceStatement). resolved_statement x before) is ∙
                   ap (λ (x : SourceList). ForLoop line x (resolved_expression (names_behind_list first (entered before)) test)
                   (resolved_branch step (names_behind_list first (entered before)))
                   (resolved_statement body (names_behind_optional step (names_behind_list first (entered before)))))
@@ -106,5 +109,5 @@ module _ (in_loop : Bool) (line : ℕ) (first : SourceList) (test : SourceExpres
                   (resolved_statement body (names_behind_optional step (names_behind_list first (entered before)))))
                   (ap (resolved_branch step) begun ∙ steps.is_resolved)
                   ∙ ap (λ (x : SourceStatement). ForLoop line first' test' step' x)
-                  (ap (resolved_statement body) behind_step ∙ turns.is_resolved);
+                  (ap (resolved_statement body) behind_step ∙ turns.is_resolved) ∙ sym made;
             }

@@ -5,7 +5,7 @@ use Rattle.indexmap.specs.IndexMap.{insert_entry}
 use Rattle.indexmap.proofs.CallerLemmas.{insert_entry-new}
 use Rattle.pc_check.specs.declared.slot.Slot.{Slot}
 use Rattle.pc_check.specs.Names.{Scope, declared_in}
-use Rattle.pc_check.specs.View.{Table, scope_of, scopes_of}
+use Rattle.pc_check.specs.models.View.{Table, scope_of, scopes_of}
 
 -- the table that was opened last is the innermost scope
 pub scopes_of-push : (tables : List Table) (table : Table) → scopes_of (tables ++ table ∷ []) ≡ scope_of table ∷ scopes_of tables

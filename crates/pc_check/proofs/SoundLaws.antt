@@ -1,10 +1,15 @@
 -- A program without faults is resolved to one whose names are slots that there are.
-use Rattle.std.proofs.Common.{◌≡◌, refl, ap, ◌∙◌, sym, subst, ℕ, ◌+◌, ◌<◌, ◌≤◌, Bool, true, false, ◌&&◌, cond, List, [], ◌∷◌, ◌++◌, length, Option, Some, None, nat_lt, nat_le, nat_eq, not, arith}
+use Rattle.std.proofs.Common.{◌≡◌, refl, ap, ◌∙◌, sym, subst, ℕ, ◌+◌, ◌<◌, ◌≤◌, Bool, true, false, cond, List, [], ◌∷◌, ◌++◌, length, Option, Some, None, nat_lt, nat_le, nat_eq, not, arith}
 use Rattle.std.specs.Option.{option_or}
 use Rattle.std.specs.Map.{lookup}
 use Rattle.std.proofs.lemmas.List.{length-append}
+use Rattle.pc_word.specs.SourceLimits.{most_temporaries}
+use Rattle.pc_word.proofs.Truth.{and_made}
 use Rattle.pc_syntax.specs.declared.operator.BinaryOp.{BinaryOp}
-use Rattle.pc_syntax.specs.Source.{SourceExpression, Literal, Variable, Input, Indexed, Prefixed, Combined, Conjunction, Disjunction, Conditional, SourceStatement, Scope, ScalarDeclaration, ArrayDeclaration, Assignment, Printing, Evaluation, Branch, WhileLoop, DoLoop, ForLoop, BreakOut, ContinueOn, ReturnFrom, Nothing, OptionalStatement, Absent, Present, SourceList, No_more, More}
+use Rattle.pc_syntax.specs.Source.{SourceExpression, Literal, Variable, Input, Indexed, Prefixed, Combined, Conjunction, Disjunction, Conditional}
+use Rattle.pc_syntax.specs.Source.{SourceStatement, Scope, ScalarDeclaration, ArrayDeclaration, Assignment, Printing, Evaluation, Branch, WhileLoop}
+use Rattle.pc_syntax.specs.Source.{DoLoop, ForLoop, BreakOut, ContinueOn, ReturnFrom, Nothing, OptionalStatement, Absent, Present, SourceList}
+use Rattle.pc_syntax.specs.Source.{No_more, More}
 use Rattle.pc_check.specs.declared.error.CheckError.{CheckError}
 use Rattle.pc_check.specs.declared.error.CheckError.TheVariants as fault
 use Rattle.pc_check.specs.declared.slot.Slot.{Slot}
@@ -12,7 +17,9 @@ use Rattle.pc_check.specs.declared.slot.Slot.TheVariants as slot
 use Rattle.pc_check.specs.Needs.{hold, need, optional_need, assignment_need}
 use Rattle.pc_check.specs.Names as names
 use Rattle.pc_check.specs.Names.{Names, no_names, found, found_in, entered, left, with_scalar, with_array}
-use Rattle.pc_check.specs.Faults.{scalar_use, array_use, expression_faults, optional_faults, depth_faults, fault_if, measured_faults, scalar_faults, array_faults, behind_declaration, behind_scalar, behind_array, names_behind, names_behind_optional, names_behind_list, target_use, statement_faults, branch_faults, list_faults}
+use Rattle.pc_check.specs.Faults.{scalar_use, array_use, expression_faults, optional_faults, depth_faults, fault_if, measured_faults, scalar_faults}
+use Rattle.pc_check.specs.Faults.{names_behind, names_behind_optional, names_behind_list, target_use, statement_faults, branch_faults}
+use Rattle.pc_check.specs.Faults.{list_faults}
 use Rattle.pc_check.specs.Resolution.{number_of, slot_number, resolved_expression, resolved_optional, resolved_statement, resolved_branch, resolved_list}
 use Rattle.pc_check.specs.Sound.{has_slots, optional_has_slots, is_measured, has_target, is_sound, branch_is_sound, list_is_sound}
 
@@ -72,15 +79,11 @@ none_rest : (front rest : List CheckError) → front ++ rest ≡ [] → rest ≡
 none_rest [] rest none = none
 none_rest (first ∷ others) rest none = cc
 
-both : (a b : Bool) → a ≡ true → b ≡ true → (a && b) ≡ true
-both true b one other = other
-both false b one other = cc
-
 -- a statement that is not too deep
-shallow : (needed line : ℕ) → depth_faults needed line ≡ [] → nat_le needed 32 ≡ true
-shallow needed line none = by (nat_lt 32 needed) refl none
+shallow : (needed line : ℕ) → depth_faults needed line ≡ [] → nat_le needed most_temporaries ≡ true
+shallow needed line none = by (nat_lt most_temporaries needed) refl none
   where
-    by : (b : Bool) → nat_lt 32 needed ≡ b → fault_if b (fault.TooDeep line) ≡ [] → nat_le needed 32 ≡ true
+    by : (b : Bool) → nat_lt most_temporaries needed ≡ b → fault_if b (fault.TooDeep line) ≡ [] → nat_le needed most_temporaries ≡ true
     by true is none = cc
     by false is none = grind arith
 
@@ -154,10 +157,6 @@ sane-with_array n symbol size sane =
     known-with n symbol (slot.Array (length n.lengths)) n.scalars (length (n.lengths ++ size ∷ [])) (with_array n symbol size)
     (omega arith) (omega arith) sane (omega arith) refl refl
 
-sane-declared : (found : List CheckError) (declared before : Names) → Sane declared → Sane before → Sane (behind_declaration found declared before)
-sane-declared [] declared before one other = one
-sane-declared (_ ∷ _) declared before one other = other
-
 -- ---- counts only grow
 
 record Grows (before after : Names) : Type 0 where
@@ -171,10 +170,6 @@ grows-trans : (a b c : Names) → Grows a b → Grows b c → Grows a c
 grows-trans a b c one two =
     let i = one.scalars in let j = two.scalars in let k = one.arrays in let l = two.arrays in
     record { scalars = omega arith; arrays = omega arith }
-
-grows-declared : (found : List CheckError) (declared before : Names) → Grows before declared → Grows before (behind_declaration found declared before)
-grows-declared [] declared before one = one
-grows-declared (_ ∷ _) declared before one = grows-refl before
 
 grows-scalar : (n : Names) (symbol : ℕ) → Grows n (with_scalar n symbol)
 grows-scalar n symbol = record { scalars = omega arith; arrays = omega arith }
@@ -190,8 +185,8 @@ mutual
   -- a statement uses up slots and gives none back
   grows : (s : SourceStatement) (n : Names) → Grows n (names_behind s n)
   grows (Scope items) n = let is = grows-list items (entered n) in record { scalars = is.scalars; arrays = is.arrays }
-  grows (ScalarDeclaration symbol line initial) n = grows-declared _ _ n (grows-scalar n symbol)
-  grows (ArrayDeclaration symbol line at size) n = grows-declared _ _ n (grows-array n symbol size)
+  grows (ScalarDeclaration symbol line initial) n = grows-scalar n symbol
+  grows (ArrayDeclaration symbol line at size) n = grows-array n symbol size
   grows (Assignment symbol line index bracket op at value) n = grows-refl n
   grows (Printing line value) n = grows-refl n
   grows (Evaluation line value) n = grows-refl n
@@ -226,21 +221,14 @@ sane-left before inside sane more others =
 sane-entered : (n : Names) → Sane n → Sane (entered n)
 sane-entered n sane = record { fits = λ k. sane.fits k }
 
-sane-scalar : (n : Names) (symbol line : ℕ) → Sane n → Sane (behind_scalar n symbol line)
-sane-scalar n symbol line sane = sane-declared (scalar_faults n symbol line) (with_scalar n symbol) n (sane-with_scalar n symbol sane) sane
-
-sane-array : (n : Names) (symbol line at size : ℕ) → Sane n → Sane (behind_array n symbol line at size)
-sane-array n symbol line at size sane =
-    sane-declared (array_faults n symbol line at size) (with_array n symbol size) n (sane-with_array n symbol size sane) sane
-
 mutual
   unfolding names_behind
 
   sane-behind : (s : SourceStatement) (n : Names) → Sane n → Sane (names_behind s n)
   sane-behind (Scope items) n sane =
       let is = grows-list items (entered n) in sane-left n (names_behind_list items (entered n)) sane is.scalars is.arrays
-  sane-behind (ScalarDeclaration symbol line initial) n sane = sane-scalar n symbol line sane
-  sane-behind (ArrayDeclaration symbol line at size) n sane = sane-array n symbol line at size sane
+  sane-behind (ScalarDeclaration symbol line initial) n sane = sane-with_scalar n symbol sane
+  sane-behind (ArrayDeclaration symbol line at size) n sane = sane-with_array n symbol size sane
   sane-behind (Assignment symbol line index bracket op at value) n sane = sane
   sane-behind (Printing line value) n sane = sane
   sane-behind (Evaluation line value) n sane = sane
@@ -284,22 +272,22 @@ expression-sound n s a known (Literal value) none = refl
 expression-sound n s a known (Variable symbol line) none = ok_scalar (found n symbol) line s a none (known.fits symbol)
 expression-sound n s a known (Input line) none = refl
 expression-sound n s a known (Indexed symbol line at index) none =
-    both _ _ (ok_array (found n symbol) line s a (none_front _ (expression_faults n index) none) (known.fits symbol))
+    and_made _ _ (ok_array (found n symbol) line s a (none_front _ (expression_faults n index) none) (known.fits symbol))
     (expression-sound n s a known index (none_rest (array_use (found n symbol) line) _ none))
 expression-sound n s a known (Prefixed op operand) none = expression-sound n s a known operand none
 expression-sound n s a known (Combined op at left right) none =
-    both _ _ (expression-sound n s a known left (none_front _ (expression_faults n right) none))
+    and_made _ _ (expression-sound n s a known left (none_front _ (expression_faults n right) none))
     (expression-sound n s a known right (none_rest (expression_faults n left) _ none))
 expression-sound n s a known (Conjunction left right) none =
-    both _ _ (expression-sound n s a known left (none_front _ (expression_faults n right) none))
+    and_made _ _ (expression-sound n s a known left (none_front _ (expression_faults n right) none))
     (expression-sound n s a known right (none_rest (expression_faults n left) _ none))
 expression-sound n s a known (Disjunction left right) none =
-    both _ _ (expression-sound n s a known left (none_front _ (expression_faults n right) none))
+    and_made _ _ (expression-sound n s a known left (none_front _ (expression_faults n right) none))
     (expression-sound n s a known right (none_rest (expression_faults n left) _ none))
 expression-sound n s a known (Conditional test one other) none =
     let rest = none_rest (expression_faults n test) (expression_faults n one ++ expression_faults n other) none in
-    both _ _ (expression-sound n s a known test (none_front _ (expression_faults n one ++ expression_faults n other) none))
-    (both _ _ (expression-sound n s a known one (none_front _ (expression_faults n other) rest))
+    and_made _ _ (expression-sound n s a known test (none_front _ (expression_faults n one ++ expression_faults n other) none))
+    (and_made _ _ (expression-sound n s a known one (none_front _ (expression_faults n other) rest))
     (expression-sound n s a known other (none_rest (expression_faults n one) _ rest)))
 
 optional-sound : (n : Names) (s a : ℕ) → Known n s a → (e : Option SourceExpression) → optional_faults n e ≡ [] → optional_has_slots s a (resolved_optional n e) ≡ true
@@ -308,7 +296,7 @@ optional-sound n s a known (Some e) none = expression-sound n s a known e none
 
 measured-sound : (n : Names) (s a line : ℕ) → Known n s a → (e : SourceExpression) → measured_faults n line e ≡ [] → is_measured s a (resolved_expression n e) ≡ true
 measured-sound n s a line known e none =
-    both _ _ (ap (λ (k : ℕ). nat_le k 32) (need-resolved n e) ∙ shallow (need e) line (none_front _ (expression_faults n e) none))
+    and_made _ _ (ap (λ (k : ℕ). nat_le k most_temporaries) (need-resolved n e) ∙ shallow (need e) line (none_front _ (expression_faults n e) none))
     (expression-sound n s a known e (none_rest (depth_faults (need e) line) _ none))
 
 target-sound : (n : Names) (s a : ℕ) → Known n s a → (index : Option SourceExpression) (symbol line : ℕ) → target_use n index symbol line ≡ [] →
@@ -343,17 +331,14 @@ mutual
   statement-sound s a in_loop (Scope items) n sane fits none =
       list-sound s a in_loop items (entered n) (sane-entered n sane) (record { scalars = fits.scalars; arrays = fits.arrays }) none
   statement-sound s a in_loop (ScalarDeclaration symbol line initial) n sane fits none =
-      let name = none_front (scalar_faults n symbol line) _ none in
       let rest = none_rest (scalar_faults n symbol line) _ none in
-      let at = ap (λ (x : List CheckError). (behind_declaration x (with_scalar n symbol) n).scalars) name in
+      let inside = with_scalar n symbol in
       let below = fits.scalars in
-      let inside = behind_scalar n symbol line in
       let lt : n.scalars < s = omega arith in
-      both _ _ (grind arith)
-      (both _ _ (ap (λ (k : ℕ). nat_le k 32) (optional_need-resolved inside initial) ∙ shallow (optional_need initial) line (none_front _ (optional_faults inside initial) rest))
-      (optional-sound inside s a (known_at inside s a (sane-scalar n symbol line sane) fits) initial (none_rest (depth_faults (optional_need initial) line) _ rest)))
+      and_made _ _ (grind arith)
+      (and_made _ _ (ap (λ (k : ℕ). nat_le k most_temporaries) (optional_need-resolved inside initial) ∙ shallow (optional_need initial) line (none_front _ (optional_faults inside initial) rest))
+      (optional-sound inside s a (known_at inside s a (sane-with_scalar n symbol sane) fits) initial (none_rest (depth_faults (optional_need initial) line) _ rest)))
   statement-sound s a in_loop (ArrayDeclaration symbol line at size) n sane fits none =
-      let same = ap (λ (x : List CheckError). length (behind_declaration x (with_array n symbol size) n).lengths) none in
       let longer : length (n.lengths ++ size ∷ []) ≡ length n.lengths + 1 = length-append n.lengths (size ∷ []) in
       let below = fits.arrays in
       let lt : length n.lengths < a = omega arith in
@@ -362,9 +347,10 @@ mutual
       let known = known_at n s a sane fits in
       let rest = none_rest (target_use n index symbol line) _ none in
       let parts = none_rest (depth_faults (assignment_need index op value) line) _ rest in
-      both _ _ (target-sound n s a known index symbol line (none_front _ (depth_faults (assignment_need index op value) line ++ (optional_faults n index ++ expression_faults n value)) none))
-      (both _ _ (ap (λ (k : ℕ). nat_le k 32) (assignment_need-resolved n index op value) ∙ shallow (assignment_need index op value) line (none_front _ (optional_faults n index ++ expression_faults n value) rest))
-      (both _ _ (optional-sound n s a known index (none_front _ (expression_faults n value) parts))
+      and_made _ _ (target-sound n s a known index symbol line (none_front _ (depth_faults (assignment_need index op value) line ++ (optional_faults n index ++ expression_faults n value)) none))
+      (and_made _ _ (ap (λ (k : ℕ). nat_le k most_temporaries) (assignment_need-resolved n index op value)
+      ∙ shallow (assignment_need index op value) line (none_front _ (optional_faults n index ++ expression_faults n value) rest))
+      (and_made _ _ (optional-sound n s a known index (none_front _ (expression_faults n value) parts))
       (expression-sound n s a known value (none_rest (optional_faults n index) _ parts))))
   statement-sound s a in_loop (Printing line value) n sane fits none = measured-sound n s a line (known_at n s a sane fits) value none
   statement-sound s a in_loop (Evaluation line value) n sane fits none = measured-sound n s a line (known_at n s a sane fits) value none
@@ -373,16 +359,16 @@ mutual
       let at = below_before middle _ s a (grows-optional otherwise middle) fits in
       let start = below_before n middle s a (grows body n) at in
       let rest = none_rest (measured_faults n line test) _ none in
-      both _ _ (measured-sound n s a line (known_at n s a sane start) test (none_front _ (statement_faults in_loop body n ++ branch_faults in_loop otherwise middle) none))
-      (both _ _ (statement-sound s a in_loop body n sane at (none_front _ (branch_faults in_loop otherwise middle) rest))
+      and_made _ _ (measured-sound n s a line (known_at n s a sane start) test (none_front _ (statement_faults in_loop body n ++ branch_faults in_loop otherwise middle) none))
+      (and_made _ _ (statement-sound s a in_loop body n sane at (none_front _ (branch_faults in_loop otherwise middle) rest))
       (branch-sound s a in_loop otherwise middle (sane-behind body n sane) fits (none_rest (statement_faults in_loop body n) _ rest)))
   statement-sound s a in_loop (WhileLoop line test body) n sane fits none =
       let start = below_before n (names_behind body n) s a (grows body n) fits in
-      both _ _ (measured-sound n s a line (known_at n s a sane start) test (none_front _ (statement_faults true body n) none))
+      and_made _ _ (measured-sound n s a line (known_at n s a sane start) test (none_front _ (statement_faults true body n) none))
       (statement-sound s a true body n sane fits (none_rest (measured_faults n line test) _ none))
   statement-sound s a in_loop (DoLoop line body test) n sane fits none =
       let middle = names_behind body n in
-      both _ _ (statement-sound s a true body n sane fits (none_front _ (measured_faults middle line test) none))
+      and_made _ _ (statement-sound s a true body n sane fits (none_front _ (measured_faults middle line test) none))
       (measured-sound middle s a line (known_at middle s a (sane-behind body n sane) fits) test (none_rest (statement_faults true body n) _ none))
   statement-sound s a in_loop (ForLoop line first test step body) n sane fits none =
       let begun = names_behind_list first (entered n) in
@@ -395,10 +381,10 @@ mutual
       let sane_step = sane-optional step begun sane_first in
       let rest = none_rest (list_faults in_loop first (entered n)) _ none in
       let turn = none_rest (measured_faults begun line test) _ rest in
-      both _ _ (list-sound s a in_loop first (entered n) (sane-entered n sane) at_step
+      and_made _ _ (list-sound s a in_loop first (entered n) (sane-entered n sane) at_step
       (none_front _ (measured_faults begun line test ++ (branch_faults in_loop step begun ++ statement_faults true body stepped)) none))
-      (both _ _ (measured-sound begun s a line (known_at begun s a sane_first at_step) test (none_front _ (branch_faults in_loop step begun ++ statement_faults true body stepped) rest))
-      (both _ _ (branch-sound s a in_loop step begun sane_first at_body (none_front _ (statement_faults true body stepped) turn))
+      (and_made _ _ (measured-sound begun s a line (known_at begun s a sane_first at_step) test (none_front _ (branch_faults in_loop step begun ++ statement_faults true body stepped) rest))
+      (and_made _ _ (branch-sound s a in_loop step begun sane_first at_body (none_front _ (statement_faults true body stepped) turn))
       (statement-sound s a true body stepped sane_step at_end (none_rest (branch_faults in_loop step begun) _ turn))))
   statement-sound s a in_loop (BreakOut line) n sane fits none = jump-sound in_loop line none
   statement-sound s a in_loop (ContinueOn line) n sane fits none = jump-sound in_loop line none
@@ -416,7 +402,7 @@ mutual
   list-sound s a in_loop (More first rest) n sane fits none =
       let middle = names_behind first n in
       let at = below_before middle _ s a (grows-list rest middle) fits in
-      both _ _ (statement-sound s a in_loop first n sane at (none_front _ (list_faults in_loop rest middle) none))
+      and_made _ _ (statement-sound s a in_loop first n sane at (none_front _ (list_faults in_loop rest middle) none))
       (list-sound s a in_loop rest middle (sane-behind first n sane) fits (none_rest (statement_faults in_loop first n) _ none))
 
 -- nothing is declared at the start

@@ -8,7 +8,7 @@ use Rattle.pc_check.specs.declared.error.CheckError.{CheckError}
 use Rattle.pc_check.specs.Names.{Names}
 use Rattle.pc_check.specs.Faults.{statement_faults, list_faults, names_behind, names_behind_list}
 use Rattle.pc_check.specs.Resolution.{resolved_statement}
-use Rattle.pc_check.specs.Answers.{IsFirst, StatementResolves, ListResolves}
+use Rattle.pc_check.specs.models.Resolves.{IsFirst, StatementResolves, ListResolves}
 use Rattle.pc_check.proofs.Rows.{list_of-more, list_of-split}
 use Rattle.pc_check.proofs.FaultLaws.{IsFirst-front, IsFirst-rest, none_in_both}
 use Rattle.pc_check.proofs.NameLaws.{names_behind_list-appended, list_faults-appended, resolved_list-appended}

@@ -1,30 +1,19 @@
--- What is wrong with the names and limits of a program: every fault, in the order in which faults are met.
+-- What is wrong with the names and limits of a program: its faults, in the order in which they are met. The first of them is
+-- the answer of the check, so nothing is meant by what stands behind it.
 use Rattle.std.specs.Prelude.{ℕ, ◌+◌, Bool, true, false, not, ◌||◌, Option, Some, None, List, [], ◌∷◌, ◌++◌, nat_eq, nat_lt, nat_le, sum, length}
+use Rattle.pc_word.specs.SourceLimits.{most_scalars, most_temporaries}
+use Rattle.pc_word.specs.MachineLimits.{most_arrays, most_length, most_elements}
 use Rattle.pc_syntax.specs.declared.operator.BinaryOp.{BinaryOp}
-use Rattle.pc_syntax.specs.Source.{SourceExpression, Literal, Variable, Input, Indexed, Prefixed, Combined, Conjunction, Disjunction, Conditional, SourceStatement, Scope, ScalarDeclaration, ArrayDeclaration, Assignment, Printing, Evaluation, Branch, WhileLoop, DoLoop, ForLoop, BreakOut, ContinueOn, ReturnFrom, Nothing, OptionalStatement, Absent, Present, SourceList, No_more, More, SourceProgram}
+use Rattle.pc_syntax.specs.Source.{SourceExpression, Literal, Variable, Input, Indexed, Prefixed, Combined, Conjunction, Disjunction, Conditional}
+use Rattle.pc_syntax.specs.Source.{SourceStatement, Scope, ScalarDeclaration, ArrayDeclaration, Assignment, Printing, Evaluation, Branch, WhileLoop}
+use Rattle.pc_syntax.specs.Source.{DoLoop, ForLoop, BreakOut, ContinueOn, ReturnFrom, Nothing, OptionalStatement, Absent, Present, SourceList}
+use Rattle.pc_syntax.specs.Source.{No_more, More, SourceProgram}
 use Rattle.pc_check.specs.declared.slot.Slot.{Slot}
 use Rattle.pc_check.specs.declared.slot.Slot.TheVariants as slot
 use Rattle.pc_check.specs.declared.error.CheckError.{CheckError}
 use Rattle.pc_check.specs.declared.error.CheckError.TheVariants as fault
 use Rattle.pc_check.specs.Names.{Names, no_names, found, is_declared_here, entered, left, with_scalar, with_array}
 use Rattle.pc_check.specs.Needs.{need, optional_need, assignment_need}
-
--- The limits, as the language sets them.
-abbrev pub scalar_limit : ℕ
-scalar_limit = 64
-
-abbrev pub array_limit : ℕ
-array_limit = 32
-
-abbrev pub length_limit : ℕ
-length_limit = 65536
-
--- the elements of all arrays together
-abbrev pub element_limit : ℕ
-element_limit = 1048576
-
-abbrev pub temporary_limit : ℕ
-temporary_limit = 32
 
 -- one fault where a test holds
 abbrev pub fault_if : Bool → CheckError → List CheckError
@@ -69,7 +58,7 @@ optional_faults names (Some e) = expression_faults names e
 
 -- a statement whose expressions need too many temporaries, by what they need
 abbrev pub depth_faults : ℕ → ℕ → List CheckError
-depth_faults needed line = fault_if (nat_lt temporary_limit needed) (fault.TooDeep line)
+depth_faults needed line = fault_if (nat_lt most_temporaries needed) (fault.TooDeep line)
 
 -- an expression that is measured by itself: its depth, and then its names
 abbrev pub measured_faults : Names → ℕ → SourceExpression → List CheckError
@@ -83,46 +72,32 @@ jump_faults in_loop line = fault_if (not in_loop) (fault.OutsideLoop line)
 abbrev pub scalar_faults : Names → ℕ → ℕ → List CheckError
 scalar_faults names symbol line =
     fault_or (is_declared_here names symbol) (fault.Redeclared line)
-    (fault_if (nat_le scalar_limit names.scalars) (fault.TooManyScalars line))
+    (fault_if (nat_le most_scalars names.scalars) (fault.TooManyScalars line))
 
 -- the name of an array that is declared, in the same way
 abbrev pub array_name_faults : Names → ℕ → ℕ → List CheckError
 array_name_faults names symbol line =
     fault_or (is_declared_here names symbol) (fault.Redeclared line)
-    (fault_if (nat_le array_limit (length names.lengths)) (fault.TooManyArrays line))
+    (fault_if (nat_le most_arrays (length names.lengths)) (fault.TooManyArrays line))
 
 -- its length: 0 or too great by itself, or too great for the elements that are left
 abbrev pub array_length_faults : Names → ℕ → ℕ → List CheckError
 array_length_faults names at size =
-    fault_or (nat_eq size 0 || nat_lt length_limit size) (fault.BadSize at)
-    (fault_if (nat_lt element_limit (sum names.lengths + size)) (fault.TooManyElements at))
+    fault_or (nat_eq size 0 || nat_lt most_length size) (fault.BadSize at)
+    (fault_if (nat_lt most_elements (sum names.lengths + size)) (fault.TooManyElements at))
 
 -- the declaration of an array
 abbrev pub array_faults : Names → ℕ → ℕ → ℕ → ℕ → List CheckError
 array_faults names symbol line at size =
     array_name_faults names symbol line ++ array_length_faults names at size
 
--- the names behind a declaration, which declares nothing where it is faulty
-abbrev pub behind_declaration : List CheckError → Names → Names → Names
-behind_declaration [] declared before = declared
-behind_declaration (_ ∷ _) declared before = before
-
--- the names behind the declaration of a scalar
-abbrev pub behind_scalar : Names → ℕ → ℕ → Names
-behind_scalar names symbol line = behind_declaration (scalar_faults names symbol line) (with_scalar names symbol) names
-
--- the names behind the declaration of an array
-abbrev pub behind_array : Names → ℕ → ℕ → ℕ → ℕ → Names
-behind_array names symbol line at size =
-    behind_declaration (array_faults names symbol line at size) (with_array names symbol size) names
-
 unfoldable mutual
-  -- The names behind a statement. What a block or a `for` declares is known inside it alone, but its slots
+  -- The names behind a statement without faults. What a block or a `for` declares is known inside it alone, but its slots
   -- are used up.
   pub names_behind : SourceStatement → Names → Names
   names_behind (Scope items) names = left names (names_behind_list items (entered names))
-  names_behind (ScalarDeclaration symbol line initial) names = behind_scalar names symbol line
-  names_behind (ArrayDeclaration symbol line at size) names = behind_array names symbol line at size
+  names_behind (ScalarDeclaration symbol line initial) names = with_scalar names symbol
+  names_behind (ArrayDeclaration symbol line at size) names = with_array names symbol size
   names_behind (Assignment symbol line index bracket op at value) names = names
   names_behind (Printing line value) names = names
   names_behind (Evaluation line value) names = names
@@ -165,7 +140,7 @@ unfoldable mutual
   statement_faults in_loop (Scope items) names = list_faults in_loop items (entered names)
   statement_faults in_loop (ScalarDeclaration symbol line initial) names =
       scalar_faults names symbol line ++ (depth_faults (optional_need initial) line
-      ++ optional_faults (behind_scalar names symbol line) initial)
+      ++ optional_faults (with_scalar names symbol) initial)
   statement_faults in_loop (ArrayDeclaration symbol line at size) names = array_faults names symbol line at size
   statement_faults in_loop (Assignment symbol line index bracket op at value) names =
       assignment_faults names symbol line index op value

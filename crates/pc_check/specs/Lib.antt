@@ -4,5 +4,6 @@ pub mod Sizes
 pub mod Faults
 pub mod Resolution
 pub mod Sound
-pub mod Answers
-pub mod View
+pub mod Checks
+pub mod Laws
+pub mod models

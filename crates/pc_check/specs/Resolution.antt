@@ -1,10 +1,13 @@
 -- A program whose names are replaced by the slots that they stand for.
-use Rattle.std.specs.Prelude.{ℕ, Option, Some, None, List, length}
-use Rattle.pc_syntax.specs.Source.{SourceExpression, Literal, Variable, Input, Indexed, Prefixed, Combined, Conjunction, Disjunction, Conditional, SourceStatement, Scope, ScalarDeclaration, ArrayDeclaration, Assignment, Printing, Evaluation, Branch, WhileLoop, DoLoop, ForLoop, BreakOut, ContinueOn, ReturnFrom, Nothing, OptionalStatement, Absent, Present, SourceList, No_more, More, SourceProgram}
+use Rattle.std.specs.Prelude.{ℕ, Option, Some, None, length}
+use Rattle.pc_syntax.specs.Source.{SourceExpression, Literal, Variable, Input, Indexed, Prefixed, Combined, Conjunction, Disjunction, Conditional}
+use Rattle.pc_syntax.specs.Source.{SourceStatement, Scope, ScalarDeclaration, ArrayDeclaration, Assignment, Printing, Evaluation, Branch, WhileLoop}
+use Rattle.pc_syntax.specs.Source.{DoLoop, ForLoop, BreakOut, ContinueOn, ReturnFrom, Nothing, OptionalStatement, Absent, Present, SourceList}
+use Rattle.pc_syntax.specs.Source.{No_more, More, SourceProgram, ResolvedProgram}
 use Rattle.pc_check.specs.declared.slot.Slot.{Slot}
 use Rattle.pc_check.specs.declared.slot.Slot.TheVariants as slot
-use Rattle.pc_check.specs.Names.{Names, no_names, found, entered}
-use Rattle.pc_check.specs.Faults.{behind_scalar, names_behind, names_behind_optional, names_behind_list}
+use Rattle.pc_check.specs.Names.{Names, no_names, found, entered, with_scalar}
+use Rattle.pc_check.specs.Faults.{names_behind, names_behind_optional, names_behind_list}
 
 -- the number of a slot, among the scalars or among the arrays; 0 where a name is not declared
 abbrev pub number_of : Option Slot → ℕ
@@ -44,7 +47,7 @@ unfoldable mutual
   pub resolved_statement : SourceStatement → Names → SourceStatement
   resolved_statement (Scope items) names = Scope (resolved_list items (entered names))
   resolved_statement (ScalarDeclaration symbol line initial) names =
-      ScalarDeclaration names.scalars line (resolved_optional (behind_scalar names symbol line) initial)
+      ScalarDeclaration names.scalars line (resolved_optional (with_scalar names symbol) initial)
   resolved_statement (ArrayDeclaration symbol line at size) names =
       ArrayDeclaration (length names.lengths) line at size
   resolved_statement (Assignment symbol line index bracket op at value) names =
@@ -79,12 +82,6 @@ unfoldable mutual
   resolved_list (More first rest) names =
       More (resolved_statement first names) (resolved_list rest (names_behind first names))
 
--- a program with numbers for names, how many scalars it declares, and the lengths of its arrays
-pub record ResolvedProgram : Type 0 where
-  pub scalars : ℕ
-  pub arrays : List ℕ
-  pub body : SourceProgram
-
 -- a program without faults, resolved
 abbrev pub resolved : SourceProgram → ResolvedProgram
 resolved program =
@@ -92,5 +89,5 @@ resolved program =
     record {
       scalars = behind.scalars;
       arrays = behind.lengths;
-      body = record { items = resolved_list program.items no_names };
+      body = resolved_list program.items no_names;
     }

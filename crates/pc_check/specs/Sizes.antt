@@ -2,7 +2,10 @@
 use Rattle.std.specs.Prelude.{ℕ, ◌+◌, Option, Some, None}
 use Rattle.pc_syntax.specs.declared.operator.BinaryOp.{BinaryOp}
 use Rattle.pc_syntax.specs.declared.operator.BinaryOp.TheVariants as op
-use Rattle.pc_syntax.specs.Source.{SourceExpression, Literal, Variable, Input, Indexed, Prefixed, Combined, Conjunction, Disjunction, Conditional, SourceStatement, Scope, ScalarDeclaration, ArrayDeclaration, Assignment, Printing, Evaluation, Branch, WhileLoop, DoLoop, ForLoop, BreakOut, ContinueOn, ReturnFrom, Nothing, OptionalStatement, Absent, Present, SourceList, No_more, More, SourceProgram}
+use Rattle.pc_syntax.specs.Source.{SourceExpression, Literal, Variable, Input, Indexed, Prefixed, Combined, Conjunction, Disjunction, Conditional}
+use Rattle.pc_syntax.specs.Source.{SourceStatement, Scope, ScalarDeclaration, ArrayDeclaration, Assignment, Printing, Evaluation, Branch, WhileLoop}
+use Rattle.pc_syntax.specs.Source.{DoLoop, ForLoop, BreakOut, ContinueOn, ReturnFrom, Nothing, OptionalStatement, Absent, Present, SourceList}
+use Rattle.pc_syntax.specs.Source.{No_more, More, SourceProgram, ResolvedProgram}
 
 -- an operation, and before a division the test of its divisor with the trap
 abbrev pub operator_size : BinaryOp → ℕ
@@ -76,3 +79,7 @@ unfoldable mutual
 -- the nodes of a program: those of its statements and the stop
 abbrev pub size : SourceProgram → ℕ
 size program = list_size program.items + 1
+
+-- the same of a program with numbers for names
+abbrev pub resolved_size : ResolvedProgram → ℕ
+resolved_size program = list_size program.body + 1

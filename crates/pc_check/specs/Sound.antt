@@ -1,12 +1,17 @@
 -- What holds of every checked program: each name is a slot that there is, no expression needs too many
 -- temporaries, and each `break` and `continue` stands in a loop's body.
 use Rattle.std.specs.Prelude.{ℕ, Bool, true, ◌&&◌, Option, Some, None, nat_lt, nat_le}
-use Rattle.pc_syntax.specs.Source.{SourceExpression, Literal, Variable, Input, Indexed, Prefixed, Combined, Conjunction, Disjunction, Conditional, SourceStatement, Scope, ScalarDeclaration, ArrayDeclaration, Assignment, Printing, Evaluation, Branch, WhileLoop, DoLoop, ForLoop, BreakOut, ContinueOn, ReturnFrom, Nothing, OptionalStatement, Absent, Present, SourceList, No_more, More}
+use Rattle.pc_word.specs.SourceLimits.{most_temporaries}
+use Rattle.pc_word.specs.MachineLimits.{most_length}
+use Rattle.pc_syntax.specs.Source.{SourceExpression, Literal, Variable, Input, Indexed, Prefixed, Combined, Conjunction, Disjunction, Conditional}
+use Rattle.pc_syntax.specs.Source.{SourceStatement, Scope, ScalarDeclaration, ArrayDeclaration, Assignment, Printing, Evaluation, Branch, WhileLoop}
+use Rattle.pc_syntax.specs.Source.{DoLoop, ForLoop, BreakOut, ContinueOn, ReturnFrom, Nothing, OptionalStatement, Absent, Present, SourceList}
+use Rattle.pc_syntax.specs.Source.{No_more, More}
 use Rattle.pc_check.specs.Needs.{need, optional_need, assignment_need}
 
--- the length of an array is from 1 to 65,536
+-- the length of an array is at least 1, and not too great
 abbrev pub is_length : ℕ → Bool
-is_length size = nat_le 1 size && nat_le size 65536
+is_length size = nat_le 1 size && nat_le size most_length
 
 -- the names of an expression are numbers of scalars and of arrays that there are, so many of each
 unfoldable pub has_slots : ℕ → ℕ → SourceExpression → Bool
@@ -26,9 +31,9 @@ abbrev pub optional_has_slots : ℕ → ℕ → Option SourceExpression → Bool
 optional_has_slots scalars arrays None = true
 optional_has_slots scalars arrays (Some e) = has_slots scalars arrays e
 
--- an expression that is measured by itself needs at most 32 temporaries, and has slots
+-- an expression that is measured by itself needs no more temporaries than there are, and has slots
 abbrev pub is_measured : ℕ → ℕ → SourceExpression → Bool
-is_measured scalars arrays e = nat_le (need e) 32 && has_slots scalars arrays e
+is_measured scalars arrays e = nat_le (need e) most_temporaries && has_slots scalars arrays e
 
 -- the target of an assignment is a scalar, or with an index an array
 abbrev pub has_target : ℕ → ℕ → Option SourceExpression → ℕ → Bool
@@ -40,10 +45,10 @@ unfoldable mutual
   pub is_sound : ℕ → ℕ → Bool → SourceStatement → Bool
   is_sound scalars arrays in_loop (Scope items) = list_is_sound scalars arrays in_loop items
   is_sound scalars arrays in_loop (ScalarDeclaration number line initial) =
-      nat_lt number scalars && (nat_le (optional_need initial) 32 && optional_has_slots scalars arrays initial)
+      nat_lt number scalars && (nat_le (optional_need initial) most_temporaries && optional_has_slots scalars arrays initial)
   is_sound scalars arrays in_loop (ArrayDeclaration number line at size) = nat_lt number arrays
   is_sound scalars arrays in_loop (Assignment number line index bracket op at value) =
-      has_target scalars arrays index number && (nat_le (assignment_need index op value) 32
+      has_target scalars arrays index number && (nat_le (assignment_need index op value) most_temporaries
       && (optional_has_slots scalars arrays index && has_slots scalars arrays value))
   is_sound scalars arrays in_loop (Printing line value) = is_measured scalars arrays value
   is_sound scalars arrays in_loop (Evaluation line value) = is_measured scalars arrays value

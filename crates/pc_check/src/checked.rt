@@ -1,9 +1,13 @@
-ghost use Rattle.std.specs.Prelude.{◌≤◌, false, IsTrue, length, sum};
+ghost use Rattle.std.specs.Prelude.{◌≡◌, ◌≤◌, false, IsTrue, Ok, length, sum};
 ghost use Rattle.std.specs.List.{list_all};
 ghost use Rattle.pc_syntax.specs.Source.{SourceProgram};
-ghost use Rattle.pc_syntax.specs.Erasure.{list_of, program_of};
+ghost use Rattle.pc_word.specs.Exact.{checked};
+ghost use Rattle.pc_word.specs.SourceLimits.{most_scalars};
+ghost use Rattle.pc_word.specs.MachineLimits.{most_arrays, most_elements};
+ghost use Rattle.pc_syntax.specs.Erasure.{list_of};
 ghost use Rattle.pc_check.specs.Sound.{is_length, list_is_sound};
-ghost use Rattle.pc_check.specs.Answers.{Resolves};
+ghost use Rattle.pc_check.specs.Faults.{faults};
+ghost use Rattle.pc_check.specs.Resolution.{resolved};
 
 use pc_syntax::Program;
 use pc_word::LengthList;
@@ -22,10 +26,11 @@ pub struct Checked {
     /// Its statements. A symbol is the number of a scalar or of an array, each counted from 0 in the order
     /// of declaration.
     pub body: Program,
-    pub ghost few_scalars: { scalars ≤ 64 },
-    pub ghost few_arrays: { length arrays ≤ 32 },
+    pub ghost few_scalars: { scalars ≤ most_scalars },
+    pub ghost few_arrays: { length arrays ≤ most_arrays },
     pub ghost sized: { IsTrue (list_all is_length arrays) },
-    pub ghost few_elements: { sum arrays ≤ 1048576 },
+    pub ghost few_elements: { sum arrays ≤ most_elements },
     pub ghost sound: { IsTrue (list_is_sound scalars (length arrays) false (list_of body.items)) },
-    pub ghost of_a_program: { ∥ ((program : SourceProgram) × Resolves program (record { scalars = scalars; arrays = arrays; body = program_of body })) ∥₁ },
+    pub ghost of_a_program: { ∥ ((program : SourceProgram) × (checked (faults program) (resolved program)
+        ≡ Ok (record { scalars = scalars; arrays = arrays; body = list_of body.items }))) ∥₁ },
 }

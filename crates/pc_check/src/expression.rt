@@ -1,10 +1,11 @@
-ghost use Rattle.std.specs.Prelude.{◌≡◌, ◌<◌, [], OnOk, IfOk, IfErr, option_map};
+ghost use Rattle.std.specs.Prelude.{◌≡◌, ◌<◌, true, [], OnOk, IfOk, IfErr, option_map};
 ghost use Rattle.pc_syntax.specs.Erasure.{expression_of};
 ghost use Rattle.pc_check.specs.Names.{found};
 ghost use Rattle.pc_check.specs.Faults.{scalar_use, array_use, expression_faults, optional_faults};
 ghost use Rattle.pc_check.specs.Resolution.{number_of, slot_number, resolved_expression};
-ghost use Rattle.pc_check.specs.Answers.{IsFirst, ExpressionResolves, OptionalResolves};
-ghost use Rattle.pc_check.specs.View.{names_of};
+ghost use Rattle.pc_check.specs.models.Resolves.{IsFirst, ExpressionResolves, OptionalResolves};
+ghost use Rattle.pc_check.specs.models.Parts.{is_named, is_binary};
+ghost use Rattle.pc_check.specs.models.View.{names_of};
 
 use crate::error::CheckError;
 use crate::scopes::Scopes;
@@ -40,7 +41,7 @@ pub(crate) fn array_slot(scopes: &Scopes, symbol: u32, line: u32) -> Result<u32,
 
 /// The expression with the number of its slot for each name.
 #[cycle(resolve_expression)]
-#[tactic(auto, using(pc_syntax::proofs::ErasureLaws::expression_forms, crate::proofs::FaultLaws::first_faults), unfolding(crate::specs::Faults::expression_faults, crate::specs::Resolution::resolved_expression))]
+#[tactic(auto, using(crate::proofs::Rules::expressions), unfolding(crate::specs::Faults::expression_faults, crate::specs::Resolution::resolved_expression))]
 pub(crate) fn resolve_expression(
     alloc: Global,
     scopes: &Scopes,
@@ -53,48 +54,13 @@ pub(crate) fn resolve_expression(
 {
     match from {
         Expr::Lit { value } => Ok(Expr::Lit { value: *value }),
-        Expr::Name { symbol, line } => {
-            let symbol = scalar_slot(scopes, *symbol, *line)?;
-            Ok(Expr::Name {
-                symbol,
-                line: *line,
-            })
-        }
         Expr::Read { line } => Ok(Expr::Read { line: *line }),
-        Expr::Element {
-            symbol,
-            line,
-            at,
-            index,
-        } => {
-            let symbol = array_slot(scopes, *symbol, *line)?;
-            let index = resolve_boxed(alloc, scopes, index)?;
-            Ok(Expr::Element {
-                symbol,
-                line: *line,
-                at: *at,
-                index,
-            })
-        }
+        Expr::Name { .. } | Expr::Element { .. } => resolve_named(alloc, scopes, from),
         Expr::Unary { op, of } => {
             let of = resolve_boxed(alloc, scopes, of)?;
             Ok(Expr::Unary { op: *op, of })
         }
-        Expr::Binary {
-            op,
-            at,
-            left,
-            right,
-        } => {
-            let left = resolve_boxed(alloc, scopes, left)?;
-            let right = resolve_boxed(alloc, scopes, right)?;
-            Ok(Expr::Binary {
-                op: *op,
-                at: *at,
-                left,
-                right,
-            })
-        }
+        Expr::Binary { .. } => resolve_binary(alloc, scopes, from),
         Expr::Both { left, right } => {
             let left = resolve_boxed(alloc, scopes, left)?;
             let right = resolve_boxed(alloc, scopes, right)?;
@@ -114,9 +80,80 @@ pub(crate) fn resolve_expression(
     }
 }
 
+/// The same of a name or an element.
+#[cycle(resolve_expression)]
+#[tactic(auto, using(crate::proofs::Rules::expressions), unfolding(crate::specs::Faults::expression_faults, crate::specs::Resolution::resolved_expression))]
+fn resolve_named(alloc: Global, scopes: &Scopes, from: &Expr) -> Result<Expr, CheckError>
+    requires { is_named (expression_of from.now) ≡ true }
+    ensures resolved { IfOk result (λ to. ExpressionResolves (names_of scopes.now) (expression_of from.now)
+        (expression_of to)) }
+    ensures refused { IfErr result (λ e. IsFirst e
+        (expression_faults (names_of scopes.now) (expression_of from.now))) }
+{
+    match from {
+        Expr::Name { symbol, line } => {
+            let symbol = scalar_slot(scopes, *symbol, *line)?;
+            Ok(Expr::Name {
+                symbol,
+                line: *line,
+            })
+        }
+        Expr::Element {
+            symbol,
+            line,
+            at,
+            index,
+        } => {
+            let symbol = array_slot(scopes, *symbol, *line)?;
+            let index = resolve_boxed(alloc, scopes, index)?;
+            Ok(Expr::Element {
+                symbol,
+                line: *line,
+                at: *at,
+                index,
+            })
+        }
+        Expr::Lit { .. } | Expr::Read { .. } | Expr::Unary { .. } => unreachable!(),
+        Expr::Binary { .. } | Expr::Both { .. } => unreachable!(),
+        Expr::Either { .. } | Expr::Choose { .. } => unreachable!(),
+    }
+}
+
+/// The same of a binary operator.
+#[cycle(resolve_expression)]
+#[tactic(auto, using(crate::proofs::Rules::expressions), unfolding(crate::specs::Faults::expression_faults, crate::specs::Resolution::resolved_expression))]
+fn resolve_binary(alloc: Global, scopes: &Scopes, from: &Expr) -> Result<Expr, CheckError>
+    requires { is_binary (expression_of from.now) ≡ true }
+    ensures resolved { IfOk result (λ to. ExpressionResolves (names_of scopes.now) (expression_of from.now)
+        (expression_of to)) }
+    ensures refused { IfErr result (λ e. IsFirst e
+        (expression_faults (names_of scopes.now) (expression_of from.now))) }
+{
+    match from {
+        Expr::Binary {
+            op,
+            at,
+            left,
+            right,
+        } => {
+            let left = resolve_boxed(alloc, scopes, left)?;
+            let right = resolve_boxed(alloc, scopes, right)?;
+            Ok(Expr::Binary {
+                op: *op,
+                at: *at,
+                left,
+                right,
+            })
+        }
+        Expr::Lit { .. } | Expr::Name { .. } | Expr::Read { .. } => unreachable!(),
+        Expr::Element { .. } | Expr::Unary { .. } | Expr::Both { .. } => unreachable!(),
+        Expr::Either { .. } | Expr::Choose { .. } => unreachable!(),
+    }
+}
+
 /// The same, in a box of its own.
 #[cycle(resolve_expression)]
-#[tactic(auto, using(pc_syntax::proofs::ErasureLaws::expression_forms, crate::proofs::FaultLaws::first_faults), unfolding(crate::specs::Faults::expression_faults, crate::specs::Resolution::resolved_expression))]
+#[tactic(auto, using(crate::proofs::Rules::expressions), unfolding(crate::specs::Faults::expression_faults, crate::specs::Resolution::resolved_expression))]
 fn resolve_boxed(alloc: Global, scopes: &Scopes, from: &Expr) -> Result<Box<Expr>, CheckError>
     ensures resolved { IfOk result (λ to. ExpressionResolves (names_of scopes.now) (expression_of from.now)
         (expression_of to.value)) }
@@ -128,7 +165,7 @@ fn resolve_boxed(alloc: Global, scopes: &Scopes, from: &Expr) -> Result<Box<Expr
 }
 
 /// The same of an expression that may be left out.
-#[tactic(auto, using(pc_syntax::proofs::ErasureLaws::expression_forms, crate::proofs::FaultLaws::first_faults), unfolding(crate::specs::Faults::expression_faults, crate::specs::Resolution::resolved_expression))]
+#[tactic(auto, using(crate::proofs::Rules::expressions), unfolding(crate::specs::Faults::expression_faults, crate::specs::Resolution::resolved_expression))]
 pub(crate) fn resolve_optional(
     alloc: Global,
     scopes: &Scopes,

@@ -5,6 +5,7 @@
 mod checked;
 mod error;
 mod expression;
+mod laws;
 mod measure;
 mod program;
 mod scopes;
@@ -14,6 +15,7 @@ mod statement;
 
 pub use checked::Checked;
 pub use error::CheckError;
+pub use laws::laws_of_resolved_programs;
 pub use measure::{need, size};
 pub use program::check;
 

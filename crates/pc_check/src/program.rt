@@ -1,7 +1,8 @@
-ghost use Rattle.std.specs.Prelude.{IfOk, IfErr};
+ghost use Rattle.pc_word.specs.Exact.{checked, IsExact};
 ghost use Rattle.pc_syntax.specs.Erasure.{program_of};
-ghost use Rattle.pc_check.specs.Answers.{Resolves, IsFirst};
 ghost use Rattle.pc_check.specs.Faults.{faults};
+ghost use Rattle.pc_check.specs.Resolution.{resolved};
+ghost use Rattle.pc_check.specs.Checks.{check_cause, resolved_of};
 
 use crate::checked::Checked;
 use crate::error::CheckError;
@@ -15,14 +16,8 @@ use std::alloc::Global;
 /// `Ok` comes exactly where the program has no fault, and `Err` with its first fault, each yielding to
 /// want of memory alone.
 pub fn check(alloc: Global, program: &Program) -> Result<Checked, CheckError>
-    ensures accepted { IfOk result (λ checked. Resolves (program_of program.now)
-        (record {
-          scalars = checked.scalars;
-          arrays = checked.arrays;
-          body = program_of
-              checked.body;
-        })) }
-    ensures refused { IfErr result (λ e. IsFirst e (faults (program_of program.now))) }
+    ensures { IsExact resolved_of check_cause result
+        (checked (faults (program_of program.now)) (resolved (program_of program.now))) }
 {
     let mut scopes = Scopes::new(alloc);
     let items = check_list(alloc, &mut scopes, false, &program.items)?;

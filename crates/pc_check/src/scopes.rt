@@ -1,22 +1,16 @@
 ghost use Rattle.std.specs.Prelude.{◌≡◌, ◌≤◌, IsTrue, length, sum};
 ghost use Rattle.std.specs.List.{list_all};
+ghost use Rattle.pc_word.specs.SourceLimits.{most_scalars};
+ghost use Rattle.pc_word.specs.MachineLimits.{most_arrays, most_elements};
 ghost use Rattle.pc_check.specs.Sound.{is_length};
 
 use crate::error::CheckError;
 use crate::search::find_in;
 use crate::slot::Slot;
 use indexmap::IndexMap;
-use pc_word::{LengthList, Seq};
+use pc_word::{LengthList, MOST_ARRAYS, MOST_ELEMENTS, MOST_LENGTH, MOST_SCALARS, Seq};
 use std::alloc::Global;
 use std::mem;
-
-const SCALARS: u8 = 64;
-
-const ARRAYS: usize = 32;
-
-const LENGTH: u32 = 65_536;
-
-const ELEMENTS: u32 = 1_048_576;
 
 /// The names that are declared where a place of a program is reached, and how much was declared so far.
 #[derive(Drop)]
@@ -27,10 +21,10 @@ pub(crate) struct Scopes {
     scalars: u8,
     lengths: LengthList,
     elements: u32,
-    ghost few_scalars: { scalars ≤ 64 },
-    ghost few_arrays: { length lengths ≤ 32 },
+    ghost few_scalars: { scalars ≤ most_scalars },
+    ghost few_arrays: { length lengths ≤ most_arrays },
     ghost counted: { elements ≡ sum lengths },
-    ghost few_elements: { elements ≤ 1048576 },
+    ghost few_elements: { elements ≤ most_elements },
     ghost sized: { IsTrue (list_all is_length lengths) },
 }
 
@@ -38,8 +32,8 @@ impl Scopes {
     ghost use Rattle.std.specs.Prelude.{◌≡◌, [], OnOk, IfOk, IfErr};
     ghost use Rattle.pc_check.specs.Names.{no_names, found, entered, with_scalar, with_array};
     ghost use Rattle.pc_check.specs.Faults.{scalar_faults, array_faults};
-    ghost use Rattle.pc_check.specs.Answers.{IsFirst};
-    ghost use Rattle.pc_check.specs.View.{names_of, outwards};
+    ghost use Rattle.pc_check.specs.models.Resolves.{IsFirst};
+    ghost use Rattle.pc_check.specs.models.View.{names_of, outwards};
 
     /// The one scope of the block of `main`, which declares nothing yet.
     pub(crate) fn new(alloc: Global) -> Scopes
@@ -93,7 +87,7 @@ impl Scopes {
         if self.innermost.contains_key(&symbol) {
             return Err(CheckError::Redeclared { line });
         }
-        if self.scalars >= SCALARS {
+        if u32::from(self.scalars) >= MOST_SCALARS {
             return Err(CheckError::TooManyScalars { line });
         }
         let number = self.scalars;
@@ -118,13 +112,13 @@ impl Scopes {
         if self.innermost.contains_key(&symbol) {
             return Err(CheckError::Redeclared { line });
         }
-        if self.lengths.len() >= ARRAYS {
+        if self.lengths.len() >= MOST_ARRAYS {
             return Err(CheckError::TooManyArrays { line });
         }
-        if size == 0 || size > LENGTH {
+        if size == 0 || size > MOST_LENGTH {
             return Err(CheckError::BadSize { line: at });
         }
-        if size > ELEMENTS - self.elements {
+        if size > MOST_ELEMENTS - self.elements {
             return Err(CheckError::TooManyElements { line: at });
         }
         let number = self.lengths.len() as u8;
@@ -137,7 +131,7 @@ impl Scopes {
     /// How many scalars were declared.
     pub(crate) fn scalars(&self) -> u8
         ensures value { result ≡ self.now.scalars }
-        ensures few { result ≤ 64 }
+        ensures few { result ≤ most_scalars }
     {
         self.scalars
     }
@@ -145,9 +139,9 @@ impl Scopes {
     /// The lengths of the arrays that were declared.
     pub(crate) fn into_lengths(self) -> LengthList
         ensures value { result ≡ self.lengths }
-        ensures few { length result ≤ 32 }
+        ensures few { length result ≤ most_arrays }
         ensures sized { IsTrue (list_all is_length result) }
-        ensures few_elements { sum result ≤ 1048576 }
+        ensures few_elements { sum result ≤ most_elements }
     {
         self.lengths
     }

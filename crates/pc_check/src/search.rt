@@ -1,6 +1,6 @@
 ghost use Rattle.std.specs.Prelude.{◌≡◌};
 ghost use Rattle.pc_check.specs.Names.{found_in};
-ghost use Rattle.pc_check.specs.View.{scopes_of};
+ghost use Rattle.pc_check.specs.models.View.{scopes_of};
 
 use crate::slot::Slot;
 use indexmap::IndexMap;

@@ -1,28 +1,27 @@
-ghost use Rattle.std.specs.Prelude.{◌≡◌, Bool, [], ◌++◌, OnOk, IfOk, IfErr, option_map};
+ghost use Rattle.std.specs.Prelude.{◌≡◌, Bool, true, [], ◌++◌, OnOk, IfOk, IfErr, option_map};
 ghost use Rattle.pc_syntax.specs.Source.{Scope, ScalarDeclaration, ArrayDeclaration, Assignment, WhileLoop, DoLoop, ForLoop};
 ghost use Rattle.pc_syntax.specs.Erasure.{expression_of, statement_of, optional_of, list_of};
 ghost use Rattle.pc_check.specs.Names.{Names};
 ghost use Rattle.pc_check.specs.Faults.{depth_faults, jump_faults, measured_faults, assignment_faults, statement_faults, branch_faults, list_faults};
 ghost use Rattle.pc_check.specs.Resolution.{slot_number, resolved_expression, resolved_optional};
-ghost use Rattle.pc_check.specs.Answers.{IsFirst, MeasuredResolves, StatementResolves, BranchResolves, ListResolves};
-ghost use Rattle.pc_check.specs.View.{names_of};
+ghost use Rattle.pc_check.specs.models.Resolves.{IsFirst, MeasuredResolves, StatementResolves, BranchResolves, ListResolves};
+ghost use Rattle.pc_check.specs.models.Parts.{is_for, is_written, is_plain};
+ghost use Rattle.pc_check.specs.models.View.{names_of};
 
 use crate::error::CheckError;
 use crate::expression::{array_slot, resolve_expression, resolve_optional, scalar_slot};
 use crate::measure::{assignment_need, need, optional_need};
 use crate::scopes::Scopes;
 use pc_syntax::{BinaryOp, Expr, Stmt, StmtList};
-use pc_word::Seq;
+use pc_word::{MOST_TEMPORARIES, Seq};
 use std::alloc::Global;
-
-const TEMPORARIES: u32 = 32;
 
 /// Refuses a statement whose expressions need too many temporaries.
 fn check_depth(needed: u32, line: u32) -> Result<(), CheckError>
     ensures shallow { OnOk result (depth_faults needed line ≡ []) }
     ensures refused { IfErr result (λ e. IsFirst e (depth_faults needed line)) }
 {
-    if needed > TEMPORARIES {
+    if needed > MOST_TEMPORARIES {
         return Err(CheckError::TooDeep { line });
     }
     Ok(())
@@ -41,7 +40,7 @@ fn check_jump(in_loop: bool, line: u32) -> Result<(), CheckError>
 }
 
 /// The expression of a statement or of a condition, measured and resolved.
-#[tactic(auto, using(pc_syntax::proofs::ErasureLaws::statement_forms, crate::proofs::FaultLaws::first_faults), unfolding(crate::specs::Faults::statement_faults, crate::specs::Faults::names_behind, crate::specs::Resolution::resolved_statement))]
+#[tactic(auto, using(crate::proofs::Rules::statements), unfolding(crate::specs::Faults::statement_faults, crate::specs::Faults::names_behind, crate::specs::Resolution::resolved_statement))]
 fn resolve_measured(
     alloc: Global,
     scopes: &Scopes,
@@ -58,7 +57,7 @@ fn resolve_measured(
 }
 
 /// The declaration of a scalar, whose initialiser sees its name.
-#[tactic(auto, using(pc_syntax::proofs::ErasureLaws::statement_forms, crate::proofs::FaultLaws::first_faults), unfolding(crate::specs::Faults::statement_faults, crate::specs::Faults::names_behind, crate::specs::Resolution::resolved_statement))]
+#[tactic(auto, using(crate::proofs::Rules::statements), unfolding(crate::specs::Faults::statement_faults, crate::specs::Faults::names_behind, crate::specs::Resolution::resolved_statement))]
 fn check_scalar(
     alloc: Global,
     scopes: &mut Scopes,
@@ -86,7 +85,7 @@ fn check_scalar(
 }
 
 /// The declaration of an array.
-#[tactic(auto, using(pc_syntax::proofs::ErasureLaws::statement_forms, crate::proofs::FaultLaws::first_faults), unfolding(crate::specs::Faults::statement_faults, crate::specs::Faults::names_behind, crate::specs::Resolution::resolved_statement))]
+#[tactic(auto, using(crate::proofs::Rules::statements), unfolding(crate::specs::Faults::statement_faults, crate::specs::Faults::names_behind, crate::specs::Resolution::resolved_statement))]
 fn check_array(
     scopes: &mut Scopes,
     symbol: u32,
@@ -119,7 +118,7 @@ struct Assigned {
 }
 
 /// The parts of an assignment.
-#[tactic(auto, using(pc_syntax::proofs::ErasureLaws::statement_forms, crate::proofs::FaultLaws::first_faults), unfolding(crate::specs::Faults::statement_faults, crate::specs::Faults::names_behind, crate::specs::Resolution::resolved_statement))]
+#[tactic(auto, using(crate::proofs::Rules::statements), unfolding(crate::specs::Faults::statement_faults, crate::specs::Faults::names_behind, crate::specs::Resolution::resolved_statement))]
 fn check_assignment(
     alloc: Global,
     scopes: &Scopes,
@@ -154,10 +153,42 @@ fn check_assignment(
     })
 }
 
+/// An assignment.
+#[tactic(auto, using(crate::proofs::Rules::statements), unfolding(crate::specs::Faults::statement_faults, crate::specs::Faults::names_behind, crate::specs::Resolution::resolved_statement))]
+fn check_assigned(
+    alloc: Global,
+    scopes: &Scopes,
+    symbol: u32,
+    line: u32,
+    index: &Option<Expr>,
+    bracket: u32,
+    op: &Option<BinaryOp>,
+    at: u32,
+    value: &Expr,
+) -> Result<Stmt, CheckError>
+    ensures resolved { (in_loop : Bool) → IfOk result (λ to. StatementResolves in_loop
+        (Assignment symbol line (option_map expression_of index.now) bracket op.now at (expression_of value.now))
+        (names_of scopes.now) (names_of scopes.now) (statement_of to)) }
+    ensures refused { (in_loop : Bool) → IfErr result (λ e. IsFirst e (statement_faults in_loop
+        (Assignment symbol line (option_map expression_of index.now) bracket op.now at (expression_of value.now))
+        (names_of scopes.now))) }
+{
+    let parts = check_assignment(alloc, scopes, symbol, line, index, op, value)?;
+    Ok(Stmt::Assign {
+        symbol: parts.symbol,
+        line,
+        index: parts.index,
+        bracket,
+        op: *op,
+        at,
+        value: parts.value,
+    })
+}
+
 /// A statement with the number of its slot for each name. `in_loop` says whether it stands in a loop's
 /// body.
 #[cycle(check_statement)]
-#[tactic(auto, using(pc_syntax::proofs::ErasureLaws::statement_forms, crate::proofs::FaultLaws::first_faults), unfolding(crate::specs::Faults::statement_faults, crate::specs::Faults::names_behind, crate::specs::Resolution::resolved_statement))]
+#[tactic(auto, using(crate::proofs::Rules::statements), unfolding(crate::specs::Faults::statement_faults, crate::specs::Faults::names_behind, crate::specs::Resolution::resolved_statement))]
 fn check_statement(
     alloc: Global,
     scopes: &mut Scopes,
@@ -171,41 +202,6 @@ fn check_statement(
 {
     match from {
         Stmt::Block { items } => check_block(alloc, scopes, in_loop, items),
-        Stmt::Scalar { symbol, line, init } => check_scalar(alloc, scopes, *symbol, *line, init),
-        Stmt::Array {
-            symbol,
-            line,
-            at,
-            length,
-        } => check_array(scopes, *symbol, *line, *at, *length),
-        Stmt::Assign {
-            symbol,
-            line,
-            index,
-            bracket,
-            op,
-            at,
-            value,
-        } => {
-            let parts = check_assignment(alloc, scopes, *symbol, *line, index, op, value)?;
-            Ok(Stmt::Assign {
-                symbol: parts.symbol,
-                line: *line,
-                index: parts.index,
-                bracket: *bracket,
-                op: *op,
-                at: *at,
-                value: parts.value,
-            })
-        }
-        Stmt::Print { line, value } => {
-            let value = resolve_measured(alloc, scopes, *line, value)?;
-            Ok(Stmt::Print { line: *line, value })
-        }
-        Stmt::Eval { line, value } => {
-            let value = resolve_measured(alloc, scopes, *line, value)?;
-            Ok(Stmt::Eval { line: *line, value })
-        }
         Stmt::If {
             line,
             test,
@@ -224,6 +220,32 @@ fn check_statement(
         }
         Stmt::While { line, test, body } => check_while(alloc, scopes, *line, body, test),
         Stmt::Do { line, body, test } => check_do(alloc, scopes, *line, body, test),
+        Stmt::For { .. } => check_for(alloc, scopes, in_loop, from),
+        Stmt::Scalar { .. } | Stmt::Array { .. } | Stmt::Assign { .. } => {
+            check_written(alloc, scopes, in_loop, from)
+        }
+        Stmt::Print { .. } | Stmt::Eval { .. } => check_plain(alloc, scopes, in_loop, from),
+        Stmt::Return { .. } | Stmt::Break { .. } => check_plain(alloc, scopes, in_loop, from),
+        Stmt::Continue { .. } | Stmt::Empty => check_plain(alloc, scopes, in_loop, from),
+    }
+}
+
+/// The same of a `for`.
+#[cycle(check_statement)]
+#[tactic(auto, using(crate::proofs::Rules::statements), unfolding(crate::specs::Faults::statement_faults, crate::specs::Faults::names_behind, crate::specs::Resolution::resolved_statement))]
+fn check_for(
+    alloc: Global,
+    scopes: &mut Scopes,
+    in_loop: bool,
+    from: &Stmt,
+) -> Result<Stmt, CheckError>
+    requires { is_for (statement_of from.now) ≡ true }
+    ensures resolved { IfOk result (λ to. StatementResolves in_loop (statement_of from.now) (names_of scopes.old)
+        (names_of scopes.new) (statement_of to)) }
+    ensures refused { IfErr result (λ e. IsFirst e
+        (statement_faults in_loop (statement_of from.now) (names_of scopes.old))) }
+{
+    match from {
         Stmt::For {
             line,
             first,
@@ -245,6 +267,77 @@ fn check_statement(
                 body,
             })
         }
+        Stmt::Block { .. } | Stmt::If { .. } | Stmt::While { .. } | Stmt::Do { .. } =>
+            unreachable!(),
+        Stmt::Scalar { .. } | Stmt::Array { .. } | Stmt::Assign { .. } => unreachable!(),
+        Stmt::Print { .. } | Stmt::Eval { .. } | Stmt::Return { .. } => unreachable!(),
+        Stmt::Break { .. } | Stmt::Continue { .. } | Stmt::Empty => unreachable!(),
+    }
+}
+
+/// The same of a declaration or an assignment.
+#[tactic(auto, using(crate::proofs::Rules::statements), unfolding(crate::specs::Faults::statement_faults, crate::specs::Faults::names_behind, crate::specs::Resolution::resolved_statement))]
+fn check_written(
+    alloc: Global,
+    scopes: &mut Scopes,
+    in_loop: bool,
+    from: &Stmt,
+) -> Result<Stmt, CheckError>
+    requires { is_written (statement_of from.now) ≡ true }
+    ensures resolved { IfOk result (λ to. StatementResolves in_loop (statement_of from.now) (names_of scopes.old)
+        (names_of scopes.new) (statement_of to)) }
+    ensures refused { IfErr result (λ e. IsFirst e
+        (statement_faults in_loop (statement_of from.now) (names_of scopes.old))) }
+{
+    match from {
+        Stmt::Scalar { symbol, line, init } => check_scalar(alloc, scopes, *symbol, *line, init),
+        Stmt::Array {
+            symbol,
+            line,
+            at,
+            length,
+        } => check_array(scopes, *symbol, *line, *at, *length),
+        Stmt::Assign {
+            symbol,
+            line,
+            index,
+            bracket,
+            op,
+            at,
+            value,
+        } => check_assigned(
+            alloc, scopes, *symbol, *line, index, *bracket, op, *at, value,
+        ),
+        Stmt::Block { .. } | Stmt::If { .. } | Stmt::While { .. } => unreachable!(),
+        Stmt::Do { .. } | Stmt::For { .. } | Stmt::Print { .. } => unreachable!(),
+        Stmt::Eval { .. } | Stmt::Break { .. } | Stmt::Continue { .. } => unreachable!(),
+        Stmt::Return { .. } | Stmt::Empty => unreachable!(),
+    }
+}
+
+/// The same of a statement that neither declares or assigns a name nor holds others.
+#[tactic(auto, using(crate::proofs::Rules::statements), unfolding(crate::specs::Faults::statement_faults, crate::specs::Faults::names_behind, crate::specs::Resolution::resolved_statement))]
+fn check_plain(
+    alloc: Global,
+    scopes: &mut Scopes,
+    in_loop: bool,
+    from: &Stmt,
+) -> Result<Stmt, CheckError>
+    requires { is_plain (statement_of from.now) ≡ true }
+    ensures resolved { IfOk result (λ to. StatementResolves in_loop (statement_of from.now) (names_of scopes.old)
+        (names_of scopes.new) (statement_of to)) }
+    ensures refused { IfErr result (λ e. IsFirst e
+        (statement_faults in_loop (statement_of from.now) (names_of scopes.old))) }
+{
+    match from {
+        Stmt::Print { line, value } => {
+            let value = resolve_measured(alloc, scopes, *line, value)?;
+            Ok(Stmt::Print { line: *line, value })
+        }
+        Stmt::Eval { line, value } => {
+            let value = resolve_measured(alloc, scopes, *line, value)?;
+            Ok(Stmt::Eval { line: *line, value })
+        }
         Stmt::Break { line } => {
             check_jump(in_loop, *line)?;
             Ok(Stmt::Break { line: *line })
@@ -258,12 +351,15 @@ fn check_statement(
             Ok(Stmt::Return { line: *line, value })
         }
         Stmt::Empty => Ok(Stmt::Empty),
+        Stmt::Block { .. } | Stmt::If { .. } | Stmt::While { .. } => unreachable!(),
+        Stmt::Do { .. } | Stmt::For { .. } | Stmt::Scalar { .. } => unreachable!(),
+        Stmt::Array { .. } | Stmt::Assign { .. } => unreachable!(),
     }
 }
 
 /// A block, which is a scope of its own.
 #[cycle(check_statement)]
-#[tactic(auto, using(pc_syntax::proofs::ErasureLaws::statement_forms, crate::proofs::FaultLaws::first_faults), unfolding(crate::specs::Faults::statement_faults, crate::specs::Faults::names_behind, crate::specs::Resolution::resolved_statement))]
+#[tactic(auto, using(crate::proofs::Rules::statements), unfolding(crate::specs::Faults::statement_faults, crate::specs::Faults::names_behind, crate::specs::Resolution::resolved_statement))]
 fn check_block(
     alloc: Global,
     scopes: &mut Scopes,
@@ -283,7 +379,7 @@ fn check_block(
 
 /// A `while`.
 #[cycle(check_statement)]
-#[tactic(auto, using(pc_syntax::proofs::ErasureLaws::statement_forms, crate::proofs::FaultLaws::first_faults), unfolding(crate::specs::Faults::statement_faults, crate::specs::Faults::names_behind, crate::specs::Resolution::resolved_statement))]
+#[tactic(auto, using(crate::proofs::Rules::statements), unfolding(crate::specs::Faults::statement_faults, crate::specs::Faults::names_behind, crate::specs::Resolution::resolved_statement))]
 fn check_while(
     alloc: Global,
     scopes: &mut Scopes,
@@ -307,7 +403,7 @@ fn check_while(
 
 /// A `do`, whose condition comes after its body.
 #[cycle(check_statement)]
-#[tactic(auto, using(pc_syntax::proofs::ErasureLaws::statement_forms, crate::proofs::FaultLaws::first_faults), unfolding(crate::specs::Faults::statement_faults, crate::specs::Faults::names_behind, crate::specs::Resolution::resolved_statement))]
+#[tactic(auto, using(crate::proofs::Rules::statements), unfolding(crate::specs::Faults::statement_faults, crate::specs::Faults::names_behind, crate::specs::Resolution::resolved_statement))]
 fn check_do(
     alloc: Global,
     scopes: &mut Scopes,
@@ -330,7 +426,7 @@ fn check_do(
 
 /// A statement in a box of its own.
 #[cycle(check_statement)]
-#[tactic(auto, using(pc_syntax::proofs::ErasureLaws::statement_forms, crate::proofs::FaultLaws::first_faults), unfolding(crate::specs::Faults::statement_faults, crate::specs::Faults::names_behind, crate::specs::Resolution::resolved_statement))]
+#[tactic(auto, using(crate::proofs::Rules::statements), unfolding(crate::specs::Faults::statement_faults, crate::specs::Faults::names_behind, crate::specs::Resolution::resolved_statement))]
 fn check_boxed(
     alloc: Global,
     scopes: &mut Scopes,
@@ -348,7 +444,7 @@ fn check_boxed(
 
 /// The same of a statement that may be left out.
 #[cycle(check_statement)]
-#[tactic(auto, using(pc_syntax::proofs::ErasureLaws::statement_forms, crate::proofs::FaultLaws::first_faults), unfolding(crate::specs::Faults::statement_faults, crate::specs::Faults::names_behind, crate::specs::Resolution::resolved_statement))]
+#[tactic(auto, using(crate::proofs::Rules::statements), unfolding(crate::specs::Faults::statement_faults, crate::specs::Faults::names_behind, crate::specs::Resolution::resolved_statement))]
 fn check_optional(
     alloc: Global,
     scopes: &mut Scopes,
@@ -371,7 +467,7 @@ fn check_optional(
 
 /// Statements in order.
 #[cycle(check_statement)]
-#[tactic(auto, using(pc_syntax::proofs::ErasureLaws::statement_forms, crate::proofs::FaultLaws::first_faults), unfolding(crate::specs::Faults::statement_faults, crate::specs::Faults::names_behind, crate::specs::Resolution::resolved_statement))]
+#[tactic(auto, using(crate::proofs::Rules::statements), unfolding(crate::specs::Faults::statement_faults, crate::specs::Faults::names_behind, crate::specs::Resolution::resolved_statement))]
 pub(crate) fn check_list(
     alloc: Global,
     scopes: &mut Scopes,

@@ -1,4 +1,5 @@
 pub mod Expressions
+pub mod OnlyReads
 pub mod Statements
 pub mod LoopTests
 pub mod SourceRuns

@@ -4,11 +4,12 @@ use Rattle.std.specs.Prelude.{ℤ, pos, negsuc, ◌≢◌, nat_lt, not, if◌the
 use Rattle.std.specs.Ordering.{int_eq}
 use Rattle.std.proofs.lemmas.Bool.Decides.{Decides-int_eq}
 use Rattle.pc_word.specs.Word.{word_of_test, holds, word_below, word_unequal}
+use Rattle.pc_word.specs.Items.{place_in}
 use Rattle.pc_syntax.specs.declared.operator.UnaryOp.{UnaryOp}
 use Rattle.pc_syntax.specs.declared.operator.UnaryOp.TheVariants.{Minus, Flip, Not}
 use Rattle.pc_syntax.specs.declared.operator.BinaryOp.{BinaryOp}
 use Rattle.pc_syntax.specs.declared.operator.BinaryOp.TheVariants.{Add, Sub, Mul, Div, Rem, Shl, Shr, Less, LessEq, Greater, GreaterEq, Equal, Unequal, BitAnd, BitXor, BitOr}
-use Rattle.pc_meaning.specs.Expression.{prefix_value, binary_value, place_of}
+use Rattle.pc_meaning.specs.Expression.{prefix_value, binary_value}
 use Rattle.pc_meaning.specs.Lowered.{lowered_prefix, lowered_binary}
 
 -- a unary operator
@@ -42,10 +43,10 @@ inside-test true index = refl
 inside-test false index = refl
 
 -- a bound test
-pub place_of-below : (length : ℕ) (index : ℤ) → word_below index (pos length) ≡ word_of_test (is_some (place_of length index))
+pub place_in-below : (length : ℕ) (index : ℤ) → word_below index (pos length) ≡ word_of_test (is_some (place_in length index))
 unfolding word_below
-place_of-below length (pos index) = inside-test (nat_lt index length) index
-place_of-below length (negsuc index) = refl
+place_in-below length (pos index) = inside-test (nat_lt index length) index
+place_in-below length (negsuc index) = refl
 
 -- a number that is not 0 is unequal to it
 unequal-test : (value : ℤ) (b : Bool) → int_eq value (pos 0) ≡ b → (b ≡ true → ⊥) → word_unequal value (pos 0) ≡ pos 1

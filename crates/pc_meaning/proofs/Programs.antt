@@ -1,16 +1,28 @@
 -- How programs are written in these proofs. Everything stands in line 1, where no other line is named.
-use Rattle.std.proofs.Common.{ℕ, List, [], ◌∷◌, map, Some, None, pos}
+use Rattle.std.proofs.Common.{ℕ, ℤ, List, [], ◌∷◌, map, Some, None, pos}
 use Rattle.pc_word.specs.declared.item.End.TheVariants.{Ended, Trapped}
 use Rattle.pc_word.specs.declared.item.TrapKind.{TrapKind}
 use Rattle.pc_word.specs.Run.{Seen}
 use Rattle.pc_syntax.specs.declared.operator.UnaryOp.TheVariants.{Minus}
 use Rattle.pc_syntax.specs.declared.operator.BinaryOp.{BinaryOp}
 use Rattle.pc_syntax.specs.declared.operator.BinaryOp.TheVariants.{Add, Less}
-use Rattle.pc_syntax.specs.Source.{SourceExpression, SourceStatement, SourceProgram, Literal, Variable, Input, Indexed, Prefixed, Combined, Scope, ScalarDeclaration, ArrayDeclaration, Assignment, Printing, Branch, ForLoop, Absent, Present, source_list}
+use Rattle.pc_syntax.specs.Source.{SourceExpression, SourceStatement, ResolvedProgram, Literal, Variable, Input, Indexed, Prefixed, Combined, Scope}
+use Rattle.pc_syntax.specs.Source.{ScalarDeclaration, ArrayDeclaration, Assignment, Printing, Branch, ForLoop, Absent, Present}
+use Rattle.pc_syntax.proofs.SourceLists.{source_list}
+use Rattle.pc_meaning.specs.SourceRun.{source_run}
+use Rattle.pc_meaning.specs.Trace.{Kind, trace_of}
 
--- int main(void){items}
-abbrev pub program : List SourceStatement → SourceProgram
-program items = record { items = source_list items }
+-- int main(void){items}, with at most ten scalars and arrays of these lengths
+abbrev pub program : List SourceStatement → List ℕ → ResolvedProgram
+program items lengths = record { scalars = 10; arrays = lengths; body = source_list items }
+
+-- what it shows on an input, with at most so many turns
+abbrev pub shown_by : (List ℕ → ResolvedProgram) → List ℕ → List ℤ → ℕ → Seen
+shown_by program lengths input turns = source_run (program lengths) input turns
+
+-- what it passes
+abbrev pub passed_by : (List ℕ → ResolvedProgram) → List ℕ → List ℤ → ℕ → List Kind
+passed_by program lengths input turns = trace_of (program lengths) input turns
 
 -- ---- expressions
 

@@ -5,43 +5,50 @@ use Rattle.pc_word.specs.declared.item.MachineFault.{MachineFault}
 use Rattle.pc_word.specs.declared.item.End.TheVariants.{Fault}
 use Rattle.pc_word.specs.Run.{Grows}
 use Rattle.pc_word.specs.Word.{word_of_test, holds, word_below, word_unequal}
+use Rattle.pc_word.specs.Items.{place_in}
 use Rattle.pc_syntax.specs.declared.operator.UnaryOp.{UnaryOp}
 use Rattle.pc_syntax.specs.declared.operator.BinaryOp.{BinaryOp}
-use Rattle.pc_syntax.specs.Source.{SourceExpression, SourceStatement, OptionalStatement, SourceProgram}
-use Rattle.pc_meaning.specs.State.{State}
-use Rattle.pc_meaning.specs.Expression.{eval, prefix_value, binary_value, place_of}
+use Rattle.pc_syntax.specs.Source.{SourceExpression, SourceStatement, OptionalStatement, ResolvedProgram}
+use Rattle.pc_meaning.specs.SourceState.{SourceState, set_left}
+use Rattle.pc_meaning.specs.Expression.{state_given, eval, prefix_value, binary_value}
 use Rattle.pc_meaning.specs.Lowered.{lowered_prefix, lowered_binary}
-use Rattle.pc_meaning.specs.Statement.{state_after, loop, execute, execute_optional}
+use Rattle.pc_meaning.specs.Statement.{state_at_end, loop, execute, execute_optional}
 use Rattle.pc_meaning.specs.SourceRun.{outcome_of, source_run}
 use Rattle.pc_meaning.specs.Trace.{trace_of, is_print, is_read}
 
 -- with more turns a program has printed no less, and an end stays
 abbrev pub SourceRunsGrow : Type 0
-SourceRunsGrow = (program : SourceProgram) (lengths : List ℕ) (input : List ℤ) → Grows (source_run program lengths input)
+SourceRunsGrow = (program : ResolvedProgram) (input : List ℤ) → Grows (source_run program input)
+
+-- an expression changes nothing but the input: the scalars, the elements, what was printed and the turns are as before
+abbrev pub ExpressionsOnlyRead : Type 0
+ExpressionsOnlyRead =
+    (lengths : List ℕ) (e : SourceExpression) (s : SourceState)
+    → state_given (eval lengths e s) ≡ set_left (state_given (eval lengths e s)).input s
 
 -- no program comes to a machine's fault
 abbrev pub SourceRunsAreFaultless : Type 0
 SourceRunsAreFaultless =
-    (program : SourceProgram) (lengths : List ℕ) (input : List ℤ) (n : ℕ) (fault : MachineFault)
-    → (source_run program lengths input n).end ≢ Some (Fault fault)
+    (program : ResolvedProgram) (input : List ℤ) (n : ℕ) (fault : MachineFault)
+    → (source_run program input n).end ≢ Some (Fault fault)
 
 -- how many tests a loop may make changes nothing, where they are more than the turns that are left
 abbrev pub LoopsEndByTheirTurns : Type 0
 LoopsEndByTheirTurns =
-    (lengths : List ℕ) (test : SourceExpression) (step : OptionalStatement) (body : SourceStatement) (m n : ℕ) (s : State) → s.turns < m → s.turns < n
+    (lengths : List ℕ) (test : SourceExpression) (step : OptionalStatement) (body : SourceStatement) (m n : ℕ) (s : SourceState) → s.turns < m → s.turns < n
     → loop m (eval lengths test) (execute_optional lengths step) (execute lengths body) s ≡ loop n (eval lengths test) (execute_optional lengths step) (execute lengths body) s
 
 -- as many prints are passed as numbers are printed
 abbrev pub TracesCountPrints : Type 0
 TracesCountPrints =
-    (program : SourceProgram) (lengths : List ℕ) (input : List ℤ) (n : ℕ)
-    → length (source_run program lengths input n).printed ≡ count_by is_print (trace_of program lengths input n)
+    (program : ResolvedProgram) (input : List ℤ) (n : ℕ)
+    → length (source_run program input n).printed ≡ count_by is_print (trace_of program input n)
 
 -- as many reads are passed as numbers of the input are taken
 abbrev pub TracesCountReads : Type 0
 TracesCountReads =
-    (program : SourceProgram) (lengths : List ℕ) (input : List ℤ) (n : ℕ)
-    → length input ≡ length (state_after (outcome_of program lengths input n)).input + count_by is_read (trace_of program lengths input n)
+    (program : ResolvedProgram) (input : List ℤ) (n : ℕ)
+    → length input ≡ length (state_at_end (outcome_of program input n)).input + count_by is_read (trace_of program input n)
 
 -- the operators to which unary operators are lowered give their values
 abbrev pub UnaryOperatorsAreLowered : Type 0
@@ -53,7 +60,7 @@ BinaryOperatorsAreLowered = (op : BinaryOp) (a b : ℤ) → binary_value op a b 
 
 -- an index is inside an array exactly where `below` gives 1 of it and the array's length
 abbrev pub BoundsAreTestedByBelow : Type 0
-BoundsAreTestedByBelow = (length : ℕ) (index : ℤ) → word_below index (pos length) ≡ word_of_test (is_some (place_of length index))
+BoundsAreTestedByBelow = (length : ℕ) (index : ℤ) → word_below index (pos length) ≡ word_of_test (is_some (place_in length index))
 
 -- the value of `&&` and `||` is that of a comparison with 0
 abbrev pub TruthIsUnequalToZero : Type 0

@@ -1,4 +1,4 @@
-pub mod State
+pub mod SourceState
 pub mod Expression
 pub mod Statement
 pub mod SourceRun

@@ -6,9 +6,12 @@ use Rattle.std.specs.declared.alloc.Global.{Global}
 use Rattle.pc_syntax.specs.declared.operator.UnaryOp.{UnaryOp}
 use Rattle.pc_syntax.specs.declared.operator.BinaryOp.{BinaryOp}
 use Rattle.pc_syntax.specs.declared.expression.Expr.{Expr, Lit, Name, Read, Element, Unary, Binary, Both, Either, Choose}
-use Rattle.pc_syntax.specs.declared.statement.Stmt.{Stmt, Block, Scalar, Array, Assign, Print, Eval, If, While, Do, For, Break, Continue, Return, Empty, Row_of-Stmt, end_of-Stmt, more_of-Stmt, items-the_row-Stmt, items_hidden-the_row-Stmt-0}
+use Rattle.pc_syntax.specs.declared.statement.Stmt.{Stmt, Block, Scalar, Array, Assign, Print, Eval, If, While, Do, For, Break, Continue, Return}
+use Rattle.pc_syntax.specs.declared.statement.Stmt.{Empty, Row_of-Stmt, end_of-Stmt, more_of-Stmt, items-the_row-Stmt, items_hidden-the_row-Stmt-0}
 use Rattle.pc_syntax.specs.declared.statement.Stmt.TheBlock.{hidden-the_row-Stmt-0}
-use Rattle.pc_syntax.specs.Source.{SourceList, Literal, Variable, Input, Indexed, Prefixed, Combined, Conjunction, Disjunction, Conditional, Scope, ScalarDeclaration, ArrayDeclaration, Assignment, Printing, Evaluation, Branch, WhileLoop, DoLoop, ForLoop, BreakOut, ContinueOn, ReturnFrom, Nothing, Absent, Present, No_more, More, appended}
+use Rattle.pc_syntax.specs.Source.{SourceList, Literal, Variable, Input, Indexed, Prefixed, Combined, Conjunction, Disjunction, Conditional, Scope}
+use Rattle.pc_syntax.specs.Source.{ScalarDeclaration, ArrayDeclaration, Assignment, Printing, Evaluation, Branch, WhileLoop, DoLoop, ForLoop}
+use Rattle.pc_syntax.specs.Source.{BreakOut, ContinueOn, ReturnFrom, Nothing, Absent, Present, No_more, More, appended}
 use Rattle.pc_syntax.specs.Erasure.{expression_of, statement_of, row_of, held_of, list_of, optional_of}
 
 -- a list that a tree holds stands for the same as the list of its items
@@ -151,7 +154,8 @@ expression_of-made_Element symbol line at index = expression_of-Element (Element
 pub expression_of-made_Unary : (op : UnaryOp) (operand : Box Expr Global) → expression_of (Unary op operand) ≡ Prefixed op (expression_of operand.value)
 expression_of-made_Unary op operand = expression_of-Unary (Unary op operand) op operand refl
 
-pub expression_of-made_Binary : (op : BinaryOp) (at : ℕ) (left right : Box Expr Global) → expression_of (Binary op at left right) ≡ Combined op at (expression_of left.value) (expression_of right.value)
+pub expression_of-made_Binary : (op : BinaryOp) (at : ℕ) (left right : Box Expr Global) →
+    expression_of (Binary op at left right) ≡ Combined op at (expression_of left.value) (expression_of right.value)
 expression_of-made_Binary op at left right = expression_of-Binary (Binary op at left right) op at left right refl
 
 pub expression_of-made_Both : (left right : Box Expr Global) → expression_of (Both left right) ≡ Conjunction (expression_of left.value) (expression_of right.value)
@@ -172,7 +176,8 @@ statement_of-made_Scalar symbol line init = statement_of-Scalar (Scalar symbol l
 pub statement_of-made_Array : (symbol line at length : ℕ) → statement_of (Array symbol line at length) ≡ ArrayDeclaration symbol line at length
 statement_of-made_Array symbol line at length = statement_of-Array (Array symbol line at length) symbol line at length refl
 
-pub statement_of-made_Assign : (symbol line : ℕ) (index : Option Expr) (bracket : ℕ) (op : Option BinaryOp) (at : ℕ) (value : Expr) → statement_of (Assign symbol line index bracket op at value) ≡ Assignment symbol line (option_map expression_of index) bracket op at (expression_of value)
+pub statement_of-made_Assign : (symbol line : ℕ) (index : Option Expr) (bracket : ℕ) (op : Option BinaryOp) (at : ℕ) (value : Expr) →
+    statement_of (Assign symbol line index bracket op at value) ≡ Assignment symbol line (option_map expression_of index) bracket op at (expression_of value)
 statement_of-made_Assign symbol line index bracket op at value = statement_of-Assign (Assign symbol line index bracket op at value) symbol line index bracket op at value refl
 
 pub statement_of-made_Print : (line : ℕ) (value : Expr) → statement_of (Print line value) ≡ Printing line (expression_of value)
@@ -181,7 +186,8 @@ statement_of-made_Print line value = statement_of-Print (Print line value) line 
 pub statement_of-made_Eval : (line : ℕ) (value : Expr) → statement_of (Eval line value) ≡ Evaluation line (expression_of value)
 statement_of-made_Eval line value = statement_of-Eval (Eval line value) line value refl
 
-pub statement_of-made_If : (line : ℕ) (test : Expr) (body : Box Stmt Global) (other : Option (Box Stmt Global)) → statement_of (If line test body other) ≡ Branch line (expression_of test) (statement_of body.value) (optional_of other)
+pub statement_of-made_If : (line : ℕ) (test : Expr) (body : Box Stmt Global) (other : Option (Box Stmt Global)) →
+    statement_of (If line test body other) ≡ Branch line (expression_of test) (statement_of body.value) (optional_of other)
 statement_of-made_If line test body other = statement_of-If (If line test body other) line test body other refl
 
 pub statement_of-made_While : (line : ℕ) (test : Expr) (body : Box Stmt Global) → statement_of (While line test body) ≡ WhileLoop line (expression_of test) (statement_of body.value)
@@ -190,7 +196,8 @@ statement_of-made_While line test body = statement_of-While (While line test bod
 pub statement_of-made_Do : (line : ℕ) (body : Box Stmt Global) (test : Expr) → statement_of (Do line body test) ≡ DoLoop line (statement_of body.value) (expression_of test)
 statement_of-made_Do line body test = statement_of-Do (Do line body test) line body test refl
 
-pub statement_of-made_For : (line : ℕ) (first : List Stmt) (test : Expr) (step : Option (Box Stmt Global)) (body : Box Stmt Global) → statement_of (For line first test step body) ≡ ForLoop line (list_of first) (expression_of test) (optional_of step) (statement_of body.value)
+pub statement_of-made_For : (line : ℕ) (first : List Stmt) (test : Expr) (step : Option (Box Stmt Global)) (body : Box Stmt Global) →
+    statement_of (For line first test step body) ≡ ForLoop line (list_of first) (expression_of test) (optional_of step) (statement_of body.value)
 statement_of-made_For line first test step body = statement_of-For (For line first test step body) line first test step body refl
 
 pub statement_of-made_Break : (line : ℕ) → statement_of (Break line) ≡ BreakOut line
@@ -240,7 +247,61 @@ unfolding list_of
 list_of-push front last = list_of-append front (last ∷ [])
 
 -- what each variant of an expression stands for
-pub ruleset expression_forms = (expression_of-made_Lit, expression_of-made_Name, expression_of-made_Read, expression_of-made_Element, expression_of-made_Unary, expression_of-made_Binary, expression_of-made_Both, expression_of-made_Either, expression_of-made_Choose, expression_of-Lit, expression_of-Name, expression_of-Read, expression_of-Element, expression_of-Unary, expression_of-Binary, expression_of-Both, expression_of-Either, expression_of-Choose)
+pub ruleset expression_forms = (
+  expression_of-made_Lit,
+  expression_of-made_Name,
+  expression_of-made_Read,
+  expression_of-made_Element,
+  expression_of-made_Unary,
+  expression_of-made_Binary,
+  expression_of-made_Both,
+  expression_of-made_Either,
+  expression_of-made_Choose,
+  expression_of-Lit,
+  expression_of-Name,
+  expression_of-Read,
+  expression_of-Element,
+  expression_of-Unary,
+  expression_of-Binary,
+  expression_of-Both,
+  expression_of-Either,
+  expression_of-Choose,
+)
 
 -- what each variant of a statement stands for
-pub ruleset statement_forms = (statement_of-made_Block, statement_of-made_Scalar, statement_of-made_Array, statement_of-made_Assign, statement_of-made_Print, statement_of-made_Eval, statement_of-made_If, statement_of-made_While, statement_of-made_Do, statement_of-made_For, statement_of-made_Break, statement_of-made_Continue, statement_of-made_Return, statement_of-made_Empty, statement_of-Block, statement_of-Scalar, statement_of-Array, statement_of-Assign, statement_of-Print, statement_of-Eval, statement_of-If, statement_of-While, statement_of-Do, statement_of-For, statement_of-Break, statement_of-Continue, statement_of-Return, statement_of-Empty, optional_of-None, optional_of-Some, optional_of-made_None, optional_of-made_Some, list_of-empty, list_of-push)
+pub ruleset statement_forms = (
+  statement_of-made_Block,
+  statement_of-made_Scalar,
+  statement_of-made_Array,
+  statement_of-made_Assign,
+  statement_of-made_Print,
+  statement_of-made_Eval,
+  statement_of-made_If,
+  statement_of-made_While,
+  statement_of-made_Do,
+  statement_of-made_For,
+  statement_of-made_Break,
+  statement_of-made_Continue,
+  statement_of-made_Return,
+  statement_of-made_Empty,
+  statement_of-Block,
+  statement_of-Scalar,
+  statement_of-Array,
+  statement_of-Assign,
+  statement_of-Print,
+  statement_of-Eval,
+  statement_of-If,
+  statement_of-While,
+  statement_of-Do,
+  statement_of-For,
+  statement_of-Break,
+  statement_of-Continue,
+  statement_of-Return,
+  statement_of-Empty,
+  optional_of-None,
+  optional_of-Some,
+  optional_of-made_None,
+  optional_of-made_Some,
+  list_of-empty,
+  list_of-push,
+)

@@ -1,1 +1,3 @@
+mod Copies
 pub mod ErasureLaws
+pub mod SourceLists

@@ -3,9 +3,13 @@ use Rattle.std.specs.Prelude.{Option, Some, None, option_map, List, [], ◌∷�
 use Rattle.std.specs.declared.boxed.Box.{Box}
 use Rattle.std.specs.declared.alloc.Global.{Global}
 use Rattle.pc_syntax.specs.declared.expression.Expr.{Expr, Lit, Name, Read, Element', Unary', Binary', Both', Either', Choose'}
-use Rattle.pc_syntax.specs.declared.statement.Stmt.{Stmt, Block', Scalar, Array, Assign, Print, Eval, If', While', Do', For', Break, Continue, Return, Empty, Row_of-Stmt, end_of-Stmt, more_of-Stmt, Held-Stmt-If-3, None', Some'}
+use Rattle.pc_syntax.specs.declared.statement.Stmt.{Stmt, Block', Scalar, Array, Assign, Print, Eval, If', While', Do', For', Break, Continue, Return, Empty}
+use Rattle.pc_syntax.specs.declared.statement.Stmt.{Row_of-Stmt, end_of-Stmt, more_of-Stmt, Held-Stmt-If-3, None', Some'}
 use Rattle.pc_syntax.specs.declared.program.Program.{Program}
-use Rattle.pc_syntax.specs.Source.{SourceExpression, SourceStatement, SourceList, OptionalStatement, SourceProgram, Literal, Variable, Input, Indexed, Prefixed, Combined, Conjunction, Disjunction, Conditional, Scope, ScalarDeclaration, ArrayDeclaration, Assignment, Printing, Evaluation, Branch, WhileLoop, DoLoop, ForLoop, BreakOut, ContinueOn, ReturnFrom, Nothing, Absent, Present, No_more, More}
+use Rattle.pc_syntax.specs.Source.{SourceExpression, Literal, Variable, Input, Indexed, Prefixed, Combined, Conjunction, Disjunction, Conditional}
+use Rattle.pc_syntax.specs.Source.{SourceStatement, Scope, ScalarDeclaration, ArrayDeclaration, Assignment, Printing, Evaluation}
+use Rattle.pc_syntax.specs.Source.{Branch, WhileLoop, DoLoop, ForLoop, BreakOut, ContinueOn, ReturnFrom, Nothing}
+use Rattle.pc_syntax.specs.Source.{OptionalStatement, Absent, Present, SourceList, No_more, More, SourceProgram}
 
 -- the expression that a tree stands for
 unfoldable pub expression_of : Expr → SourceExpression

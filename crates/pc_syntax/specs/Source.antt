@@ -1,6 +1,6 @@
 -- The syntax tree as the language's definitions see it: without the places in memory at which the
 -- parts of a tree lie. Two trees are equal where these are.
-use Rattle.std.specs.Prelude.{ℕ, ℤ, Option, List, [], ◌∷◌}
+use Rattle.std.specs.Prelude.{ℕ, ℤ, Option, List}
 use Rattle.pc_syntax.specs.declared.operator.UnaryOp.{UnaryOp}
 use Rattle.pc_syntax.specs.declared.operator.BinaryOp.{BinaryOp}
 
@@ -75,15 +75,12 @@ mutual
 pub record SourceProgram : Type 0 where
   pub items : SourceList
 
--- the statements as a list
-abbrev pub statements : SourceList → List SourceStatement
-statements No_more = []
-statements (More first rest) = first ∷ statements rest
-
--- the list of statements as the tree has it
-abbrev pub source_list : List SourceStatement → SourceList
-source_list [] = No_more
-source_list (first ∷ rest) = More first (source_list rest)
+-- A program whose names are numbers: how many scalars it declares, the lengths of its arrays, and its statements. A scalar
+-- is named by its number among the scalars and an array by its number among the arrays.
+pub record ResolvedProgram : Type 0 where
+  pub scalars : ℕ
+  pub arrays : List ℕ
+  pub body : SourceList
 
 -- the statements of the one list, and then those of the other
 abbrev pub appended : SourceList → SourceList → SourceList

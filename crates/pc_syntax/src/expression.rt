@@ -1,4 +1,6 @@
-ghost use Rattle.std.specs.Prelude.{◌≡◌, IfOk, option_map};
+ghost use Rattle.std.specs.Prelude.{◌≡◌, true, IfOk, option_map};
+ghost use Rattle.pc_syntax.specs.Source.{Variable, Indexed};
+ghost use Rattle.pc_syntax.specs.models.Parts.{is_combined};
 ghost use Rattle.pc_syntax.specs.Erasure.{expression_of};
 
 use crate::operator::{BinaryOp, UnaryOp};
@@ -65,29 +67,38 @@ pub(crate) fn copy_expression(alloc: Global, from: &Expr) -> Result<Expr, Syntax
 {
     match from {
         Expr::Lit { value } => Ok(Expr::Lit { value: *value }),
-        Expr::Name { symbol, line } => Ok(Expr::Name {
-            symbol: *symbol,
-            line: *line,
-        }),
+        Expr::Name { symbol, line } => Ok(name(*symbol, *line)),
         Expr::Read { line } => Ok(Expr::Read { line: *line }),
         Expr::Element {
             symbol,
             line,
             at,
             index,
-        } => {
-            let index = copy_boxed(alloc, index)?;
-            Ok(Expr::Element {
-                symbol: *symbol,
-                line: *line,
-                at: *at,
-                index,
-            })
-        }
+        } => copy_element(alloc, index, *symbol, *line, *at),
         Expr::Unary { op, of } => {
             let of = copy_boxed(alloc, of)?;
             Ok(Expr::Unary { op: *op, of })
         }
+        Expr::Binary { .. } | Expr::Both { .. } | Expr::Either { .. } => {
+            copy_combined(alloc, from)
+        }
+        Expr::Choose { test, yes, no } => {
+            let test = copy_boxed(alloc, test)?;
+            let yes = copy_boxed(alloc, yes)?;
+            let no = copy_boxed(alloc, no)?;
+            Ok(Expr::Choose { test, yes, no })
+        }
+    }
+}
+
+/// The same of an operator with two operands.
+#[cycle(copy_expression)]
+#[tactic(auto, using(crate::proofs::ErasureLaws::expression_forms))]
+fn copy_combined(alloc: Global, from: &Expr) -> Result<Expr, SyntaxError>
+    requires { is_combined (expression_of from.now) ≡ true }
+    ensures { IfOk result (λ copy. expression_of copy ≡ expression_of from.now) }
+{
+    match from {
         Expr::Binary {
             op,
             at,
@@ -113,13 +124,38 @@ pub(crate) fn copy_expression(alloc: Global, from: &Expr) -> Result<Expr, Syntax
             let right = copy_boxed(alloc, right)?;
             Ok(Expr::Either { left, right })
         }
-        Expr::Choose { test, yes, no } => {
-            let test = copy_boxed(alloc, test)?;
-            let yes = copy_boxed(alloc, yes)?;
-            let no = copy_boxed(alloc, no)?;
-            Ok(Expr::Choose { test, yes, no })
-        }
+        Expr::Lit { .. } | Expr::Name { .. } | Expr::Read { .. } => unreachable!(),
+        Expr::Element { .. } | Expr::Unary { .. } | Expr::Choose { .. } => unreachable!(),
     }
+}
+
+/// A name.
+#[tactic(auto, using(crate::proofs::ErasureLaws::expression_forms))]
+fn name(symbol: u32, line: u32) -> Expr
+    ensures { expression_of result ≡ Variable symbol line }
+{
+    Expr::Name { symbol, line }
+}
+
+/// An element, with a copy of its index.
+#[cycle(copy_expression)]
+#[tactic(auto, using(crate::proofs::ErasureLaws::expression_forms))]
+fn copy_element(
+    alloc: Global,
+    index: &Expr,
+    symbol: u32,
+    line: u32,
+    at: u32,
+) -> Result<Expr, SyntaxError>
+    ensures { IfOk result (λ copy. expression_of copy ≡ Indexed symbol line at (expression_of index.now)) }
+{
+    let index = copy_boxed(alloc, index)?;
+    Ok(Expr::Element {
+        symbol,
+        line,
+        at,
+        index,
+    })
 }
 
 /// An equal expression, in a box of its own.

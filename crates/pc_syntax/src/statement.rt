@@ -1,5 +1,7 @@
-ghost use Rattle.std.specs.Prelude.{◌≡◌, IfOk};
-ghost use Rattle.pc_syntax.specs.Erasure.{statement_of, list_of, optional_of};
+ghost use Rattle.std.specs.Prelude.{◌≡◌, true, IfOk, option_map};
+ghost use Rattle.pc_syntax.specs.Source.{ScalarDeclaration, ArrayDeclaration, Assignment, Branch, WhileLoop, DoLoop, ForLoop};
+ghost use Rattle.pc_syntax.specs.Erasure.{expression_of, statement_of, list_of, optional_of};
+ghost use Rattle.pc_syntax.specs.models.Parts.{is_simple};
 
 use crate::expression::{Expr, copy_expression, copy_optional};
 use crate::operator::BinaryOp;
@@ -105,88 +107,17 @@ fn copy_statement(alloc: Global, from: &Stmt) -> Result<Stmt, SyntaxError>
             let items = copy_list(alloc, items)?;
             Ok(Stmt::Block { items })
         }
-        Stmt::Scalar { symbol, line, init } => {
-            let init = copy_optional(alloc, init)?;
-            Ok(Stmt::Scalar {
-                symbol: *symbol,
-                line: *line,
-                init,
-            })
-        }
-        Stmt::Array {
-            symbol,
-            line,
-            at,
-            length,
-        } => Ok(Stmt::Array {
-            symbol: *symbol,
-            line: *line,
-            at: *at,
-            length: *length,
-        }),
-        Stmt::Assign {
-            symbol,
-            line,
-            index,
-            bracket,
-            op,
-            at,
-            value,
-        } => {
-            let index = copy_optional(alloc, index)?;
-            let value = copy_expression(alloc, value)?;
-            Ok(Stmt::Assign {
-                symbol: *symbol,
-                line: *line,
-                index,
-                bracket: *bracket,
-                op: *op,
-                at: *at,
-                value,
-            })
-        }
-        Stmt::Print { line, value } => {
-            let value = copy_expression(alloc, value)?;
-            Ok(Stmt::Print { line: *line, value })
-        }
-        Stmt::Eval { line, value } => {
-            let value = copy_expression(alloc, value)?;
-            Ok(Stmt::Eval { line: *line, value })
-        }
         Stmt::If {
             line,
             test,
             yes,
             no,
         } => {
-            let test = copy_expression(alloc, test)?;
-            let yes = copy_boxed(alloc, yes)?;
             let no = copy_held(alloc, no)?;
-            Ok(Stmt::If {
-                line: *line,
-                test,
-                yes,
-                no,
-            })
+            copy_if(alloc, yes, *line, test, no)
         }
-        Stmt::While { line, test, body } => {
-            let test = copy_expression(alloc, test)?;
-            let body = copy_boxed(alloc, body)?;
-            Ok(Stmt::While {
-                line: *line,
-                test,
-                body,
-            })
-        }
-        Stmt::Do { line, body, test } => {
-            let body = copy_boxed(alloc, body)?;
-            let test = copy_expression(alloc, test)?;
-            Ok(Stmt::Do {
-                line: *line,
-                body,
-                test,
-            })
-        }
+        Stmt::While { line, test, body } => copy_while(alloc, body, *line, test),
+        Stmt::Do { line, body, test } => copy_do(alloc, body, *line, test),
         Stmt::For {
             line,
             first,
@@ -195,16 +126,45 @@ fn copy_statement(alloc: Global, from: &Stmt) -> Result<Stmt, SyntaxError>
             body,
         } => {
             let first = copy_list(alloc, first)?;
-            let test = copy_expression(alloc, test)?;
             let step = copy_held(alloc, step)?;
-            let body = copy_boxed(alloc, body)?;
-            Ok(Stmt::For {
-                line: *line,
-                first,
-                test,
-                step,
-                body,
-            })
+            copy_for(alloc, body, *line, first, test, step)
+        }
+        Stmt::Scalar { .. } | Stmt::Array { .. } | Stmt::Assign { .. } => copy_simple(alloc, from),
+        Stmt::Print { .. } | Stmt::Eval { .. } | Stmt::Return { .. } => copy_simple(alloc, from),
+        Stmt::Break { .. } | Stmt::Continue { .. } | Stmt::Empty => copy_simple(alloc, from),
+    }
+}
+
+/// An equal statement, of one that holds no others.
+#[tactic(auto, using(crate::proofs::ErasureLaws::statement_forms))]
+fn copy_simple(alloc: Global, from: &Stmt) -> Result<Stmt, SyntaxError>
+    requires { is_simple (statement_of from.now) ≡ true }
+    ensures { IfOk result (λ copy. statement_of copy ≡ statement_of from.now) }
+{
+    match from {
+        Stmt::Scalar { symbol, line, init } => copy_scalar(alloc, *symbol, *line, init),
+        Stmt::Array {
+            symbol,
+            line,
+            at,
+            length,
+        } => Ok(array(*symbol, *line, *at, *length)),
+        Stmt::Assign {
+            symbol,
+            line,
+            index,
+            bracket,
+            op,
+            at,
+            value,
+        } => copy_assignment(alloc, *symbol, *line, index, *bracket, *op, *at, value),
+        Stmt::Print { line, value } => {
+            let value = copy_expression(alloc, value)?;
+            Ok(Stmt::Print { line: *line, value })
+        }
+        Stmt::Eval { line, value } => {
+            let value = copy_expression(alloc, value)?;
+            Ok(Stmt::Eval { line: *line, value })
         }
         Stmt::Break { line } => Ok(Stmt::Break { line: *line }),
         Stmt::Continue { line } => Ok(Stmt::Continue { line: *line }),
@@ -213,7 +173,139 @@ fn copy_statement(alloc: Global, from: &Stmt) -> Result<Stmt, SyntaxError>
             Ok(Stmt::Return { line: *line, value })
         }
         Stmt::Empty => Ok(Stmt::Empty),
+        Stmt::Block { .. } | Stmt::If { .. } => unreachable!(),
+        Stmt::While { .. } | Stmt::Do { .. } | Stmt::For { .. } => unreachable!(),
     }
+}
+
+/// The declarator of a scalar, with a copy of its initialiser.
+#[tactic(auto, using(crate::proofs::ErasureLaws::statement_forms))]
+fn copy_scalar(
+    alloc: Global,
+    symbol: u32,
+    line: u32,
+    init: &Option<Expr>,
+) -> Result<Stmt, SyntaxError>
+    ensures { IfOk result (λ copy. statement_of copy
+        ≡ ScalarDeclaration symbol line (option_map expression_of init.now)) }
+{
+    let init = copy_optional(alloc, init)?;
+    Ok(Stmt::Scalar { symbol, line, init })
+}
+
+/// The declarator of an array.
+#[tactic(auto, using(crate::proofs::ErasureLaws::statement_forms))]
+fn array(symbol: u32, line: u32, at: u32, length: u32) -> Stmt
+    ensures { statement_of result ≡ ArrayDeclaration symbol line at length }
+{
+    Stmt::Array {
+        symbol,
+        line,
+        at,
+        length,
+    }
+}
+
+/// An assignment, with copies of its index and its value.
+#[tactic(auto, using(crate::proofs::ErasureLaws::statement_forms))]
+fn copy_assignment(
+    alloc: Global,
+    symbol: u32,
+    line: u32,
+    index: &Option<Expr>,
+    bracket: u32,
+    op: Option<BinaryOp>,
+    at: u32,
+    value: &Expr,
+) -> Result<Stmt, SyntaxError>
+    ensures { IfOk result (λ copy. statement_of copy
+        ≡ Assignment symbol line (option_map expression_of index.now) bracket op at
+        (expression_of value.now)) }
+{
+    let index = copy_optional(alloc, index)?;
+    let value = copy_expression(alloc, value)?;
+    Ok(Stmt::Assign {
+        symbol,
+        line,
+        index,
+        bracket,
+        op,
+        at,
+        value,
+    })
+}
+
+/// An `if` with this `else`, and copies of its condition and its body.
+#[cycle(copy_statement)]
+#[tactic(auto, using(crate::proofs::ErasureLaws::statement_forms))]
+fn copy_if(
+    alloc: Global,
+    yes: &Stmt,
+    line: u32,
+    test: &Expr,
+    no: Option<Box<Stmt>>,
+) -> Result<Stmt, SyntaxError>
+    ensures { IfOk result (λ copy. statement_of copy
+        ≡ Branch line (expression_of test.now) (statement_of yes.now) (optional_of no)) }
+{
+    let test = copy_expression(alloc, test)?;
+    let yes = copy_boxed(alloc, yes)?;
+    Ok(Stmt::If {
+        line,
+        test,
+        yes,
+        no,
+    })
+}
+
+/// A `while`, with copies of its condition and its body.
+#[cycle(copy_statement)]
+#[tactic(auto, using(crate::proofs::ErasureLaws::statement_forms))]
+fn copy_while(alloc: Global, body: &Stmt, line: u32, test: &Expr) -> Result<Stmt, SyntaxError>
+    ensures { IfOk result (λ copy. statement_of copy
+        ≡ WhileLoop line (expression_of test.now) (statement_of body.now)) }
+{
+    let test = copy_expression(alloc, test)?;
+    let body = copy_boxed(alloc, body)?;
+    Ok(Stmt::While { line, test, body })
+}
+
+/// A `do`, with copies of its body and its condition.
+#[cycle(copy_statement)]
+#[tactic(auto, using(crate::proofs::ErasureLaws::statement_forms))]
+fn copy_do(alloc: Global, body: &Stmt, line: u32, test: &Expr) -> Result<Stmt, SyntaxError>
+    ensures { IfOk result (λ copy. statement_of copy
+        ≡ DoLoop line (statement_of body.now) (expression_of test.now)) }
+{
+    let body = copy_boxed(alloc, body)?;
+    let test = copy_expression(alloc, test)?;
+    Ok(Stmt::Do { line, body, test })
+}
+
+/// A `for` with this first part and this step, and copies of its condition and its body.
+#[cycle(copy_statement)]
+#[tactic(auto, using(crate::proofs::ErasureLaws::statement_forms))]
+fn copy_for(
+    alloc: Global,
+    body: &Stmt,
+    line: u32,
+    first: StmtList,
+    test: &Expr,
+    step: Option<Box<Stmt>>,
+) -> Result<Stmt, SyntaxError>
+    ensures { IfOk result (λ copy. statement_of copy
+        ≡ ForLoop line (list_of first) (expression_of test.now) (optional_of step)
+        (statement_of body.now)) }
+{
+    let test = copy_expression(alloc, test)?;
+    let body = copy_boxed(alloc, body)?;
+    Ok(Stmt::For {
+        line,
+        first,
+        test,
+        step,
+        body,
+    })
 }
 
 /// An equal statement, in a box of its own.

@@ -1,6 +1,6 @@
 use Rattle.std.proofs.Common.{◌≡◌, take}
 use Rattle.pc_check.specs.Names.{found_in}
-use Rattle.pc_check.specs.View.{scopes_of}
+use Rattle.pc_check.specs.models.View.{scopes_of}
 use Rattle.pc_check.proofs.search.find_in.Given as goal
 
 -- what the scopes so far declare the name as

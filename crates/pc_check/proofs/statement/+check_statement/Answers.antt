@@ -2,10 +2,10 @@ use Rattle.std.proofs.Common.{sym, subst, ◌<◌, length, IfErr}
 use Rattle.pc_syntax.specs.Source.{SourceStatement, Scope, ForLoop}
 use Rattle.pc_syntax.specs.declared.statement.Stmt.{For}
 use Rattle.pc_syntax.specs.Erasure.{expression_of, statement_of, optional_of, list_of}
-use Rattle.pc_syntax.proofs.ErasureLaws.{statement_of-Scalar, statement_of-Array, statement_of-While, statement_of-Do, statement_of-For, statement_of-made_For, statement_of-made_Block}
+use Rattle.pc_syntax.proofs.ErasureLaws.{statement_of-While, statement_of-Do, statement_of-For, statement_of-made_For, statement_of-made_Block}
 use Rattle.pc_check.specs.Faults.{statement_faults}
-use Rattle.pc_check.specs.Answers.{IsFirst, StatementResolves}
-use Rattle.pc_check.specs.View.{names_of}
+use Rattle.pc_check.specs.models.Resolves.{IsFirst, StatementResolves}
+use Rattle.pc_check.specs.models.View.{names_of}
 use Rattle.pc_check.proofs.FaultLaws.{passed_on}
 use Rattle.pc_check.proofs.StatementLaws.{ListResolves-more, IsFirst-list}
 use Rattle.pc_check.proofs.ScopeForms.{Scope-resolves, For-first, For-test, For-step, For-body, For-resolves}
@@ -40,18 +40,6 @@ check_block-returns-clause-resolved t c =
     (names_of c.enter.new.self) (names_of c.check_list.new.scopes) (names_of c.leave.new.self) c.in_ok-enter.ensures.entered
     c.in_ok-items.ensures.resolved c.leave.ensures)
 
-pub check_statement-returns-in-Scalar-clause-refused : goal.check_statement-returns-in-Scalar-clause-refused
-check_statement-returns-in-Scalar-clause-refused t c =
-    let P : SourceStatement → Type 0 =
-    λ s. IfErr c.check_scalar.result (λ e. IsFirst e (statement_faults c.args.in_loop s (names_of c.args.scopes.now))) in
-    subst P (sym (statement_of-Scalar c.args.from.now c.in-Scalar.symbol c.in-Scalar.line c.in-Scalar.init c.in-Scalar.is)) (c.check_scalar.ensures.refused c.args.in_loop)
-
-pub check_statement-returns-in-Array-clause-refused : goal.check_statement-returns-in-Array-clause-refused
-check_statement-returns-in-Array-clause-refused t c =
-    let P : SourceStatement → Type 0 =
-    λ s. IfErr c.check_array.result (λ e. IsFirst e (statement_faults c.args.in_loop s (names_of c.args.scopes.now))) in
-    subst P (sym (statement_of-Array c.args.from.now c.in-Array.symbol c.in-Array.line c.in-Array.at c.in-Array.length c.in-Array.is)) (c.check_array.ensures.refused c.args.in_loop)
-
 pub check_statement-returns-in-While-clause-refused : goal.check_statement-returns-in-While-clause-refused
 check_statement-returns-in-While-clause-refused t c =
     let P : SourceStatement → Type 0 =
@@ -64,44 +52,42 @@ check_statement-returns-in-Do-clause-refused t c =
     λ s. IfErr c.check_do.result (λ e. IsFirst e (statement_faults c.args.in_loop s (names_of c.args.scopes.now))) in
     subst P (sym (statement_of-Do c.args.from.now c.in-Do.line c.in-Do.body c.in-Do.test c.in-Do.is)) (rw c.deref-in-Do.ensures at c.check_do.ensures.refused c.args.in_loop)
 
-pub check_statement-returns-in_err-first-in-For-clause-refused : goal.check_statement-returns-in_err-first-in-For-clause-refused
-check_statement-returns-in_err-first-in-For-clause-refused t c =
-    let P : SourceStatement → Type 0 =
-    λ s. IsFirst c.in_err-first-in-For.field-0.0 (statement_faults c.args.in_loop s (names_of c.args.scopes.now)) in
+-- the faults of the parts of a `for`, in their order
+pub check_for-returns-in_err-first-in-For-clause-refused : goal.check_for-returns-in_err-first-in-For-clause-refused
+check_for-returns-in_err-first-in-For-clause-refused t c =
     let is = statement_of-For c.args.from.now c.in-For.line c.in-For.first c.in-For.test c.in-For.step c.in-For.body c.in-For.is in
-    passed_on _ c.in_err-first-in-For.field-0.0 _ c.from_residual-in_err-first-in-For.ensures.1 (subst P (sym is)
-    (For-first c.args.in_loop c.in-For.line (list_of c.in-For.first) (expression_of c.in-For.test) (optional_of c.in-For.step) (statement_of c.in-For.body.value) (names_of c.args.scopes.now) (names_of c.enter.new.self) c.in_ok-enter-in-For.ensures.entered c.in_err-first-in-For.field-0.0 c.in_err-first-in-For.ensures.refused))
+    passed_on _ c.in_err-first-in-For.field-0.0 _ c.from_residual-in_err-first-in-For.ensures.1
+    (For-first c.args.in_loop _ _ _ _ _ _ is (names_of c.args.scopes.now) _ c.in_ok-enter-in-For.ensures.entered c.in_err-first-in-For.field-0.0 c.in_err-first-in-For.ensures.refused)
 
-pub check_statement-returns-in_err-test-in-For-clause-refused : goal.check_statement-returns-in_err-test-in-For-clause-refused
-check_statement-returns-in_err-test-in-For-clause-refused t c =
-    let P : SourceStatement → Type 0 =
-    λ s. IsFirst c.in_err-test-in-For.field-0.0 (statement_faults c.args.in_loop s (names_of c.args.scopes.now)) in
+pub check_for-returns-in_err-test-in-For-clause-refused : goal.check_for-returns-in_err-test-in-For-clause-refused
+check_for-returns-in_err-test-in-For-clause-refused t c =
     let is = statement_of-For c.args.from.now c.in-For.line c.in-For.first c.in-For.test c.in-For.step c.in-For.body c.in-For.is in
-    passed_on _ c.in_err-test-in-For.field-0.0 _ c.from_residual-in_err-test-in-For.ensures.1 (subst P (sym is)
-    (For-test c.args.in_loop c.in-For.line (list_of c.in-For.first) (expression_of c.in-For.test) (optional_of c.in-For.step) (statement_of c.in-For.body.value) (names_of c.args.scopes.now) (names_of c.enter.new.self) c.in_ok-enter-in-For.ensures.entered (names_of c.check_list.new.scopes) (list_of c.in_ok-first-in-For.first) c.in_ok-first-in-For.ensures.resolved c.in_err-test-in-For.field-0.0 c.in_err-test-in-For.ensures.refused))
+    passed_on _ c.in_err-test-in-For.field-0.0 _ c.from_residual-in_err-test-in-For.ensures.1
+    (For-test c.args.in_loop _ _ _ _ _ _ is (names_of c.args.scopes.now) _ c.in_ok-enter-in-For.ensures.entered _ _ c.in_ok-first-in-For.ensures.resolved
+    c.in_err-test-in-For.field-0.0 c.in_err-test-in-For.ensures.refused)
 
-pub check_statement-returns-in_err-step-in-For-clause-refused : goal.check_statement-returns-in_err-step-in-For-clause-refused
-check_statement-returns-in_err-step-in-For-clause-refused t c =
-    let P : SourceStatement → Type 0 =
-    λ s. IsFirst c.in_err-step-in-For.field-0.0 (statement_faults c.args.in_loop s (names_of c.args.scopes.now)) in
+pub check_for-returns-in_err-step-in-For-clause-refused : goal.check_for-returns-in_err-step-in-For-clause-refused
+check_for-returns-in_err-step-in-For-clause-refused t c =
     let is = statement_of-For c.args.from.now c.in-For.line c.in-For.first c.in-For.test c.in-For.step c.in-For.body c.in-For.is in
-    passed_on _ c.in_err-step-in-For.field-0.0 _ c.from_residual-in_err-step-in-For.ensures.1 (subst P (sym is)
-    (For-step c.args.in_loop c.in-For.line (list_of c.in-For.first) (expression_of c.in-For.test) (optional_of c.in-For.step) (statement_of c.in-For.body.value) (names_of c.args.scopes.now) (names_of c.enter.new.self) c.in_ok-enter-in-For.ensures.entered (names_of c.check_list.new.scopes) (list_of c.in_ok-first-in-For.first) c.in_ok-first-in-For.ensures.resolved (expression_of c.in_ok-test-in-For.test) c.in_ok-test-in-For.ensures.resolved c.in_err-step-in-For.field-0.0 c.in_err-step-in-For.ensures.refused))
+    passed_on _ c.in_err-step-in-For.field-0.0 _ c.from_residual-in_err-step-in-For.ensures.1
+    (For-step c.args.in_loop _ _ _ _ _ _ is (names_of c.args.scopes.now) _ c.in_ok-enter-in-For.ensures.entered _ _ c.in_ok-first-in-For.ensures.resolved
+    _ c.in_ok-test-in-For.ensures.resolved
+    c.in_err-step-in-For.field-0.0 c.in_err-step-in-For.ensures.refused)
 
-pub check_statement-returns-in_err-body-in-For-clause-refused : goal.check_statement-returns-in_err-body-in-For-clause-refused
-check_statement-returns-in_err-body-in-For-clause-refused t c =
-    let P : SourceStatement → Type 0 =
-    λ s. IsFirst c.in_err-body-in-For.field-0.0 (statement_faults c.args.in_loop s (names_of c.args.scopes.now)) in
+pub check_for-returns-in_err-body-in-For-clause-refused : goal.check_for-returns-in_err-body-in-For-clause-refused
+check_for-returns-in_err-body-in-For-clause-refused t c =
     let is = statement_of-For c.args.from.now c.in-For.line c.in-For.first c.in-For.test c.in-For.step c.in-For.body c.in-For.is in
-    passed_on _ c.in_err-body-in-For.field-0.0 _ c.from_residual-in_err-body-in-For.ensures.1 (subst P (sym is)
-    (For-body c.args.in_loop c.in-For.line (list_of c.in-For.first) (expression_of c.in-For.test) (optional_of c.in-For.step) (statement_of c.in-For.body.value) (names_of c.args.scopes.now) (names_of c.enter.new.self) c.in_ok-enter-in-For.ensures.entered (names_of c.check_list.new.scopes) (list_of c.in_ok-first-in-For.first) c.in_ok-first-in-For.ensures.resolved (expression_of c.in_ok-test-in-For.test) c.in_ok-test-in-For.ensures.resolved (names_of c.check_optional-in-For.new.scopes) (optional_of c.in_ok-step-in-For.step) c.in_ok-step-in-For.ensures.resolved c.in_err-body-in-For.field-0.0 (rw c.deref-in-For.ensures at c.in_err-body-in-For.ensures.refused)))
+    passed_on _ c.in_err-body-in-For.field-0.0 _ c.from_residual-in_err-body-in-For.ensures.1
+    (For-body c.args.in_loop _ _ _ _ _ _ is (names_of c.args.scopes.now) _ c.in_ok-enter-in-For.ensures.entered _ _ c.in_ok-first-in-For.ensures.resolved
+    _ c.in_ok-test-in-For.ensures.resolved _ _ c.in_ok-step-in-For.ensures.resolved
+    c.in_err-body-in-For.field-0.0 (rw c.deref.ensures at c.in_err-body-in-For.ensures.refused))
 
-pub check_statement-returns-in_ok-body-in-For-clause-resolved : goal.check_statement-returns-in_ok-body-in-For-clause-resolved
-check_statement-returns-in_ok-body-in-For-clause-resolved t c =
+-- a `for` whose parts have no fault
+pub check_for-returns-clause-resolved : goal.check_for-returns-clause-resolved
+check_for-returns-clause-resolved t c =
     let is = statement_of-For c.args.from.now c.in-For.line c.in-For.first c.in-For.test c.in-For.step c.in-For.body c.in-For.is in
     let made = statement_of-made_For c.in-For.line c.in_ok-first-in-For.first c.in_ok-test-in-For.test c.in_ok-step-in-For.step c.in_ok-body-in-For.body in
-    let P : SourceStatement → Type 0 = λ s. StatementResolves c.args.in_loop s (names_of c.args.scopes.now) (names_of c.leave.new.self) (statement_of (For c.in-For.line c.in_ok-first-in-For.first c.in_ok-test-in-For.test c.in_ok-step-in-For.step c.in_ok-body-in-For.body)) in
-    let Q : SourceStatement → Type 0 = λ s. StatementResolves c.args.in_loop (ForLoop c.in-For.line (list_of c.in-For.first) (expression_of c.in-For.test) (optional_of c.in-For.step) (statement_of c.in-For.body.value)) (names_of c.args.scopes.now) (names_of c.leave.new.self) s in
-    subst P (sym is) (subst Q (sym made)
-    (For-resolves c.args.in_loop c.in-For.line (list_of c.in-For.first) (expression_of c.in-For.test) (optional_of c.in-For.step) (statement_of c.in-For.body.value) (names_of c.args.scopes.now) (names_of c.enter.new.self) c.in_ok-enter-in-For.ensures.entered (names_of c.check_list.new.scopes) (list_of c.in_ok-first-in-For.first) c.in_ok-first-in-For.ensures.resolved (expression_of c.in_ok-test-in-For.test) c.in_ok-test-in-For.ensures.resolved (names_of c.check_optional-in-For.new.scopes) (optional_of c.in_ok-step-in-For.step) c.in_ok-step-in-For.ensures.resolved (names_of c.check_boxed-in-For.new.scopes) (names_of c.leave.new.self) (statement_of c.in_ok-body-in-For.body.value)
-    (rw c.deref-in-For.ensures at c.in_ok-body-in-For.ensures.resolved) c.leave.ensures))
+    For-resolves c.args.in_loop _ _ _ _ _ _ is (names_of c.args.scopes.now) _ c.in_ok-enter-in-For.ensures.entered _ _ c.in_ok-first-in-For.ensures.resolved
+    _ c.in_ok-test-in-For.ensures.resolved _ _ c.in_ok-step-in-For.ensures.resolved
+    (names_of c.check_boxed.new.scopes) (names_of c.leave.new.self) (statement_of c.in_ok-body-in-For.body.value) _
+    (rw c.deref.ensures at c.in_ok-body-in-For.ensures.resolved) c.leave.ensures made

@@ -1,7 +1,7 @@
 use Rattle.std.proofs.Common.{take}
 use Rattle.pc_syntax.specs.Erasure.{list_of}
-use Rattle.pc_check.specs.Answers.{ListResolves}
-use Rattle.pc_check.specs.View.{names_of}
+use Rattle.pc_check.specs.models.Resolves.{ListResolves}
+use Rattle.pc_check.specs.models.View.{names_of}
 use Rattle.pc_check.proofs.statement.+check_statement.Given as goal
 
 -- the statements so far have no fault, and the new ones are what they are resolved to

@@ -2,7 +2,8 @@ use Rattle.std.proofs.Common.{◌≡◌, ℕ, ◌+◌, ◌<◌, List, [], ◌∷
 use Rattle.std.proofs.lemmas.List.{take_more}
 use Rattle.pc_syntax.specs.declared.statement.Stmt.{Stmt}
 use Rattle.pc_syntax.specs.Erasure.{list_of, statement_of}
-use Rattle.pc_syntax.proofs.ErasureLaws.{statement_of-For, statement_of-made_For, list_of-push}
+use Rattle.pc_syntax.proofs.ErasureLaws.{statement_of-For, list_of-push}
+use Rattle.pc_syntax.proofs.Copies.{copied_as}
 use Rattle.pc_syntax.proofs.statement.+copy_statement.Goals as goal
 
 -- one more copy stands for one more statement
@@ -24,13 +25,10 @@ copy_list-loop-item-preserved t c =
     c.in_ok-copy.ensures c.loop-item.invariant c.in_ok-push.ensures.ok
 
 -- a copied `for` stands for the one that it was copied from
-pub copy_statement-returns-in_ok-body-in-For : goal.copy_statement-returns-in_ok-body-in-For
-copy_statement-returns-in_ok-body-in-For t c =
-    let made = statement_of-made_For c.in-For.line c.in_ok-first-in-For.first c.in_ok-test-in-For.test c.in_ok-step-in-For.step c.in_ok-body-in-For.body in
+pub copy_statement-returns-in_ok-step-in-For : goal.copy_statement-returns-in_ok-step-in-For
+copy_statement-returns-in_ok-step-in-For t c =
     let was = statement_of-For c.args.from.now c.in-For.line c.in-For.first c.in-For.test c.in-For.step c.in-For.body c.in-For.is in
     let first = c.in_ok-first-in-For.ensures in
-    let test = c.in_ok-test-in-For.ensures in
     let step = c.in_ok-step-in-For.ensures in
-    let body = c.in_ok-body-in-For.ensures in
     let borrowed = c.deref-in-For.ensures in
-    cc
+    copied_as c.copy_for.result _ _ c.copy_for.ensures (cc)

@@ -1,7 +1,7 @@
 use Rattle.std.proofs.Common.{ap, ◌∙◌, sym}
 use Rattle.pc_check.specs.declared.slot.Slot.TheVariants as slot
 use Rattle.pc_check.specs.Names.{Scope, with_scalar}
-use Rattle.pc_check.specs.View.{names_of}
+use Rattle.pc_check.specs.models.View.{names_of}
 use Rattle.pc_check.proofs.ScopeLaws.{entries_with_new}
 use Rattle.pc_check.proofs.scopes.Scopes.declare_scalar.Goals as goal
 

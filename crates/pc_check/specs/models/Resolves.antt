@@ -1,23 +1,19 @@
--- What the answers of the checks say.
+-- What the answers of the checks of a program's parts say.
 use Rattle.std.specs.Prelude.{◌≡◌, ℕ, Bool, Option, Some, List, [], slice_get}
-use Rattle.pc_syntax.specs.Source.{SourceExpression, SourceStatement, SourceList, OptionalStatement, SourceProgram}
+use Rattle.pc_syntax.specs.Source.{SourceExpression, SourceStatement, SourceList, OptionalStatement}
 use Rattle.pc_check.specs.declared.error.CheckError.{CheckError}
 use Rattle.pc_check.specs.declared.error.CheckError.TheVariants as fault
 use Rattle.pc_check.specs.Names.{Names}
-use Rattle.pc_check.specs.Faults.{expression_faults, measured_faults, optional_faults, statement_faults, branch_faults, list_faults, names_behind, names_behind_optional, names_behind_list, faults}
-use Rattle.pc_check.specs.Resolution.{resolved_expression, resolved_optional, resolved_statement, resolved_branch, resolved_list, ResolvedProgram, resolved}
+use Rattle.pc_check.specs.Faults.{expression_faults, measured_faults, optional_faults, statement_faults, branch_faults, list_faults, names_behind, names_behind_optional, names_behind_list}
+use Rattle.pc_check.specs.Resolution.{resolved_expression, resolved_optional, resolved_statement, resolved_branch, resolved_list}
 
--- An answer with an error: it is the first of the faults. Want of memory says nothing of the program.
+-- an answer with an error: it is the first of the faults; want of memory says nothing of the program
 abbrev pub IsFirst : CheckError → List CheckError → Type 0
 IsFirst fault.Memory found = Unit {0}
 IsFirst e found = slice_get found 0 ≡ Some e
 
--- an answer without an error: the program has no faults, and this is what it is resolved to
-pub record Resolves (program : SourceProgram) (answer : ResolvedProgram) : Type 0 where
-  pub faultless : faults program ≡ []
-  pub is_resolved : resolved program ≡ answer
-
--- the same of an expression among the names that are declared
+-- an answer without an error, of an expression among the names that are declared: it has no faults, and this is what it is
+-- resolved to
 pub record ExpressionResolves (names : Names) (e answer : SourceExpression) : Type 0 where
   pub faultless : expression_faults names e ≡ []
   pub is_resolved : resolved_expression names e ≡ answer
