@@ -11,9 +11,11 @@ use Rattle.pc_machine.specs.declared.code.Flaw.{Flaw}
 use Rattle.pc_machine.specs.declared.check.Bounds.{Bounds}
 use Rattle.pc_machine.specs.declared.check.Counts.{Counts}
 use Rattle.pc_machine.specs.declared.tree.Tree.{Tree}
-use Rattle.pc_machine.specs.Row.{Row, Then, Either, RowCode, row_of, rows_of}
-use Rattle.pc_machine.specs.WellFormed.{is_memory}
-use Rattle.pc_machine.specs.Flaws.{Above, nothing_above, no_counts, above_with, counts_with_item, counts_with_test, counts_after, item_flaws, test_flaws, row_flaws, header_flaws, bounds_of, flaws_of, checked}
+use Rattle.pc_machine.specs.MachineCode.{CodeRow, RowCode, row_of, rows_of}
+use Rattle.pc_word.specs.Row.{Then, Either}
+use Rattle.pc_word.specs.Items.{is_memory}
+use Rattle.pc_machine.specs.Flaws.{Above, nothing_above, no_counts, above_with, counts_with_item, counts_with_test, counts_after, item_flaws, test_flaws, row_flaws, header_flaws, bounds_of, flaws_of}
+use Rattle.pc_word.specs.Exact.{checked}
 
 -- ---- one check after another
 
@@ -40,19 +42,21 @@ checked-goes_on (first ∷ flaws) more x z y e = (cc)
 -- ---- a row
 
 -- what the checker gives for a row
-abbrev given : Bounds → Counts → Above → Row → Result Counts Flaw
+abbrev given : Bounds → Counts → Above → CodeRow → Result Counts Flaw
 given bounds counts above row = checked (row_flaws bounds counts above row) (counts_after row counts)
 
 -- an item with a flaw
-pub item-stops : (bounds : Bounds) (counts : Counts) (above : Above) (row rest : Row) (item : Item) (flaw : Flaw)
+pub item-stops : (bounds : Bounds) (counts : Counts) (above : Above) (row rest : CodeRow) (item : Item) (flaw : Flaw)
     → row ≡ Then item rest → Err flaw ≡ checked (item_flaws bounds counts above item) (counts_with_item (is_memory item) counts)
     → Err flaw ≡ given bounds counts above row
 item-stops bounds counts above row rest item flaw is_row stops =
-    sym (checked-stops (item_flaws bounds counts above item) (row_flaws bounds (counts_with_item (is_memory item) counts) (above_with item above) rest) (counts_with_item (is_memory item) counts) (counts_after (Then item rest) counts) flaw (sym stops))
-    ∙ ap (λ (r : Row). given bounds counts above r) (sym is_row)
+    let flaws : List Flaw = item_flaws bounds counts above item in
+    let after : Counts = counts_with_item (is_memory item) counts in
+    sym (checked-stops flaws (row_flaws bounds after (above_with item above) rest) after (counts_after (Then item rest) counts) flaw (sym stops))
+    ∙ ap (λ (r : CodeRow). given bounds counts above r) (sym is_row)
 
 -- an item with none
-pub item-goes_on : (bounds : Bounds) (counts behind : Counts) (above below : Above) (row rest next : Row) (item : Item)
+pub item-goes_on : (bounds : Bounds) (counts behind : Counts) (above below : Above) (row rest next : CodeRow) (item : Item)
     → row ≡ Then item rest → Ok behind ≡ checked (item_flaws bounds counts above item) (counts_with_item (is_memory item) counts)
     → below ≡ above_with item above → next ≡ rest
     → given bounds behind below next ≡ given bounds counts above row
@@ -61,12 +65,12 @@ item-goes_on bounds counts behind above below row rest next item is_row goes is_
     let after : Counts = counts_with_item (is_memory item) counts in
     ap (λ (c : Counts). given bounds c below next) (sym (checked-value flaws after behind (sym goes)))
     ∙ ap (λ (a : Above). given bounds after a next) is_below
-    ∙ ap (λ (r : Row). given bounds after (above_with item above) r) is_next
+    ∙ ap (λ (r : CodeRow). given bounds after (above_with item above) r) is_next
     ∙ sym (checked-goes_on flaws (row_flaws bounds after (above_with item above) rest) after behind (counts_after (Then item rest) counts) (sym goes))
-    ∙ ap (λ (r : Row). given bounds counts above r) (sym is_row)
+    ∙ ap (λ (r : CodeRow). given bounds counts above r) (sym is_row)
 
 -- a test with no flaw, whose yes side has one
-pub yes-stops : (bounds : Bounds) (counts behind : Counts) (above : Above) (row on_yes on_no next : Row) (on : Operand) (flaw : Flaw)
+pub yes-stops : (bounds : Bounds) (counts behind : Counts) (above : Above) (row on_yes on_no next : CodeRow) (on : Operand) (flaw : Flaw)
     → row ≡ Either on on_yes on_no → Ok behind ≡ checked (test_flaws bounds counts on) (counts_with_test counts)
     → next ≡ on_yes → Err flaw ≡ given bounds behind above next
     → Err flaw ≡ given bounds counts above row
@@ -75,13 +79,13 @@ yes-stops bounds counts behind above row on_yes on_no next on flaw is_row goes i
     let after : Counts = counts_with_test counts in
     let no_flaws : List Flaw = row_flaws bounds (counts_after on_yes after) above on_no in
     let here : Err flaw ≡ given bounds after above on_yes =
-    stops ∙ ap (λ (c : Counts). given bounds c above next) (sym (checked-value flaws after behind (sym goes))) ∙ ap (λ (r : Row). given bounds after above r) is_next in
+    stops ∙ ap (λ (c : Counts). given bounds c above next) (sym (checked-value flaws after behind (sym goes))) ∙ ap (λ (r : CodeRow). given bounds after above r) is_next in
     sym (checked-stops (row_flaws bounds after above on_yes) no_flaws (counts_after on_yes after) (counts_after (Either on on_yes on_no) counts) flaw (sym here))
     ∙ sym (checked-goes_on flaws (row_flaws bounds after above on_yes ++ no_flaws) after behind (counts_after (Either on on_yes on_no) counts) (sym goes))
-    ∙ ap (λ (r : Row). given bounds counts above r) (sym is_row)
+    ∙ ap (λ (r : CodeRow). given bounds counts above r) (sym is_row)
 
 -- a test with no flaw, whose yes side has none
-pub yes-goes_on : (bounds : Bounds) (counts behind between : Counts) (above : Above) (row on_yes on_no next last : Row) (on : Operand)
+pub yes-goes_on : (bounds : Bounds) (counts behind between : Counts) (above : Above) (row on_yes on_no next last : CodeRow) (on : Operand)
     → row ≡ Either on on_yes on_no → Ok behind ≡ checked (test_flaws bounds counts on) (counts_with_test counts)
     → next ≡ on_yes → Ok between ≡ given bounds behind above next → last ≡ on_no
     → given bounds between above last ≡ given bounds counts above row
@@ -90,12 +94,12 @@ yes-goes_on bounds counts behind between above row on_yes on_no next last on is_
     let after : Counts = counts_with_test counts in
     let no_flaws : List Flaw = row_flaws bounds (counts_after on_yes after) above on_no in
     let here : Ok between ≡ given bounds after above on_yes =
-    goes_yes ∙ ap (λ (c : Counts). given bounds c above next) (sym (checked-value flaws after behind (sym goes))) ∙ ap (λ (r : Row). given bounds after above r) is_next in
+    goes_yes ∙ ap (λ (c : Counts). given bounds c above next) (sym (checked-value flaws after behind (sym goes))) ∙ ap (λ (r : CodeRow). given bounds after above r) is_next in
     ap (λ (c : Counts). given bounds c above last) (sym (checked-value (row_flaws bounds after above on_yes) (counts_after on_yes after) between (sym here)))
-    ∙ ap (λ (r : Row). given bounds (counts_after on_yes after) above r) is_last
+    ∙ ap (λ (r : CodeRow). given bounds (counts_after on_yes after) above r) is_last
     ∙ sym (checked-goes_on (row_flaws bounds after above on_yes) no_flaws (counts_after on_yes after) between (counts_after (Either on on_yes on_no) counts) (sym here))
     ∙ sym (checked-goes_on flaws (row_flaws bounds after above on_yes ++ no_flaws) after behind (counts_after (Either on on_yes on_no) counts) (sym goes))
-    ∙ ap (λ (r : Row). given bounds counts above r) (sym is_row)
+    ∙ ap (λ (r : CodeRow). given bounds counts above r) (sym is_row)
 
 -- ---- rows
 
@@ -106,9 +110,11 @@ pub row-stops : (bounds : Bounds) (counts : Counts) (above : Above) (trees : Lis
     → Err flaw ≡ given bounds counts above (row_of found)
     → ◌≡◌ {A = Result (Unit {0}) Flaw} (Err flaw) (checked flaws tt)
 row-stops bounds counts above trees i tree found flaws flaw within is_tree is_found is_none is_root left stops =
-    let whole : List Row → List Flaw = λ rows. flat_map (row_flaws bounds no_counts nothing_above) rows in
+    let whole : List CodeRow → List Flaw = λ rows. flat_map (row_flaws bounds no_counts nothing_above) rows in
     let here : Err flaw ≡ given bounds no_counts nothing_above (row_of tree) =
-    stops ∙ ap (λ (c : Counts). given bounds c above (row_of found)) is_none ∙ ap (λ (a : Above). given bounds no_counts a (row_of found)) is_root ∙ ap (λ (t : Tree). given bounds no_counts nothing_above (row_of t)) is_found in
+    stops ∙ ap (λ (c : Counts). given bounds c above (row_of found)) is_none
+    ∙ ap (λ (a : Above). given bounds no_counts a (row_of found)) is_root
+    ∙ ap (λ (t : Tree). given bounds no_counts nothing_above (row_of t)) is_found in
     let split : drop i trees ≡ tree ∷ drop (suc i) trees = drop-cons trees i tree within ∙ ap (λ (t : Tree). t ∷ drop (suc i) trees) (sym is_tree) in
     sym (checked-stops (row_flaws bounds no_counts nothing_above (row_of tree)) (whole (rows_of (drop (suc i) trees))) (counts_after (row_of tree) no_counts) tt flaw (sym here))
     ∙ ap (λ (fs : List Flaw). checked fs tt) (sym (left ∙ ap (λ (ts : List Tree). whole (rows_of ts)) split))

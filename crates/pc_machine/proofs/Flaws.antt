@@ -10,14 +10,22 @@ use Rattle.pc_word.specs.declared.item.Operand.{Operand}
 use Rattle.pc_word.specs.declared.item.Operand.TheVariants.{Name, Lit}
 use Rattle.pc_word.specs.declared.item.Limits.{Limits}
 use Rattle.pc_machine.specs.declared.code.Flaw.{Flaw}
-use Rattle.pc_machine.specs.declared.code.Flaw.TheVariants.{HeaderLimit, ArrayCount, ArrayLength, Elements, RowCount, Register, Array, Target, DestTwice, EffectTwice, TooManyOps, TooManyTests, TooManyMem}
+use Rattle.pc_machine.specs.declared.code.Flaw.TheVariants.{HeaderLimit, ArrayCount, ArrayLength, Elements, RowCount, Register, Array, Target}
+use Rattle.pc_machine.specs.declared.code.Flaw.TheVariants.{DestTwice, EffectTwice, TooManyOps, TooManyTests, TooManyMem}
 use Rattle.pc_machine.specs.declared.check.Bounds.{Bounds}
 use Rattle.pc_machine.specs.declared.check.Counts.{Counts}
-use Rattle.pc_machine.specs.Row.{Leaf, Leads_to, Ends, Traps, Row, Then, Either, At_leaf, RowCode}
-use Rattle.pc_machine.specs.RowStep.{dest_of, writes}
-use Rattle.pc_machine.specs.WellFormed.{items_of, tests_of, leaves_of, paths_of, is_memory, is_effect, IsOperand, IsItem, IsLeaf, IsPath, IsRow, IsBetween, AreLimits, WellFormed}
-use Rattle.pc_machine.proofs.Lists.{all_front, all_back, all_both, all_of_map, map_of_all, all_imply, count_more, count_both}
-use Rattle.pc_machine.specs.Flaws.{flaw_where, is_between, limit_flaws, limits_flaws, array_count_flaws, length_flaws, lengths_flaws, row_count_flaws, Above, nothing_above, above_with, no_counts, one_where, counts_with_item, counts_with_test, counts_after, item_tag_flaws, test_tag_flaws, register_flaws, dest_flaws, operand_flaws, array_flaws, field_flaws, item_flaws, test_flaws, leaf_flaws, row_flaws, bounds_of, header_flaws, flaws_of}
+use Rattle.pc_machine.specs.MachineCode.{Leaf, Leads_to, Ends, Traps, CodeRow, RowCode}
+use Rattle.pc_word.specs.Row.{Then, Either, At_leaf, items_of, tests_of, leaves_of, paths_of}
+use Rattle.pc_word.specs.Items.{dest_of, is_memory, is_effect}
+use Rattle.pc_word.specs.Commit.{writes}
+use Rattle.pc_machine.specs.WellFormed.{IsOperand, IsItem, IsLeaf, IsPath, IsRow, IsBetween, AreLimits, WellFormed}
+use Rattle.pc_word.proofs.Lists.{all_front, all_back, all_both, all_of_map, map_of_all, all_imply, count_more, count_both}
+use Rattle.pc_machine.specs.Flaws.{flaw_where, is_between, limit_flaws, limits_flaws, array_count_flaws, length_flaws, lengths_flaws}
+use Rattle.pc_machine.specs.Flaws.{row_count_flaws, Above, nothing_above, above_with, no_counts, one_where, counts_with_item, counts_with_test}
+use Rattle.pc_machine.specs.Flaws.{counts_after, item_tag_flaws, test_tag_flaws, register_flaws, dest_flaws, operand_flaws, array_flaws, field_flaws}
+use Rattle.pc_machine.specs.Flaws.{item_flaws, test_flaws, leaf_flaws, row_flaws, bounds_of, header_flaws, flaws_of}
+use Rattle.pc_word.proofs.Truth.{below_of, most_of, of_below, of_most, or_false, or_made_false}
+use Rattle.pc_word.specs.MachineLimits.{most_arrays, most_elements, most_length, most_mem, most_ops, most_tests, registers}
 
 -- ---- lists of flaws
 
@@ -43,18 +51,6 @@ none_where : (b : Bool) (flaw : Flaw) → b ≡ false → flaw_where b flaw ≡ 
 none_where true flaw e = (cc)
 none_where false flaw e = refl
 
-below_of : (a b : ℕ) → nat_le a b ≡ false → b < a
-below_of a b e = grind (arith, nat_tests)
-
-of_below : (a b : ℕ) → b < a → nat_le a b ≡ false
-of_below a b e = grind (arith, nat_tests)
-
-most_of : (a b : ℕ) → nat_lt a b ≡ false → b ≤ a
-most_of a b e = grind (arith, nat_tests)
-
-of_most : (a b : ℕ) → b ≤ a → nat_lt a b ≡ false
-of_most a b e = grind (arith, nat_tests)
-
 between_of : (low high n : ℕ) → not (is_between low high n) ≡ false → IsBetween low high n
 between_of low high n e = (low_of (nat_le low n) (nat_le n high) refl refl e, high_of (nat_le low n) (nat_le n high) refl refl e)
   where
@@ -75,11 +71,11 @@ of_between low high n (p, q) =
 
 -- ---- the fields of an item
 
-register_sound : (register : ℕ) → register_flaws register ≡ [] → register < 128
-register_sound register e = below_of 128 register (where_none (nat_le 128 register) Register e)
+register_sound : (register : ℕ) → register_flaws register ≡ [] → register < registers
+register_sound register e = below_of registers register (where_none (nat_le registers register) Register e)
 
-register_complete : (register : ℕ) → register < 128 → register_flaws register ≡ []
-register_complete register h = none_where (nat_le 128 register) Register (of_below 128 register h)
+register_complete : (register : ℕ) → register < registers → register_flaws register ≡ []
+register_complete register h = none_where (nat_le registers register) Register (of_below registers register h)
 
 operand_sound : (operand : Operand) → operand_flaws operand ≡ [] → IsOperand operand
 operand_sound (Name register) e = register_sound register e
@@ -100,13 +96,13 @@ abbrev Fresh : (ℕ → Bool) → Option ℕ → Type 0
 Fresh written (Some register) = written register ≡ false
 Fresh written None = Unit {0}
 
-dest_sound : (above : Above) (dest : ℕ) → dest_flaws above dest ≡ [] → (dest < 128) × (above.written dest ≡ false)
+dest_sound : (above : Above) (dest : ℕ) → dest_flaws above dest ≡ [] → (dest < registers) × (above.written dest ≡ false)
 dest_sound above dest e = (
   register_sound dest (none_front (register_flaws dest) (flaw_where (above.written dest) DestTwice) e),
   where_none (above.written dest) DestTwice (none_back (register_flaws dest) (flaw_where (above.written dest) DestTwice) e),
 )
 
-dest_complete : (above : Above) (dest : ℕ) → dest < 128 → above.written dest ≡ false → dest_flaws above dest ≡ []
+dest_complete : (above : Above) (dest : ℕ) → dest < registers → above.written dest ≡ false → dest_flaws above dest ≡ []
 dest_complete above dest h fresh =
     none_both (register_flaws dest) (flaw_where (above.written dest) DestTwice) (register_complete dest h) (none_where (above.written dest) DestTwice fresh)
 
@@ -124,7 +120,10 @@ field_sound arrays above (Load dest array index) e =
     ((d.0, array_sound arrays array (none_front (array_flaws arrays array) (operand_flaws index) o), operand_sound index (none_back (array_flaws arrays array) (operand_flaws index) o)), d.1)
 field_sound arrays above (Store array index value) e =
     let o = none_back (array_flaws arrays array) (operand_flaws index ++ operand_flaws value) e in
-    ((array_sound arrays array (none_front (array_flaws arrays array) (operand_flaws index ++ operand_flaws value) e), operand_sound index (none_front (operand_flaws index) (operand_flaws value) o), operand_sound value (none_back (operand_flaws index) (operand_flaws value) o)), tt)
+    let a = none_front (array_flaws arrays array) (operand_flaws index ++ operand_flaws value) e in
+    let i = none_front (operand_flaws index) (operand_flaws value) o in
+    let v = none_back (operand_flaws index) (operand_flaws value) o in
+    ((array_sound arrays array a, operand_sound index i, operand_sound value v), tt)
 field_sound arrays above (Print value) e = (operand_sound value e, tt)
 field_sound arrays above (Read dest) e = dest_sound above dest e
 field_sound arrays above (More dest) e = dest_sound above dest e
@@ -166,13 +165,14 @@ memory_complete false mem most h = refl
 
 item_sound : (bounds : Bounds) (counts : Counts) (above : Above) (item : Item) → counts.mem ≤ bounds.limits.mem → item_flaws bounds counts above item ≡ [] → Fits bounds counts above item
 item_sound bounds counts above item few e =
+    let full : Bool = nat_le bounds.limits.ops counts.ops in
     let memory : Bool = is_memory item && nat_le bounds.limits.mem counts.mem in
     let effect : Bool = is_effect item && above.effect in
     let tag = none_front (item_tag_flaws bounds.limits counts above (is_memory item) (is_effect item)) (field_flaws bounds.arrays above item) e in
     let behind = none_back (flaw_where (nat_le bounds.limits.ops counts.ops) TooManyOps) (flaw_where memory TooManyMem ++ flaw_where effect EffectTwice) tag in
     let f = field_sound bounds.arrays above item (none_back (item_tag_flaws bounds.limits counts above (is_memory item) (is_effect item)) (field_flaws bounds.arrays above item) e) in
     record {
-      ops = below_of bounds.limits.ops counts.ops (where_none (nat_le bounds.limits.ops counts.ops) TooManyOps (none_front (flaw_where (nat_le bounds.limits.ops counts.ops) TooManyOps) (flaw_where memory TooManyMem ++ flaw_where effect EffectTwice) tag));
+      ops = below_of bounds.limits.ops counts.ops (where_none full TooManyOps (none_front (flaw_where full TooManyOps) (flaw_where memory TooManyMem ++ flaw_where effect EffectTwice) tag));
       mem = memory_sound (is_memory item) counts.mem bounds.limits.mem few (where_none memory TooManyMem (none_front (flaw_where memory TooManyMem) (flaw_where effect EffectTwice) behind));
       effect = where_none effect EffectTwice (none_back (flaw_where memory TooManyMem) (flaw_where effect EffectTwice) behind);
       parts = f.0;
@@ -198,29 +198,18 @@ record IsBelow (above : Above) (path : List Item) : Type 0 where
   writes_once : IsDistinct nat_eq (filter_map dest_of path)
   one_effect : one_where above.effect (count_by is_effect path) ≤ 1
 
-or_first : (p q : Bool) → (p || q) ≡ false → p ≡ false
-or_first true q e = e
-or_first false q e = refl
-
-or_second : (p q : Bool) → (p || q) ≡ false → q ≡ false
-or_second true q e = absurd (cc)
-or_second false q e = e
-
-or_none : (p q : Bool) → p ≡ false → q ≡ false → (p || q) ≡ false
-or_none p q a b = ap (λ (x : Bool). x || q) a ∙ b
-
 -- a register that is written, if any, before registers that are not it and not written above
 fresh_more : (written : ℕ → Bool) (dest : Option ℕ) (dests : List ℕ) → Fresh written dest
     → AllByRecursion (λ register. (writes dest register || written register) ≡ false) dests
     → AllByRecursion (λ register. written register ≡ false) (cons_option dest dests)
-fresh_more written (Some x) dests h all = (h, all_imply (λ r. (nat_eq x r || written r) ≡ false) (λ r. written r ≡ false) dests (λ r e. or_second (nat_eq x r) (written r) e) all)
+fresh_more written (Some x) dests h all = (h, all_imply (λ r. (nat_eq x r || written r) ≡ false) (λ r. written r ≡ false) dests (λ r e. (or_false (nat_eq x r) (written r) e).1) all)
 fresh_more written None dests h all = all
 
 once_more : (written : ℕ → Bool) (dest : Option ℕ) (dests : List ℕ)
     → AllByRecursion (λ register. (writes dest register || written register) ≡ false) dests
     → IsDistinct nat_eq dests → IsDistinct nat_eq (cons_option dest dests)
 unfolding IsDistinct
-once_more written (Some x) dests all once = (all_imply (λ r. (nat_eq x r || written r) ≡ false) (λ r. nat_eq x r ≡ false) dests (λ r e. or_first (nat_eq x r) (written r) e) all, once)
+once_more written (Some x) dests all once = (all_imply (λ r. (nat_eq x r || written r) ≡ false) (λ r. nat_eq x r ≡ false) dests (λ r e. (or_false (nat_eq x r) (written r) e).0) all, once)
 once_more written None dests all once = once
 
 fresh_first : (written : ℕ → Bool) (dest : Option ℕ) (dests : List ℕ) → AllByRecursion (λ register. written register ≡ false) (cons_option dest dests) → Fresh written dest
@@ -229,7 +218,7 @@ fresh_first written None dests all = tt
 
 all_or : (p q : ℕ → Bool) (xs : List ℕ) → AllByRecursion (λ x. p x ≡ false) xs → AllByRecursion (λ x. q x ≡ false) xs → AllByRecursion (λ x. (p x || q x) ≡ false) xs
 all_or p q [] h k = tt
-all_or p q (x ∷ xs) h k = (or_none (p x) (q x) h.0 k.0, all_or p q xs h.1 k.1)
+all_or p q (x ∷ xs) h k = (or_made_false (p x) (q x) h.0 k.0, all_or p q xs h.1 k.1)
 
 all_true : (xs : List ℕ) → AllByRecursion (λ x. ◌≡◌ {A = Bool} false false) xs
 all_true [] = tt
@@ -280,7 +269,7 @@ below_rest above item path below = record {
 
 -- ---- the counts behind a row
 
-counts-ops : (row : Row) (counts : Counts) → (counts_after row counts).ops ≡ counts.ops + length (items_of row)
+counts-ops : (row : CodeRow) (counts : Counts) → (counts_after row counts).ops ≡ counts.ops + length (items_of row)
 counts-ops (Then item rest) counts = counts-ops rest (counts_with_item (is_memory item) counts) ∙ omega arith
 counts-ops (Either on on_yes on_no) counts =
     counts-ops on_no (counts_after on_yes (counts_with_test counts))
@@ -288,7 +277,7 @@ counts-ops (Either on on_yes on_no) counts =
     ∙ omega (arith, length-append (items_of on_yes) (items_of on_no))
 counts-ops (At_leaf leaf) counts = omega arith
 
-counts-tests : (row : Row) (counts : Counts) → (counts_after row counts).tests ≡ counts.tests + length (tests_of row)
+counts-tests : (row : CodeRow) (counts : Counts) → (counts_after row counts).tests ≡ counts.tests + length (tests_of row)
 counts-tests (Then item rest) counts = counts-tests rest (counts_with_item (is_memory item) counts)
 counts-tests (Either on on_yes on_no) counts =
     counts-tests on_no (counts_after on_yes (counts_with_test counts))
@@ -300,7 +289,7 @@ one_more : (b : Bool) (m n k : ℕ) → k ≡ cond b 1 0 + n → one_where b m +
 one_more true m n k e = omega arith
 one_more false m n k e = omega arith
 
-counts-mem : (row : Row) (counts : Counts) → (counts_after row counts).mem ≡ counts.mem + count_by is_memory (items_of row)
+counts-mem : (row : CodeRow) (counts : Counts) → (counts_after row counts).mem ≡ counts.mem + count_by is_memory (items_of row)
 counts-mem (Then item rest) counts =
     counts-mem rest (counts_with_item (is_memory item) counts)
     ∙ one_more (is_memory item) counts.mem (count_by is_memory (items_of rest)) (count_by is_memory (item ∷ items_of rest)) (count_more is_memory item (items_of rest))
@@ -313,7 +302,7 @@ counts-mem (At_leaf leaf) counts = omega arith
 
 -- ---- a row behind these counts and under this path
 
-record Keeps (bounds : Bounds) (counts : Counts) (above : Above) (row : Row) : Type 0 where
+record Keeps (bounds : Bounds) (counts : Counts) (above : Above) (row : CodeRow) : Type 0 where
   ops : counts.ops + length (items_of row) ≤ bounds.limits.ops
   tests : counts.tests + length (tests_of row) ≤ bounds.limits.tests
   mem : counts.mem + count_by is_memory (items_of row) ≤ bounds.limits.mem
@@ -339,7 +328,7 @@ leaf_complete bounds Ends h = refl
 leaf_complete bounds (Traps kind line) h = refl
 
 -- the path that takes each yes
-some_path : (row : Row) (P : List Item → Type 0) → AllByRecursion P (paths_of row) → (path : List Item) × P path
+some_path : (row : CodeRow) (P : List Item → Type 0) → AllByRecursion P (paths_of row) → (path : List Item) × P path
 some_path (Then item rest) P all =
     let found = some_path rest (λ path. P (item ∷ path)) (all_of_map P (λ path. item ∷ path) (paths_of rest) all) in
     (item ∷ found.0, found.1)
@@ -354,7 +343,7 @@ end_below above = record { fresh = tt; writes_once = tt; one_effect = at_most_on
     at_most_one true = omega arith
     at_most_one false = omega arith
 
-then_keeps : (bounds : Bounds) (counts : Counts) (above : Above) (item : Item) (rest : Row) → Fits bounds counts above item
+then_keeps : (bounds : Bounds) (counts : Counts) (above : Above) (item : Item) (rest : CodeRow) → Fits bounds counts above item
     → Keeps bounds (counts_with_item (is_memory item) counts) (above_with item above) rest → Keeps bounds counts above (Then item rest)
 then_keeps bounds counts above item rest fits keeps =
     let count = one_more (is_memory item) counts.mem (count_by is_memory (items_of rest)) (count_by is_memory (item ∷ items_of rest)) (count_more is_memory item (items_of rest)) in
@@ -369,7 +358,7 @@ then_keeps bounds counts above item rest fits keeps =
           (all_imply (IsBelow (above_with item above)) (λ path. IsBelow above (item ∷ path)) (paths_of rest) (λ path below. below_more above item path fits.fresh fits.effect below) keeps.paths);
     }
 
-then_fits : (bounds : Bounds) (counts : Counts) (above : Above) (item : Item) (rest : Row) → Keeps bounds counts above (Then item rest) → Fits bounds counts above item
+then_fits : (bounds : Bounds) (counts : Counts) (above : Above) (item : Item) (rest : CodeRow) → Keeps bounds counts above (Then item rest) → Fits bounds counts above item
 then_fits bounds counts above item rest keeps =
     let count = one_more (is_memory item) counts.mem (count_by is_memory (items_of rest)) (count_by is_memory (item ∷ items_of rest)) (count_more is_memory item (items_of rest)) in
     let found = some_path rest (λ path. IsBelow above (item ∷ path)) (all_of_map (IsBelow above) (λ path. item ∷ path) (paths_of rest) keeps.paths) in
@@ -381,7 +370,7 @@ then_fits bounds counts above item rest keeps =
       fresh = fresh_first above.written (dest_of item) (filter_map dest_of found.0) found.1.fresh;
     }
 
-then_rest : (bounds : Bounds) (counts : Counts) (above : Above) (item : Item) (rest : Row) → Keeps bounds counts above (Then item rest)
+then_rest : (bounds : Bounds) (counts : Counts) (above : Above) (item : Item) (rest : CodeRow) → Keeps bounds counts above (Then item rest)
     → Keeps bounds (counts_with_item (is_memory item) counts) (above_with item above) rest
 then_rest bounds counts above item rest keeps =
     let count = one_more (is_memory item) counts.mem (count_by is_memory (items_of rest)) (count_by is_memory (item ∷ items_of rest)) (count_more is_memory item (items_of rest)) in
@@ -396,7 +385,7 @@ then_rest bounds counts above item rest keeps =
           (all_of_map (IsBelow above) (λ path. item ∷ path) (paths_of rest) keeps.paths);
     }
 
-either_keeps : (bounds : Bounds) (counts : Counts) (above : Above) (on : Operand) (on_yes on_no : Row) → IsOperand on
+either_keeps : (bounds : Bounds) (counts : Counts) (above : Above) (on : Operand) (on_yes on_no : CodeRow) → IsOperand on
     → Keeps bounds (counts_with_test counts) above on_yes → Keeps bounds (counts_after on_yes (counts_with_test counts)) above on_no
     → Keeps bounds counts above (Either on on_yes on_no)
 either_keeps bounds counts above on on_yes on_no is_operand yes_keeps no_keeps =
@@ -413,7 +402,7 @@ either_keeps bounds counts above on on_yes on_no is_operand yes_keeps no_keeps =
       paths = all_both (IsBelow above) (paths_of on_yes) (paths_of on_no) yes_keeps.paths no_keeps.paths;
     }
 
-either_yes : (bounds : Bounds) (counts : Counts) (above : Above) (on : Operand) (on_yes on_no : Row) → Keeps bounds counts above (Either on on_yes on_no)
+either_yes : (bounds : Bounds) (counts : Counts) (above : Above) (on : Operand) (on_yes on_no : CodeRow) → Keeps bounds counts above (Either on on_yes on_no)
     → Keeps bounds (counts_with_test counts) above on_yes
 either_yes bounds counts above on on_yes on_no keeps = record {
   ops = omega (arith, keeps.ops, length-append (items_of on_yes) (items_of on_no));
@@ -425,7 +414,7 @@ either_yes bounds counts above on on_yes on_no keeps = record {
   paths = all_front (IsBelow above) (paths_of on_yes) (paths_of on_no) keeps.paths;
 }
 
-either_no : (bounds : Bounds) (counts : Counts) (above : Above) (on : Operand) (on_yes on_no : Row) → Keeps bounds counts above (Either on on_yes on_no)
+either_no : (bounds : Bounds) (counts : Counts) (above : Above) (on : Operand) (on_yes on_no : CodeRow) → Keeps bounds counts above (Either on on_yes on_no)
     → Keeps bounds (counts_after on_yes (counts_with_test counts)) above on_no
 either_no bounds counts above on on_yes on_no keeps =
     let ops = counts-ops on_yes (counts_with_test counts) in
@@ -442,7 +431,7 @@ either_no bounds counts above on on_yes on_no keeps =
     }
 
 -- a row without a flaw keeps its bounds
-row_sound : (bounds : Bounds) (counts : Counts) (above : Above) (row : Row) → Within bounds.limits counts → row_flaws bounds counts above row ≡ [] → Keeps bounds counts above row
+row_sound : (bounds : Bounds) (counts : Counts) (above : Above) (row : CodeRow) → Within bounds.limits counts → row_flaws bounds counts above row ≡ [] → Keeps bounds counts above row
 row_sound bounds counts above (Then item rest) within e =
     let behind : Counts = counts_with_item (is_memory item) counts in
     let below : Above = above_with item above in
@@ -457,7 +446,8 @@ row_sound bounds counts above (Either on on_yes on_no) within e =
     let rest : List Flaw = row_flaws bounds behind above on_yes ++ row_flaws bounds between above on_no in
     let t = none_front test rest e in
     let r = none_back test rest e in
-    let room : counts.tests < bounds.limits.tests = below_of bounds.limits.tests counts.tests (where_none (nat_le bounds.limits.tests counts.tests) TooManyTests (none_front (test_tag_flaws bounds.limits counts) (operand_flaws on) t)) in
+    let full : Bool = nat_le bounds.limits.tests counts.tests in
+    let room : counts.tests < bounds.limits.tests = below_of bounds.limits.tests counts.tests (where_none full TooManyTests (none_front (test_tag_flaws bounds.limits counts) (operand_flaws on) t)) in
     let still : Within bounds.limits behind = record { ops = within.ops; tests = omega arith; mem = within.mem } in
     let yes_keeps = row_sound bounds behind above on_yes still (none_front (row_flaws bounds behind above on_yes) (row_flaws bounds between above on_no) r) in
     let later : Within bounds.limits between = record {
@@ -478,7 +468,7 @@ row_sound bounds counts above (At_leaf leaf) within e = record {
 }
 
 -- a row that keeps its bounds has no flaw
-row_complete : (bounds : Bounds) (counts : Counts) (above : Above) (row : Row) → Keeps bounds counts above row → row_flaws bounds counts above row ≡ []
+row_complete : (bounds : Bounds) (counts : Counts) (above : Above) (row : CodeRow) → Keeps bounds counts above row → row_flaws bounds counts above row ≡ []
 row_complete bounds counts above (Then item rest) keeps =
     none_both (item_flaws bounds counts above item) (row_flaws bounds (counts_with_item (is_memory item) counts) (above_with item above) rest)
     (item_complete bounds counts above item (then_fits bounds counts above item rest keeps))
@@ -504,7 +494,7 @@ path_of_below path below = record { writes_once = below.writes_once; one_effect 
 below_of_path : (path : List Item) → IsPath path → IsBelow nothing_above path
 below_of_path path is = record { fresh = all_true (filter_map dest_of path); writes_once = is.writes_once; one_effect = is.one_effect }
 
-whole_sound : (bounds : Bounds) (row : Row) → row_flaws bounds no_counts nothing_above row ≡ [] → IsRow bounds.limits bounds.arrays bounds.rows row
+whole_sound : (bounds : Bounds) (row : CodeRow) → row_flaws bounds no_counts nothing_above row ≡ [] → IsRow bounds.limits bounds.arrays bounds.rows row
 whole_sound bounds row e =
     let keeps = row_sound bounds no_counts nothing_above row (record { ops = zero-le; tests = zero-le; mem = zero-le }) e in
     record {
@@ -517,7 +507,7 @@ whole_sound bounds row e =
       paths = all_imply (IsBelow nothing_above) IsPath (paths_of row) path_of_below keeps.paths;
     }
 
-whole_complete : (bounds : Bounds) (row : Row) → IsRow bounds.limits bounds.arrays bounds.rows row → row_flaws bounds no_counts nothing_above row ≡ []
+whole_complete : (bounds : Bounds) (row : CodeRow) → IsRow bounds.limits bounds.arrays bounds.rows row → row_flaws bounds no_counts nothing_above row ≡ []
 whole_complete bounds row is = row_complete bounds no_counts nothing_above row (record {
   ops = omega (arith, is.ops);
   tests = omega (arith, is.tests);
@@ -528,14 +518,14 @@ whole_complete bounds row is = row_complete bounds no_counts nothing_above row (
   paths = all_imply IsPath (IsBelow nothing_above) (paths_of row) below_of_path is.paths;
 })
 
-rows_sound : (bounds : Bounds) (rows : List Row) → flat_map (row_flaws bounds no_counts nothing_above) rows ≡ [] → AllByRecursion (IsRow bounds.limits bounds.arrays bounds.rows) rows
+rows_sound : (bounds : Bounds) (rows : List CodeRow) → flat_map (row_flaws bounds no_counts nothing_above) rows ≡ [] → AllByRecursion (IsRow bounds.limits bounds.arrays bounds.rows) rows
 rows_sound bounds [] e = tt
 rows_sound bounds (row ∷ rows) e =
     let first : List Flaw = row_flaws bounds no_counts nothing_above row in
     let rest : List Flaw = flat_map (row_flaws bounds no_counts nothing_above) rows in
     (whole_sound bounds row (none_front first rest e), rows_sound bounds rows (none_back first rest e))
 
-rows_complete : (bounds : Bounds) (rows : List Row) → AllByRecursion (IsRow bounds.limits bounds.arrays bounds.rows) rows → flat_map (row_flaws bounds no_counts nothing_above) rows ≡ []
+rows_complete : (bounds : Bounds) (rows : List CodeRow) → AllByRecursion (IsRow bounds.limits bounds.arrays bounds.rows) rows → flat_map (row_flaws bounds no_counts nothing_above) rows ≡ []
 rows_complete bounds [] h = refl
 rows_complete bounds (row ∷ rows) h =
     none_both (row_flaws bounds no_counts nothing_above row) (flat_map (row_flaws bounds no_counts nothing_above) rows)
@@ -549,49 +539,49 @@ limit_sound most limit e = between_of 1 most limit (where_none (not (is_between 
 limit_complete : (most limit : ℕ) → IsBetween 1 most limit → limit_flaws most limit ≡ []
 limit_complete most limit h = none_where (not (is_between 1 most limit)) HeaderLimit (of_between 1 most limit h)
 
-limits_sound : (limits : Limits) → limits_flaws limits ≡ [] → AreLimits limits
+pub limits_sound : (limits : Limits) → limits_flaws limits ≡ [] → AreLimits limits
 limits_sound limits e =
-    let ops : List Flaw = limit_flaws 32 limits.ops in
-    let tests : List Flaw = limit_flaws 7 limits.tests in
-    let mem : List Flaw = limit_flaws 32 limits.mem in
+    let ops : List Flaw = limit_flaws most_ops limits.ops in
+    let tests : List Flaw = limit_flaws most_tests limits.tests in
+    let mem : List Flaw = limit_flaws most_mem limits.mem in
     let rest = none_back ops (tests ++ mem) e in
     record {
-      ops = limit_sound 32 limits.ops (none_front ops (tests ++ mem) e);
-      tests = limit_sound 7 limits.tests (none_front tests mem rest);
-      mem = limit_sound 32 limits.mem (none_back tests mem rest);
+      ops = limit_sound most_ops limits.ops (none_front ops (tests ++ mem) e);
+      tests = limit_sound most_tests limits.tests (none_front tests mem rest);
+      mem = limit_sound most_mem limits.mem (none_back tests mem rest);
     }
 
 limits_complete : (limits : Limits) → AreLimits limits → limits_flaws limits ≡ []
 limits_complete limits are =
-    none_both (limit_flaws 32 limits.ops) (limit_flaws 7 limits.tests ++ limit_flaws 32 limits.mem) (limit_complete 32 limits.ops are.ops)
-    (none_both (limit_flaws 7 limits.tests) (limit_flaws 32 limits.mem) (limit_complete 7 limits.tests are.tests) (limit_complete 32 limits.mem are.mem))
+    none_both (limit_flaws most_ops limits.ops) (limit_flaws most_tests limits.tests ++ limit_flaws most_mem limits.mem) (limit_complete most_ops limits.ops are.ops)
+    (none_both (limit_flaws most_tests limits.tests) (limit_flaws most_mem limits.mem) (limit_complete most_tests limits.tests are.tests) (limit_complete most_mem limits.mem are.mem))
 
 sum_more : (n : ℕ) (ns : List ℕ) → sum (n ∷ ns) ≡ n + sum ns
 sum_more n ns = sum_by-cons (λ m. m) n ns
 
-lengths_sound : (before : ℕ) (lengths : List ℕ) → before ≤ 1048576 → lengths_flaws before lengths ≡ []
-    → AllByRecursion (IsBetween 1 65536) lengths × (before + sum lengths ≤ 1048576)
+lengths_sound : (before : ℕ) (lengths : List ℕ) → before ≤ most_elements → lengths_flaws before lengths ≡ []
+    → AllByRecursion (IsBetween 1 most_length) lengths × (before + sum lengths ≤ most_elements)
 lengths_sound before [] few e = (tt, omega arith)
 lengths_sound before (elements ∷ lengths) few e =
     let here = none_front (length_flaws before elements) (lengths_flaws (before + elements) lengths) e in
-    let odd : Bool = not (is_between 1 65536 elements) in
-    let over : Bool = nat_lt 1048576 (before + elements) in
-    let room : before + elements ≤ 1048576 = most_of 1048576 (before + elements) (where_none over Elements (none_back (flaw_where odd ArrayLength) (flaw_where over Elements) here)) in
+    let odd : Bool = not (is_between 1 most_length elements) in
+    let over : Bool = nat_lt most_elements (before + elements) in
+    let room : before + elements ≤ most_elements = most_of most_elements (before + elements) (where_none over Elements (none_back (flaw_where odd ArrayLength) (flaw_where over Elements) here)) in
     let rest = lengths_sound (before + elements) lengths room (none_back (length_flaws before elements) (lengths_flaws (before + elements) lengths) e) in (
-      (between_of 1 65536 elements (where_none odd ArrayLength (none_front (flaw_where odd ArrayLength) (flaw_where over Elements) here)), rest.0),
+      (between_of 1 most_length elements (where_none odd ArrayLength (none_front (flaw_where odd ArrayLength) (flaw_where over Elements) here)), rest.0),
       omega (arith, rest.1, sum_more elements lengths),
     )
 
-lengths_complete : (before : ℕ) (lengths : List ℕ) → AllByRecursion (IsBetween 1 65536) lengths → before + sum lengths ≤ 1048576 → lengths_flaws before lengths ≡ []
+lengths_complete : (before : ℕ) (lengths : List ℕ) → AllByRecursion (IsBetween 1 most_length) lengths → before + sum lengths ≤ most_elements → lengths_flaws before lengths ≡ []
 lengths_complete before [] h few = refl
 lengths_complete before (elements ∷ lengths) h few =
     let more = sum_more elements lengths in
-    let room : before + elements ≤ 1048576 = omega (arith, more) in
-    let rest : before + elements + sum lengths ≤ 1048576 = omega (arith, more) in
+    let room : before + elements ≤ most_elements = omega (arith, more) in
+    let rest : before + elements + sum lengths ≤ most_elements = omega (arith, more) in
     none_both (length_flaws before elements) (lengths_flaws (before + elements) lengths)
-    (none_both (flaw_where (not (is_between 1 65536 elements)) ArrayLength) (flaw_where (nat_lt 1048576 (before + elements)) Elements)
-    (none_where (not (is_between 1 65536 elements)) ArrayLength (of_between 1 65536 elements h.0))
-    (none_where (nat_lt 1048576 (before + elements)) Elements (of_most 1048576 (before + elements) room)))
+    (none_both (flaw_where (not (is_between 1 most_length elements)) ArrayLength) (flaw_where (nat_lt most_elements (before + elements)) Elements)
+    (none_where (not (is_between 1 most_length elements)) ArrayLength (of_between 1 most_length elements h.0))
+    (none_where (nat_lt most_elements (before + elements)) Elements (of_most most_elements (before + elements) room)))
     (lengths_complete (before + elements) lengths h.1 rest)
 
 count_sound : (count : ℕ) → row_count_flaws count ≡ [] → 1 ≤ count
@@ -617,7 +607,7 @@ well_formed_without_flaw code e =
     record {
       limits = limits_sound code.limits (none_front limits (count ++ (lengths ++ row_count)) header);
       arrays = record {
-        count = most_of 32 (length code.arrays) (where_none (nat_lt 32 (length code.arrays)) ArrayCount (none_front count (lengths ++ row_count) arrays));
+        count = most_of most_arrays (length code.arrays) (where_none (nat_lt most_arrays (length code.arrays)) ArrayCount (none_front count (lengths ++ row_count) arrays));
         each = each.0;
         elements = omega (arith, each.1);
       };
@@ -628,12 +618,12 @@ well_formed_without_flaw code e =
 -- a well-formed code has no flaw
 pub no_flaw_well_formed : (code : RowCode) → WellFormed code → flaws_of code ≡ []
 no_flaw_well_formed code well =
-    let sum_few : 0 + sum code.arrays ≤ 1048576 = omega (arith, well.arrays.elements) in
+    let sum_few : 0 + sum code.arrays ≤ most_elements = omega (arith, well.arrays.elements) in
     none_both (header_flaws code) (flat_map (row_flaws (bounds_of code) no_counts nothing_above) code.rows)
     (none_both (limits_flaws code.limits) (array_count_flaws (length code.arrays) ++ (lengths_flaws 0 code.arrays ++ row_count_flaws (length code.rows)))
     (limits_complete code.limits well.limits)
     (none_both (array_count_flaws (length code.arrays)) (lengths_flaws 0 code.arrays ++ row_count_flaws (length code.rows))
-    (none_where (nat_lt 32 (length code.arrays)) ArrayCount (of_most 32 (length code.arrays) well.arrays.count))
+    (none_where (nat_lt most_arrays (length code.arrays)) ArrayCount (of_most most_arrays (length code.arrays) well.arrays.count))
     (none_both (lengths_flaws 0 code.arrays) (row_count_flaws (length code.rows))
     (lengths_complete 0 code.arrays well.arrays.each sum_few)
     (count_complete (length code.rows) well.entry))))

@@ -4,13 +4,14 @@ use Rattle.std.specs.Prelude.{ℤ, if◌then◌else◌, slice_get}
 use Rattle.std.specs.List.{AllByRecursion, count_by}
 use Rattle.pc_word.specs.declared.item.Item.{Item}
 use Rattle.pc_word.specs.Word.{holds}
-use Rattle.pc_machine.specs.Row.{Leaf, Leads_to, Row, Then, Either, At_leaf, RowCode}
-use Rattle.pc_machine.specs.RowStep.{operand_value, path_of, leaf_of}
-use Rattle.pc_machine.specs.WellFormed.{items_of, leaves_of, paths_of, IsItem, IsLeaf, IsPath, IsRow, WellFormed}
-use Rattle.pc_machine.proofs.Lists.{all_front, all_back, all_of_map, all_at, count_more, count_both}
+use Rattle.pc_machine.specs.MachineCode.{Leads_to, CodeRow, RowCode}
+use Rattle.pc_word.specs.Row.{Row, Then, Either, At_leaf, path_of, leaf_of, items_of, leaves_of, paths_of}
+use Rattle.pc_word.specs.Items.{operand_value}
+use Rattle.pc_machine.specs.WellFormed.{IsItem, IsLeaf, IsPath, IsRow, WellFormed}
+use Rattle.pc_word.proofs.Lists.{all_front, all_back, all_of_map, all_at, count_more, count_both}
 
 -- what holds of each path holds of the one that is taken
-pub path_taken : (names : ℕ → ℤ) (row : Row) (P : List Item → Type 0) → AllByRecursion P (paths_of row) → P (path_of names row)
+pub path_taken : {L : Type 0} (names : ℕ → ℤ) (row : Row L) (P : List Item → Type 0) → AllByRecursion P (paths_of row) → P (path_of names row)
 path_taken names (Then item rest) P all =
     path_taken names rest (λ path. P (item ∷ path)) (all_of_map P (λ path. item ∷ path) (paths_of rest) all)
 path_taken names (Either on on_yes on_no) P all =
@@ -21,7 +22,7 @@ path_taken names (Either on on_yes on_no) P all =
 path_taken names (At_leaf leaf) P all = all.0
 
 -- what holds of each leaf holds of the one that is reached
-pub leaf_taken : (names : ℕ → ℤ) (row : Row) (P : Leaf → Type 0) → AllByRecursion P (leaves_of row) → P (leaf_of names row)
+pub leaf_taken : {L : Type 0} (names : ℕ → ℤ) (row : Row L) (P : L → Type 0) → AllByRecursion P (leaves_of row) → P (leaf_of names row)
 leaf_taken names (Then item rest) P all = leaf_taken names rest P all
 leaf_taken names (Either on on_yes on_no) P all =
     elim (holds (operand_value names on)) as (λ b. P (if b then leaf_of names on_yes else leaf_of names on_no)) [
@@ -31,7 +32,7 @@ leaf_taken names (Either on on_yes on_no) P all =
 leaf_taken names (At_leaf leaf) P all = all.0
 
 -- what holds of each item of a row holds of each on the path that is taken
-pub items_taken : (names : ℕ → ℤ) (row : Row) (P : Item → Type 0) → AllByRecursion P (items_of row) → AllByRecursion P (path_of names row)
+pub items_taken : {L : Type 0} (names : ℕ → ℤ) (row : Row L) (P : Item → Type 0) → AllByRecursion P (items_of row) → AllByRecursion P (path_of names row)
 items_taken names (Then item rest) P all = (all.0, items_taken names rest P all.1)
 items_taken names (Either on on_yes on_no) P all =
     elim (holds (operand_value names on)) as (λ b. AllByRecursion P (if b then path_of names on_yes else path_of names on_no)) [
@@ -41,7 +42,7 @@ items_taken names (Either on on_yes on_no) P all =
 items_taken names (At_leaf leaf) P all = tt
 
 -- the path has no more items than the row
-pub path-length : (names : ℕ → ℤ) (row : Row) → length (path_of names row) ≤ length (items_of row)
+pub path-length : {L : Type 0} (names : ℕ → ℤ) (row : Row L) → length (path_of names row) ≤ length (items_of row)
 path-length names (Then item rest) = let h = path-length names rest in omega arith
 path-length names (Either on on_yes on_no) =
     let both = length-append (items_of on_yes) (items_of on_no) in
@@ -52,7 +53,7 @@ path-length names (Either on on_yes on_no) =
 path-length names (At_leaf leaf) = omega arith
 
 -- nor more of any kind
-pub path-count : (names : ℕ → ℤ) (row : Row) (p : Item → Bool) → count_by p (path_of names row) ≤ count_by p (items_of row)
+pub path-count : {L : Type 0} (names : ℕ → ℤ) (row : Row L) (p : Item → Bool) → count_by p (path_of names row) ≤ count_by p (items_of row)
 path-count names (Then item rest) p =
     let h = path-count names rest p in
     omega (arith, count_more p item (path_of names rest), count_more p item (items_of rest))
@@ -67,20 +68,20 @@ path-count names (At_leaf leaf) p = omega arith
 -- ---- in a well-formed code
 
 -- the row that a row leads to is there
-pub next_row_stands : (code : RowCode) → WellFormed code → (names : ℕ → ℤ) (i target : ℕ) (row : Row) → slice_get code.rows i ≡ Some row
+pub next_row_stands : (code : RowCode) → WellFormed code → (names : ℕ → ℤ) (i target : ℕ) (row : CodeRow) → slice_get code.rows i ≡ Some row
     → leaf_of names row ≡ Leads_to target → target < length code.rows
 next_row_stands code well names i target row at leads =
     let is = all_at (IsRow code.limits (length code.arrays) (length code.rows)) code.rows i row well.rows at in
     subst (IsLeaf (length code.rows)) leads (leaf_taken names row (IsLeaf (length code.rows)) is.leaves)
 
 -- on the path that is taken no register is written twice, and at most one item is a print, read or more
-pub taken_is_path : (code : RowCode) → WellFormed code → (names : ℕ → ℤ) (i : ℕ) (row : Row) → slice_get code.rows i ≡ Some row → IsPath (path_of names row)
+pub taken_is_path : (code : RowCode) → WellFormed code → (names : ℕ → ℤ) (i : ℕ) (row : CodeRow) → slice_get code.rows i ≡ Some row → IsPath (path_of names row)
 taken_is_path code well names i row at =
     let is = all_at (IsRow code.limits (length code.arrays) (length code.rows)) code.rows i row well.rows at in
     path_taken names row IsPath is.paths
 
 -- and its registers and arrays are there
-pub taken_items_stand : (code : RowCode) → WellFormed code → (names : ℕ → ℤ) (i : ℕ) (row : Row) → slice_get code.rows i ≡ Some row
+pub taken_items_stand : (code : RowCode) → WellFormed code → (names : ℕ → ℤ) (i : ℕ) (row : CodeRow) → slice_get code.rows i ≡ Some row
     → AllByRecursion (IsItem (length code.arrays)) (path_of names row)
 taken_items_stand code well names i row at =
     let is = all_at (IsRow code.limits (length code.arrays) (length code.rows)) code.rows i row well.rows at in

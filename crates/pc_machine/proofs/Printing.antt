@@ -8,42 +8,41 @@ use Rattle.pc_word.specs.declared.item.Operand.TheVariants.{Lit}
 use Rattle.pc_word.specs.declared.item.Limits.{Limits}
 use Rattle.pc_word.proofs.Runs.{Agree-sym, Agree-run_ended}
 use Rattle.pc_word.specs.Run.{ended_run, Seen, Agree, Step, seen_of, after_printing, run_from}
-use Rattle.pc_machine.specs.Row.{Leaf, Row, Then, At_leaf, Leads_to, Ends, RowCode}
-use Rattle.pc_machine.specs.RowStep.{State, state_after}
-use Rattle.pc_machine.specs.MachineRun.{Cycle, run_row, machine_step, machine_start, machine_run}
+use Rattle.pc_machine.specs.MachineCode.{Leaf, CodeRow, Leads_to, Ends, RowCode}
+use Rattle.pc_word.specs.Row.{Then, At_leaf}
+use Rattle.pc_word.specs.State.{State}
+use Rattle.pc_word.specs.Commit.{state_after}
+use Rattle.pc_machine.specs.MachineRun.{Cycle, machine_step, machine_start, machine_run}
+use Rattle.pc_machine.proofs.MachineRuns.{machine_step-row}
 use Rattle.pc_machine.specs.WellFormed.{AreLimits, IsLeaf, IsRow, WellFormed}
-use Rattle.pc_machine.specs.Printing.{printing_rows, printing_code}
+use Rattle.pc_machine.specs.models.Printing.{printing_rows, printing_code}
 
 -- the rows of a code from the i-th on
-abbrev StandFrom : RowCode → ℕ → List Row → Type 0
+abbrev StandFrom : RowCode → ℕ → List CodeRow → Type 0
 StandFrom code i rows = (k : ℕ) → slice_get code.rows (i + k) ≡ slice_get rows k
 
 -- the i-th row is the first of those that stand from there on
-first_stands : (code : RowCode) (i : ℕ) (row : Row) (rows : List Row) → StandFrom code i (row ∷ rows) → slice_get code.rows i ≡ Some row
+first_stands : (code : RowCode) (i : ℕ) (row : CodeRow) (rows : List CodeRow) → StandFrom code i (row ∷ rows) → slice_get code.rows i ≡ Some row
 first_stands code i row rows stand = ap (λ (k : ℕ). slice_get code.rows k) (sym (add-zero i)) ∙ stand 0
 
-rest_stands : (code : RowCode) (i : ℕ) (row : Row) (rows : List Row) → StandFrom code i (row ∷ rows) → StandFrom code (i + 1) rows
+rest_stands : (code : RowCode) (i : ℕ) (row : CodeRow) (rows : List CodeRow) → StandFrom code i (row ∷ rows) → StandFrom code (i + 1) rows
 rest_stands code i row rows stand k =
     let e : i + 1 + k ≡ i + suc k = omega arith in
     ap (λ (j : ℕ). slice_get code.rows j) e ∙ stand (suc k)
-
--- a cycle at a row that is there
-step_at : (code : RowCode) (i : ℕ) (state : State) (row : Row) → slice_get code.rows i ≡ Some row
-    → machine_step code (record { row = i; state = state }) ≡ run_row code.arrays state (Some row)
-step_at code i state row at = ap (λ found. run_row code.arrays state found) at
 
 -- with a cycle for each word and one more, the words' rows have printed all words and ended
 printing_ends : (code : RowCode) (i : ℕ) (ws : List ℤ) (state : State) → StandFrom code i (printing_rows i ws)
     → run_from (machine_step code) (suc (length ws)) (record { row = i; state = state }) ≡ record { printed = ws; end = Some Ended }
 printing_ends code i [] state stand =
-    ap (λ (step : Step Cycle). seen_of step (run_from (machine_step code) 0)) (step_at code i state (At_leaf Ends) (first_stands code i (At_leaf Ends) [] stand))
+    ap (λ (step : Step Cycle). seen_of step (run_from (machine_step code) 0)) (machine_step-row code (record { row = i; state = state }) (At_leaf Ends) (first_stands code i (At_leaf Ends) [] stand))
 printing_ends code i (w ∷ []) state stand =
-    let row : Row = Then (Print (Lit w)) (At_leaf Ends) in
-    ap (λ (step : Step Cycle). seen_of step (run_from (machine_step code) 1)) (step_at code i state row (first_stands code i row [] stand))
+    let row : CodeRow = Then (Print (Lit w)) (At_leaf Ends) in
+    ap (λ (step : Step Cycle). seen_of step (run_from (machine_step code) 1)) (machine_step-row code (record { row = i; state = state }) row (first_stands code i row [] stand))
 printing_ends code i (w ∷ (v ∷ ws)) state stand =
-    let row : Row = Then (Print (Lit w)) (At_leaf (Leads_to (i + 1))) in
-    let rows : List Row = printing_rows (i + 1) (v ∷ ws) in
-    ap (λ (step : Step Cycle). seen_of step (run_from (machine_step code) (suc (length (v ∷ ws))))) (step_at code i state row (first_stands code i row rows stand))
+    let row : CodeRow = Then (Print (Lit w)) (At_leaf (Leads_to (i + 1))) in
+    let rows : List CodeRow = printing_rows (i + 1) (v ∷ ws) in
+    let here : Cycle = record { row = i; state = state } in
+    ap (λ (step : Step Cycle). seen_of step (run_from (machine_step code) (suc (length (v ∷ ws))))) (machine_step-row code here row (first_stands code i row rows stand))
     ∙ ap (λ (seen : Seen). after_printing (w ∷ []) seen)
     (printing_ends code (i + 1) (v ∷ ws) (state_after code.arrays state (Print (Lit w) ∷ [])) (rest_stands code i row rows stand))
 

@@ -10,18 +10,19 @@ use Rattle.pc_word.specs.declared.item.Operand.TheVariants.{Name, Lit}
 use Rattle.pc_word.specs.declared.item.TrapKind.TheVariants.{EndOfInput}
 use Rattle.pc_word.specs.Run.{Seen}
 use Rattle.pc_word.specs.Word.{word_add, word_div}
-use Rattle.pc_machine.specs.Row.{Leads_to, Ends, Traps, Row, Then, Either, At_leaf, RowCode}
+use Rattle.pc_machine.specs.MachineCode.{Leads_to, Ends, Traps, CodeRow, RowCode}
+use Rattle.pc_word.specs.Row.{Then, Either, At_leaf}
 use Rattle.pc_machine.specs.MachineRun.{machine_run}
 
 -- the code of these rows, over arrays of these lengths
-abbrev code_with : List ℕ → List Row → RowCode
+abbrev code_with : List ℕ → List CodeRow → RowCode
 code_with arrays rows = record { limits = record { ops = 8; tests = 3; mem = 2 }; arrays = arrays; rows = rows }
 
 -- what was printed before the end
 abbrev ended : List ℤ → Seen
 ended printed = record { printed = printed; end = Some Ended }
 
-abbrev stop : Row
+abbrev stop : CodeRow
 stop = At_leaf Ends
 
 -- `print 7; stop` prints 7, whatever the input

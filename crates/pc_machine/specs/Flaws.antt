@@ -1,6 +1,6 @@
 -- The flaws of a code, in the order in which its text has the fields at which they stand: the header, and then each
 -- row in preorder, the yes side before the no side.
-use Rattle.std.specs.Prelude.{ℕ, suc, ◌+◌, Bool, true, false, not, ◌&&◌, ◌||◌, nat_eq, nat_lt, nat_le, List, [], ◌∷◌, ◌++◌, length, Result, Ok, Err}
+use Rattle.std.specs.Prelude.{ℕ, suc, ◌+◌, Bool, true, false, not, ◌&&◌, ◌||◌, nat_eq, nat_lt, nat_le, List, [], ◌∷◌, ◌++◌, length}
 use Rattle.std.specs.List.{flat_map}
 use Rattle.pc_word.specs.declared.item.Item.{Item}
 use Rattle.pc_word.specs.declared.item.Item.TheVariants.{Bin, Copy, Load, Store, Print, Read, More}
@@ -8,12 +8,15 @@ use Rattle.pc_word.specs.declared.item.Operand.{Operand}
 use Rattle.pc_word.specs.declared.item.Operand.TheVariants.{Name, Lit}
 use Rattle.pc_word.specs.declared.item.Limits.{Limits}
 use Rattle.pc_machine.specs.declared.code.Flaw.{Flaw}
-use Rattle.pc_machine.specs.declared.code.Flaw.TheVariants.{HeaderLimit, ArrayCount, ArrayLength, Elements, RowCount, Register, Array, Target, DestTwice, EffectTwice, TooManyOps, TooManyTests, TooManyMem}
+use Rattle.pc_machine.specs.declared.code.Flaw.TheVariants.{HeaderLimit, ArrayCount, ArrayLength, Elements, RowCount, Register, Array, Target}
+use Rattle.pc_machine.specs.declared.code.Flaw.TheVariants.{DestTwice, EffectTwice, TooManyOps, TooManyTests, TooManyMem}
 use Rattle.pc_machine.specs.declared.check.Bounds.{Bounds}
 use Rattle.pc_machine.specs.declared.check.Counts.{Counts}
-use Rattle.pc_machine.specs.Row.{Leaf, Leads_to, Ends, Traps, Row, Then, Either, At_leaf, RowCode}
-use Rattle.pc_machine.specs.RowStep.{dest_of, writes}
-use Rattle.pc_machine.specs.WellFormed.{is_memory, is_effect}
+use Rattle.pc_machine.specs.MachineCode.{Leaf, Leads_to, Ends, Traps, CodeRow, RowCode}
+use Rattle.pc_word.specs.Row.{Then, Either, At_leaf}
+use Rattle.pc_word.specs.Items.{dest_of, is_memory, is_effect}
+use Rattle.pc_word.specs.Commit.{writes}
+use Rattle.pc_word.specs.MachineLimits.{most_arrays, most_elements, most_length, most_mem, most_ops, most_tests, registers}
 
 -- a flaw, where a test says so
 abbrev pub flaw_where : Bool → Flaw → List Flaw
@@ -32,16 +35,16 @@ limit_flaws most limit = flaw_where (not (is_between 1 most limit)) HeaderLimit
 
 -- at the three limits
 abbrev pub limits_flaws : Limits → List Flaw
-limits_flaws limits = limit_flaws 32 limits.ops ++ (limit_flaws 7 limits.tests ++ limit_flaws 32 limits.mem)
+limits_flaws limits = limit_flaws most_ops limits.ops ++ (limit_flaws most_tests limits.tests ++ limit_flaws most_mem limits.mem)
 
 -- at the number of arrays
 abbrev pub array_count_flaws : ℕ → List Flaw
-array_count_flaws count = flaw_where (nat_lt 32 count) ArrayCount
+array_count_flaws count = flaw_where (nat_lt most_arrays count) ArrayCount
 
 -- at the length of an array, where the arrays before it have so many elements
 abbrev pub length_flaws : ℕ → ℕ → List Flaw
 length_flaws before elements =
-    flaw_where (not (is_between 1 65536 elements)) ArrayLength ++ flaw_where (nat_lt 1048576 (before + elements)) Elements
+    flaw_where (not (is_between 1 most_length elements)) ArrayLength ++ flaw_where (nat_lt most_elements (before + elements)) Elements
 
 -- at each length
 abbrev pub lengths_flaws : ℕ → List ℕ → List Flaw
@@ -86,7 +89,7 @@ abbrev pub counts_with_test : Counts → Counts
 counts_with_test counts = record { ops = counts.ops; tests = suc counts.tests; mem = counts.mem }
 
 -- behind all of a tree, or of the part of one
-abbrev pub counts_after : Row → Counts → Counts
+abbrev pub counts_after : CodeRow → Counts → Counts
 counts_after (Then item rest) counts = counts_after rest (counts_with_item (is_memory item) counts)
 counts_after (Either on on_yes on_no) counts = counts_after on_no (counts_after on_yes (counts_with_test counts))
 counts_after (At_leaf leaf) counts = counts
@@ -103,9 +106,9 @@ item_tag_flaws limits counts above memory effect =
 abbrev pub test_tag_flaws : Limits → Counts → List Flaw
 test_tag_flaws limits counts = flaw_where (nat_le limits.tests counts.tests) TooManyTests
 
--- at a register, of which there are 128
+-- at a register
 abbrev pub register_flaws : ℕ → List Flaw
-register_flaws register = flaw_where (nat_le 128 register) Register
+register_flaws register = flaw_where (nat_le registers register) Register
 
 -- at the register that an item writes
 abbrev pub dest_flaws : Above → ℕ → List Flaw
@@ -150,7 +153,7 @@ leaf_flaws bounds Ends = []
 leaf_flaws bounds (Traps kind line) = []
 
 -- of a tree, or of the part of one that stands behind these counts and under this path
-abbrev pub row_flaws : Bounds → Counts → Above → Row → List Flaw
+abbrev pub row_flaws : Bounds → Counts → Above → CodeRow → List Flaw
 row_flaws bounds counts above (Then item rest) =
     item_flaws bounds counts above item ++ row_flaws bounds (counts_with_item (is_memory item) counts) (above_with item above) rest
 row_flaws bounds counts above (Either on on_yes on_no) =
@@ -173,10 +176,3 @@ header_flaws code =
 -- all flaws, in the order of the text
 abbrev pub flaws_of : RowCode → List Flaw
 flaws_of code = header_flaws code ++ flat_map (row_flaws (bounds_of code) no_counts nothing_above) code.rows
-
--- ---- answers
-
--- a value that was checked, or the first flaw
-abbrev pub checked : {X : Type 0} → List Flaw → X → Result X Flaw
-checked [] x = Ok x
-checked (flaw ∷ flaws) x = Err flaw

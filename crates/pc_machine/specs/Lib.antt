@@ -1,8 +1,7 @@
-pub mod Row
-pub mod RowStep
+pub mod models
+pub mod MachineCode
 pub mod MachineRun
 pub mod WellFormed
 pub mod Flaws
 pub mod Checks
-pub mod Printing
 pub mod Laws

@@ -1,9 +1,10 @@
 -- What a code does, cycle by cycle.
-use Rattle.std.specs.Prelude.{ℕ, ℤ, pos, List, [], Option, Some, None, slice_get}
+use Rattle.std.specs.Prelude.{ℕ, ℤ, List, [], Option, Some, None, slice_get}
 use Rattle.pc_word.specs.declared.item.End.TheVariants.{Ended, Trapped, Fault}
 use Rattle.pc_word.specs.Run.{Run, Step, Goes, Stops, run_from}
-use Rattle.pc_machine.specs.Row.{Leaf, Leads_to, Ends, Traps, Row, RowCode}
-use Rattle.pc_machine.specs.RowStep.{State, RowOutcome, Faults, Commits, row_step}
+use Rattle.pc_machine.specs.MachineCode.{Leaf, Leads_to, Ends, Traps, CodeRow, RowCode}
+use Rattle.pc_word.specs.State.{State, start_state}
+use Rattle.pc_word.specs.Row.{RowOutcome, Faults, Commits, row_step}
 
 -- where a machine is: the row that comes next, and the state, whose names are the registers
 pub record Cycle : Type 0 where
@@ -17,12 +18,12 @@ follow_leaf out new Ends = Stops out Ended
 follow_leaf out new (Traps kind line) = Stops out (Trapped kind line)
 
 -- a fault ends the run, and nothing of its row is printed
-abbrev pub after_row : RowOutcome → Step Cycle
+abbrev pub after_row : RowOutcome Leaf → Step Cycle
 after_row (Faults fault) = Stops [] (Fault fault)
 after_row (Commits out new leaf) = follow_leaf out new leaf
 
 -- the row runs; a number that no row has, which no well-formed code leads to, ends
-abbrev pub run_row : List ℕ → State → Option Row → Step Cycle
+abbrev pub run_row : List ℕ → State → Option CodeRow → Step Cycle
 run_row lengths state (Some row) = after_row (row_step lengths row state)
 run_row lengths state None = Stops [] Ended
 
@@ -32,10 +33,7 @@ machine_step code here = run_row code.arrays here.state (slice_get code.rows her
 
 -- row 0, with all registers and elements 0
 abbrev pub machine_start : List ℤ → Cycle
-machine_start input = record {
-  row = 0;
-  state = record { names = λ register. pos 0; cells = λ array place. pos 0; input = input };
-}
+machine_start input = record { row = 0; state = start_state input }
 
 -- the run of a code on an input: at most n cycles
 abbrev pub machine_run : RowCode → List ℤ → Run

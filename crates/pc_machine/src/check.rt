@@ -1,17 +1,22 @@
 ghost use Rattle.std.specs.Prelude.{◌≡◌, ◌+◌, ◌≤◌, slice_get, ◌↔◌};
 ghost use Rattle.std.specs.List.{flat_map};
-ghost use Rattle.pc_machine.specs.Row.{row_of, code_of, rows_of};
-ghost use Rattle.pc_machine.specs.RowStep.{dest_of};
-ghost use Rattle.pc_machine.specs.WellFormed.{is_memory, is_effect, WellFormed};
-ghost use Rattle.pc_machine.specs.Flaws.{limit_flaws, array_count_flaws, length_flaws, lengths_flaws, row_count_flaws, header_flaws, nothing_above, above_with, no_counts, counts_with_item, counts_with_test, counts_after, item_tag_flaws, test_tag_flaws, register_flaws, dest_flaws, operand_flaws, array_flaws, target_flaws, field_flaws, item_flaws, test_flaws, row_flaws, flaws_of, checked};
+ghost use Rattle.pc_machine.specs.MachineCode.{row_of, code_of, rows_of};
+ghost use Rattle.pc_word.specs.Items.{dest_of, is_memory, is_effect};
+ghost use Rattle.pc_machine.specs.WellFormed.{WellFormed};
+ghost use Rattle.pc_machine.specs.Flaws.{limit_flaws, array_count_flaws, length_flaws, lengths_flaws, row_count_flaws, header_flaws, nothing_above};
+ghost use Rattle.pc_machine.specs.Flaws.{above_with, no_counts, counts_with_item, counts_with_test, counts_after, item_tag_flaws, test_tag_flaws};
+ghost use Rattle.pc_machine.specs.Flaws.{register_flaws, dest_flaws, operand_flaws, array_flaws, target_flaws, field_flaws, item_flaws, test_flaws};
+ghost use Rattle.pc_machine.specs.Flaws.{row_flaws, flaws_of};
+ghost use Rattle.pc_word.specs.Exact.{checked};
 ghost use Rattle.pc_machine.specs.Checks.{above_of, IsDest};
+ghost use Rattle.pc_word.specs.MachineLimits.{most_elements};
 
 use crate::code::{Code, Flaw};
 use crate::tree::Tree;
-use pc_word::{Item, Limits, Operand};
-
-/// The number of registers of the machine.
-const REGISTERS: usize = 128;
+use pc_word::{
+    Item, Limits, MOST_ARRAYS, MOST_ELEMENTS, MOST_LENGTH, MOST_MEM, MOST_OPS, MOST_TESTS, Operand,
+    REGISTERS,
+};
 
 /// What each row of a code is held against: its limits, its number of arrays and its number of rows.
 #[derive(Clone, Copy, Debug, PartialEq, Eq)]
@@ -312,7 +317,7 @@ pub fn limit(most: u8, limit: u8) -> Result<(), Flaw>
 pub fn array_count(count: usize) -> Result<(), Flaw>
     ensures { result ≡ checked (array_count_flaws count) tt }
 {
-    if 32 < count {
+    if MOST_ARRAYS < count {
         return Err(Flaw::ArrayCount);
     }
     Ok(())
@@ -322,13 +327,13 @@ pub fn array_count(count: usize) -> Result<(), Flaw>
 /// from 1 to 65,536, and then `Elements` where there are more than 1,048,576 elements with it.
 /// Gives the elements with it.
 pub fn array_length(before: u32, length: u32) -> Result<u32, Flaw>
-    requires { before ≤ 1048576 }
+    requires { before ≤ most_elements }
     ensures { result ≡ checked (length_flaws before length) (before + length) }
 {
-    if length < 1 || 65_536 < length {
+    if length < 1 || MOST_LENGTH < length {
         return Err(Flaw::ArrayLength);
     }
-    if 1_048_576 < before + length {
+    if MOST_ELEMENTS < before + length {
         return Err(Flaw::Elements);
     }
     Ok(before + length)
@@ -357,9 +362,9 @@ fn array_lengths(lengths: &[u32]) -> Result<(), Flaw>
 fn header(code: &Code) -> Result<(), Flaw>
     ensures { result ≡ checked (header_flaws (code_of code.now)) tt }
 {
-    limit(32, code.limits.ops)?;
-    limit(7, code.limits.tests)?;
-    limit(32, code.limits.mem)?;
+    limit(MOST_OPS, code.limits.ops)?;
+    limit(MOST_TESTS, code.limits.tests)?;
+    limit(MOST_MEM, code.limits.mem)?;
     array_count(code.arrays.len())?;
     array_lengths(code.arrays.as_slice())?;
     row_count(code.rows.len())

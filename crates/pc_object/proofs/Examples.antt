@@ -3,13 +3,14 @@ use Rattle.std.proofs.Common.{arith, ◌≡◌, ℕ, List, [], ◌∷◌, refl, 
 use Rattle.pc_word.specs.declared.item.Item.TheVariants.{Store, Print, Read}
 use Rattle.pc_word.specs.declared.item.Operand.TheVariants.{Name, Lit}
 use Rattle.pc_word.specs.declared.item.TrapKind.TheVariants.{EndOfInput}
-use Rattle.pc_machine.specs.Row.{Leads_to, Ends, Traps, Row, Then, Either, At_leaf}
+use Rattle.pc_machine.specs.MachineCode.{Leads_to, Ends, Traps, CodeRow}
+use Rattle.pc_word.specs.Row.{Then, Either, At_leaf}
 use Rattle.std.specs.List.{IsDistinct}
 use Rattle.pc_object.specs.declared.object.Note.{Note}
 use Rattle.pc_object.specs.ObjectText.{CodeWithNotes, IsObject, object_text}
 
 -- rows for 8 items, 3 tests and 2 loads and stores, with no note
-plain : List ℕ → List Row → CodeWithNotes
+plain : List ℕ → List CodeRow → CodeWithNotes
 plain arrays rows = record { code = record { limits = record { ops = 8; tests = 3; mem = 2 }; arrays = arrays; rows = rows }; notes = [] }
 
 -- it prints 7 and stops
@@ -47,7 +48,7 @@ unfolding plain
 noted = refl
 
 -- and it may be written
-pub prints_seven_is_object : (arrays : List ℕ) (rows : List Row) (notes : List Note) → arrays ≡ [] → rows ≡ Then (Print (Lit (pos 7))) (At_leaf Ends) ∷ [] → notes ≡ []
+pub prints_seven_is_object : (arrays : List ℕ) (rows : List CodeRow) (notes : List Note) → arrays ≡ [] → rows ≡ Then (Print (Lit (pos 7))) (At_leaf Ends) ∷ [] → notes ≡ []
     → IsObject (record { code = record { limits = record { ops = 8; tests = 3; mem = 2 }; arrays = arrays; rows = rows }; notes = notes })
 unfolding IsDistinct
 prints_seven_is_object arrays rows notes no_arrays one_row no_notes = rw (no_arrays, one_row, no_notes) (record {

@@ -1,9 +1,10 @@
 pub mod DepthLaws
 pub mod FieldLaws
-pub mod Lists
 pub mod Loop
 pub mod ObjectLaws
 pub mod ReadingLaws
 pub mod RowLaws
 pub mod Ranges
 pub mod Examples
+pub mod Shorter
+pub mod Flawed

@@ -5,17 +5,20 @@ use Rattle.std.proofs.lemmas.Bool.{ltb-false}
 use Rattle.pc_machine.specs.declared.code.Flaw.{Flaw}
 use Rattle.pc_machine.specs.declared.code.Flaw.TheVariants.{ArrayLength, Elements}
 use Rattle.pc_machine.specs.declared.check.Bounds.{Bounds}
-use Rattle.pc_machine.specs.Row.{Row}
+use Rattle.pc_machine.specs.MachineCode.{CodeRow}
 use Rattle.pc_machine.specs.declared.check.Counts.{Counts}
-use Rattle.pc_machine.specs.Flaws.{no_counts, nothing_above, flaw_where, is_between, length_flaws, checked}
+use Rattle.pc_machine.specs.Flaws.{no_counts, nothing_above, flaw_where, is_between, length_flaws}
+use Rattle.pc_word.specs.Exact.{checked}
 use Rattle.pc_object.specs.declared.object.Note.{Note}
 use Rattle.pc_object.specs.declared.refusal.Refusal.{Refusal}
 use Rattle.pc_object.specs.declared.refusal.Refusal.TheVariants.{Short}
 use Rattle.pc_object.specs.declared.refusal.Halt.{Halt}
 use Rattle.pc_object.specs.declared.refusal.Halt.TheVariants as halts
-use Rattle.pc_object.specs.Gives.{Halts}
+use Rattle.pc_word.specs.Exact.{IsRefusal}
+use Rattle.pc_object.specs.models.HaltCause.{halt_cause}
 use Rattle.pc_object.specs.Reading.{◌>>=◌, at_field, magic_at, number_at, lengths_at, row_at, rows_at, note_at, notes_at, deepest}
 use Rattle.std.specs.Int.{w32}
+use Rattle.pc_word.specs.MachineLimits.{most_elements, most_length}
 
 -- what was read before, and what is still read
 abbrev pub with_front : {X : Type 0} → List X → Result (List X × List ℕ) Refusal → Result (List X × List ℕ) Refusal
@@ -33,12 +36,13 @@ pub lengths_go_on : (front : List ℕ) (count i before : ℕ) (bytes : List ℕ)
 unfolding lengths_at
 lengths_go_on front count i before bytes n total after all lt h fine so_far =
     let k : count - i ≡ suc (count - (i + 1)) = omega arith in
-    let one : with_front front (lengths_at (count - i) before bytes) ≡ with_front (front ++ n ∷ []) (lengths_at (count - (i + 1)) total after) = rw (k, h, fine) (regroup front n (lengths_at (count - (i + 1)) total after)) in
+    let one : with_front front (lengths_at (count - i) before bytes) ≡ with_front (front ++ n ∷ []) (lengths_at (count - (i + 1)) total after) =
+    rw (k, h, fine) (regroup front n (lengths_at (count - (i + 1)) total after)) in
     sym one ∙ so_far
 
 -- a length is missing
-pub lengths_end : (halt : Halt) (front : List ℕ) (count i before : ℕ) (bytes : List ℕ) (all : Result (List ℕ × List ℕ) Refusal) → i < count → Halts halt (number_at w32 bytes)
-    → with_front front (lengths_at (count - i) before bytes) ≡ all → Halts halt all
+pub lengths_end : (halt : Halt) (front : List ℕ) (count i before : ℕ) (bytes : List ℕ) (all : Result (List ℕ × List ℕ) Refusal) → i < count → IsRefusal (halt_cause halt) (number_at w32 bytes)
+    → with_front front (lengths_at (count - i) before bytes) ≡ all → IsRefusal (halt_cause halt) all
 unfolding lengths_at
 lengths_end halts.Memory front count i before bytes all lt h so_far = tt
 lengths_end (halts.Refused f) front count i before bytes all lt h so_far =
@@ -48,8 +52,8 @@ lengths_end (halts.Refused f) front count i before bytes all lt h so_far =
 
 -- a length is flawed
 pub lengths_flawed : (halt : Halt) (front : List ℕ) (count i before : ℕ) (bytes : List ℕ) (n : ℕ) (after : List ℕ) (all : Result (List ℕ × List ℕ) Refusal) → i < count
-    → number_at w32 bytes ≡ Ok (n, after) → Halts halt (at_field bytes (checked (length_flaws before n) (before + n)))
-    → with_front front (lengths_at (count - i) before bytes) ≡ all → Halts halt all
+    → number_at w32 bytes ≡ Ok (n, after) → IsRefusal (halt_cause halt) (at_field bytes (checked (length_flaws before n) (before + n)))
+    → with_front front (lengths_at (count - i) before bytes) ≡ all → IsRefusal (halt_cause halt) all
 unfolding lengths_at
 lengths_flawed halts.Memory front count i before bytes n after all lt h fine so_far = tt
 lengths_flawed (halts.Refused f) front count i before bytes n after all lt h fine so_far =
@@ -57,7 +61,8 @@ lengths_flawed (halts.Refused f) front count i before bytes n after all lt h fin
     let one : with_front front (lengths_at (count - i) before bytes) ≡ Err f = rw (k, h, fine) refl in
     sym so_far ∙ one
 
-pub lengths_done : (front : List ℕ) (count i before : ℕ) (bytes : List ℕ) (all : Result (List ℕ × List ℕ) Refusal) → count ≤ i → with_front front (lengths_at (count - i) before bytes) ≡ all → all ≡ Ok (front, bytes)
+pub lengths_done : (front : List ℕ) (count i before : ℕ) (bytes : List ℕ) (all : Result (List ℕ × List ℕ) Refusal) → count ≤ i → with_front front (lengths_at (count - i) before bytes) ≡ all
+    → all ≡ Ok (front, bytes)
 unfolding lengths_at
 lengths_done front count i before bytes all le so_far =
     let k : count - i ≡ 0 = omega arith in
@@ -66,17 +71,19 @@ lengths_done front count i before bytes all le so_far =
 
 -- ---- rows
 
-pub rows_go_on : (bounds : Bounds) (front : List Row) (count i : ℕ) (bytes : List ℕ) (row : Row) (counts : Counts) (after : List ℕ) (all : Result (List Row × List ℕ) Refusal) → i < count
+pub rows_go_on : (bounds : Bounds) (front : List CodeRow) (count i : ℕ) (bytes : List ℕ) (row : CodeRow) (counts : Counts) (after : List ℕ) (all : Result (List CodeRow × List ℕ) Refusal) → i < count
     → row_at bounds deepest no_counts nothing_above bytes ≡ Ok (row, counts, after)
     → with_front front (rows_at bounds (count - i) bytes) ≡ all → with_front (front ++ row ∷ []) (rows_at bounds (count - (i + 1)) after) ≡ all
 unfolding rows_at
 rows_go_on bounds front count i bytes row counts after all lt h so_far =
     let k : count - i ≡ suc (count - (i + 1)) = omega arith in
-    let one : with_front front (rows_at bounds (count - i) bytes) ≡ with_front (front ++ row ∷ []) (rows_at bounds (count - (i + 1)) after) = rw (k, h) (regroup front row (rows_at bounds (count - (i + 1)) after)) in
+    let one : with_front front (rows_at bounds (count - i) bytes) ≡ with_front (front ++ row ∷ []) (rows_at bounds (count - (i + 1)) after) =
+    rw (k, h) (regroup front row (rows_at bounds (count - (i + 1)) after)) in
     sym one ∙ so_far
 
-pub rows_end : (halt : Halt) (bounds : Bounds) (front : List Row) (count i : ℕ) (bytes : List ℕ) (all : Result (List Row × List ℕ) Refusal) → i < count → Halts halt (row_at bounds deepest no_counts nothing_above bytes)
-    → with_front front (rows_at bounds (count - i) bytes) ≡ all → Halts halt all
+pub rows_end : (halt : Halt) (bounds : Bounds) (front : List CodeRow) (count i : ℕ) (bytes : List ℕ) (all : Result (List CodeRow × List ℕ) Refusal) → i < count
+    → IsRefusal (halt_cause halt) (row_at bounds deepest no_counts nothing_above bytes)
+    → with_front front (rows_at bounds (count - i) bytes) ≡ all → IsRefusal (halt_cause halt) all
 unfolding rows_at
 rows_end halts.Memory bounds front count i bytes all lt h so_far = tt
 rows_end (halts.Refused f) bounds front count i bytes all lt h so_far =
@@ -84,11 +91,12 @@ rows_end (halts.Refused f) bounds front count i bytes all lt h so_far =
     let one : with_front front (rows_at bounds (count - i) bytes) ≡ Err f = rw (k, h) refl in
     sym so_far ∙ one
 
-pub rows_done : (bounds : Bounds) (front : List Row) (count i : ℕ) (bytes : List ℕ) (all : Result (List Row × List ℕ) Refusal) → count ≤ i → with_front front (rows_at bounds (count - i) bytes) ≡ all → all ≡ Ok (front, bytes)
+pub rows_done : (bounds : Bounds) (front : List CodeRow) (count i : ℕ) (bytes : List ℕ) (all : Result (List CodeRow × List ℕ) Refusal) → count ≤ i
+    → with_front front (rows_at bounds (count - i) bytes) ≡ all → all ≡ Ok (front, bytes)
 unfolding rows_at
 rows_done bounds front count i bytes all le so_far =
     let k : count - i ≡ 0 = omega arith in
-    let one : with_front front (rows_at bounds (count - i) bytes) ≡ Ok (front, bytes) = rw k (ap (λ (ns : List Row). Ok (ns, bytes)) (append-nil front)) in
+    let one : with_front front (rows_at bounds (count - i) bytes) ≡ Ok (front, bytes) = rw k (ap (λ (ns : List CodeRow). Ok (ns, bytes)) (append-nil front)) in
     sym so_far ∙ one
 
 -- ---- notes
@@ -101,8 +109,8 @@ notes_go_on front count i bytes note after all lt h so_far =
     let one : with_front front (notes_at (count - i) bytes) ≡ with_front (front ++ note ∷ []) (notes_at (count - (i + 1)) after) = rw (k, h) (regroup front note (notes_at (count - (i + 1)) after)) in
     sym one ∙ so_far
 
-pub notes_end : (halt : Halt) (front : List Note) (count i : ℕ) (bytes : List ℕ) (all : Result (List Note × List ℕ) Refusal) → i < count → Halts halt (note_at bytes)
-    → with_front front (notes_at (count - i) bytes) ≡ all → Halts halt all
+pub notes_end : (halt : Halt) (front : List Note) (count i : ℕ) (bytes : List ℕ) (all : Result (List Note × List ℕ) Refusal) → i < count → IsRefusal (halt_cause halt) (note_at bytes)
+    → with_front front (notes_at (count - i) bytes) ≡ all → IsRefusal (halt_cause halt) all
 unfolding notes_at
 notes_end halts.Memory front count i bytes all lt h so_far = tt
 notes_end (halts.Refused f) front count i bytes all lt h so_far =
@@ -110,7 +118,8 @@ notes_end (halts.Refused f) front count i bytes all lt h so_far =
     let one : with_front front (notes_at (count - i) bytes) ≡ Err f = rw (k, h) refl in
     sym so_far ∙ one
 
-pub notes_done : (front : List Note) (count i : ℕ) (bytes : List ℕ) (all : Result (List Note × List ℕ) Refusal) → count ≤ i → with_front front (notes_at (count - i) bytes) ≡ all → all ≡ Ok (front, bytes)
+pub notes_done : (front : List Note) (count i : ℕ) (bytes : List ℕ) (all : Result (List Note × List ℕ) Refusal) → count ≤ i → with_front front (notes_at (count - i) bytes) ≡ all
+    → all ≡ Ok (front, bytes)
 unfolding notes_at
 notes_done front count i bytes all le so_far =
     let k : count - i ≡ 0 = omega arith in
@@ -133,7 +142,7 @@ two_checks bytes false true f g x y e = absurd cc
 two_checks bytes false false f g x y e = (refl, cc)
 
 -- the elements with a length that has no flaw are not too many
-pub few_with : (bytes : List ℕ) (before n total : ℕ) → at_field bytes (checked (length_flaws before n) (before + n)) ≡ Ok total → total ≤ 1048576
+pub few_with : (bytes : List ℕ) (before n total : ℕ) → at_field bytes (checked (length_flaws before n) (before + n)) ≡ Ok total → total ≤ most_elements
 few_with bytes before n total e =
-    let t = two_checks bytes (not (is_between 1 65536 n)) (ltb 1048576 (before + n)) ArrayLength Elements (before + n) total e in
+    let t = two_checks bytes (not (is_between 1 most_length n)) (ltb most_elements (before + n)) ArrayLength Elements (before + n) total e in
     omega (arith, ltb-false _ _ t.0, t.1)

@@ -1,5 +1,6 @@
 -- The two laws of objects: what is read is an object whose text the bytes are, and the text of an object is read as it.
-use Rattle.std.proofs.Common.{◌≡◌, ℕ, zero, suc, ◌+◌, ◌^◌, ◌<◌, ◌≤◌, Bool, true, false, not, cond, ltb, leb, eqb, ◌&&◌, List, [], ◌∷◌, ◌++◌, length, Ok, Err, refl, sym, ap, subst, ◌∙◌, append_assoc, arith}
+use Rattle.std.proofs.Common.{◌≡◌, ℕ, zero, suc, ◌+◌, ◌^◌, ◌<◌, ◌≤◌, Bool, true, false, not, cond, ltb, leb, eqb, ◌&&◌, List, [], ◌∷◌, ◌++◌, length}
+use Rattle.std.proofs.Common.{Ok, Err, refl, sym, ap, subst, ◌∙◌, append_assoc, arith}
 use Rattle.std.specs.Int.{w16, w32}
 use Rattle.std.specs.List.{flat_map, AllByRecursion}
 use Rattle.std.proofs.lemmas.Bool.{leb-true, ltb-false, le-ltb, eqb-true}
@@ -8,17 +9,23 @@ use Rattle.pc_word.specs.declared.item.Limits.{Limits}
 use Rattle.pc_machine.specs.declared.code.Flaw.{Flaw}
 use Rattle.pc_machine.specs.declared.code.Flaw.TheVariants as flaws
 use Rattle.pc_machine.specs.declared.check.Bounds.{Bounds}
-use Rattle.pc_machine.specs.Row.{Row, RowCode}
-use Rattle.pc_machine.specs.Flaws.{flaw_where, is_between, limit_flaws, limits_flaws, array_count_flaws, length_flaws, lengths_flaws, row_count_flaws, header_flaws, nothing_above, no_counts, row_flaws, bounds_of, flaws_of, checked}
+use Rattle.pc_machine.specs.MachineCode.{CodeRow, RowCode}
+use Rattle.pc_machine.specs.Flaws.{flaw_where, is_between, limit_flaws, limits_flaws, array_count_flaws, length_flaws, lengths_flaws}
+use Rattle.pc_machine.specs.Flaws.{row_count_flaws, header_flaws, nothing_above, no_counts, row_flaws, bounds_of, flaws_of}
+use Rattle.pc_word.specs.Exact.{checked}
 use Rattle.pc_machine.proofs.Flaws.{well_formed_without_flaw, no_flaw_well_formed}
 use Rattle.pc_object.specs.declared.object.Note.{Note}
 use Rattle.pc_object.specs.declared.refusal.Refusal.TheVariants.{NotMagic}
 use Rattle.pc_object.specs.ObjectText.{CodeWithNotes, u16_text, u32_text, row_text, header_text, note_text, notes_text, object_text, IsChoice, IsObject}
 use Rattle.pc_object.specs.Numbers.{RowFits, NoteFits, HasWords}
-use Rattle.pc_object.specs.Reading.{◌>>=◌, ◌>>◌, at_field, passes, number_at, magic_at, limit_at, limits_at, lengths_at, array_count_at, row_count_at, choice_at, note_at, notes_at, row_at, rows_at, deepest, Header, header_at, header_bounds, end_at, object_at}
-use Rattle.pc_object.proofs.FieldLaws.{IsBytes, IsBytes-rest, Takes, Takes-then, bind_ok, ok_is, checked_ok, passes_then, wide16, wide32, number_takes, number_again, checked_byte_takes, checked_byte_again}
+use Rattle.pc_object.specs.Reading.{◌>>=◌, ◌>>◌, at_field, passes, number_at, magic_at, limit_at, limits_at, lengths_at, array_count_at}
+use Rattle.pc_object.specs.Reading.{row_count_at, choice_at, note_at, notes_at, row_at, rows_at, deepest, Header, header_at, header_bounds, end_at}
+use Rattle.pc_object.specs.Reading.{object_at}
+use Rattle.pc_object.proofs.FieldLaws.{IsBytes, IsBytes-rest, Takes, Takes-then, bind_ok, ok_is, checked_ok, passes_then, wide16, wide32}
+use Rattle.pc_object.proofs.FieldLaws.{number_takes, number_again, checked_byte_takes, checked_byte_again}
 use Rattle.pc_object.proofs.Ranges.{rows_below}
 use Rattle.pc_object.proofs.RowLaws.{nil_parts, nil_joined, room, row_takes, row_again}
+use Rattle.pc_word.specs.MachineLimits.{most_elements, most_length, most_mem, most_ops, most_tests}
 
 -- ---- the first bytes
 
@@ -52,25 +59,26 @@ AreRead bytes read = Takes bytes (limits_text read.0) read.1 × (limits_flaws re
 limits_take : (bytes : List ℕ) (read : Limits × List ℕ) → IsBytes bytes → limits_at bytes ≡ Ok read → AreRead bytes read
 unfolding limits_at
 limits_take bytes read fits e =
-    let a = bind_ok (limit_at 32 bytes) (λ ops. limit_at 7 ops.1 >>= λ tests. limit_at 32 tests.1 >>= λ mem. Ok (record { ops = ops.0; tests = tests.0; mem = mem.0 }, mem.1)) read e in
-    let b = bind_ok (limit_at 7 a.0.1) (λ tests. limit_at 32 tests.1 >>= λ mem. Ok (record { ops = a.0.0; tests = tests.0; mem = mem.0 }, mem.1)) read a.2 in
-    let c = bind_ok (limit_at 32 b.0.1) (λ mem. Ok (record { ops = a.0.0; tests = b.0.0; mem = mem.0 }, mem.1)) read b.2 in
-    let ta = limit_takes 32 bytes a.0.0 a.0.1 fits a.1 in
-    let tb = limit_takes 7 a.0.1 b.0.0 b.0.1 ta.0.rest_fits b.1 in
-    let tc = limit_takes 32 b.0.1 c.0.0 c.0.1 tb.0.rest_fits c.1 in
+    let a = bind_ok (limit_at most_ops bytes) (λ ops. limit_at most_tests ops.1 >>= λ tests. limit_at most_mem tests.1 >>= λ mem. Ok
+    (record { ops = ops.0; tests = tests.0; mem = mem.0 }, mem.1)) read e in
+    let b = bind_ok (limit_at most_tests a.0.1) (λ tests. limit_at most_mem tests.1 >>= λ mem. Ok (record { ops = a.0.0; tests = tests.0; mem = mem.0 }, mem.1)) read a.2 in
+    let c = bind_ok (limit_at most_mem b.0.1) (λ mem. Ok (record { ops = a.0.0; tests = b.0.0; mem = mem.0 }, mem.1)) read b.2 in
+    let ta = limit_takes most_ops bytes a.0.0 a.0.1 fits a.1 in
+    let tb = limit_takes most_tests a.0.1 b.0.0 b.0.1 ta.0.rest_fits b.1 in
+    let tc = limit_takes most_mem b.0.1 c.0.0 c.0.1 tb.0.rest_fits c.1 in
     let tbc = Takes-then a.0.1 (b.0.0 ∷ []) b.0.1 (c.0.0 ∷ []) c.0.1 tb.0 tc.0 in
     let made : Limits × List ℕ = (record { ops = a.0.0; tests = b.0.0; mem = c.0.0 }, c.0.1) in
     subst (AreRead bytes) (ok_is made read c.2) (
       Takes-then bytes (a.0.0 ∷ []) a.0.1 (b.0.0 ∷ c.0.0 ∷ []) c.0.1 ta.0 tbc,
-      nil_joined (limit_flaws 32 a.0.0) (limit_flaws 7 b.0.0 ++ limit_flaws 32 c.0.0) ta.1 (nil_joined (limit_flaws 7 b.0.0) (limit_flaws 32 c.0.0) tb.1 tc.1),
+      nil_joined (limit_flaws most_ops a.0.0) (limit_flaws most_tests b.0.0 ++ limit_flaws most_mem c.0.0) ta.1 (nil_joined (limit_flaws most_tests b.0.0) (limit_flaws most_mem c.0.0) tb.1 tc.1),
     )
 
 limits_again : (limits : Limits) (rest : List ℕ) → limits_flaws limits ≡ [] → limits_at (limits_text limits ++ rest) ≡ Ok (limits, rest)
 unfolding limits_at
 limits_again limits rest none =
-    let p = nil_parts (limit_flaws 32 limits.ops) (limit_flaws 7 limits.tests ++ limit_flaws 32 limits.mem) none in
-    let q = nil_parts (limit_flaws 7 limits.tests) (limit_flaws 32 limits.mem) p.1 in
-    rw (limit_again 32 limits.ops (limits.tests ∷ limits.mem ∷ rest) p.0, limit_again 7 limits.tests (limits.mem ∷ rest) q.0, limit_again 32 limits.mem rest q.1) refl
+    let p = nil_parts (limit_flaws most_ops limits.ops) (limit_flaws most_tests limits.tests ++ limit_flaws most_mem limits.mem) none in
+    let q = nil_parts (limit_flaws most_tests limits.tests) (limit_flaws most_mem limits.mem) p.1 in
+    rw (limit_again most_ops limits.ops (limits.tests ∷ limits.mem ∷ rest) p.0, limit_again most_tests limits.tests (limits.mem ∷ rest) q.0, limit_again most_mem limits.mem rest q.1) refl
 
 -- ---- arrays and rows
 
@@ -81,7 +89,8 @@ lengths_take : (count before : ℕ) (bytes : List ℕ) (read : List ℕ × List 
 unfolding lengths_at
 lengths_take zero before bytes read fits e = subst (Lengths 0 before bytes) (ok_is ([], bytes) read e) (record { parts = refl; rest_fits = fits }, refl, refl)
 lengths_take (suc count) before bytes read fits e =
-    let a = bind_ok (number_at w32 bytes) (λ elements. at_field bytes (checked (length_flaws before elements.0) (before + elements.0)) >>= λ total. lengths_at count total elements.1 >>= λ others. Ok (elements.0 ∷ others.0, others.1)) read e in
+    let a = bind_ok (number_at w32 bytes) (λ elements. at_field bytes
+    (checked (length_flaws before elements.0) (before + elements.0)) >>= λ total. lengths_at count total elements.1 >>= λ others. Ok (elements.0 ∷ others.0, others.1)) read e in
     let b = bind_ok (at_field bytes (checked (length_flaws before a.0.0) (before + a.0.0))) (λ total. lengths_at count total a.0.1 >>= λ others. Ok (a.0.0 ∷ others.0, others.1)) read a.2 in
     let c = bind_ok (lengths_at count b.0 a.0.1) (λ others. Ok (a.0.0 ∷ others.0, others.1)) read b.2 in
     let t = number_takes w32 (2 ^ 32) wide32 bytes a.0.0 a.0.1 fits a.1 in
@@ -97,9 +106,10 @@ lengths_take (suc count) before bytes read fits e =
 
 -- a length without a flaw
 length_below : (before n : ℕ) → length_flaws before n ≡ [] → n < 2 ^ 32
-length_below before n none = not_much (leb 1 n) (leb n 65536) n refl (nil_parts (flaw_where (not (is_between 1 65536 n)) flaws.ArrayLength) (flaw_where (ltb 1048576 (before + n)) flaws.Elements) none).0
+length_below before n none = not_much (leb 1 n) (leb n most_length) n refl
+    (nil_parts (flaw_where (not (is_between 1 most_length n)) flaws.ArrayLength) (flaw_where (ltb most_elements (before + n)) flaws.Elements) none).0
   where
-    not_much : (a b : Bool) (n : ℕ) → leb n 65536 ≡ b → flaw_where (not (a && b)) flaws.ArrayLength ≡ [] → n < 2 ^ 32
+    not_much : (a b : Bool) (n : ℕ) → leb n most_length ≡ b → flaw_where (not (a && b)) flaws.ArrayLength ≡ [] → n < 2 ^ 32
     not_much true true n le e = omega (arith, leb-true _ _ le)
     not_much true false n le e = absurd cc
     not_much false b n le e = absurd cc
@@ -133,11 +143,11 @@ row_count_again : (n : ℕ) (rest : List ℕ) → n < 2 ^ 32 → row_count_flaws
 unfolding row_count_at
 row_count_again n rest lt none = rw (number_again w32 (2 ^ 32) wide32 n rest lt, none) refl
 
-abbrev Rows : Bounds → ℕ → List ℕ → (List Row × List ℕ) → Type 0
+abbrev Rows : Bounds → ℕ → List ℕ → (List CodeRow × List ℕ) → Type 0
 Rows bounds count bytes read =
     Takes bytes (flat_map row_text read.0) read.1 × (length read.0 ≡ count) × (flat_map (row_flaws bounds no_counts nothing_above) read.0 ≡ []) × AllByRecursion RowFits read.0
 
-rows_take : (bounds : Bounds) (count : ℕ) (bytes : List ℕ) (read : List Row × List ℕ) → IsBytes bytes → rows_at bounds count bytes ≡ Ok read → Rows bounds count bytes read
+rows_take : (bounds : Bounds) (count : ℕ) (bytes : List ℕ) (read : List CodeRow × List ℕ) → IsBytes bytes → rows_at bounds count bytes ≡ Ok read → Rows bounds count bytes read
 unfolding rows_at
 rows_take bounds zero bytes read fits e = subst (Rows bounds 0 bytes) (ok_is ([], bytes) read e) (record { parts = refl; rest_fits = fits }, refl, refl, tt)
 rows_take bounds (suc count) bytes read fits e =
@@ -145,7 +155,7 @@ rows_take bounds (suc count) bytes read fits e =
     let b = bind_ok (rows_at bounds count a.0.2) (λ others. Ok (a.0.0 ∷ others.0, others.1)) read a.2 in
     let t = row_takes bounds deepest no_counts nothing_above bytes a.0 fits a.1 in
     let o = rows_take bounds count a.0.2 b.0 t.takes.rest_fits b.1 in
-    let made : List Row × List ℕ = (a.0.0 ∷ b.0.0, b.0.1) in
+    let made : List CodeRow × List ℕ = (a.0.0 ∷ b.0.0, b.0.1) in
     subst (Rows bounds (suc count) bytes) (ok_is made read b.2) (
       Takes-then bytes (row_text a.0.0) a.0.2 (flat_map row_text b.0.0) b.0.1 t.takes o.0,
       ap suc o.1,
@@ -153,7 +163,8 @@ rows_take bounds (suc count) bytes read fits e =
       (t.fits, o.3),
     )
 
-rows_again : (bounds : Bounds) (rows : List Row) (rest : List ℕ) → bounds.rows ≤ 2 ^ 32 → room bounds no_counts < deepest → flat_map (row_flaws bounds no_counts nothing_above) rows ≡ [] → AllByRecursion RowFits rows
+rows_again : (bounds : Bounds) (rows : List CodeRow) (rest : List ℕ) → bounds.rows ≤ 2 ^ 32 → room bounds no_counts < deepest → flat_map (row_flaws bounds no_counts nothing_above) rows ≡ []
+    → AllByRecursion RowFits rows
     → rows_at bounds (length rows) (flat_map row_text rows ++ rest) ≡ Ok (rows, rest)
 unfolding rows_at
 rows_again bounds [] rest few deep none fits = refl
@@ -191,7 +202,8 @@ unfolding note_at
 note_takes bytes read fits e =
     let a = bind_ok (choice_at bytes) (λ choice. number_at w32 choice.1 >>= λ line. number_at w32 line.1 >>= λ number. number_at w32 number.1 >>= λ limit.
     Ok (record { choice = choice.0; line = line.0; number = number.0; limit = limit.0 }, limit.1)) read e in
-    let b = bind_ok (number_at w32 a.0.1) (λ line. number_at w32 line.1 >>= λ number. number_at w32 number.1 >>= λ limit. Ok (record { choice = a.0.0; line = line.0; number = number.0; limit = limit.0 }, limit.1)) read a.2 in
+    let b = bind_ok (number_at w32 a.0.1) (λ line. number_at w32 line.1 >>= λ number. number_at w32 number.1 >>= λ limit. Ok
+    (record { choice = a.0.0; line = line.0; number = number.0; limit = limit.0 }, limit.1)) read a.2 in
     let c = bind_ok (number_at w32 b.0.1) (λ number. number_at w32 number.1 >>= λ limit. Ok (record { choice = a.0.0; line = b.0.0; number = number.0; limit = limit.0 }, limit.1)) read b.2 in
     let d = bind_ok (number_at w32 c.0.1) (λ limit. Ok (record { choice = a.0.0; line = b.0.0; number = c.0.0; limit = limit.0 }, limit.1)) read c.2 in
     let ta = choice_takes bytes a.0.0 a.0.1 fits a.1 in
@@ -212,7 +224,8 @@ unfolding note_at
 note_again note rest choice fits =
     let last = u32_text note.limit ++ rest in
     let regrouped : note_text note ++ rest ≡ note.choice ∷ (u32_text note.line ++ (u32_text note.number ++ last)) =
-    ap (λ (t : List ℕ). note.choice ∷ t) (append_assoc (u32_text note.line) (u32_text note.number ++ u32_text note.limit) rest ∙ ap (λ (t : List ℕ). u32_text note.line ++ t) (append_assoc (u32_text note.number) (u32_text note.limit) rest)) in
+    ap (λ (t : List ℕ). note.choice ∷ t) (append_assoc (u32_text note.line) (u32_text note.number ++ u32_text note.limit) rest
+    ∙ ap (λ (t : List ℕ). u32_text note.line ++ t) (append_assoc (u32_text note.number) (u32_text note.limit) rest)) in
     ap note_at regrouped ∙ rw (
       choice_again note.choice (u32_text note.line ++ (u32_text note.number ++ last)) choice,
       number_again w32 (2 ^ 32) wide32 note.line (u32_text note.number ++ last) fits.line,
@@ -262,8 +275,10 @@ unfolding header_at
 header_takes bytes read fits e =
     let m = bind_ok (magic_at magic bytes) (λ start. limits_at start >>= λ limits. array_count_at limits.1 >>= λ count. lengths_at count.0 0 count.1 >>= λ arrays. row_count_at arrays.1 >>= λ rows.
     Ok (record { limits = limits.0; arrays = arrays.0; rows = rows.0 }, rows.1)) read e in
-    let a = bind_ok (limits_at m.0) (λ limits. array_count_at limits.1 >>= λ count. lengths_at count.0 0 count.1 >>= λ arrays. row_count_at arrays.1 >>= λ rows. Ok (record { limits = limits.0; arrays = arrays.0; rows = rows.0 }, rows.1)) read m.2 in
-    let b = bind_ok (array_count_at a.0.1) (λ count. lengths_at count.0 0 count.1 >>= λ arrays. row_count_at arrays.1 >>= λ rows. Ok (record { limits = a.0.0; arrays = arrays.0; rows = rows.0 }, rows.1)) read a.2 in
+    let a = bind_ok (limits_at m.0) (λ limits. array_count_at limits.1 >>= λ count. lengths_at count.0 0 count.1 >>= λ arrays. row_count_at arrays.1 >>= λ rows. Ok
+    (record { limits = limits.0; arrays = arrays.0; rows = rows.0 }, rows.1)) read m.2 in
+    let b = bind_ok (array_count_at a.0.1) (λ count. lengths_at count.0 0 count.1 >>= λ arrays. row_count_at arrays.1 >>= λ rows. Ok
+    (record { limits = a.0.0; arrays = arrays.0; rows = rows.0 }, rows.1)) read a.2 in
     let c = bind_ok (lengths_at b.0.0 0 b.0.1) (λ arrays. row_count_at arrays.1 >>= λ rows. Ok (record { limits = a.0.0; arrays = arrays.0; rows = rows.0 }, rows.1)) read b.2 in
     let d = bind_ok (row_count_at c.0.1) (λ rows. Ok (record { limits = a.0.0; arrays = c.0.0; rows = rows.0 }, rows.1)) read c.2 in
     let tm = magic_takes magic bytes m.0 fits m.1 in
@@ -322,12 +337,14 @@ record IsReadObject (bytes : List ℕ) (object : CodeWithNotes) : Type 0 where
 object_takes : (bytes : List ℕ) (object : CodeWithNotes) → IsBytes bytes → object_at bytes ≡ Ok object → IsReadObject bytes object
 unfolding object_at
 object_takes bytes object fits e =
-    let a = bind_ok (header_at bytes) (λ header. rows_at (header_bounds header.0) header.0.rows header.1 >>= λ rows. number_at w16 rows.1 >>= λ count. notes_at count.0 count.1 >>= λ notes. end_at notes.1
+    let a = bind_ok (header_at bytes) (λ header. rows_at (header_bounds header.0) header.0.rows header.1 >>= λ rows. number_at w16 rows.1 >>= λ count. notes_at count.0 count.1 >>= λ notes.
+    end_at notes.1
     >> Ok (record { code = record { limits = header.0.limits; arrays = header.0.arrays; rows = rows.0 }; notes = notes.0 })) object e in
     let header = a.0.0 in
     let b = bind_ok (rows_at (header_bounds header) header.rows a.0.1) (λ rows. number_at w16 rows.1 >>= λ count. notes_at count.0 count.1 >>= λ notes. end_at notes.1
     >> Ok (record { code = record { limits = header.limits; arrays = header.arrays; rows = rows.0 }; notes = notes.0 })) object a.2 in
-    let c = bind_ok (number_at w16 b.0.1) (λ count. notes_at count.0 count.1 >>= λ notes. end_at notes.1 >> Ok (record { code = record { limits = header.limits; arrays = header.arrays; rows = b.0.0 }; notes = notes.0 })) object b.2 in
+    let c = bind_ok (number_at w16 b.0.1) (λ count. notes_at count.0 count.1 >>= λ notes. end_at notes.1 >> Ok
+    (record { code = record { limits = header.limits; arrays = header.arrays; rows = b.0.0 }; notes = notes.0 })) object b.2 in
     let d = bind_ok (notes_at c.0.0 c.0.1) (λ notes. end_at notes.1 >> Ok (record { code = record { limits = header.limits; arrays = header.arrays; rows = b.0.0 }; notes = notes.0 })) object c.2 in
     let code : RowCode = record { limits = header.limits; arrays = header.arrays; rows = b.0.0 } in
     let made : CodeWithNotes = record { code = code; notes = d.0.0 } in
@@ -337,14 +354,18 @@ object_takes bytes object fits e =
     let tc = number_takes w16 (2 ^ 16) wide16 b.0.1 c.0.0 c.0.1 tb.0.rest_fits c.1 in
     let td = notes_take c.0.0 c.0.1 d.0 tc.0.rest_fits d.1 in
     let count_text : Takes b.0.1 (u16_text (length d.0.0)) c.0.1 = subst (λ (n : ℕ). Takes b.0.1 (u16_text n) c.0.1) (sym td.1) tc.0 in
-    let head_text : Takes bytes (header_text code) a.0.1 = subst (λ (n : ℕ). Takes bytes (shape_text (record { limits = header.limits; arrays = header.arrays; rows = n })) a.0.1) (sym tb.1) ta.takes in
+    let head_text : Takes bytes (header_text code) a.0.1 = subst (λ (n : ℕ). Takes bytes (shape_text (record { limits = header.limits; arrays = header.arrays; rows = n })) a.0.1)
+    (sym tb.1) ta.takes in
     let tcd = Takes-then b.0.1 (u16_text (length d.0.0)) c.0.1 (flat_map note_text d.0.0) d.0.1 count_text td.0 in
     let tbd = Takes-then a.0.1 (flat_map row_text b.0.0) b.0.1 (notes_text d.0.0) d.0.1 tb.0 tcd in
     let tad = Takes-then bytes (header_text code) a.0.1 (flat_map row_text b.0.0 ++ notes_text d.0.0) d.0.1 head_text tbd in
-    let rows_sound : flat_map (row_flaws (bounds_of code) no_counts nothing_above) b.0.0 ≡ [] = subst (λ (n : ℕ). flat_map (row_flaws (record { limits = header.limits; arrays = length header.arrays; rows = n }) no_counts nothing_above) b.0.0 ≡ []) (sym tb.1) tb.2 in
+    let rows_sound : flat_map (row_flaws (bounds_of code) no_counts nothing_above) b.0.0 ≡ [] =
+    subst (λ (n : ℕ). flat_map (row_flaws (record { limits = header.limits; arrays = length header.arrays; rows = n }) no_counts nothing_above) b.0.0 ≡ []) (sym tb.1) tb.2 in
     let count_sound : row_count_flaws (length b.0.0) ≡ [] = subst (λ (n : ℕ). row_count_flaws n ≡ []) (sym tb.1) ta.rows in
-    let head_sound : header_flaws code ≡ [] = nil_joined (limits_flaws header.limits) (array_count_flaws (length header.arrays) ++ (lengths_flaws 0 header.arrays ++ row_count_flaws (length b.0.0))) ta.limits
-    (nil_joined (array_count_flaws (length header.arrays)) (lengths_flaws 0 header.arrays ++ row_count_flaws (length b.0.0)) ta.count (nil_joined (lengths_flaws 0 header.arrays) (row_count_flaws (length b.0.0)) ta.lengths count_sound)) in
+    let head_sound : header_flaws code ≡ [] = nil_joined (limits_flaws header.limits)
+    (array_count_flaws (length header.arrays) ++ (lengths_flaws 0 header.arrays ++ row_count_flaws (length b.0.0))) ta.limits
+    (nil_joined (array_count_flaws (length header.arrays)) (lengths_flaws 0 header.arrays ++ row_count_flaws (length b.0.0)) ta.count
+    (nil_joined (lengths_flaws 0 header.arrays) (row_count_flaws (length b.0.0)) ta.lengths count_sound)) in
     subst (IsReadObject bytes) f.1 (record {
       text = tad.parts ∙ ap (λ (r : List ℕ). object_text made ++ r) f.0 ∙ append-nil (object_text made);
       sound = nil_joined (header_flaws code) (flat_map (row_flaws (bounds_of code) no_counts nothing_above) b.0.0) head_sound rows_sound;

@@ -6,12 +6,15 @@ use Rattle.pc_word.specs.declared.item.Item.{Item}
 use Rattle.pc_word.specs.declared.item.Item.TheVariants.{Bin, Copy, Load, Store, Print, Read, More}
 use Rattle.pc_word.specs.declared.item.Limits.{Limits}
 use Rattle.pc_machine.specs.declared.tree.Tree.{Tree}
-use Rattle.pc_machine.specs.Row.{Leaf, Leads_to, Ends, Traps, Row, Then, Either, At_leaf, row_of, rows_of}
-use Rattle.pc_machine.specs.WellFormed.{items_of, tests_of, leaves_of, IsOperand, IsItem, IsLeaf, IsRow}
+use Rattle.pc_machine.specs.MachineCode.{Leaf, Leads_to, Ends, Traps, CodeRow, row_of, rows_of}
+use Rattle.pc_word.specs.Row.{Then, Either, At_leaf, items_of, tests_of, leaves_of}
+use Rattle.pc_machine.specs.WellFormed.{IsOperand, IsItem, IsLeaf, IsRow}
 use Rattle.pc_object.specs.declared.object.Object.{Object}
 use Rattle.pc_object.specs.ObjectText.{CodeWithNotes, row_text, item_text, header_text, notes_text, object_of, IsObject}
-use Rattle.pc_object.specs.Numbers.{IsInRange, RowFits, NoteFits, HasWords}
-use Rattle.pc_object.proofs.Lists.{parts_of}
+use Rattle.pc_object.specs.models.InRange.{IsInRange}
+use Rattle.pc_object.specs.Numbers.{RowFits, NoteFits, HasWords}
+use Rattle.pc_word.proofs.Lists.{all_front, all_back}
+use Rattle.pc_word.specs.MachineLimits.{most_arrays}
 
 -- ---- registers, arrays and targets
 
@@ -30,25 +33,29 @@ leaf_of_more few many (Leads_to row) le h = omega arith
 leaf_of_more few many Ends le h = tt
 leaf_of_more few many (Traps kind line) le h = tt
 
-pub range_of_more : (arrays rows some many : ℕ) (row : Row) → arrays ≤ some → rows ≤ many → IsInRange arrays rows row → IsInRange some many row
+pub range_of_more : (arrays rows some many : ℕ) (row : CodeRow) → arrays ≤ some → rows ≤ many → IsInRange arrays rows row → IsInRange some many row
 range_of_more arrays rows some many (Then item rest) le le2 h = (item_of_more arrays some item le h.0, range_of_more arrays rows some many rest le le2 h.1)
 range_of_more arrays rows some many (Either on on_yes on_no) le le2 h = (h.0, range_of_more arrays rows some many on_yes le le2 h.1, range_of_more arrays rows some many on_no le le2 h.2)
 range_of_more arrays rows some many (At_leaf leaf) le le2 h = leaf_of_more rows many leaf le2 h
 
 -- the lists of a row say the same of its tree
-pub range_from_lists : (arrays rows : ℕ) (row : Row) → AllByRecursion (IsItem arrays) (items_of row) → AllByRecursion IsOperand (tests_of row) → AllByRecursion (IsLeaf rows) (leaves_of row) → IsInRange arrays rows row
+pub range_from_lists : (arrays rows : ℕ) (row : CodeRow) → AllByRecursion (IsItem arrays) (items_of row) → AllByRecursion IsOperand (tests_of row)
+    → AllByRecursion (IsLeaf rows) (leaves_of row) → IsInRange arrays rows row
 range_from_lists arrays rows (Then item rest) items tests leaves = (items.0, range_from_lists arrays rows rest items.1 tests leaves)
-range_from_lists arrays rows (Either on on_yes on_no) items tests leaves =
-    let item_parts = parts_of (IsItem arrays) (items_of on_yes) (items_of on_no) items in
-    let test_parts = parts_of IsOperand (tests_of on_yes) (tests_of on_no) tests.1 in
-    let leaf_parts = parts_of (IsLeaf rows) (leaves_of on_yes) (leaves_of on_no) leaves in
-    (tests.0, range_from_lists arrays rows on_yes item_parts.0 test_parts.0 leaf_parts.0, range_from_lists arrays rows on_no item_parts.1 test_parts.1 leaf_parts.1)
+range_from_lists arrays rows (Either on on_yes on_no) items tests leaves = (
+  tests.0,
+  range_from_lists arrays rows on_yes (all_front (IsItem arrays) (items_of on_yes) (items_of on_no) items)
+      (all_front IsOperand (tests_of on_yes) (tests_of on_no) tests.1) (all_front (IsLeaf rows) (leaves_of on_yes) (leaves_of on_no) leaves),
+  range_from_lists arrays rows on_no (all_back (IsItem arrays) (items_of on_yes) (items_of on_no) items)
+      (all_back IsOperand (tests_of on_yes) (tests_of on_no) tests.1) (all_back (IsLeaf rows) (leaves_of on_yes) (leaves_of on_no) leaves),
+)
 range_from_lists arrays rows (At_leaf leaf) items tests leaves = leaves.0
 
-ranges_of : (limits : Limits) (arrays rows : ℕ) (trees : List Tree) → arrays ≤ 32 → rows ≤ 2 ^ 32 → AllByRecursion (IsRow limits arrays rows) (rows_of trees) → AllByRecursion (λ tree. IsInRange 32 (2 ^ 32) (row_of tree)) trees
+ranges_of : (limits : Limits) (arrays rows : ℕ) (trees : List Tree) → arrays ≤ most_arrays → rows ≤ 2 ^ 32 → AllByRecursion (IsRow limits arrays rows) (rows_of trees)
+    → AllByRecursion (λ tree. IsInRange most_arrays (2 ^ 32) (row_of tree)) trees
 ranges_of limits arrays rows [] le le2 h = tt
 ranges_of limits arrays rows (tree ∷ trees) le le2 h =
-    (range_of_more arrays rows 32 (2 ^ 32) (row_of tree) le le2 (range_from_lists arrays rows (row_of tree) h.0.items h.0.operands h.0.leaves), ranges_of limits arrays rows trees le le2 h.1)
+    (range_of_more arrays rows most_arrays (2 ^ 32) (row_of tree) le le2 (range_from_lists arrays rows (row_of tree) h.0.items h.0.operands h.0.leaves), ranges_of limits arrays rows trees le le2 h.1)
 
 -- ---- how many rows
 
@@ -62,14 +69,14 @@ item_text_some (Read dest) = omega arith
 item_text_some (More dest) = omega arith
 
 -- a row has a byte
-row_text_some : (row : Row) → 1 ≤ length (row_text row)
+row_text_some : (row : CodeRow) → 1 ≤ length (row_text row)
 row_text_some (Then item rest) = omega (arith, length-append (item_text item) (row_text rest), item_text_some item)
 row_text_some (Either on on_yes on_no) = omega arith
 row_text_some (At_leaf (Leads_to row)) = omega arith
 row_text_some (At_leaf Ends) = omega arith
 row_text_some (At_leaf (Traps kind line)) = omega arith
 
-pub length-rows : (rows : List Row) → length rows ≤ length (flat_map row_text rows)
+pub length-rows : (rows : List CodeRow) → length rows ≤ length (flat_map row_text rows)
 length-rows [] = omega arith
 length-rows (row ∷ rows) = omega (arith, length-append (row_text row) (flat_map row_text rows), row_text_some row, length-rows rows)
 
@@ -92,9 +99,9 @@ rows_below object h =
 pub few_rows : (object : Object) → IsObject (object_of object) → length object.code.rows < 2 ^ 32
 few_rows object h = omega (arith, rows_below (object_of object) h, length-rows_of object.code.rows)
 
-pub all_in_range : (object : Object) → IsObject (object_of object) → All (λ tree. IsInRange 32 (2 ^ 32) (row_of tree)) object.code.rows
+pub all_in_range : (object : Object) → IsObject (object_of object) → All (λ tree. IsInRange most_arrays (2 ^ 32) (row_of tree)) object.code.rows
 all_in_range object h =
-    All-from_recursion (λ tree. IsInRange 32 (2 ^ 32) (row_of tree)) object.code.rows
+    All-from_recursion (λ tree. IsInRange most_arrays (2 ^ 32) (row_of tree)) object.code.rows
     (ranges_of object.code.limits (length object.code.arrays) (length (rows_of object.code.rows)) object.code.rows h.code.arrays.count
     (omega (arith, few_rows object h, length-rows_of object.code.rows)) h.code.rows)
 

@@ -9,17 +9,23 @@ use Rattle.pc_machine.specs.declared.code.Flaw.{Flaw}
 use Rattle.pc_machine.specs.declared.code.Flaw.TheVariants as flaws
 use Rattle.pc_machine.specs.declared.check.Bounds.{Bounds}
 use Rattle.pc_machine.specs.declared.check.Counts.{Counts}
-use Rattle.pc_machine.specs.Row.{Leaf, Leads_to, Ends, Traps, Row, Then, Either, At_leaf}
-use Rattle.pc_machine.specs.WellFormed.{is_memory, is_effect}
-use Rattle.pc_machine.specs.Flaws.{flaw_where, Above, above_with, counts_with_item, counts_with_test, counts_after, item_tag_flaws, test_tag_flaws, dest_flaws, operand_flaws, array_flaws, target_flaws, field_flaws, item_flaws, test_flaws, leaf_flaws, row_flaws}
+use Rattle.pc_machine.specs.MachineCode.{Leaf, Leads_to, Ends, Traps, CodeRow}
+use Rattle.pc_word.specs.Row.{Then, Either, At_leaf}
+use Rattle.pc_word.specs.Items.{is_memory, is_effect}
+use Rattle.pc_machine.specs.Flaws.{flaw_where, Above, above_with, counts_with_item, counts_with_test, counts_after, item_tag_flaws, test_tag_flaws}
+use Rattle.pc_machine.specs.Flaws.{dest_flaws, operand_flaws, array_flaws, target_flaws, field_flaws, item_flaws, test_flaws, leaf_flaws, row_flaws}
 use Rattle.pc_object.specs.declared.tag.ItemKind.{ItemKind}
 use Rattle.pc_object.specs.declared.tag.ItemKind.TheVariants as kinds
 use Rattle.pc_object.specs.declared.tag.Tag.{Tag}
 use Rattle.pc_object.specs.declared.tag.Tag.TheVariants as tags
 use Rattle.pc_object.specs.ObjectText.{operator_byte, trap_byte, operand_text, item_text, leaf_text, row_text, u32_text}
 use Rattle.pc_object.specs.Numbers.{ItemFits, LeafFits, RowFits}
-use Rattle.pc_object.specs.Reading.{◌>>=◌, ◌>>◌, at_field, passes, number_at, operator_at, trap_at, dest_at, array_at, operand_at, tag_byte, tag_at, is_memory_kind, is_effect_kind, fields_at, goto_at, trap_fields_at, PartOfRow, ReadsPart, counted_item, counted_test, step_at, test_at, behind_tag, row_at}
-use Rattle.pc_object.proofs.FieldLaws.{IsBytes, Takes, Takes-then, bind_ok, ok_is, checked_ok, passes_then, wide32, number_takes, number_again, operator_takes, operator_again, trap_takes, trap_again, tag_takes, tag_again, dest_takes, dest_again, array_takes, array_again, operand_takes, operand_again}
+use Rattle.pc_object.specs.Reading.{◌>>=◌, ◌>>◌, at_field, passes, number_at, operator_at, trap_at, dest_at, array_at, operand_at, tag_byte, tag_at}
+use Rattle.pc_object.specs.Reading.{is_memory_kind, is_effect_kind, fields_at, goto_at, trap_fields_at, PartOfRow, ReadsPart, counted_item}
+use Rattle.pc_object.specs.Reading.{counted_test, step_at, test_at, behind_tag, row_at}
+use Rattle.pc_object.proofs.FieldLaws.{IsBytes, Takes, Takes-then, bind_ok, ok_is, checked_ok, passes_then, wide32, number_takes, number_again}
+use Rattle.pc_object.proofs.FieldLaws.{operator_takes, operator_again, trap_takes, trap_again, tag_takes, tag_again, dest_takes, dest_again}
+use Rattle.pc_object.proofs.FieldLaws.{array_takes, array_again, operand_takes, operand_again}
 
 -- ---- lists of flaws
 
@@ -52,7 +58,7 @@ fields_text (items.Print value) = operand_text value
 fields_text (items.Read dest) = dest ∷ []
 fields_text (items.More dest) = dest ∷ []
 
-item_text_is : (item : Item) → item_text item ≡ tag_byte (tags.Item (kind_of item)) ∷ fields_text item
+pub item_text_is : (item : Item) → item_text item ≡ tag_byte (tags.Item (kind_of item)) ∷ fields_text item
 item_text_is (items.Bin op dest left right) = refl
 item_text_is (items.Copy dest from) = refl
 item_text_is (items.Load dest array index) = refl
@@ -61,7 +67,7 @@ item_text_is (items.Print value) = refl
 item_text_is (items.Read dest) = refl
 item_text_is (items.More dest) = refl
 
-memory_is : (item : Item) → is_memory_kind (kind_of item) ≡ is_memory item
+pub memory_is : (item : Item) → is_memory_kind (kind_of item) ≡ is_memory item
 memory_is (items.Bin op dest left right) = refl
 memory_is (items.Copy dest from) = refl
 memory_is (items.Load dest array index) = refl
@@ -70,7 +76,7 @@ memory_is (items.Print value) = refl
 memory_is (items.Read dest) = refl
 memory_is (items.More dest) = refl
 
-effect_is : (item : Item) → is_effect_kind (kind_of item) ≡ is_effect item
+pub effect_is : (item : Item) → is_effect_kind (kind_of item) ≡ is_effect item
 effect_is (items.Bin op dest left right) = refl
 effect_is (items.Copy dest from) = refl
 effect_is (items.Load dest array index) = refl
@@ -89,7 +95,8 @@ pub record AreFields (arrays : ℕ) (above : Above) (kind : ItemKind) (bytes : L
 abbrev pub Fields : ℕ → Above → ItemKind → List ℕ → (Item × List ℕ) → Type 0
 Fields arrays above kind bytes read = AreFields arrays above kind bytes read.0 read.1
 
-pub fields_take : (arrays : ℕ) (above : Above) (kind : ItemKind) (bytes : List ℕ) (read : Item × List ℕ) → IsBytes bytes → fields_at arrays above kind bytes ≡ Ok read → Fields arrays above kind bytes read
+pub fields_take : (arrays : ℕ) (above : Above) (kind : ItemKind) (bytes : List ℕ) (read : Item × List ℕ) → IsBytes bytes → fields_at arrays above kind bytes ≡ Ok read
+    → Fields arrays above kind bytes read
 unfolding fields_at
 fields_take arrays above kinds.Bin bytes read fits e =
     let a = bind_ok (operator_at bytes) (λ op. dest_at above op.1 >>= λ dest. operand_at dest.1 >>= λ left. operand_at left.1 >>= λ right. Ok (items.Bin op.0 dest.0 left.0 right.0, right.1)) read e in
@@ -168,7 +175,8 @@ fields_take arrays above kinds.More bytes read fits e =
     let made : Item × List ℕ = (items.More a.0.0, a.0.1) in
     subst (Fields arrays above kinds.More bytes) (ok_is made read a.2) (record { kind_is = refl; takes = ta.0; sound = ta.1; fits = tt })
 
-fields_again : (arrays : ℕ) (above : Above) (item : Item) (rest : List ℕ) → field_flaws arrays above item ≡ [] → ItemFits item → fields_at arrays above (kind_of item) (fields_text item ++ rest) ≡ Ok (item, rest)
+fields_again : (arrays : ℕ) (above : Above) (item : Item) (rest : List ℕ) → field_flaws arrays above item ≡ [] → ItemFits item
+    → fields_at arrays above (kind_of item) (fields_text item ++ rest) ≡ Ok (item, rest)
 unfolding fields_at
 fields_again arrays above (items.Bin op dest left right) rest none fits =
     let p = nil_parts (dest_flaws above dest) (operand_flaws left ++ operand_flaws right) none in
@@ -203,7 +211,7 @@ fields_again arrays above (items.More dest) rest none fits = rw (dest_again abov
 -- ---- parts of rows
 
 -- what a read part of a row is
-pub record IsReadRow (bounds : Bounds) (counts : Counts) (above : Above) (bytes : List ℕ) (row : Row) (after : Counts) (rest : List ℕ) : Type 0 where
+pub record IsReadRow (bounds : Bounds) (counts : Counts) (above : Above) (bytes : List ℕ) (row : CodeRow) (after : Counts) (rest : List ℕ) : Type 0 where
   pub takes : Takes bytes (row_text row) rest
   pub sound : row_flaws bounds counts above row ≡ []
   pub fits : RowFits row
@@ -230,11 +238,14 @@ step_takes bounds below well counts more above bytes kind rest read tag counted 
     let k = checked_ok bytes (item_tag_flaws bounds.limits counts above (is_memory_kind kind) (is_effect_kind kind)) (counts_with_item (is_memory_kind kind) counts) more counted in
     let m : is_memory item ≡ is_memory_kind kind = sym (ap is_memory_kind f.kind_is ∙ memory_is item) in
     let x : is_effect item ≡ is_effect_kind kind = sym (ap is_effect_kind f.kind_is ∙ effect_is item) in
-    let tag_sound : item_tag_flaws bounds.limits counts above (is_memory item) (is_effect item) ≡ [] = ap (λ (t : Bool). item_tag_flaws bounds.limits counts above t (is_effect item)) m ∙ ap (λ (t : Bool). item_tag_flaws bounds.limits counts above (is_memory_kind kind) t) x ∙ k.0 in
+    let tag_sound : item_tag_flaws bounds.limits counts above (is_memory item) (is_effect item) ≡ [] = ap (λ (t : Bool). item_tag_flaws bounds.limits counts above t (is_effect item)) m
+    ∙ ap (λ (t : Bool). item_tag_flaws bounds.limits counts above (is_memory_kind kind) t) x ∙ k.0 in
     let more_is : more ≡ counts_with_item (is_memory item) counts = sym k.1 ∙ ap (λ (t : Bool). counts_with_item t counts) (sym m) in
     let text : tag_byte (tags.Item kind) ∷ fields_text item ≡ item_text item = ap (λ (t : ItemKind). tag_byte (tags.Item t) ∷ fields_text item) f.kind_is ∙ sym (item_text_is item) in
-    let item_takes : Takes bytes (item_text item) a.0.1 = subst (λ (t : List ℕ). Takes bytes t a.0.1) text (Takes-then bytes (tag_byte (tags.Item kind) ∷ []) rest (fields_text item) a.0.1 tag f.takes) in
-    let below_sound : row_flaws bounds (counts_with_item (is_memory item) counts) (above_with item above) b.0.0 ≡ [] = subst (λ (c : Counts). row_flaws bounds c (above_with item above) b.0.0 ≡ []) more_is n.sound in
+    let item_takes : Takes bytes (item_text item) a.0.1 = subst (λ (t : List ℕ). Takes bytes t a.0.1) text
+    (Takes-then bytes (tag_byte (tags.Item kind) ∷ []) rest (fields_text item) a.0.1 tag f.takes) in
+    let below_sound : row_flaws bounds (counts_with_item (is_memory item) counts) (above_with item above) b.0.0 ≡ [] =
+    subst (λ (c : Counts). row_flaws bounds c (above_with item above) b.0.0 ≡ []) more_is n.sound in
     let made : PartOfRow = (Then item b.0.0, b.0.1, b.0.2) in
     subst (Part bounds counts above bytes) (ok_is made read b.2) (record {
       takes = Takes-then bytes (item_text item) a.0.1 (row_text b.0.0) b.0.2 item_takes n.takes;
@@ -286,7 +297,7 @@ goto_takes bounds counts above bytes rest read tag e =
     let p = passes_then rest (target_flaws bounds.rows b.0.0) (At_leaf (Leads_to b.0.0), b.0.1) a.0 b.2 in
     let t = number_takes w32 (2 ^ 32) wide32 rest b.0.0 b.0.1 tag.rest_fits b.1 in
     let part = leaf_part bounds counts above bytes (Leads_to b.0.0) b.0.1 (Takes-then bytes (0x01 ∷ []) rest (u32_text b.0.0) b.0.1 tag t.0) p.0 tt in
-    let whole : Part bounds counts above bytes (a.0.0, counts, a.0.1) = subst (λ (y : Row × List ℕ). Part bounds counts above bytes (y.0, counts, y.1)) p.1 part in
+    let whole : Part bounds counts above bytes (a.0.0, counts, a.0.1) = subst (λ (y : CodeRow × List ℕ). Part bounds counts above bytes (y.0, counts, y.1)) p.1 part in
     subst (Part bounds counts above bytes) (ok_is (a.0.0, counts, a.0.1) read a.2) whole
 
 trap_row_takes : (bounds : Bounds) (counts : Counts) (above : Above) (bytes rest : List ℕ) (read : PartOfRow) → Takes bytes (0x03 ∷ []) rest
@@ -300,7 +311,8 @@ trap_row_takes bounds counts above bytes rest read tag e =
     let t = number_takes w32 (2 ^ 32) wide32 b.0.1 c.0.0 c.0.1 k.rest_fits c.1 in
     let kt = Takes-then rest (trap_byte b.0.0 ∷ []) b.0.1 (u32_text c.0.0) c.0.1 k t.0 in
     let part = leaf_part bounds counts above bytes (Traps b.0.0 c.0.0) c.0.1 (Takes-then bytes (0x03 ∷ []) rest (trap_byte b.0.0 ∷ u32_text c.0.0) c.0.1 tag kt) refl t.1 in
-    let whole : Part bounds counts above bytes (a.0.0, counts, a.0.1) = subst (λ (y : Row × List ℕ). Part bounds counts above bytes (y.0, counts, y.1)) (ok_is (At_leaf (Traps b.0.0 c.0.0), c.0.1) a.0 c.2) part in
+    let whole : Part bounds counts above bytes (a.0.0, counts, a.0.1) =
+    subst (λ (y : CodeRow × List ℕ). Part bounds counts above bytes (y.0, counts, y.1)) (ok_is (At_leaf (Traps b.0.0 c.0.0), c.0.1) a.0 c.2) part in
     subst (Part bounds counts above bytes) (ok_is (a.0.0, counts, a.0.1) read a.2) whole
 
 behind_takes : (bounds : Bounds) (below : ReadsPart) → ReadsWell bounds below → (counts : Counts) (above : Above) (bytes : List ℕ) (tag : Tag) (rest : List ℕ) (read : PartOfRow)
@@ -335,7 +347,7 @@ abbrev pub room : Bounds → Counts → ℕ
 room bounds counts = (bounds.limits.ops - counts.ops) + (bounds.limits.tests - counts.tests)
 
 -- counts only grow
-pub counts_grow : (row : Row) (counts : Counts) → (counts.ops ≤ (counts_after row counts).ops) × (counts.tests ≤ (counts_after row counts).tests)
+pub counts_grow : (row : CodeRow) (counts : Counts) → (counts.ops ≤ (counts_after row counts).ops) × (counts.tests ≤ (counts_after row counts).tests)
 counts_grow (Then item rest) counts = let h = counts_grow rest (counts_with_item (is_memory item) counts) in (omega (arith, h.0), h.1)
 counts_grow (Either on on_yes on_no) counts =
     let h = counts_grow on_yes (counts_with_test counts) in
@@ -343,30 +355,37 @@ counts_grow (Either on on_yes on_no) counts =
     (omega (arith, h.0, k.0), omega (arith, h.1, k.1))
 counts_grow (At_leaf leaf) counts = (omega arith, omega arith)
 
-at_tag : (bounds : Bounds) (depth : ℕ) (counts : Counts) (above : Above) (tag : Tag) (rest : List ℕ) → row_at bounds (suc depth) counts above (tag_byte tag ∷ rest) ≡ behind_tag bounds (row_at bounds depth) counts above (tag_byte tag ∷ rest) tag rest
+pub at_tag : (bounds : Bounds) (depth : ℕ) (counts : Counts) (above : Above) (tag : Tag) (rest : List ℕ)
+    → row_at bounds (suc depth) counts above (tag_byte tag ∷ rest) ≡ behind_tag bounds (row_at bounds depth) counts above (tag_byte tag ∷ rest) tag rest
 unfolding row_at
 at_tag bounds depth counts above tag rest = rw (tag_again tag rest) refl
 
-at_item : (bounds : Bounds) (below : ReadsPart) (counts : Counts) (above : Above) (bytes : List ℕ) (kind : ItemKind) (rest : List ℕ) → item_tag_flaws bounds.limits counts above (is_memory_kind kind) (is_effect_kind kind) ≡ []
+at_item : (bounds : Bounds) (below : ReadsPart) (counts : Counts) (above : Above) (bytes : List ℕ) (kind : ItemKind) (rest : List ℕ)
+    → item_tag_flaws bounds.limits counts above (is_memory_kind kind) (is_effect_kind kind) ≡ []
     → behind_tag bounds below counts above bytes (tags.Item kind) rest ≡ step_at bounds below (counts_with_item (is_memory_kind kind) counts) above kind rest
 unfolding behind_tag
 at_item bounds below counts above bytes kind rest none = rw none refl
 
-at_step : (bounds : Bounds) (below : ReadsPart) (counts : Counts) (above : Above) (kind : ItemKind) (bytes : List ℕ) (item : Item) (rest : List ℕ) (next : Row) (after : Counts) (end : List ℕ)
-    → fields_at bounds.arrays above kind bytes ≡ Ok (item, rest) → below counts (above_with item above) rest ≡ Ok (next, after, end) → step_at bounds below counts above kind bytes ≡ Ok (Then item next, after, end)
+at_step : (bounds : Bounds) (below : ReadsPart) (counts : Counts) (above : Above) (kind : ItemKind) (bytes : List ℕ) (item : Item) (rest : List ℕ) (next : CodeRow) (after : Counts) (end : List ℕ)
+    → fields_at bounds.arrays above kind bytes ≡ Ok (item, rest) → below counts (above_with item above) rest ≡ Ok (next, after, end)
+    → step_at bounds below counts above kind bytes ≡ Ok (Then item next, after, end)
 unfolding step_at
 at_step bounds below counts above kind bytes item rest next after end h k = rw (h, k) refl
 
-at_test : (bounds : Bounds) (below : ReadsPart) (counts : Counts) (above : Above) (bytes rest : List ℕ) → test_tag_flaws bounds.limits counts ≡ [] → behind_tag bounds below counts above bytes tags.Test rest ≡ test_at below (counts_with_test counts) above rest
+at_test : (bounds : Bounds) (below : ReadsPart) (counts : Counts) (above : Above) (bytes rest : List ℕ) → test_tag_flaws bounds.limits counts ≡ []
+    → behind_tag bounds below counts above bytes tags.Test rest ≡ test_at below (counts_with_test counts) above rest
 unfolding behind_tag
 at_test bounds below counts above bytes rest none = rw none refl
 
-at_sides : (below : ReadsPart) (counts : Counts) (above : Above) (bytes : List ℕ) (on : Operand) (rest : List ℕ) (on_yes : Row) (between : Counts) (more : List ℕ) (on_no : Row) (after : Counts) (end : List ℕ)
-    → operand_at bytes ≡ Ok (on, rest) → below counts above rest ≡ Ok (on_yes, between, more) → below between above more ≡ Ok (on_no, after, end) → test_at below counts above bytes ≡ Ok (Either on on_yes on_no, after, end)
+at_sides : (below : ReadsPart) (counts : Counts) (above : Above) (bytes : List ℕ) (on : Operand) (rest : List ℕ) (on_yes : CodeRow) (between : Counts) (more : List ℕ) (on_no : CodeRow)
+    (after : Counts) (end : List ℕ)
+    → operand_at bytes ≡ Ok (on, rest) → below counts above rest ≡ Ok (on_yes, between, more) → below between above more ≡ Ok (on_no, after, end)
+    → test_at below counts above bytes ≡ Ok (Either on on_yes on_no, after, end)
 unfolding test_at
 at_sides below counts above bytes on rest on_yes between more on_no after end h k l = rw (h, k, l) refl
 
-leaf_again : (bounds : Bounds) (depth : ℕ) (counts : Counts) (above : Above) (leaf : Leaf) (rest : List ℕ) → bounds.rows ≤ 2 ^ 32 → leaf_flaws bounds leaf ≡ [] → LeafFits leaf → row_at bounds (suc depth) counts above (leaf_text leaf ++ rest) ≡ Ok (At_leaf leaf, counts, rest)
+pub leaf_again : (bounds : Bounds) (depth : ℕ) (counts : Counts) (above : Above) (leaf : Leaf) (rest : List ℕ) → bounds.rows ≤ 2 ^ 32 → leaf_flaws bounds leaf ≡ [] → LeafFits leaf
+    → row_at bounds (suc depth) counts above (leaf_text leaf ++ rest) ≡ Ok (At_leaf leaf, counts, rest)
 unfolding behind_tag goto_at trap_fields_at
 leaf_again bounds depth counts above (Leads_to row) rest few none fits =
     let there : row < bounds.rows = leb-false _ _ (where_nil (leb bounds.rows row) flaws.Target none) in
@@ -376,25 +395,29 @@ leaf_again bounds depth counts above (Traps kind line) rest few none fits =
     at_tag bounds depth counts above tags.Trap (trap_byte kind ∷ (u32_text line ++ rest)) ∙ rw (trap_again kind (u32_text line ++ rest), number_again w32 (2 ^ 32) wide32 line rest fits) refl
 
 -- a row without a flaw is read, where the reader may go deep enough
-pub row_again : (bounds : Bounds) (row : Row) (depth : ℕ) (counts : Counts) (above : Above) (rest : List ℕ) → bounds.rows ≤ 2 ^ 32 → row_flaws bounds counts above row ≡ [] → RowFits row → room bounds counts < depth
+pub row_again : (bounds : Bounds) (row : CodeRow) (depth : ℕ) (counts : Counts) (above : Above) (rest : List ℕ) → bounds.rows ≤ 2 ^ 32 → row_flaws bounds counts above row ≡ [] → RowFits row
+    → room bounds counts < depth
     → row_at bounds depth counts above (row_text row ++ rest) ≡ Ok (row, counts_after row counts, rest)
 row_again bounds row zero counts above rest few none fits deep = absurd (omega arith)
 row_again bounds (Then item next) (suc depth) counts above rest few none fits deep =
     let p = nil_parts (item_flaws bounds counts above item) (row_flaws bounds (counts_with_item (is_memory item) counts) (above_with item above) next) none in
     let q = nil_parts (item_tag_flaws bounds.limits counts above (is_memory item) (is_effect item)) (field_flaws bounds.arrays above item) p.0 in
-    let o = nil_parts (flaw_where (leb bounds.limits.ops counts.ops) flaws.TooManyOps) (flaw_where (is_memory item && leb bounds.limits.mem counts.mem) flaws.TooManyMem ++ flaw_where (is_effect item && above.effect) flaws.EffectTwice) q.0 in
+    let o = nil_parts (flaw_where (leb bounds.limits.ops counts.ops) flaws.TooManyOps)
+    (flaw_where (is_memory item && leb bounds.limits.mem counts.mem) flaws.TooManyMem ++ flaw_where (is_effect item && above.effect) flaws.EffectTwice) q.0 in
     let some : counts.ops < bounds.limits.ops = leb-false _ _ (where_nil (leb bounds.limits.ops counts.ops) flaws.TooManyOps o.0) in
     let tail = row_text next ++ rest in
     let tag = tag_byte (tags.Item (kind_of item)) in
     let regrouped : row_text (Then item next) ++ rest ≡ tag ∷ (fields_text item ++ tail) = append_assoc (item_text item) (row_text next) rest ∙ ap (λ (t : List ℕ). t ++ tail) (item_text_is item) in
     let tag_none : item_tag_flaws bounds.limits counts above (is_memory_kind (kind_of item)) (is_effect_kind (kind_of item)) ≡ [] =
-    ap (λ (t : Bool). item_tag_flaws bounds.limits counts above t (is_effect_kind (kind_of item))) (memory_is item) ∙ ap (λ (t : Bool). item_tag_flaws bounds.limits counts above (is_memory item) t) (effect_is item) ∙ q.0 in
+    ap (λ (t : Bool). item_tag_flaws bounds.limits counts above t (is_effect_kind (kind_of item))) (memory_is item)
+    ∙ ap (λ (t : Bool). item_tag_flaws bounds.limits counts above (is_memory item) t) (effect_is item) ∙ q.0 in
     let below = row_again bounds next depth (counts_with_item (is_memory item) counts) (above_with item above) rest few p.1 fits.1 (omega (arith, some)) in
     ap (row_at bounds (suc depth) counts above) regrouped
     ∙ at_tag bounds depth counts above (tags.Item (kind_of item)) (fields_text item ++ tail)
     ∙ at_item bounds (row_at bounds depth) counts above (tag ∷ (fields_text item ++ tail)) (kind_of item) (fields_text item ++ tail) tag_none
     ∙ ap (λ (t : Bool). step_at bounds (row_at bounds depth) (counts_with_item t counts) above (kind_of item) (fields_text item ++ tail)) (memory_is item)
-    ∙ at_step bounds (row_at bounds depth) (counts_with_item (is_memory item) counts) above (kind_of item) (fields_text item ++ tail) item tail next (counts_after next (counts_with_item (is_memory item) counts)) rest
+    ∙ at_step bounds (row_at bounds depth) (counts_with_item (is_memory item) counts) above (kind_of item) (fields_text item ++ tail) item tail next
+    (counts_after next (counts_with_item (is_memory item) counts)) rest
     (fields_again bounds.arrays above item tail q.1 fits.0) below
 row_again bounds (Either on on_yes on_no) (suc depth) counts above rest few none fits deep =
     let counted = counts_with_test counts in
@@ -406,7 +429,8 @@ row_again bounds (Either on on_yes on_no) (suc depth) counts above rest few none
     let grown = counts_grow on_yes counted in
     let tail = row_text on_no ++ rest in
     let regrouped : row_text (Either on on_yes on_no) ++ rest ≡ 0x10 ∷ (operand_text on ++ (row_text on_yes ++ tail)) =
-    ap (λ (t : List ℕ). 0x10 ∷ t) (append_assoc (operand_text on) (row_text on_yes ++ row_text on_no) rest ∙ ap (λ (t : List ℕ). operand_text on ++ t) (append_assoc (row_text on_yes) (row_text on_no) rest)) in
+    ap (λ (t : List ℕ). 0x10 ∷ t) (append_assoc (operand_text on) (row_text on_yes ++ row_text on_no) rest
+    ∙ ap (λ (t : List ℕ). operand_text on ++ t) (append_assoc (row_text on_yes) (row_text on_no) rest)) in
     let first = row_again bounds on_yes depth counted above tail few r.0 fits.1 (omega (arith, some)) in
     let second = row_again bounds on_no depth between above rest few r.1 fits.2 (omega (arith, some, grown.0, grown.1)) in
     ap (row_at bounds (suc depth) counts above) regrouped

@@ -1,5 +1,6 @@
+pub mod models
 pub mod ObjectText
 pub mod Numbers
 pub mod Reading
-pub mod Gives
-pub mod Headers
+pub mod Cause
+pub mod Laws

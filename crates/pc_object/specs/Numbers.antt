@@ -1,29 +1,22 @@
--- Which numbers a row and an object hold. In memory they have their types; here they are numbers of any size.
-use Rattle.std.specs.Prelude.{ℕ, ◌<◌, ◌^◌, FitsSigned}
+-- Which numbers have a text of their own. In memory they have their types; here they are numbers of any size.
+use Rattle.std.specs.Prelude.{◌<◌, ◌^◌, length, FitsSigned}
 use Rattle.std.specs.Int.{w32}
 use Rattle.std.specs.List.{AllByRecursion}
 use Rattle.pc_word.specs.declared.item.Item.{Item}
 use Rattle.pc_word.specs.declared.item.Item.TheVariants.{Bin, Copy, Load, Store, Print, Read, More}
 use Rattle.pc_word.specs.declared.item.Operand.{Operand}
 use Rattle.pc_word.specs.declared.item.Operand.TheVariants.{Name, Lit}
-use Rattle.pc_machine.specs.Row.{Leaf, Leads_to, Ends, Traps, Row, Then, Either, At_leaf}
-use Rattle.pc_machine.specs.WellFormed.{IsOperand, IsItem, IsLeaf}
+use Rattle.pc_machine.specs.MachineCode.{Leaf, Leads_to, Ends, Traps, CodeRow, RowCode}
+use Rattle.pc_word.specs.Row.{Then, Either, At_leaf}
 use Rattle.pc_object.specs.declared.object.Note.{Note}
 use Rattle.pc_object.specs.ObjectText.{CodeWithNotes}
-
--- a row whose registers, arrays and targets are there, of so many arrays and so many rows
-abbrev pub IsInRange : ℕ → ℕ → Row → Type 0
-IsInRange arrays rows (Then item rest) = IsItem arrays item × IsInRange arrays rows rest
-IsInRange arrays rows (Either on on_yes on_no) = IsOperand on × IsInRange arrays rows on_yes × IsInRange arrays rows on_no
-IsInRange arrays rows (At_leaf leaf) = IsLeaf rows leaf
-
--- ---- numbers that have a text of their own
 
 -- a literal is a word
 abbrev pub OperandFits : Operand → Type 0
 OperandFits (Name register) = Unit {0}
 OperandFits (Lit value) = FitsSigned w32 value
 
+-- each literal of an item is a word
 abbrev pub ItemFits : Item → Type 0
 ItemFits (Bin op dest left right) = OperandFits left × OperandFits right
 ItemFits (Copy dest from) = OperandFits from
@@ -39,7 +32,8 @@ LeafFits (Leads_to row) = Unit {0}
 LeafFits Ends = Unit {0}
 LeafFits (Traps kind line) = line < 2 ^ 32
 
-abbrev pub RowFits : Row → Type 0
+-- each literal of a row is a word, and each line is below 2^32
+abbrev pub RowFits : CodeRow → Type 0
 RowFits (Then item rest) = ItemFits item × RowFits rest
 RowFits (Either on on_yes on_no) = OperandFits on × RowFits on_yes × RowFits on_no
 RowFits (At_leaf leaf) = LeafFits leaf
@@ -54,3 +48,22 @@ pub record NoteFits (note : Note) : Type 0 where
 pub record HasWords (object : CodeWithNotes) : Type 0 where
   pub rows : AllByRecursion RowFits object.code.rows
   pub notes : AllByRecursion NoteFits object.notes
+
+-- the row that a goto leads to is below 2^32
+abbrev pub TargetFits : Leaf → Type 0
+TargetFits (Leads_to row) = row < 2 ^ 32
+TargetFits Ends = Unit {0}
+TargetFits (Traps kind line) = Unit {0}
+
+-- each row that a goto of a row leads to is below 2^32
+abbrev pub TargetsFit : CodeRow → Type 0
+TargetsFit (Then item rest) = TargetsFit rest
+TargetsFit (Either on on_yes on_no) = TargetsFit on_yes × TargetsFit on_no
+TargetsFit (At_leaf leaf) = TargetFits leaf
+
+-- each length, the number of rows and each row that a goto leads to is below 2^32, as in every code in memory; in a well-formed
+-- code they are
+pub record HasCounts (code : RowCode) : Type 0 where
+  pub lengths : AllByRecursion (λ n. n < 2 ^ 32) code.arrays
+  pub few_rows : length code.rows < 2 ^ 32
+  pub targets : AllByRecursion TargetsFit code.rows

@@ -10,24 +10,29 @@ use Rattle.pc_word.specs.declared.item.Operand.{Operand}
 use Rattle.pc_word.specs.declared.item.Operand.TheVariants.{Name, Lit}
 use Rattle.pc_word.specs.declared.item.TrapKind.{TrapKind}
 use Rattle.pc_word.specs.declared.item.TrapKind.TheVariants.{DivideByZero, OutOfBounds, EndOfInput}
-use Rattle.pc_machine.specs.Row.{Leaf, Leads_to, Ends, Traps, Row, Then, Either, At_leaf, RowCode, code_of}
+use Rattle.pc_machine.specs.MachineCode.{Leaf, Leads_to, Ends, Traps, CodeRow, RowCode, code_of}
+use Rattle.pc_word.specs.Row.{Then, Either, At_leaf}
 use Rattle.pc_machine.specs.WellFormed.{WellFormed}
 use Rattle.pc_object.specs.declared.object.Note.{Note}
 use Rattle.pc_object.specs.declared.object.Object.{Object}
+use Rattle.pc_word.specs.MachineLimits.{most_object}
 
 -- an object as plain data
 pub record CodeWithNotes : Type 0 where
   pub code : RowCode
   pub notes : List Note
 
+-- the object that an object in memory is
 abbrev pub object_of : Object → CodeWithNotes
 object_of object = record { code = code_of object.code; notes = object.notes }
 
 -- ---- numbers
 
+-- a number in two bytes
 abbrev pub u16_text : ℕ → List ℕ
 u16_text n = to_be_bytes w16 n
 
+-- a number in four bytes
 abbrev pub u32_text : ℕ → List ℕ
 u32_text n = to_be_bytes w32 n
 
@@ -37,6 +42,7 @@ word_text w = to_be_bytes w32 (cast_unsigned w32 w)
 
 -- ---- rows
 
+-- the byte of an operator
 abbrev pub operator_byte : OpCode → ℕ
 operator_byte Add = 0x00
 operator_byte Sub = 0x01
@@ -54,6 +60,7 @@ operator_byte Equal = 0x0C
 operator_byte Unequal = 0x0D
 operator_byte Below = 0x0E
 
+-- the byte of a kind of trap
 abbrev pub trap_byte : TrapKind → ℕ
 trap_byte DivideByZero = 0x00
 trap_byte OutOfBounds = 0x01
@@ -74,13 +81,14 @@ item_text (Print value) = 0x24 ∷ operand_text value
 item_text (Read dest) = 0x25 ∷ dest ∷ []
 item_text (More dest) = 0x26 ∷ dest ∷ []
 
+-- a leaf: its tag and its fields
 abbrev pub leaf_text : Leaf → List ℕ
 leaf_text (Leads_to row) = 0x01 ∷ u32_text row
 leaf_text Ends = 0x02 ∷ []
 leaf_text (Traps kind line) = 0x03 ∷ trap_byte kind ∷ u32_text line
 
 -- a row in preorder, the yes side first
-abbrev pub row_text : Row → List ℕ
+abbrev pub row_text : CodeRow → List ℕ
 row_text (Then item rest) = item_text item ++ row_text rest
 row_text (Either on on_yes on_no) = 0x10 ∷ (operand_text on ++ (row_text on_yes ++ row_text on_no))
 row_text (At_leaf leaf) = leaf_text leaf
@@ -93,6 +101,7 @@ header_text code =
     0x50 ∷ 0x54 ∷ 0x56 ∷ 0x31 ∷ code.limits.ops ∷ code.limits.tests ∷ code.limits.mem ∷ length code.arrays
     ∷ (flat_map u32_text code.arrays ++ u32_text (length code.rows))
 
+-- a note: its choice, line, number and limit
 abbrev pub note_text : Note → List ℕ
 note_text note = note.choice ∷ (u32_text note.line ++ (u32_text note.number ++ u32_text note.limit))
 
@@ -106,6 +115,7 @@ object_text object = header_text object.code ++ (flat_map row_text object.code.r
 
 -- ---- objects that may be written
 
+-- the choice of a note is known
 abbrev pub IsChoice : Note → Type 0
 IsChoice note = note.choice ≤ 7
 
@@ -114,4 +124,4 @@ pub record IsObject (object : CodeWithNotes) : Type 0 where
   pub code : WellFormed object.code
   pub choices : AllByRecursion IsChoice object.notes
   pub few_notes : length object.notes ≤ 65535
-  pub few_bytes : length (object_text object) ≤ 16777216
+  pub few_bytes : length (object_text object) ≤ most_object

@@ -15,8 +15,12 @@ use Rattle.pc_machine.specs.declared.code.Flaw.{Flaw}
 use Rattle.pc_machine.specs.declared.code.Flaw.TheVariants as flaws
 use Rattle.pc_machine.specs.declared.check.Bounds.{Bounds}
 use Rattle.pc_machine.specs.declared.check.Counts.{Counts}
-use Rattle.pc_machine.specs.Row.{Leads_to, Ends, Traps, Row, Then, Either, At_leaf}
-use Rattle.pc_machine.specs.Flaws.{flaw_where, limit_flaws, array_count_flaws, length_flaws, row_count_flaws, Above, nothing_above, above_with, no_counts, counts_with_item, counts_with_test, item_tag_flaws, test_tag_flaws, register_flaws, dest_flaws, array_flaws, target_flaws, checked}
+use Rattle.pc_machine.specs.MachineCode.{Leads_to, Ends, Traps, CodeRow}
+use Rattle.pc_word.specs.Row.{Then, Either, At_leaf}
+use Rattle.pc_machine.specs.Flaws.{flaw_where, limit_flaws, array_count_flaws, length_flaws, row_count_flaws, Above, nothing_above, above_with}
+use Rattle.pc_machine.specs.Flaws.{no_counts, counts_with_item, counts_with_test, item_tag_flaws, test_tag_flaws, register_flaws, dest_flaws}
+use Rattle.pc_machine.specs.Flaws.{array_flaws, target_flaws}
+use Rattle.pc_word.specs.Exact.{checked}
 use Rattle.pc_object.specs.declared.object.Note.{Note}
 use Rattle.pc_object.specs.declared.refusal.ObjectError.{ObjectError}
 use Rattle.pc_object.specs.declared.refusal.ObjectError.TheVariants.{BadMagic, Truncated, BadField, Trailing}
@@ -27,6 +31,7 @@ use Rattle.pc_object.specs.declared.tag.ItemKind.TheVariants as kinds
 use Rattle.pc_object.specs.declared.tag.Tag.{Tag}
 use Rattle.pc_object.specs.declared.tag.Tag.TheVariants as tags
 use Rattle.pc_object.specs.ObjectText.{CodeWithNotes, operator_byte, trap_byte}
+use Rattle.pc_word.specs.MachineLimits.{most_mem, most_ops, most_tests}
 
 -- one reading after another: the first refusal wins
 infixl 10 ◌>>=◌
@@ -55,6 +60,7 @@ known bytes flaw None = Err (Flawed (length bytes) flaw)
 
 -- ---- numbers
 
+-- the next byte
 abbrev pub byte_at : List ℕ → Result (ℕ × List ℕ) Refusal
 byte_at [] = Err Short
 byte_at (byte ∷ rest) = Ok (byte, rest)
@@ -86,11 +92,12 @@ limit_at most bytes = do
   passes bytes (limit_flaws most limit.0)
   Ok limit
 
+-- the limits of items, of tests, and of loads and stores
 unfoldable pub limits_at : List ℕ → Result (Limits × List ℕ) Refusal
 limits_at bytes = do
-  ops ← limit_at 32 bytes
-  tests ← limit_at 7 ops.1
-  mem ← limit_at 32 tests.1
+  ops ← limit_at most_ops bytes
+  tests ← limit_at most_tests ops.1
+  mem ← limit_at most_mem tests.1
   Ok (record { ops = ops.0; tests = tests.0; mem = mem.0 }, mem.1)
 
 -- the lengths of so many arrays, behind arrays of so many elements
@@ -122,6 +129,7 @@ row_count_at bytes = do
 abbrev pub operators : List OpCode
 operators = Add ∷ Sub ∷ Mul ∷ Div ∷ Rem ∷ Shl ∷ Shr ∷ And ∷ Or ∷ Xor ∷ Less ∷ LessEq ∷ Equal ∷ Unequal ∷ Below ∷ []
 
+-- the operator whose byte it is, if there is one
 unfoldable pub operator_of : ℕ → Option OpCode
 operator_of byte = find (λ op. operator_byte op == byte) operators
 
@@ -129,15 +137,18 @@ operator_of byte = find (λ op. operator_byte op == byte) operators
 abbrev pub trap_kinds : List TrapKind
 trap_kinds = DivideByZero ∷ OutOfBounds ∷ EndOfInput ∷ []
 
+-- the kind whose byte it is, if there is one
 unfoldable pub trap_of : ℕ → Option TrapKind
 trap_of byte = find (λ kind. trap_byte kind == byte) trap_kinds
 
+-- the byte of an operator
 unfoldable pub operator_at : List ℕ → Result (OpCode × List ℕ) Refusal
 operator_at bytes = do
   byte ← byte_at bytes
   op ← known bytes flaws.Operator (operator_of byte.0)
   Ok (op, byte.1)
 
+-- the byte of a kind of trap
 unfoldable pub trap_at : List ℕ → Result (TrapKind × List ℕ) Refusal
 trap_at bytes = do
   byte ← byte_at bytes
@@ -178,6 +189,7 @@ operand_at (suc (suc tag) ∷ rest) = Err (Flawed (suc (length rest)) flaws.Oper
 
 -- ---- rows
 
+-- the byte of a tag
 abbrev pub tag_byte : Tag → ℕ
 tag_byte tags.Goto = 0x01
 tag_byte tags.Stop = 0x02
@@ -191,6 +203,7 @@ tag_byte (tags.Item kinds.Print) = 0x24
 tag_byte (tags.Item kinds.Read) = 0x25
 tag_byte (tags.Item kinds.More) = 0x26
 
+-- every tag
 abbrev pub all_tags : List Tag
 all_tags =
     tags.Goto ∷ tags.Stop ∷ tags.Trap ∷ tags.Test ∷ tags.Item kinds.Bin ∷ tags.Item kinds.Copy ∷ tags.Item kinds.Load
@@ -200,6 +213,7 @@ all_tags =
 unfoldable pub tag_of : ℕ → Option Tag
 tag_of byte = find (λ tag. tag_byte tag == byte) all_tags
 
+-- the byte of a tag, which begins a part of a row
 unfoldable pub tag_at : List ℕ → Result (Tag × List ℕ) Refusal
 tag_at bytes = do
   byte ← byte_at bytes
@@ -252,14 +266,14 @@ fields_at arrays above kinds.More bytes = do
   Ok (items.More dest.0, dest.1)
 
 -- the row that a goto leads to, of so many
-unfoldable pub goto_at : ℕ → List ℕ → Result (Row × List ℕ) Refusal
+unfoldable pub goto_at : ℕ → List ℕ → Result (CodeRow × List ℕ) Refusal
 goto_at rows bytes = do
   row ← number_at w32 bytes
   passes bytes (target_flaws rows row.0)
   Ok (At_leaf (Leads_to row.0), row.1)
 
 -- the kind and the line of a trap
-unfoldable pub trap_fields_at : List ℕ → Result (Row × List ℕ) Refusal
+unfoldable pub trap_fields_at : List ℕ → Result (CodeRow × List ℕ) Refusal
 trap_fields_at bytes = do
   kind ← trap_at bytes
   line ← number_at w32 kind.1
@@ -267,7 +281,7 @@ trap_fields_at bytes = do
 
 -- A part of a row: what is read, the counts of the whole row behind it, and the bytes behind it.
 abbrev pub PartOfRow : Type 0
-PartOfRow = Row × Counts × List ℕ
+PartOfRow = CodeRow × Counts × List ℕ
 
 -- A reader of a part of a row, given the counts before it and the path above it.
 abbrev pub ReadsPart : Type 0
@@ -319,12 +333,12 @@ row_at bounds (suc depth) counts above bytes = do
   tag ← tag_at bytes
   behind_tag bounds (row_at bounds depth) counts above bytes tag.0 tag.1
 
--- no row has more than 32 items and 7 tests above a leaf
+-- no row has more items and tests above a leaf than the limits allow
 abbrev pub deepest : ℕ
-deepest = 40
+deepest = most_ops + most_tests + 1
 
 -- so many rows, each counted by itself
-unfoldable pub rows_at : Bounds → ℕ → List ℕ → Result (List Row × List ℕ) Refusal
+unfoldable pub rows_at : Bounds → ℕ → List ℕ → Result (List CodeRow × List ℕ) Refusal
 rows_at bounds zero bytes = Ok ([], bytes)
 rows_at bounds (suc count) bytes = do
   row ← row_at bounds deepest no_counts nothing_above bytes
@@ -340,6 +354,7 @@ choice_at bytes = do
   passes bytes (flaw_where (nat_lt 7 choice.0) flaws.Choice)
   Ok choice
 
+-- a note: its choice, line, number and limit
 unfoldable pub note_at : List ℕ → Result (Note × List ℕ) Refusal
 note_at bytes = do
   choice ← choice_at bytes
@@ -348,6 +363,7 @@ note_at bytes = do
   limit ← number_at w32 number.1
   Ok (record { choice = choice.0; line = line.0; number = number.0; limit = limit.0 }, limit.1)
 
+-- so many notes
 unfoldable pub notes_at : ℕ → List ℕ → Result (List Note × List ℕ) Refusal
 notes_at zero bytes = Ok ([], bytes)
 notes_at (suc count) bytes = do
@@ -368,6 +384,7 @@ pub record Header : Type 0 where
   pub arrays : List ℕ
   pub rows : ℕ
 
+-- the first bytes, the limits, the arrays and the number of rows
 unfoldable pub header_at : List ℕ → Result (Header × List ℕ) Refusal
 header_at bytes = do
   start ← magic_at (0x50 ∷ 0x54 ∷ 0x56 ∷ 0x31 ∷ []) bytes
@@ -377,6 +394,7 @@ header_at bytes = do
   rows ← row_count_at arrays.1
   Ok (record { limits = limits.0; arrays = arrays.0; rows = rows.0 }, rows.1)
 
+-- what each row is held against
 abbrev pub header_bounds : Header → Bounds
 header_bounds header = record { limits = header.limits; arrays = length header.arrays; rows = header.rows }
 
@@ -402,5 +420,6 @@ abbrev pub told_of : ℕ → Result CodeWithNotes Refusal → Result CodeWithNot
 told_of total (Ok object) = Ok object
 told_of total (Err refusal) = Err (told total refusal)
 
+-- what bytes are read as: an object, or the first refusal with its offset
 unfoldable pub object_reading : List ℕ → Result CodeWithNotes ObjectError
 object_reading bytes = told_of (length bytes) (object_at bytes)

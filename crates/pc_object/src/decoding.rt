@@ -4,9 +4,12 @@ ghost use Rattle.std.specs.Prelude.{◌≡◌, ◌≤◌, ◌∷◌, [], length,
 ghost use Rattle.pc_machine.specs.WellFormed.{AreLimits};
 ghost use Rattle.pc_object.specs.ObjectText.{CodeWithNotes, object_of, object_text, IsObject};
 ghost use Rattle.pc_object.specs.Numbers.{HasWords};
-ghost use Rattle.pc_object.specs.Headers.{shown};
-ghost use Rattle.pc_object.specs.Gives.{Gives, Answers};
+ghost use Rattle.pc_object.specs.models.Headers.{shown};
+ghost use Rattle.pc_word.specs.Exact.{IsExact};
+ghost use Rattle.pc_object.specs.Cause.{object_cause};
+ghost use Rattle.pc_object.specs.models.HaltCause.{halt_cause};
 ghost use Rattle.pc_object.specs.Reading.{magic_at, lengths_at, header_at, note_at, notes_at, end_at, object_at, object_reading, told};
+ghost use Rattle.pc_word.specs.MachineLimits.{most_object};
 
 use crate::fields::{array_count_of, at_field, choice, half, limits, number, row_count_of};
 use crate::object::{Note, Object};
@@ -22,16 +25,16 @@ use std::alloc::Global;
 /// [`encode`](crate::encode) wrote is read as the object that it was, where neither call wants
 /// memory: its clauses are what `only` asks for.
 pub fn decode(alloc: Global, bytes: &[u8]) -> Result<Object, ObjectError>
-    requires { length bytes.now ≤ 16777216 }
+    requires { length bytes.now ≤ most_object }
     // What is read is an object, and the bytes are its text.
     ensures object { IfOk result (λ object. IsObject (object_of object)) }
     ensures words { IfOk result (λ object. HasWords (object_of object)) }
     ensures text { IfOk result (λ object. bytes.now ≡ object_text (object_of object)) }
     // The text of an object is read, and as that object.
     ensures only { (object : CodeWithNotes) → IsObject object → HasWords object → bytes.now ≡ object_text object
-        → Answers object_of result (Ok object) }
+        → IsExact object_of object_cause result (Ok object) }
     // Which refusal it is.
-    ensures exact { Answers object_of result (object_reading bytes.now) }
+    ensures exact { IsExact object_of object_cause result (object_reading bytes.now) }
 {
     told_object(alloc, bytes)
 }
@@ -39,8 +42,8 @@ pub fn decode(alloc: Global, bytes: &[u8]) -> Result<Object, ObjectError>
 /// The object that the bytes are, or the refusal by its offset.
 #[tactic(auto, unfolding(crate::specs::Reading::object_reading))]
 fn told_object(alloc: Global, bytes: &[u8]) -> Result<Object, ObjectError>
-    requires { length bytes.now ≤ 16777216 }
-    ensures { Answers object_of result (object_reading bytes.now) }
+    requires { length bytes.now ≤ most_object }
+    ensures { IsExact object_of object_cause result (object_reading bytes.now) }
 {
     match object(alloc, bytes) {
         Ok(object) => Ok(object),
@@ -51,7 +54,7 @@ fn told_object(alloc: Global, bytes: &[u8]) -> Result<Object, ObjectError>
 
 /// A refusal by its offset.
 fn tell(bytes: &[u8], refusal: Refusal) -> ObjectError
-    requires { length bytes.now ≤ 16777216 }
+    requires { length bytes.now ≤ most_object }
     ensures { result ≡ told (length bytes.now) refusal }
 {
     match refusal {
@@ -79,7 +82,7 @@ struct Header {
 
 #[tactic(auto, unfolding(crate::specs::Reading::object_at))]
 fn object(alloc: Global, bytes: &[u8]) -> Result<Object, Halt>
-    ensures { Gives object_of result (object_at bytes.now) }
+    ensures { IsExact object_of halt_cause result (object_at bytes.now) }
 {
     let (header, rest) = header_of(alloc, bytes)?;
     let bounds = Bounds {
@@ -103,7 +106,7 @@ fn object(alloc: Global, bytes: &[u8]) -> Result<Object, Halt>
 
 #[tactic(auto, unfolding(crate::specs::Reading::header_at))]
 fn header_of(alloc: Global, bytes: &[u8]) -> Result<(Header, &[u8]), Halt>
-    ensures { Gives (λ x. (shown x.0, x.1.now)) result (header_at bytes.now) }
+    ensures { IsExact (λ x. (shown x.0, x.1.now)) halt_cause result (header_at bytes.now) }
 {
     let rest = magic(b"PTV1", bytes)?;
     let (limits, rest) = limits(rest)?;
@@ -119,7 +122,7 @@ fn header_of(alloc: Global, bytes: &[u8]) -> Result<(Header, &[u8]), Halt>
 }
 
 fn magic<'a>(magic: &[u8], bytes: &'a [u8]) -> Result<&'a [u8], Halt>
-    ensures { Gives (λ rest. rest.now) result (magic_at magic.now bytes.now) }
+    ensures { IsExact (λ rest. rest.now) halt_cause result (magic_at magic.now bytes.now) }
 {
     let mut rest = bytes;
     for byte in magic {
@@ -135,7 +138,7 @@ fn magic<'a>(magic: &[u8], bytes: &'a [u8]) -> Result<&'a [u8], Halt>
 }
 
 fn lengths(alloc: Global, count: u8, bytes: &[u8]) -> Result<(Vec<u32>, &[u8]), Halt>
-    ensures { Gives (λ x. (x.0.items, x.1.now)) result (lengths_at count 0 bytes.now) }
+    ensures { IsExact (λ x. (x.0.items, x.1.now)) halt_cause result (lengths_at count 0 bytes.now) }
 {
     let mut lengths = Vec::new(alloc);
     let mut elements = 0;
@@ -150,7 +153,7 @@ fn lengths(alloc: Global, count: u8, bytes: &[u8]) -> Result<(Vec<u32>, &[u8]), 
 }
 
 fn notes(alloc: Global, count: u16, bytes: &[u8]) -> Result<(Vec<Note>, &[u8]), Halt>
-    ensures { Gives (λ x. (x.0.items, x.1.now)) result (notes_at count bytes.now) }
+    ensures { IsExact (λ x. (x.0.items, x.1.now)) halt_cause result (notes_at count bytes.now) }
 {
     let mut notes = Vec::new(alloc);
     let mut rest = bytes;
@@ -164,7 +167,7 @@ fn notes(alloc: Global, count: u16, bytes: &[u8]) -> Result<(Vec<Note>, &[u8]), 
 
 #[tactic(auto, unfolding(crate::specs::Reading::note_at))]
 fn note(bytes: &[u8]) -> Result<(Note, &[u8]), Halt>
-    ensures { Gives (λ x. (x.0, x.1.now)) result (note_at bytes.now) }
+    ensures { IsExact (λ x. (x.0, x.1.now)) halt_cause result (note_at bytes.now) }
 {
     let (choice, rest) = choice(bytes)?;
     let (line, rest) = number(rest)?;
@@ -180,7 +183,7 @@ fn note(bytes: &[u8]) -> Result<(Note, &[u8]), Halt>
 }
 
 fn end(bytes: &[u8]) -> Result<(), Halt>
-    ensures { Gives (λ x. x) result (end_at bytes.now) }
+    ensures { IsExact (λ x. x) halt_cause result (end_at bytes.now) }
 {
     match bytes {
         [] => Ok(()),

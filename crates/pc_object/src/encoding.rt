@@ -2,20 +2,25 @@
 
 ghost use Rattle.std.specs.Prelude.{◌≡◌, ◌++◌, ◌∷◌, [], ◌<◌, ◌≤◌, ◌^◌, length, All, IfOk, OnOk};
 ghost use Rattle.std.specs.List.{flat_map};
-ghost use Rattle.pc_machine.specs.Row.{row_of, rows_of, code_of};
+ghost use Rattle.pc_machine.specs.MachineCode.{row_of, rows_of, code_of};
 ghost use Rattle.pc_machine.specs.WellFormed.{IsOperand, IsItem};
-ghost use Rattle.pc_object.specs.ObjectText.{object_of, IsObject, object_text, header_text, notes_text, note_text, row_text, item_text, operand_text, word_text, u16_text, u32_text, operator_byte, trap_byte};
-ghost use Rattle.pc_object.specs.Numbers.{IsInRange, OperandFits, ItemFits, RowFits, NoteFits, HasWords};
+ghost use Rattle.pc_object.specs.ObjectText.{object_of, IsObject, object_text, header_text, notes_text, note_text, row_text, item_text, operand_text};
+ghost use Rattle.pc_object.specs.ObjectText.{word_text, u16_text, u32_text, operator_byte, trap_byte};
+ghost use Rattle.pc_object.specs.models.InRange.{IsInRange};
+ghost use Rattle.pc_object.specs.Numbers.{OperandFits, ItemFits, RowFits, NoteFits, HasWords};
+ghost use Rattle.pc_word.specs.MachineLimits.{most_arrays};
 
 use crate::object::{Note, Object};
 use byteorder::{BigEndian, ByteOrder};
 use pc_machine::{Code, Tree};
 use pc_word::{Item, OpCode, Operand, TrapKind};
 use std::alloc::{AllocError, Global};
+use thiserror::Error;
 
 /// Why an object could not be written.
-#[derive(Clone, Copy, Debug, PartialEq, Eq)]
+#[derive(Clone, Copy, Debug, PartialEq, Eq, Error)]
 pub enum EncodeError {
+    #[error("out of memory")]
     Memory,
 }
 
@@ -62,7 +67,7 @@ fn push_word(out: &mut Vec<u8>, word: i32) -> Result<(), AllocError>
 }
 
 fn push_header(out: &mut Vec<u8>, code: &Code) -> Result<(), AllocError>
-    requires arrays { length code.now.arrays ≤ 32 }
+    requires arrays { length code.now.arrays ≤ most_arrays }
     requires rows { length code.now.rows < 2 ^ 32 }
     ensures { OnOk result (out.new.items ≡ out.old.items ++ header_text (code_of code.now)) }
 {
@@ -84,7 +89,7 @@ fn push_lengths(out: &mut Vec<u8>, lengths: &[u32]) -> Result<(), AllocError>
 }
 
 fn push_rows(out: &mut Vec<u8>, rows: &[Tree]) -> Result<(), AllocError>
-    requires { All (λ tree. IsInRange 32 (2 ^ 32) (row_of tree)) rows.now }
+    requires { All (λ tree. IsInRange most_arrays (2 ^ 32) (row_of tree)) rows.now }
     ensures text { OnOk result (out.new.items ≡ out.old.items ++ flat_map row_text (rows_of rows.now)) }
     ensures words { OnOk result (All (λ tree. RowFits (row_of tree)) rows.now) }
 {
@@ -95,7 +100,7 @@ fn push_rows(out: &mut Vec<u8>, rows: &[Tree]) -> Result<(), AllocError>
 }
 
 fn push_row(out: &mut Vec<u8>, row: &Tree) -> Result<(), AllocError>
-    requires { IsInRange 32 (2 ^ 32) (row_of row.now) }
+    requires { IsInRange most_arrays (2 ^ 32) (row_of row.now) }
     ensures text { OnOk result (out.new.items ≡ out.old.items ++ row_text (row_of row.now)) }
     ensures words { OnOk result (RowFits (row_of row.now)) }
 {
@@ -123,7 +128,7 @@ fn push_row(out: &mut Vec<u8>, row: &Tree) -> Result<(), AllocError>
 }
 
 fn push_item(out: &mut Vec<u8>, item: Item) -> Result<(), AllocError>
-    requires { IsItem 32 item }
+    requires { IsItem most_arrays item }
     ensures text { OnOk result (out.new.items ≡ out.old.items ++ item_text item) }
     ensures words { OnOk result (ItemFits item) }
 {
@@ -133,11 +138,7 @@ fn push_item(out: &mut Vec<u8>, item: Item) -> Result<(), AllocError>
             dest,
             left,
             right,
-        } => {
-            out.extend_from_slice(&[0x20, operator_byte(op), dest as u8])?;
-            push_operand(out, left)?;
-            push_operand(out, right)
-        }
+        } => push_operands(out, &[0x20, operator_byte(op), dest as u8], left, right),
         Item::Copy { dest, from } => {
             out.extend_from_slice(&[0x21, dest as u8])?;
             push_operand(out, from)
@@ -150,11 +151,7 @@ fn push_item(out: &mut Vec<u8>, item: Item) -> Result<(), AllocError>
             array,
             index,
             value,
-        } => {
-            out.extend_from_slice(&[0x23, array])?;
-            push_operand(out, index)?;
-            push_operand(out, value)
-        }
+        } => push_operands(out, &[0x23, array], index, value),
         Item::Print { value } => {
             out.push(0x24)?;
             push_operand(out, value)
@@ -162,6 +159,24 @@ fn push_item(out: &mut Vec<u8>, item: Item) -> Result<(), AllocError>
         Item::Read { dest } => out.extend_from_slice(&[0x25, dest as u8]),
         Item::More { dest } => out.extend_from_slice(&[0x26, dest as u8]),
     }
+}
+
+/// Two operands behind the bytes in front of them.
+fn push_operands(
+    out: &mut Vec<u8>,
+    front: &[u8],
+    first: Operand,
+    second: Operand,
+) -> Result<(), AllocError>
+    requires first { IsOperand first }
+    requires second { IsOperand second }
+    ensures text { OnOk result (out.new.items ≡ out.old.items ++ (front.now ++ (operand_text first ++ operand_text second))) }
+    ensures first { OnOk result (OperandFits first) }
+    ensures second { OnOk result (OperandFits second) }
+{
+    out.extend_from_slice(front)?;
+    push_operand(out, first)?;
+    push_operand(out, second)
 }
 
 fn push_operand(out: &mut Vec<u8>, operand: Operand) -> Result<(), AllocError>

@@ -4,14 +4,17 @@
 ghost use Rattle.std.specs.Prelude.{◌≡◌, ◌<◌, ◌≤◌, length, Result, Ok, Err, IfOk};
 ghost use Rattle.std.specs.Int.{w16, w32};
 ghost use Rattle.pc_machine.specs.Checks.{above_of};
-ghost use Rattle.pc_object.specs.Gives.{Gives};
-ghost use Rattle.pc_object.specs.Reading.{at_field, byte_at, number_at, word_at, limit_at, limits_at, array_count_at, row_count_at, operator_at, trap_at, register_at, dest_at, array_at, operand_at, tag_at, choice_at};
+ghost use Rattle.pc_word.specs.Exact.{IsExact};
+ghost use Rattle.pc_object.specs.models.HaltCause.{halt_cause};
+ghost use Rattle.pc_object.specs.Reading.{at_field, byte_at, number_at, word_at, limit_at, limits_at, array_count_at, row_count_at, operator_at};
+ghost use Rattle.pc_object.specs.Reading.{trap_at, register_at, dest_at, array_at, operand_at, tag_at, choice_at};
+ghost use Rattle.pc_word.specs.MachineLimits.{registers};
 
 use crate::refusal::{Halt, Refusal};
 use crate::tag::{Tag, operator_of, tag_of, trap_of};
 use byteorder::{BigEndian, ByteOrder};
 use pc_machine::{Bounds, Flaw, Path, array_count, is_register, limit, row_count};
-use pc_word::{Limits, OpCode, Operand, TrapKind};
+use pc_word::{Limits, MOST_MEM, MOST_OPS, MOST_TESTS, OpCode, Operand, TrapKind};
 
 /// The flaw of the field that begins where `bytes` do.
 pub fn flawed(bytes: &[u8], flaw: Flaw) -> Halt
@@ -25,7 +28,7 @@ pub fn flawed(bytes: &[u8], flaw: Flaw) -> Halt
 
 /// What a check answers of the field that begins where `bytes` do.
 pub fn at_field<T>(bytes: &[u8], answer: Result<T, Flaw>) -> Result<T, Halt>
-    ensures { Gives (λ x. x) result (at_field bytes.now answer) }
+    ensures { IsExact (λ x. x) halt_cause result (at_field bytes.now answer) }
 {
     match answer {
         Ok(value) => Ok(value),
@@ -34,7 +37,7 @@ pub fn at_field<T>(bytes: &[u8], answer: Result<T, Flaw>) -> Result<T, Halt>
 }
 
 pub fn byte(bytes: &[u8]) -> Result<(u8, &[u8]), Halt>
-    ensures { Gives (λ x. (x.0, x.1.now)) result (byte_at bytes.now) }
+    ensures { IsExact (λ x. (x.0, x.1.now)) halt_cause result (byte_at bytes.now) }
 {
     match bytes {
         [] => Err(Halt::Refused(Refusal::Short)),
@@ -43,7 +46,7 @@ pub fn byte(bytes: &[u8]) -> Result<(u8, &[u8]), Halt>
 }
 
 pub fn half(bytes: &[u8]) -> Result<(u16, &[u8]), Halt>
-    ensures { Gives (λ x. (x.0, x.1.now)) result (number_at w16 bytes.now) }
+    ensures { IsExact (λ x. (x.0, x.1.now)) halt_cause result (number_at w16 bytes.now) }
 {
     if bytes.len() < 2 {
         return Err(Halt::Refused(Refusal::Short));
@@ -53,7 +56,7 @@ pub fn half(bytes: &[u8]) -> Result<(u16, &[u8]), Halt>
 }
 
 pub fn number(bytes: &[u8]) -> Result<(u32, &[u8]), Halt>
-    ensures { Gives (λ x. (x.0, x.1.now)) result (number_at w32 bytes.now) }
+    ensures { IsExact (λ x. (x.0, x.1.now)) halt_cause result (number_at w32 bytes.now) }
 {
     if bytes.len() < 4 {
         return Err(Halt::Refused(Refusal::Short));
@@ -64,7 +67,7 @@ pub fn number(bytes: &[u8]) -> Result<(u32, &[u8]), Halt>
 
 #[tactic(auto, unfolding(crate::specs::Reading::word_at))]
 fn word(bytes: &[u8]) -> Result<(i32, &[u8]), Halt>
-    ensures { Gives (λ x. (x.0, x.1.now)) result (word_at bytes.now) }
+    ensures { IsExact (λ x. (x.0, x.1.now)) halt_cause result (word_at bytes.now) }
 {
     let (number, rest) = number(bytes)?;
     Ok((number.cast_signed(), rest))
@@ -72,7 +75,7 @@ fn word(bytes: &[u8]) -> Result<(i32, &[u8]), Halt>
 
 #[tactic(auto, unfolding(crate::specs::Reading::limit_at))]
 fn limit_of(most: u8, bytes: &[u8]) -> Result<(u8, &[u8]), Halt>
-    ensures { Gives (λ x. (x.0, x.1.now)) result (limit_at most bytes.now) }
+    ensures { IsExact (λ x. (x.0, x.1.now)) halt_cause result (limit_at most bytes.now) }
 {
     let (value, rest) = byte(bytes)?;
     at_field(bytes, limit(most, value))?;
@@ -81,17 +84,17 @@ fn limit_of(most: u8, bytes: &[u8]) -> Result<(u8, &[u8]), Halt>
 
 #[tactic(auto, unfolding(crate::specs::Reading::limits_at))]
 pub fn limits(bytes: &[u8]) -> Result<(Limits, &[u8]), Halt>
-    ensures { Gives (λ x. (x.0, x.1.now)) result (limits_at bytes.now) }
+    ensures { IsExact (λ x. (x.0, x.1.now)) halt_cause result (limits_at bytes.now) }
 {
-    let (ops, rest) = limit_of(32, bytes)?;
-    let (tests, rest) = limit_of(7, rest)?;
-    let (mem, rest) = limit_of(32, rest)?;
+    let (ops, rest) = limit_of(MOST_OPS, bytes)?;
+    let (tests, rest) = limit_of(MOST_TESTS, rest)?;
+    let (mem, rest) = limit_of(MOST_MEM, rest)?;
     Ok((Limits { ops, tests, mem }, rest))
 }
 
 #[tactic(auto, unfolding(crate::specs::Reading::array_count_at))]
 pub fn array_count_of(bytes: &[u8]) -> Result<(u8, &[u8]), Halt>
-    ensures { Gives (λ x. (x.0, x.1.now)) result (array_count_at bytes.now) }
+    ensures { IsExact (λ x. (x.0, x.1.now)) halt_cause result (array_count_at bytes.now) }
 {
     let (count, rest) = byte(bytes)?;
     at_field(bytes, array_count(count as usize))?;
@@ -100,7 +103,7 @@ pub fn array_count_of(bytes: &[u8]) -> Result<(u8, &[u8]), Halt>
 
 #[tactic(auto, unfolding(crate::specs::Reading::row_count_at))]
 pub fn row_count_of(bytes: &[u8]) -> Result<(u32, &[u8]), Halt>
-    ensures { Gives (λ x. (x.0, x.1.now)) result (row_count_at bytes.now) }
+    ensures { IsExact (λ x. (x.0, x.1.now)) halt_cause result (row_count_at bytes.now) }
 {
     let (count, rest) = number(bytes)?;
     at_field(bytes, row_count(count as usize))?;
@@ -109,7 +112,7 @@ pub fn row_count_of(bytes: &[u8]) -> Result<(u32, &[u8]), Halt>
 
 #[tactic(auto, unfolding(crate::specs::Reading::operator_at))]
 pub fn operator(bytes: &[u8]) -> Result<(OpCode, &[u8]), Halt>
-    ensures { Gives (λ x. (x.0, x.1.now)) result (operator_at bytes.now) }
+    ensures { IsExact (λ x. (x.0, x.1.now)) halt_cause result (operator_at bytes.now) }
 {
     let (byte, rest) = byte(bytes)?;
     let Some(op) = operator_of(byte) else {
@@ -120,7 +123,7 @@ pub fn operator(bytes: &[u8]) -> Result<(OpCode, &[u8]), Halt>
 
 #[tactic(auto, unfolding(crate::specs::Reading::trap_at))]
 pub fn trap_kind(bytes: &[u8]) -> Result<(TrapKind, &[u8]), Halt>
-    ensures { Gives (λ x. (x.0, x.1.now)) result (trap_at bytes.now) }
+    ensures { IsExact (λ x. (x.0, x.1.now)) halt_cause result (trap_at bytes.now) }
 {
     let (byte, rest) = byte(bytes)?;
     let Some(kind) = trap_of(byte) else {
@@ -131,7 +134,7 @@ pub fn trap_kind(bytes: &[u8]) -> Result<(TrapKind, &[u8]), Halt>
 
 #[tactic(auto, unfolding(crate::specs::Reading::register_at))]
 fn register(bytes: &[u8]) -> Result<(u32, &[u8]), Halt>
-    ensures { Gives (λ x. (x.0, x.1.now)) result (register_at bytes.now) }
+    ensures { IsExact (λ x. (x.0, x.1.now)) halt_cause result (register_at bytes.now) }
 {
     let (register, rest) = byte(bytes)?;
     let register = register as u32;
@@ -141,8 +144,8 @@ fn register(bytes: &[u8]) -> Result<(u32, &[u8]), Halt>
 
 #[tactic(auto, unfolding(crate::specs::Reading::dest_at))]
 pub fn dest<'a>(path: &Path, bytes: &'a [u8]) -> Result<(u32, &'a [u8]), Halt>
-    ensures read { Gives (λ x. (x.0, x.1.now)) result (dest_at (above_of path.now) bytes.now) }
-    ensures register { IfOk result (λ x. x.0 < 128) }
+    ensures read { IsExact (λ x. (x.0, x.1.now)) halt_cause result (dest_at (above_of path.now) bytes.now) }
+    ensures register { IfOk result (λ x. x.0 < registers) }
 {
     let (register, rest) = byte(bytes)?;
     let register = register as u32;
@@ -152,7 +155,7 @@ pub fn dest<'a>(path: &Path, bytes: &'a [u8]) -> Result<(u32, &'a [u8]), Halt>
 
 #[tactic(auto, unfolding(crate::specs::Reading::array_at))]
 pub fn array<'a>(bounds: &Bounds, bytes: &'a [u8]) -> Result<(u8, &'a [u8]), Halt>
-    ensures { Gives (λ x. (x.0, x.1.now)) result (array_at bounds.now.arrays bytes.now) }
+    ensures { IsExact (λ x. (x.0, x.1.now)) halt_cause result (array_at bounds.now.arrays bytes.now) }
 {
     let (array, rest) = byte(bytes)?;
     at_field(bytes, bounds.array(array))?;
@@ -161,7 +164,7 @@ pub fn array<'a>(bounds: &Bounds, bytes: &'a [u8]) -> Result<(u8, &'a [u8]), Hal
 
 #[tactic(auto, unfolding(crate::specs::Reading::operand_at))]
 pub fn operand(bytes: &[u8]) -> Result<(Operand, &[u8]), Halt>
-    ensures { Gives (λ x. (x.0, x.1.now)) result (operand_at bytes.now) }
+    ensures { IsExact (λ x. (x.0, x.1.now)) halt_cause result (operand_at bytes.now) }
 {
     match bytes {
         [] => Err(Halt::Refused(Refusal::Short)),
@@ -179,7 +182,7 @@ pub fn operand(bytes: &[u8]) -> Result<(Operand, &[u8]), Halt>
 
 #[tactic(auto, unfolding(crate::specs::Reading::tag_at))]
 pub fn tag(bytes: &[u8]) -> Result<(Tag, &[u8]), Halt>
-    ensures { Gives (λ x. (x.0, x.1.now)) result (tag_at bytes.now) }
+    ensures { IsExact (λ x. (x.0, x.1.now)) halt_cause result (tag_at bytes.now) }
 {
     let (byte, rest) = byte(bytes)?;
     let Some(tag) = tag_of(byte) else {
@@ -190,7 +193,7 @@ pub fn tag(bytes: &[u8]) -> Result<(Tag, &[u8]), Halt>
 
 #[tactic(auto, unfolding(crate::specs::Reading::choice_at))]
 pub fn choice(bytes: &[u8]) -> Result<(u8, &[u8]), Halt>
-    ensures { Gives (λ x. (x.0, x.1.now)) result (choice_at bytes.now) }
+    ensures { IsExact (λ x. (x.0, x.1.now)) halt_cause result (choice_at bytes.now) }
 {
     let (choice, rest) = byte(bytes)?;
     if choice > 7 {

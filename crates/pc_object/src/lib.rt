@@ -12,7 +12,10 @@ mod tag;
 
 pub use decoding::decode;
 pub use encoding::{EncodeError, encode};
-pub use laws::{depth_decides_nothing, longer_is_trailing, one_object, reads_exactly_texts};
+pub use laws::{
+    depth_decides_nothing, flawed_is_bad_field, longer_is_trailing, one_object,
+    reads_exactly_texts, shorter_is_truncated,
+};
 pub use object::{Note, NoteList, Object};
 pub use refusal::ObjectError;
 

@@ -3,19 +3,25 @@ ghost use Rattle.pc_object.specs.declared.refusal.Halt.TheVariants.{Memory};
 
 use pc_machine::Flaw;
 use std::alloc::{AllocError, AllocFailed};
+use thiserror::Error;
 
 /// Why bytes are not read as an object: the first thing that is wrong with them, from left to
 /// right. Offsets count bytes from 0.
-#[derive(Clone, Copy, Debug, PartialEq, Eq)]
+#[derive(Clone, Copy, Debug, PartialEq, Eq, Error)]
 pub enum ObjectError {
     /// One of the first four bytes that are there is not that of `PTV1`.
+    #[error("not an object: the first bytes are not PTV1")]
     BadMagic,
     /// The bytes end within a field that is due, or before it. The offset is their number.
+    #[error("the object is cut off at byte {offset}")]
     Truncated { offset: u32 },
     /// A field is flawed. The offset is that of the field's first byte.
+    #[error("the field at byte {offset} has the flaw {flaw:?}")]
     BadField { offset: u32, flaw: Flaw },
     /// Bytes follow the notes. The offset is that of the first of them.
+    #[error("bytes follow the object from byte {offset} on")]
     Trailing { offset: u32 },
+    #[error("out of memory")]
     Memory,
 }
 

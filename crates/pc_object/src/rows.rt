@@ -1,21 +1,23 @@
 //! The reader of rows.
 
 ghost use Rattle.std.specs.Prelude.{◌≡◌, ◌+◌, ◌*◌, ◌≤◌, length, Result, Ok, Err, IfOk};
-ghost use Rattle.pc_machine.specs.Row.{row_of, rows_of, At_leaf};
-ghost use Rattle.pc_machine.specs.RowStep.{dest_of};
+ghost use Rattle.pc_machine.specs.MachineCode.{row_of, rows_of};
+ghost use Rattle.pc_word.specs.Row.{At_leaf};
+ghost use Rattle.pc_word.specs.Items.{dest_of};
 ghost use Rattle.pc_machine.specs.Checks.{above_of, IsDest};
-ghost use Rattle.pc_object.specs.Gives.{Gives};
+ghost use Rattle.pc_word.specs.Exact.{IsExact};
+ghost use Rattle.pc_object.specs.models.HaltCause.{halt_cause};
 ghost use Rattle.pc_object.specs.Reading.{at_field, counted_item, is_memory_kind, is_effect_kind, fields_at, goto_at, trap_fields_at, step_at, test_at, row_at, rows_at};
 
 use crate::fields::{array, at_field, dest, flawed, number, operand, operator, tag, trap_kind};
 use crate::refusal::Halt;
 use crate::tag::{ItemKind, Tag};
 use pc_machine::{Bounds, Counts, Flaw, Path, Tree};
-use pc_word::Item;
+use pc_word::{Item, MOST_OPS, MOST_TESTS};
 use std::alloc::Global;
 
 /// How many items and tests of a row stand above each other at most, and a leaf below them.
-const DEEPEST: u8 = 40;
+const DEEPEST: u8 = MOST_OPS + MOST_TESTS + 1;
 
 /// The rows of a code, as many as it has.
 pub fn rows<'a>(
@@ -23,7 +25,7 @@ pub fn rows<'a>(
     bounds: &Bounds,
     bytes: &'a [u8],
 ) -> Result<(Vec<Tree>, &'a [u8]), Halt>
-    ensures { Gives (λ x. (rows_of x.0.items, x.1.now)) result (rows_at bounds.now bounds.now.rows bytes.now) }
+    ensures { IsExact (λ x. (rows_of x.0.items, x.1.now)) halt_cause result (rows_at bounds.now bounds.now.rows bytes.now) }
 {
     let path = Path::root();
     let mut rows = Vec::new(alloc);
@@ -49,7 +51,7 @@ fn row<'a>(
     path: &Path,
     bytes: &'a [u8],
 ) -> Result<(Tree, Counts, &'a [u8]), Halt>
-    ensures { Gives (λ x. (row_of x.0, x.1, x.2.now)) result (row_at bounds.now depth counts (above_of path.now) bytes.now) }
+    ensures { IsExact (λ x. (row_of x.0, x.1, x.2.now)) halt_cause result (row_at bounds.now depth counts (above_of path.now) bytes.now) }
 {
     if depth == 0 {
         return Err(flawed(bytes, Flaw::Tag));
@@ -84,7 +86,7 @@ fn count_item(
     kind: ItemKind,
     bytes: &[u8],
 ) -> Result<Counts, Halt>
-    ensures { Gives (λ x. x) result
+    ensures { IsExact (λ x. x) halt_cause result
         (at_field bytes.now (counted_item bounds.now.limits counts (above_of path.now) (is_memory_kind kind) (is_effect_kind kind))) }
 {
     at_field(
@@ -105,7 +107,7 @@ fn step<'a>(
     kind: ItemKind,
     bytes: &'a [u8],
 ) -> Result<(Tree, Counts, &'a [u8]), Halt>
-    ensures { Gives (λ x. (row_of x.0, x.1, x.2.now)) result
+    ensures { IsExact (λ x. (row_of x.0, x.1, x.2.now)) halt_cause result
         (step_at bounds.now (row_at bounds.now depth) counts (above_of path.now) kind bytes.now) }
 {
     let (item, rest) = item_fields(bounds, path, kind, bytes)?;
@@ -124,7 +126,7 @@ fn test<'a>(
     path: &Path,
     bytes: &'a [u8],
 ) -> Result<(Tree, Counts, &'a [u8]), Halt>
-    ensures { Gives (λ x. (row_of x.0, x.1, x.2.now)) result
+    ensures { IsExact (λ x. (row_of x.0, x.1, x.2.now)) halt_cause result
         (test_at (row_at bounds.now depth) counts (above_of path.now) bytes.now) }
 {
     let (on, rest) = operand(bytes)?;
@@ -142,7 +144,7 @@ fn boxed_row<'a>(
     path: &Path,
     bytes: &'a [u8],
 ) -> Result<(Box<Tree>, Counts, &'a [u8]), Halt>
-    ensures { Gives (λ x. (row_of x.0.value, x.1, x.2.now)) result (row_at bounds.now depth counts (above_of path.now) bytes.now) }
+    ensures { IsExact (λ x. (row_of x.0.value, x.1, x.2.now)) halt_cause result (row_at bounds.now depth counts (above_of path.now) bytes.now) }
 {
     let (tree, counts, rest) = row(alloc, bounds, depth, counts, path, bytes)?;
     let tree = Box::new(alloc, tree)?;
@@ -156,7 +158,7 @@ fn item_fields<'a>(
     kind: ItemKind,
     bytes: &'a [u8],
 ) -> Result<(Item, &'a [u8]), Halt>
-    ensures read { Gives (λ x. (x.0, x.1.now)) result (fields_at bounds.now.arrays (above_of path.now) kind bytes.now) }
+    ensures read { IsExact (λ x. (x.0, x.1.now)) halt_cause result (fields_at bounds.now.arrays (above_of path.now) kind bytes.now) }
     ensures dest { IfOk result (λ x. IsDest (dest_of x.0)) }
 {
     match kind {
@@ -166,25 +168,8 @@ fn item_fields<'a>(
             let (from, rest) = operand(rest)?;
             Ok((Item::Copy { dest, from }, rest))
         }
-        ItemKind::Load => {
-            let (dest, rest) = dest(path, bytes)?;
-            let (array, rest) = array(bounds, rest)?;
-            let (index, rest) = operand(rest)?;
-            Ok((Item::Load { dest, array, index }, rest))
-        }
-        ItemKind::Store => {
-            let (array, rest) = array(bounds, bytes)?;
-            let (index, rest) = operand(rest)?;
-            let (value, rest) = operand(rest)?;
-            Ok((
-                Item::Store {
-                    array,
-                    index,
-                    value,
-                },
-                rest,
-            ))
-        }
+        ItemKind::Load => load_fields(bounds, path, bytes),
+        ItemKind::Store => store_fields(bounds, path, bytes),
         ItemKind::Print => {
             let (value, rest) = operand(bytes)?;
             Ok((Item::Print { value }, rest))
@@ -202,7 +187,7 @@ fn item_fields<'a>(
 
 #[tactic(auto, unfolding(crate::specs::Reading::fields_at))]
 fn bin_fields<'a>(bounds: &Bounds, path: &Path, bytes: &'a [u8]) -> Result<(Item, &'a [u8]), Halt>
-    ensures read { Gives (λ x. (x.0, x.1.now)) result (fields_at bounds.now.arrays (above_of path.now) ItemKind.Bin bytes.now) }
+    ensures read { IsExact (λ x. (x.0, x.1.now)) halt_cause result (fields_at bounds.now.arrays (above_of path.now) ItemKind.Bin bytes.now) }
     ensures dest { IfOk result (λ x. IsDest (dest_of x.0)) }
 {
     let (op, rest) = operator(bytes)?;
@@ -218,9 +203,36 @@ fn bin_fields<'a>(bounds: &Bounds, path: &Path, bytes: &'a [u8]) -> Result<(Item
     Ok((item, rest))
 }
 
+#[tactic(auto, unfolding(crate::specs::Reading::fields_at))]
+fn load_fields<'a>(bounds: &Bounds, path: &Path, bytes: &'a [u8]) -> Result<(Item, &'a [u8]), Halt>
+    ensures read { IsExact (λ x. (x.0, x.1.now)) halt_cause result (fields_at bounds.now.arrays (above_of path.now) ItemKind.Load bytes.now) }
+    ensures dest { IfOk result (λ x. IsDest (dest_of x.0)) }
+{
+    let (dest, rest) = dest(path, bytes)?;
+    let (array, rest) = array(bounds, rest)?;
+    let (index, rest) = operand(rest)?;
+    Ok((Item::Load { dest, array, index }, rest))
+}
+
+#[tactic(auto, unfolding(crate::specs::Reading::fields_at))]
+fn store_fields<'a>(bounds: &Bounds, path: &Path, bytes: &'a [u8]) -> Result<(Item, &'a [u8]), Halt>
+    ensures read { IsExact (λ x. (x.0, x.1.now)) halt_cause result (fields_at bounds.now.arrays (above_of path.now) ItemKind.Store bytes.now) }
+    ensures dest { IfOk result (λ x. IsDest (dest_of x.0)) }
+{
+    let (array, rest) = array(bounds, bytes)?;
+    let (index, rest) = operand(rest)?;
+    let (value, rest) = operand(rest)?;
+    let item = Item::Store {
+        array,
+        index,
+        value,
+    };
+    Ok((item, rest))
+}
+
 #[tactic(auto, unfolding(crate::specs::Reading::goto_at))]
 fn goto<'a>(bounds: &Bounds, bytes: &'a [u8]) -> Result<(Tree, &'a [u8]), Halt>
-    ensures { Gives (λ x. (row_of x.0, x.1.now)) result (goto_at bounds.now.rows bytes.now) }
+    ensures { IsExact (λ x. (row_of x.0, x.1.now)) halt_cause result (goto_at bounds.now.rows bytes.now) }
 {
     let (row, rest) = number(bytes)?;
     at_field(bytes, bounds.target(row))?;
@@ -229,7 +241,7 @@ fn goto<'a>(bounds: &Bounds, bytes: &'a [u8]) -> Result<(Tree, &'a [u8]), Halt>
 
 #[tactic(auto, unfolding(crate::specs::Reading::trap_fields_at))]
 fn trap(bytes: &[u8]) -> Result<(Tree, &[u8]), Halt>
-    ensures { Gives (λ x. (row_of x.0, x.1.now)) result (trap_fields_at bytes.now) }
+    ensures { IsExact (λ x. (row_of x.0, x.1.now)) halt_cause result (trap_fields_at bytes.now) }
 {
     let (kind, rest) = trap_kind(bytes)?;
     let (line, rest) = number(rest)?;

@@ -1,6 +1,7 @@
 ghost use Rattle.std.specs.Prelude.{IfOk, Ok};
 ghost use Rattle.pc_object.specs.ObjectText.{object_of, IsObject};
-ghost use Rattle.pc_object.specs.Gives.{Answers};
+ghost use Rattle.pc_word.specs.Exact.{IsExact};
+ghost use Rattle.pc_object.specs.Cause.{object_cause};
 
 use super::*;
 use pc_machine::{Code, Flaw, Tree};
@@ -17,7 +18,7 @@ const HEAD: &[u8] = b"PTV1\x04\x02\x02\x01\x00\x00\x00\x09\x00\x00\x00\x01";
 /// An object that was written is read again as it: the clauses of both calls say so.
 fn again(alloc: Global, object: &Object) -> Result<Object, ObjectError>
     requires { IsObject (object_of object.now) }
-    ensures { Answers object_of result (Ok (object_of object.now)) }
+    ensures { IsExact object_of object_cause result (Ok (object_of object.now)) }
 {
     let Ok(bytes) = encode(alloc, object) else {
         return Err(ObjectError::Memory);

@@ -1,5 +1,6 @@
 -- Cycles one after the other, and the text that was sent.
-use Rattle.std.proofs.Common.{◌≡◌, ℕ, suc, ◌+◌, ◌-◌, ◌<◌, ◌≤◌, true, false, List, [], ◌∷◌, ◌++◌, length, take, Option, Some, None, refl, sym, ap, ◌∙◌, subst, arith, append_assoc, length-append, add-zero}
+use Rattle.std.proofs.Common.{◌≡◌, ℕ, suc, ◌+◌, ◌-◌, ◌<◌, ◌≤◌, Bool, true, false, List, [], ◌∷◌, ◌++◌, length, take, Option, Some, None, refl, sym}
+use Rattle.std.proofs.Common.{ap, ◌∙◌, subst, arith, append_assoc, length-append, add-zero}
 use Rattle.std.proofs.lemmas.List.{append-nil, take-append-le}
 use Rattle.std.specs.Prelude.{ℤ, Result, Ok, Err, OnOk, OnErr, is_err}
 use Rattle.std.specs.Io.KnownBytes.{Appends}
@@ -10,20 +11,23 @@ use Rattle.pc_word.proofs.NumberTexts.{text_of-append}
 use Rattle.pc_word.proofs.Runs.{reached_from, reach-add, run_from-at, run_from-over}
 use Rattle.pc_outside.specs.Stream.{AppendsPart}
 use Rattle.pc_outside.proofs.StreamLemmas.{Appends-append}
-use Rattle.pc_machine.specs.MachineRun.{Cycle}
+use Rattle.pc_machine.specs.declared.code.Code.{Code}
+use Rattle.pc_machine.specs.MachineCode.{code_of}
+use Rattle.pc_machine.specs.MachineRun.{Cycle, machine_step}
 use Rattle.pc_vm.specs.declared.event.Event.{Event}
-use Rattle.pc_vm.specs.Standing.{Standing, here_of, printed_by, IsStep}
+use Rattle.pc_vm.specs.Standing.{Standing, here_of, printed_by, IsStep, StandsAt}
 
 -- ---- answers of calls
 
--- what holds of a refusal, and of what was done
-pub when_err : {T E : Type 0} (r : Result T E) (P : Type 0) → OnErr r P → is_err r ≡ true → P
-when_err (Ok x) P h is = absurd (cc)
-when_err (Err e) P h is = h
+-- what holds of a refusal, where a test tells that there is one
+pub when_err : {T E : Type 0} (r : Result T E) {P : Type 0} {told : Bool} → OnErr r P → told ≡ is_err r → told ≡ true → P
+when_err (Ok x) h is yes_told = absurd (cc)
+when_err (Err e) h is yes_told = h
 
-pub when_ok : {T E : Type 0} (r : Result T E) (P : Type 0) → OnOk r P → is_err r ≡ false → P
-when_ok (Ok x) P h is = h
-when_ok (Err e) P h is = absurd (cc)
+-- what holds of what was done, where it tells that there is none
+pub when_ok : {T E : Type 0} (r : Result T E) {P : Type 0} {told : Bool} → OnOk r P → told ≡ is_err r → told ≡ false → P
+when_ok (Ok x) h is not_told = h
+when_ok (Err e) h is not_told = absurd (cc)
 
 -- ---- one cycle more
 
@@ -60,7 +64,8 @@ reach-stops step n start now printed out end reached is =
 -- ---- the run
 
 -- more steps after an end lead nowhere else
-pub reach-ended : (step : Cycle → Step Cycle) (n budget : ℕ) (start : Cycle) (printed : List ℤ) (end : End) → n ≤ budget → reach step n start ≡ Over printed end → reach step budget start ≡ Over printed end
+pub reach-ended : (step : Cycle → Step Cycle) (n budget : ℕ) (start : Cycle) (printed : List ℤ) (end : End) → n ≤ budget → reach step n start ≡ Over printed end
+    → reach step budget start ≡ Over printed end
 reach-ended step n budget start printed end within reached =
     let e : budget ≡ n + (budget - n) = omega arith in
     ap (λ (k : ℕ). reach step k start) e ∙ reach-add step n (budget - n) start ∙ ap (λ (r : Reached Cycle). reached_from r (reach step (budget - n))) reached
@@ -90,7 +95,8 @@ pub run-begins : (step : Cycle → Step Cycle) (n budget : ℕ) (start : Cycle) 
 run-begins step n budget start (At out now) printed within is same =
     let e : budget ≡ n + (budget - n) = omega arith in (
       (run_from step (budget - n) now).printed,
-      ap (λ (k : ℕ). (run_from step k start).printed) e ∙ ap (λ (s : Seen). s.printed) (run_from-at step n (budget - n) start now out is) ∙ ap (λ (p : List ℤ). p ++ (run_from step (budget - n) now).printed) (sym same),
+      ap (λ (k : ℕ). (run_from step k start).printed) e ∙ ap (λ (s : Seen). s.printed) (run_from-at step n (budget - n) start now out is)
+          ∙ ap (λ (p : List ℤ). p ++ (run_from step (budget - n) now).printed) (sym same),
     )
 run-begins step n budget start (Over out end) printed within is same =
     ([], ap (λ (s : Seen). s.printed) (run-ended step n budget start out end within is) ∙ sym same ∙ sym (append-nil printed))
@@ -166,9 +172,11 @@ one-more : (step : Cycle → Step Cycle) (n budget : ℕ) (start now : Cycle) (p
     → n < budget → reach step n start ≡ At printed now → step now ≡ st → IsStep event standing st
     → (rest : List ℤ) × ((run_from step budget start).printed ≡ (printed ++ printed_by event) ++ rest)
 one-more step n budget start now printed event standing (Goes out place) within reached is_step is =
-    run-begins step (n + 1) budget start (At (printed ++ out) place) (printed ++ printed_by event) (omega arith) (reach-goes step n start now place printed out reached is_step) (ap (λ (o : List ℤ). printed ++ o) is.0)
+    run-begins step (n + 1) budget start (At (printed ++ out) place) (printed ++ printed_by event) (omega arith) (reach-goes step n start now place printed out reached is_step)
+    (ap (λ (o : List ℤ). printed ++ o) is.0)
 one-more step n budget start now printed event standing (Stops out e) within reached is_step is =
-    run-begins step (n + 1) budget start (Over (printed ++ out) e) (printed ++ printed_by event) (omega arith) (reach-stops step n start now printed out e reached is_step) (ap (λ (o : List ℤ). printed ++ o) is.0)
+    run-begins step (n + 1) budget start (Over (printed ++ out) e) (printed ++ printed_by event) (omega arith) (reach-stops step n start now printed out e reached is_step)
+    (ap (λ (o : List ℤ). printed ++ o) is.0)
 
 -- where its text was sent in part, a part of the whole run's text was sent
 pub way-part : (step : Cycle → Step Cycle) (n budget : ℕ) (start now : Cycle) (old mid new : Option (List ℕ)) (event : Event) (standing : Standing)
@@ -177,3 +185,73 @@ pub way-part : (step : Cycle → Step Cycle) (n budget : ℕ) (start now : Cycle
 way-part step n budget start now old mid new event standing within way is part =
     let more = one-more step n budget start now way.printed event standing (step now) within way.reached refl is in
     part-more old mid new way.printed (printed_by event) more.0 (run_from step budget start).printed more.1 way.sent part
+
+-- ---- one turn of the loop
+
+-- what a turn knows: budget is left, the way so far, and the step that the cycle was
+pub record Turn (step : Cycle → Step Cycle) (n budget : ℕ) (start now : Cycle) (before mid : Option (List ℕ)) (event : Event) (standing : Standing) : Type 0 where
+  pub within : n < budget
+  pub way : Way step n start now before mid
+  pub is : IsStep event standing (step now)
+
+-- the cycle is a step of the code that the run began with
+pub turn : (first later : Code) (event : Event) (standing : Standing) {n budget : ℕ} {start now : Cycle} {before mid : Option (List ℕ)}
+    → n < budget → Way (machine_step (code_of first)) n start now before mid → later ≡ first → IsStep event standing (machine_step (code_of later) now)
+    → Turn (machine_step (code_of first)) n budget start now before mid event standing
+turn first later event standing {now = now} within way same is =
+    record { within = within; way = way; is = subst (λ (code : Code). IsStep event standing (machine_step (code_of code) now)) same is }
+
+module _ {step : Cycle → Step Cycle} {n budget : ℕ} {start now : Cycle} {before mid : Option (List ℕ)} {event : Event} {standing : Standing}
+    (t : Turn step n budget start now before mid event standing) where
+  -- where the whole run leads to, if the cycle ends it
+  turn-stops : (e : End) → event.end ≡ Some e → reach step budget start ≡ Over (t.way.printed ++ printed_by event) e
+  turn-stops e some = way-stops step n budget start now before mid event standing e t.within t.way t.is some
+
+  -- and what is seen of it
+  turn-seen : (e : End) → event.end ≡ Some e → run_from step budget start ≡ record { printed = t.way.printed ++ printed_by event; end = Some e }
+  turn-seen e some = let whole : budget ≤ budget = omega arith in run-ended step budget budget start (t.way.printed ++ printed_by event) e whole (turn-stops e some)
+
+  -- the end of such a cycle is the run's
+  pub turn-end : (e : End) → event.end ≡ Some e → Some e ≡ (run_from step budget start).end
+  turn-end e some = sym (ap (λ (seen : Seen). seen.end) (turn-seen e some))
+
+  -- the text of the run was sent with its text
+  pub turn-sent : (e : End) (after : Option (List ℕ)) → event.end ≡ Some e → Appends mid after (text_of (printed_by event)) → Appends before after (text_of (run_from step budget start).printed)
+  turn-sent e after some sends =
+      subst (λ (seen : Seen). Appends before after (text_of seen.printed)) (sym (turn-seen e some))
+      (sends-more before mid after t.way.printed (printed_by event) t.way.sent sends)
+
+  -- and the machine stands where the run leads to
+  pub turn-stands : (e : End) → event.end ≡ Some e → StandsAt standing (reach step budget start)
+  turn-stands e some = subst (λ (r : Reached Cycle). StandsAt standing r) (sym (turn-stops e some)) (event-stops event standing (step now) e t.is some).1
+
+  -- where its text was sent in part, a part of the run's text was sent
+  pub turn-part : (after : Option (List ℕ)) → AppendsPart mid after (text_of (printed_by event)) → AppendsPart before after (text_of (run_from step budget start).printed)
+  turn-part after part = way-part step n budget start now before mid after event standing t.within t.way t.is part
+
+  -- a cycle that goes on leaves the machine going
+  pub turn-going : event.end ≡ None → standing.over ≡ false
+  turn-going none = (event-goes event standing (step now) t.is none).1
+
+  -- and is one cycle more on the way
+  pub turn-goes : (after : Option (List ℕ)) → event.end ≡ None → Appends mid after (text_of (printed_by event)) → Way step (n + 1) start (here_of standing) before after
+  turn-goes after none sends = way-goes step n start now before mid after event standing t.way t.is none sends
+
+-- ---- the budget is spent
+
+-- what is seen of the run is what was printed on the way
+spent-seen : {step : Cycle → Step Cycle} {n : ℕ} (budget : ℕ) {start now : Cycle} {before after : Option (List ℕ)} → n ≡ budget → (way : Way step n start now before after)
+    → run_from step budget start ≡ record { printed = way.printed; end = None }
+spent-seen {step = step} budget {start = start} {now = now} spent way =
+    run-going step budget start now way.printed (subst (λ (k : ℕ). reach step k start ≡ At way.printed now) spent way.reached)
+
+-- it has no end
+pub spent-end : {step : Cycle → Step Cycle} {n : ℕ} (budget : ℕ) {start now : Cycle} {before after : Option (List ℕ)} → n ≡ budget → Way step n start now before after
+    → None ≡ (run_from step budget start).end
+spent-end budget spent way = sym (ap (λ (seen : Seen). seen.end) (spent-seen budget spent way))
+
+-- and its text was sent
+pub spent-sent : {step : Cycle → Step Cycle} {n : ℕ} (budget : ℕ) {start now : Cycle} {before after : Option (List ℕ)} → n ≡ budget → Way step n start now before after
+    → Appends before after (text_of (run_from step budget start).printed)
+spent-sent {step = step} budget {before = before} {after = after} spent way =
+    subst (λ (seen : Seen). Appends before after (text_of seen.printed)) (sym (spent-seen budget spent way)) way.sent

@@ -1,14 +1,16 @@
 -- Laws of lists: tests of images, elements after a write, and what is left behind a place.
-use Rattle.std.proofs.Common.{◌≡◌, ℕ, zero, suc, ◌+◌, ◌<◌, ◌≤◌, ◌≢◌, Bool, true, false, cond, ◌||◌, List, [], ◌∷◌, ◌++◌, length, map, drop, get_or, inl, inr, None, refl, sym, ap, ◌∙◌, arith, get_or-set_same, get_or-set_other}
+use Rattle.std.proofs.Common.{◌≡◌, ℕ, zero, suc, ◌+◌, ◌<◌, ◌≤◌, ◌≢◌, Bool, true, false, cond, ◌||◌, List, [], ◌∷◌, ◌++◌, length, map, drop, get_or}
+use Rattle.std.proofs.Common.{inl, inr, None, refl, sym, ap, ◌∙◌, arith, get_or-set_same, get_or-set_other}
 use Rattle.std.proofs.lemmas.Bool.Decides.{eqb_tells}
 use Rattle.std.proofs.lemmas.Slice.{between_to_end}
 use Rattle.std.proofs.Math.Seq.{drop-cons}
 use Rattle.std.specs.Prelude.{ℤ, pos, nat_eq, if◌then◌else◌, slice_set, slice_get, slice_range, unwrap_or, is_some}
 use Rattle.std.specs.List.{list_any, AllByRecursion}
-use Rattle.pc_machine.specs.RowStep.{Stored, meets_at, some_meet, next_input, some_left}
+use Rattle.pc_word.specs.Commit.{Stored, meets_at, some_meet}
+use Rattle.pc_word.specs.Items.{next_input, some_left}
 use Rattle.pc_vm.specs.declared.pending.PendingStore.{PendingStore}
 use Rattle.pc_vm.specs.Contents.{Contents}
-use Rattle.pc_vm.specs.Planned.{stored_of}
+use Rattle.pc_vm.specs.models.Planned.{stored_of}
 
 -- a test of the images
 pub list_any-map : {X Y : Type 0} (test : Y → Bool) (f : X → Y) (xs : List X) → list_any test (map f xs) ≡ list_any (λ x. test (f x)) xs

@@ -1,5 +1,6 @@
 -- The plan of a path is what its items do together, and what is done by it is what a row does.
-use Rattle.std.proofs.Common.{◌≡◌, ℕ, zero, suc, ◌<◌, ◌≤◌, Bool, true, false, cond, ◌||◌, ◌&&◌, List, [], ◌∷◌, ◌++◌, length, map, drop, get_or, Option, Some, None, ◌⊎◌, inl, inr, refl, sym, ap, ◌∙◌, subst, arith, append_assoc}
+use Rattle.std.proofs.Common.{◌≡◌, ℕ, zero, suc, ◌<◌, ◌≤◌, Bool, true, false, cond, ◌||◌, ◌&&◌, List, [], ◌∷◌, ◌++◌, length, map, drop, get_or}
+use Rattle.std.proofs.Common.{Option, Some, None, ◌⊎◌, inl, inr, refl, sym, ap, ◌∙◌, subst, arith, append_assoc}
 use Rattle.std.proofs.lemmas.List.{append-nil, length-set}
 use Rattle.std.proofs.lemmas.Bool.Decides.{eqb_tells, nat_tests}
 use Rattle.std.proofs.Math.Seq.{map-set_same}
@@ -7,14 +8,18 @@ use Rattle.std.specs.Prelude.{ℤ, pos, negsuc, nat_eq, nat_lt, if◌then◌else
 use Rattle.std.specs.List.{AllByRecursion, count_by}
 use Rattle.pc_word.specs.declared.item.Item.{Item}
 use Rattle.pc_word.specs.declared.item.Item.TheVariants.{Bin, Copy, Load, Store, Print, Read, More}
-use Rattle.pc_machine.specs.RowStep.{State, Stored, operand_value, place_in, value_of, writes, stores_of, prints_of, reads_of, names_after, cells_after}
-use Rattle.pc_machine.specs.WellFormed.{is_effect, IsItem}
-use Rattle.pc_machine.proofs.Lists.{count_more}
+use Rattle.pc_word.specs.State.{State}
+use Rattle.pc_word.specs.Commit.{Stored, writes, stores_of, prints_of, reads_of, names_after, cells_after}
+use Rattle.pc_word.specs.Items.{operand_value, place_in, value_of, is_effect}
+use Rattle.pc_machine.specs.WellFormed.{IsItem}
+use Rattle.pc_word.proofs.Lists.{count_more}
 use Rattle.pc_vm.specs.declared.pending.PendingWrite.{PendingWrite}
 use Rattle.pc_vm.specs.declared.pending.PendingStore.{PendingStore}
-use Rattle.pc_vm.specs.Contents.{names_of, cells_of, lengths_of}
-use Rattle.pc_vm.specs.Planned.{Planned, planned_with, planned_by, stored_of, written, with_element, stored, IsInside, IsRegister}
+use Rattle.pc_vm.specs.Contents.{names_of, cells_of}
+use Rattle.pc_vm.specs.models.Made.{lengths_of}
+use Rattle.pc_vm.specs.models.Planned.{Planned, planned_with, planned_by, stored_of, written, with_element, stored, IsInside, IsRegister}
 use Rattle.pc_vm.proofs.Lists.{get_or-write}
+use Rattle.pc_word.specs.MachineLimits.{registers}
 
 -- ---- the writes of a path
 
@@ -35,13 +40,18 @@ insert_between xs x ys = append_assoc xs (x ∷ []) ys
 -- the plan has them behind those that it had
 pub planned-writes : (lengths : List ℕ) (old : State) (items : List Item) (plan : Planned) → (planned_by lengths old items plan).writes ≡ plan.writes ++ writes_of lengths old items
 planned-writes lengths old [] plan = sym (append-nil plan.writes)
-planned-writes lengths old (Bin op dest left right ∷ items) plan = planned-writes lengths old items (planned_with lengths old (Bin op dest left right) plan) ∙ insert_between plan.writes (record { dest = dest; word = value_of lengths old (Bin op dest left right) }) (writes_of lengths old items)
-planned-writes lengths old (Copy dest from ∷ items) plan = planned-writes lengths old items (planned_with lengths old (Copy dest from) plan) ∙ insert_between plan.writes (record { dest = dest; word = value_of lengths old (Copy dest from) }) (writes_of lengths old items)
-planned-writes lengths old (Load dest array index ∷ items) plan = planned-writes lengths old items (planned_with lengths old (Load dest array index) plan) ∙ insert_between plan.writes (record { dest = dest; word = value_of lengths old (Load dest array index) }) (writes_of lengths old items)
+planned-writes lengths old (Bin op dest left right ∷ items) plan = planned-writes lengths old items (planned_with lengths old (Bin op dest left right) plan)
+    ∙ insert_between plan.writes (record { dest = dest; word = value_of lengths old (Bin op dest left right) }) (writes_of lengths old items)
+planned-writes lengths old (Copy dest from ∷ items) plan = planned-writes lengths old items (planned_with lengths old (Copy dest from) plan)
+    ∙ insert_between plan.writes (record { dest = dest; word = value_of lengths old (Copy dest from) }) (writes_of lengths old items)
+planned-writes lengths old (Load dest array index ∷ items) plan = planned-writes lengths old items (planned_with lengths old (Load dest array index) plan)
+    ∙ insert_between plan.writes (record { dest = dest; word = value_of lengths old (Load dest array index) }) (writes_of lengths old items)
 planned-writes lengths old (Store array index value ∷ items) plan = planned-writes lengths old items (planned_with lengths old (Store array index value) plan)
 planned-writes lengths old (Print value ∷ items) plan = planned-writes lengths old items (planned_with lengths old (Print value) plan)
-planned-writes lengths old (Read dest ∷ items) plan = planned-writes lengths old items (planned_with lengths old (Read dest) plan) ∙ insert_between plan.writes (record { dest = dest; word = value_of lengths old (Read dest) }) (writes_of lengths old items)
-planned-writes lengths old (More dest ∷ items) plan = planned-writes lengths old items (planned_with lengths old (More dest) plan) ∙ insert_between plan.writes (record { dest = dest; word = value_of lengths old (More dest) }) (writes_of lengths old items)
+planned-writes lengths old (Read dest ∷ items) plan = planned-writes lengths old items (planned_with lengths old (Read dest) plan)
+    ∙ insert_between plan.writes (record { dest = dest; word = value_of lengths old (Read dest) }) (writes_of lengths old items)
+planned-writes lengths old (More dest ∷ items) plan = planned-writes lengths old items (planned_with lengths old (More dest) plan)
+    ∙ insert_between plan.writes (record { dest = dest; word = value_of lengths old (More dest) }) (writes_of lengths old items)
 
 -- their registers are there
 pub writes-registers : (lengths : List ℕ) (old : State) (arrays : ℕ) (items : List Item) → AllByRecursion (IsItem arrays) items → AllByRecursion IsRegister (writes_of lengths old items)
@@ -65,28 +75,33 @@ written-last [] w registers = refl
 written-last (v ∷ ws) w registers = ap (λ rs. slice_set rs v.dest v.word) (written-last ws w registers)
 
 -- a name after the first write is done last
-name_written : (ws : List PendingWrite) (registers : List ℤ) (dest : ℕ) (word : ℤ) (x : ℕ) (rest : ℤ) → length registers ≡ 128 → dest < 128
-    → names_of (written ws registers) x ≡ rest → names_of (slice_set (written ws registers) dest word) x ≡ (if nat_eq dest x then word else rest)
-name_written ws registers dest word x rest many there same =
-    let within : dest < length (written ws registers) = omega (arith, length-written ws registers) in
-    get_or-write (written ws registers) dest x word (pos 0) within ∙ ap (λ (r : ℤ). if nat_eq dest x then word else r) same
+name_written : (ws : List PendingWrite) (words : List ℤ) (dest : ℕ) (word : ℤ) (x : ℕ) (rest : ℤ) → length words ≡ registers → dest < registers
+    → names_of (written ws words) x ≡ rest → names_of (slice_set (written ws words) dest word) x ≡ (if nat_eq dest x then word else rest)
+name_written ws words dest word x rest many there same =
+    let within : dest < length (written ws words) = omega (arith, length-written ws words) in
+    get_or-write (written ws words) dest x word (pos 0) within ∙ ap (λ (r : ℤ). if nat_eq dest x then word else r) same
 
 -- the registers once the writes are done are the names after the path
-pub written-names : (lengths : List ℕ) (old : State) (registers : List ℤ) (arrays : ℕ) (items : List Item) → length registers ≡ 128 → old.names ≡ names_of registers
-    → AllByRecursion (IsItem arrays) items → (x : ℕ) → names_of (written (writes_of lengths old items) registers) x ≡ names_after lengths old items x
-written-names lengths old registers arrays [] many same all x = ap (λ (f : ℕ → ℤ). f x) (sym same)
-written-names lengths old registers arrays (Bin op dest left right ∷ items) many same all x =
-    name_written (writes_of lengths old items) registers dest (value_of lengths old (Bin op dest left right)) x (names_after lengths old items x) many all.0.0 (written-names lengths old registers arrays items many same all.1 x)
-written-names lengths old registers arrays (Copy dest from ∷ items) many same all x =
-    name_written (writes_of lengths old items) registers dest (value_of lengths old (Copy dest from)) x (names_after lengths old items x) many all.0.0 (written-names lengths old registers arrays items many same all.1 x)
-written-names lengths old registers arrays (Load dest array index ∷ items) many same all x =
-    name_written (writes_of lengths old items) registers dest (value_of lengths old (Load dest array index)) x (names_after lengths old items x) many all.0.0 (written-names lengths old registers arrays items many same all.1 x)
-written-names lengths old registers arrays (Store array index value ∷ items) many same all x = written-names lengths old registers arrays items many same all.1 x
-written-names lengths old registers arrays (Print value ∷ items) many same all x = written-names lengths old registers arrays items many same all.1 x
-written-names lengths old registers arrays (Read dest ∷ items) many same all x =
-    name_written (writes_of lengths old items) registers dest (value_of lengths old (Read dest)) x (names_after lengths old items x) many all.0 (written-names lengths old registers arrays items many same all.1 x)
-written-names lengths old registers arrays (More dest ∷ items) many same all x =
-    name_written (writes_of lengths old items) registers dest (value_of lengths old (More dest)) x (names_after lengths old items x) many all.0 (written-names lengths old registers arrays items many same all.1 x)
+pub written-names : (lengths : List ℕ) (old : State) (words : List ℤ) (arrays : ℕ) (items : List Item) → length words ≡ registers → old.names ≡ names_of words
+    → AllByRecursion (IsItem arrays) items → (x : ℕ) → names_of (written (writes_of lengths old items) words) x ≡ names_after lengths old items x
+written-names lengths old words arrays [] many same all x = ap (λ (f : ℕ → ℤ). f x) (sym same)
+written-names lengths old words arrays (Bin op dest left right ∷ items) many same all x =
+    name_written (writes_of lengths old items) words dest (value_of lengths old (Bin op dest left right)) x (names_after lengths old items x) many all.0.0
+    (written-names lengths old words arrays items many same all.1 x)
+written-names lengths old words arrays (Copy dest from ∷ items) many same all x =
+    name_written (writes_of lengths old items) words dest (value_of lengths old (Copy dest from)) x (names_after lengths old items x) many all.0.0
+    (written-names lengths old words arrays items many same all.1 x)
+written-names lengths old words arrays (Load dest array index ∷ items) many same all x =
+    name_written (writes_of lengths old items) words dest (value_of lengths old (Load dest array index)) x (names_after lengths old items x) many all.0.0
+    (written-names lengths old words arrays items many same all.1 x)
+written-names lengths old words arrays (Store array index value ∷ items) many same all x = written-names lengths old words arrays items many same all.1 x
+written-names lengths old words arrays (Print value ∷ items) many same all x = written-names lengths old words arrays items many same all.1 x
+written-names lengths old words arrays (Read dest ∷ items) many same all x =
+    name_written (writes_of lengths old items) words dest (value_of lengths old (Read dest)) x (names_after lengths old items x) many all.0
+    (written-names lengths old words arrays items many same all.1 x)
+written-names lengths old words arrays (More dest ∷ items) many same all x =
+    name_written (writes_of lengths old items) words dest (value_of lengths old (More dest)) x (names_after lengths old items x) many all.0
+    (written-names lengths old words arrays items many same all.1 x)
 
 -- ---- the stores of a path
 
@@ -108,7 +123,8 @@ planned-stores lengths old (Copy dest from ∷ items) plan = planned-stores leng
 planned-stores lengths old (Load dest array index ∷ items) plan = planned-stores lengths old items (planned_with lengths old (Load dest array index) plan)
 planned-stores lengths old (Store array index value ∷ items) plan =
     planned-stores lengths old items (planned_with lengths old (Store array index value) plan)
-    ∙ insert_between plan.stores (record { array = array; place = place_in (slice_index lengths array) (operand_value old.names index); word = operand_value old.names value }) (pending_of lengths old items)
+    ∙ insert_between plan.stores (record { array = array; place = place_in (slice_index lengths array) (operand_value old.names index); word = operand_value old.names value })
+    (pending_of lengths old items)
 planned-stores lengths old (Print value ∷ items) plan = planned-stores lengths old items (planned_with lengths old (Print value) plan)
 planned-stores lengths old (Read dest ∷ items) plan = planned-stores lengths old items (planned_with lengths old (Read dest) plan)
 planned-stores lengths old (More dest ∷ items) plan = planned-stores lengths old items (planned_with lengths old (More dest) plan)
@@ -120,7 +136,8 @@ stored-pending lengths old (Bin op dest left right ∷ items) = stored-pending l
 stored-pending lengths old (Copy dest from ∷ items) = stored-pending lengths old items
 stored-pending lengths old (Load dest array index ∷ items) = stored-pending lengths old items
 stored-pending lengths old (Store array index value ∷ items) =
-    ap (λ (ss : List Stored). record { array = array; place = place_in (slice_index lengths array) (operand_value old.names index); word = operand_value old.names value } ∷ ss) (stored-pending lengths old items)
+    ap (λ (ss : List Stored). record { array = array; place = place_in (slice_index lengths array) (operand_value old.names index); word = operand_value old.names value } ∷ ss)
+    (stored-pending lengths old items)
 stored-pending lengths old (Print value ∷ items) = stored-pending lengths old items
 stored-pending lengths old (Read dest ∷ items) = stored-pending lengths old items
 stored-pending lengths old (More dest ∷ items) = stored-pending lengths old items

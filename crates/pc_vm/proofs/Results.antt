@@ -5,19 +5,33 @@ use Rattle.std.specs.List.{list_any, AllByRecursion, count_by}
 use Rattle.pc_word.specs.declared.item.Item.{Item}
 use Rattle.pc_word.specs.declared.item.MachineFault.{MachineFault}
 use Rattle.pc_word.specs.declared.item.MachineFault.TheVariants.{StoreOutOfRange, StoredTwice, ReadPastEnd}
-use Rattle.pc_machine.specs.Row.{Leaf, Row}
-use Rattle.pc_machine.specs.RowStep.{State, Stored, path_of, leaf_of, is_outside, some_meet, some_left, stores_of, prints_of, reads_of, names_after, cells_after, fault_of, state_after, Faults, Commits, commit_of, row_step}
-use Rattle.pc_machine.specs.WellFormed.{is_effect, IsItem}
+use Rattle.pc_machine.specs.MachineCode.{Leaf, CodeRow}
+use Rattle.pc_word.specs.State.{State}
+use Rattle.pc_word.specs.Commit.{Stored, is_outside, some_meet, stores_of, prints_of, reads_of, names_after, cells_after, fault_of, state_after}
+use Rattle.pc_word.specs.Row.{path_of, leaf_of, Faults, Commits, commit_of, row_step}
+use Rattle.pc_word.specs.Items.{some_left, is_effect}
+use Rattle.pc_machine.specs.WellFormed.{IsItem}
 use Rattle.pc_vm.specs.declared.pending.PendingStore.{PendingStore}
 use Rattle.pc_vm.specs.declared.pending.PendingWrite.{PendingWrite}
-use Rattle.pc_vm.specs.Contents.{Contents, names_of, cells_of, lengths_of, state_of}
-use Rattle.pc_vm.specs.Planned.{Planned, nothing_planned, planned_by, stored_of, planned_fault, written, stored, IsInside, IsRegister}
+use Rattle.pc_vm.specs.Contents.{Contents, names_of, cells_of, state_of}
+use Rattle.pc_vm.specs.models.Made.{lengths_of}
+use Rattle.pc_vm.specs.models.Planned.{Planned, nothing_planned, planned_by, stored_of, planned_fault, written, stored, IsInside, IsRegister}
 use Rattle.pc_vm.proofs.Lists.{list_any-map}
-use Rattle.pc_vm.proofs.Plans.{writes_of, pending_of, any_reads, planned-writes, planned-stores, planned-printed, planned-reads, writes-registers, pending-inside, stored-pending, written-names, stored-cells, last_of-one, prints-few, reads-few, any_reads-count, taken_one}
+use Rattle.pc_vm.proofs.Plans.{writes_of, pending_of, any_reads, planned-writes, planned-stores, planned-printed, planned-reads, writes-registers}
+use Rattle.pc_vm.proofs.Plans.{pending-inside, stored-pending, written-names, stored-cells, last_of-one, prints-few, reads-few, any_reads-count}
+use Rattle.pc_vm.proofs.Plans.{taken_one}
+use Rattle.pc_word.specs.MachineLimits.{registers}
 
 -- the plan of a path, from nothing
 abbrev pub plan_of : List ℕ → State → List Item → Planned
 plan_of lengths old items = planned_by lengths old items nothing_planned
+
+-- what was planned from nothing along the path that a row takes
+pub plan-is : (row : CodeRow) (held : Contents) (before after : Planned)
+    → after ≡ planned_by (lengths_of held.cells) (state_of held) (path_of (names_of held.registers) row) before → before ≡ nothing_planned
+    → after ≡ plan_of (lengths_of held.cells) (state_of held) (path_of (names_of held.registers) row)
+plan-is row held before after planned empty =
+    planned ∙ ap (λ (p : Planned). planned_by (lengths_of held.cells) (state_of held) (path_of (names_of held.registers) row) p) empty
 
 -- its fault is that of the path
 pub plan-fault : (lengths : List ℕ) (old : State) (items : List Item) → planned_fault (plan_of lengths old items) (some_left old.input) ≡ fault_of lengths old items
@@ -32,7 +46,8 @@ plan-fault lengths old items =
     ∙ ap (λ (b : Bool). fault (list_any is_outside (stores_of lengths old items)) (stores_of lengths old items) b) reads
 
 -- its registers and places are there
-pub plan-registers : (lengths : List ℕ) (old : State) (arrays : ℕ) (items : List Item) (plan : Planned) → plan ≡ plan_of lengths old items → AllByRecursion (IsItem arrays) items → AllByRecursion IsRegister plan.writes
+pub plan-registers : (lengths : List ℕ) (old : State) (arrays : ℕ) (items : List Item) (plan : Planned) → plan ≡ plan_of lengths old items → AllByRecursion (IsItem arrays) items
+    → AllByRecursion IsRegister plan.writes
 plan-registers lengths old arrays items plan is all =
     subst (AllByRecursion IsRegister) (sym (ap (λ (p : Planned). p.writes) is ∙ planned-writes lengths old items nothing_planned)) (writes-registers lengths old arrays items all)
 
@@ -41,7 +56,7 @@ plan-inside lengths old items plan is =
     subst (AllByRecursion (IsInside lengths)) (sym (ap (λ (p : Planned). p.stores) is ∙ planned-stores lengths old items nothing_planned)) (pending-inside lengths old items)
 
 -- a row whose plan has a fault faults
-pub row-faults : (row : Row) (held : Contents) (plan : Planned) (left : Bool) (fault : MachineFault)
+pub row-faults : (row : CodeRow) (held : Contents) (plan : Planned) (left : Bool) (fault : MachineFault)
     → plan ≡ plan_of (lengths_of held.cells) (state_of held) (path_of (names_of held.registers) row) → left ≡ some_left held.input → Some fault ≡ planned_fault plan left
     → Faults fault ≡ row_step (lengths_of held.cells) row (state_of held)
 row-faults row held plan left fault is is_left faults =
@@ -52,7 +67,7 @@ row-faults row held plan left fault is is_left faults =
     ap (λ (f : Option MachineFault). commit_of (lengths_of held.cells) (state_of held) items leaf f) same
 
 -- the state once a plan is done is that after the path
-pub done-state : (old new : Contents) (items : List Item) (plan : Planned) → length old.registers ≡ 128 → AllByRecursion (IsItem (length old.cells)) items → count_by is_effect items ≤ 1
+pub done-state : (old new : Contents) (items : List Item) (plan : Planned) → length old.registers ≡ registers → AllByRecursion (IsItem (length old.cells)) items → count_by is_effect items ≤ 1
     → plan ≡ plan_of (lengths_of old.cells) (state_of old) items
     → new.registers ≡ written plan.writes old.registers → new.cells ≡ stored plan.stores old.cells → new.input ≡ (if plan.reads then drop 1 old.input else old.input)
     → state_of new ≡ state_after (lengths_of old.cells) (state_of old) items
@@ -76,8 +91,8 @@ done-state old new items plan many all few is registers cells input =
     λ i. record { names = λ x. name x i; cells = λ a p. cell a p i; input = is_input i }
 
 -- a row whose plan has none is done
-pub row-commits : (row : Row) (old new : Contents) (plan : Planned) (left : Bool) (printed : Option ℤ) (leaf : Leaf)
-    → length old.registers ≡ 128 → AllByRecursion (IsItem (length old.cells)) (path_of (names_of old.registers) row) → count_by is_effect (path_of (names_of old.registers) row) ≤ 1
+pub row-commits : (row : CodeRow) (old new : Contents) (plan : Planned) (left : Bool) (printed : Option ℤ) (leaf : Leaf)
+    → length old.registers ≡ registers → AllByRecursion (IsItem (length old.cells)) (path_of (names_of old.registers) row) → count_by is_effect (path_of (names_of old.registers) row) ≤ 1
     → plan ≡ plan_of (lengths_of old.cells) (state_of old) (path_of (names_of old.registers) row) → left ≡ some_left old.input → None ≡ planned_fault plan left
     → leaf ≡ leaf_of (names_of old.registers) row → printed ≡ plan.printed
     → new.registers ≡ written plan.writes old.registers → new.cells ≡ stored plan.stores old.cells → new.input ≡ (if plan.reads then drop 1 old.input else old.input)

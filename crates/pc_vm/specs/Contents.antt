@@ -1,6 +1,6 @@
 -- What a machine holds, as lists, and the state that it is.
-use Rattle.std.specs.Prelude.{ℕ, ℤ, pos, List, [], map, length, replicate, slice_index_or}
-use Rattle.pc_machine.specs.RowStep.{State}
+use Rattle.std.specs.Prelude.{ℕ, ℤ, pos, List, [], slice_index_or}
+use Rattle.pc_word.specs.State.{State}
 
 -- the registers, the elements of each array, and the input that is left
 pub record Contents : Type 0 where
@@ -16,14 +16,6 @@ names_of registers x = slice_index_or registers x (pos 0)
 abbrev pub cells_of : List (List ℤ) → ℕ → ℕ → ℤ
 cells_of cells array place = slice_index_or (slice_index_or cells array []) place (pos 0)
 
--- the length of each array
-abbrev pub lengths_of : List (List ℤ) → List ℕ
-lengths_of cells = map length cells
-
 -- the state that lists are
 abbrev pub state_of : Contents → State
 state_of held = record { names = names_of held.registers; cells = cells_of held.cells; input = held.input }
-
--- 128 registers and arrays of these lengths, all 0
-abbrev pub new_contents : List ℕ → List ℤ → Contents
-new_contents lengths input = record { registers = replicate 128 (pos 0); cells = map (λ n. replicate n (pos 0)) lengths; input = input }

@@ -1,5 +1,3 @@
+pub mod models
 pub mod Contents
-pub mod Planned
-pub mod RowResult
 pub mod Standing
-pub mod Sound

@@ -1,5 +1,5 @@
 -- Where a machine stands, as its callers see it, and what its calls do.
-use Rattle.std.specs.Prelude.{◌≡◌, ℕ, ℤ, ◌<◌, Bool, true, false, List, Option, Some, None, option_to_list}
+use Rattle.std.specs.Prelude.{◌≡◌, ℕ, ℤ, Bool, true, false, List, Option, Some, None, option_to_list}
 use Rattle.pc_word.specs.declared.item.End.{End}
 use Rattle.pc_word.specs.declared.item.End.TheVariants as end
 use Rattle.pc_word.specs.Run.{Step, Goes, Stops, Reached, At, Over}
@@ -8,8 +8,6 @@ use Rattle.pc_machine.specs.MachineRun.{Cycle}
 use Rattle.pc_vm.specs.declared.event.Event.{Event}
 use Rattle.pc_vm.specs.declared.event.Outcome.{Outcome}
 use Rattle.pc_vm.specs.declared.event.Outcome.TheVariants as outcome
-use Rattle.pc_vm.specs.declared.row.Next.{Next}
-use Rattle.pc_vm.specs.declared.row.Next.TheVariants as next
 use Rattle.pc_vm.specs.Contents.{Contents, state_of}
 
 -- the code, the row that comes next, what is held, and whether an end was answered
@@ -46,19 +44,3 @@ end_of outcome.Going = None
 abbrev pub StandsAt : Standing → Reached Cycle → Type 0
 StandsAt standing (At printed place) = (standing.over ≡ false) × (here_of standing ≡ place)
 StandsAt standing (Over printed e) = standing.over ≡ true
-
--- where a leaf leads to is one of so many rows
-abbrev pub LeadsWithin : ℕ → Next → Type 0
-LeadsWithin rows (next.Row row) = row < rows
-LeadsWithin rows _ = Unit {0}
-
--- the event of a row that printed this and came to this leaf
-abbrev pub event_of : Option ℤ → Next → Event
-event_of printed (next.Row row) = record { printed = printed; end = None }
-event_of printed next.Stop = record { printed = printed; end = Some end.Ended }
-event_of printed (next.Trap kind line) = record { printed = printed; end = Some (end.Trapped kind line) }
-
--- the machine goes to the row that a leaf leads to, or is over
-abbrev pub moved : Next → Standing → Standing
-moved (next.Row row) standing = record standing { row = row }
-moved _ standing = record standing { over = true }

@@ -3,12 +3,13 @@ ghost use Rattle.std.specs.Prelude.{◌≡◌, ◌≤◌, true, false, length, S
 ghost use Rattle.std.specs.Io.KnownBytes.{Appends};
 ghost use Rattle.pc_word.specs.NumberText.{text_of};
 ghost use Rattle.pc_word.specs.Run.{run_from, reach};
-ghost use Rattle.pc_machine.specs.Row.{code_of};
+ghost use Rattle.pc_machine.specs.MachineCode.{code_of};
 ghost use Rattle.pc_machine.specs.MachineRun.{machine_step, machine_start};
 ghost use Rattle.pc_machine.specs.WellFormed.{WellFormed};
 ghost use Rattle.pc_outside.specs.Fault.{Rose};
 ghost use Rattle.pc_outside.specs.Stream.{AppendsPart};
-ghost use Rattle.pc_vm.specs.Standing.{here_of, IsStep, KeepsAll, LeadsWithin, event_of, moved, end_of, StandsAt};
+ghost use Rattle.pc_vm.specs.Standing.{here_of, IsStep, KeepsAll, end_of, StandsAt};
+ghost use Rattle.pc_vm.specs.models.Moves.{LeadsWithin, event_of, moved};
 
 use crate::event::{Event, MachineError, Outcome, RunError};
 use crate::pending::Pending;
@@ -43,7 +44,7 @@ impl Model for Machine {
 
     ghost coded = { Prim.hlevel (codes, tree.the_row.coded) };
 
-    ghost use Rattle.pc_vm.specs.Sound.{IsSound};
+    ghost use Rattle.pc_vm.specs.models.Sound.{IsSound};
 
     ghost view = { λ a. record { code = a.code; row = a.row; held = a.values; over = a.over } };
 

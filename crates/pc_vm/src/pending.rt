@@ -1,18 +1,20 @@
 //! What a row is going to do, before anything is changed.
 ghost use Rattle.std.specs.Prelude.{◌≡◌, ◌<◌, if◌then◌else◌, [], ◌∷◌, ◌++◌, length, map, drop, vec_capacity, IfOk};
 ghost use Rattle.std.specs.List.{list_any, AllByRecursion};
-ghost use Rattle.pc_machine.specs.RowStep.{is_at, is_outside, meets_at, some_meet};
+ghost use Rattle.pc_word.specs.Commit.{is_at, is_outside, meets_at, some_meet};
 ghost use Rattle.pc_machine.specs.WellFormed.{IsItem};
-ghost use Rattle.pc_vm.specs.Contents.{lengths_of, state_of};
-ghost use Rattle.pc_vm.specs.Planned.{nothing_planned, with_write, planned_with, stored_of, planned_fault, written, stored, IsInside, IsRegister};
+ghost use Rattle.pc_vm.specs.models.Made.{lengths_of};
+ghost use Rattle.pc_vm.specs.Contents.{state_of};
+ghost use Rattle.pc_vm.specs.models.Planned.{nothing_planned, with_write, planned_with, stored_of, planned_fault, written, stored, IsInside, IsRegister};
+ghost use Rattle.pc_word.specs.MachineLimits.{most_ops};
 
 use crate::values::Values;
-use pc_word::{Item, MachineFault};
+use pc_word::{Item, MOST_OPS, MachineFault};
 use std::alloc::{AllocError, Global};
 use std::marker::Model;
 
 /// The most items that a row has.
-const MOST_ITEMS: usize = 32;
+const MOST_ITEMS: usize = MOST_OPS as usize;
 
 /// A word that a register is going to have.
 #[derive(Clone, Copy, Debug)]
@@ -40,13 +42,14 @@ pub(crate) struct Pending {
 
 impl Model for Pending {
     ghost use Rattle.std.specs.Prelude.{◌≤◌, vec_capacity};
-    ghost use Rattle.pc_vm.specs.Planned.{Planned};
+    ghost use Rattle.pc_word.specs.MachineLimits.{most_ops};
+    ghost use Rattle.pc_vm.specs.models.Planned.{Planned};
 
     ghost Value = { Planned };
 
     ghost view = { λ a. record { writes = a.writes.items; stores = a.stores.items; printed = a.printed; reads = a.reads } };
 
-    ghost invariant = { λ a. (32 ≤ vec_capacity a.writes) × (32 ≤ vec_capacity a.stores) };
+    ghost invariant = { λ a. (most_ops ≤ vec_capacity a.writes) × (most_ops ≤ vec_capacity a.stores) };
 }
 
 impl Pending {
@@ -64,7 +67,7 @@ impl Pending {
 
     /// Plans a write.
     fn write(&mut self, dest: u32, word: i32)
-        requires { length self.old.writes < 32 }
+        requires { length self.old.writes < most_ops }
         ensures { self.new ≡ with_write dest word self.old }
     {
         self.writes.push(PendingWrite { dest, word }).unwrap();
@@ -72,7 +75,7 @@ impl Pending {
 
     /// Plans a store.
     fn store(&mut self, array: u8, place: Option<usize>, word: i32)
-        requires { length self.old.stores < 32 }
+        requires { length self.old.stores < most_ops }
         ensures { self.new ≡ record self.old { stores = self.old.stores ++ record { array = array; place = place; word = word } ∷ [] } }
     {
         self.stores
@@ -83,8 +86,8 @@ impl Pending {
     /// Plans an item, whose words are those that the values have now.
     pub(crate) fn add(&mut self, values: &Values, item: &Item)
         requires item { IsItem (length values.now.cells) item.now }
-        requires writes { length self.old.writes < 32 }
-        requires stores { length self.old.stores < 32 }
+        requires writes { length self.old.writes < most_ops }
+        requires stores { length self.old.stores < most_ops }
         ensures { self.new ≡ planned_with (lengths_of values.now.cells) (state_of values.now) item.now self.old }
     {
         let word = values.value(item);

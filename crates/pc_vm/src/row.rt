@@ -1,12 +1,14 @@
 //! One row: its path is planned, and then faults or is done.
 ghost use Rattle.std.specs.Prelude.{◌≡◌, ◌+◌, ◌≤◌, length, IsTrue};
 ghost use Rattle.std.specs.List.{count_by};
-ghost use Rattle.pc_machine.specs.Row.{row_of};
-ghost use Rattle.pc_machine.specs.RowStep.{path_of, leaf_of, row_step};
-ghost use Rattle.pc_machine.specs.WellFormed.{is_effect};
-ghost use Rattle.pc_vm.specs.Contents.{names_of, lengths_of, state_of};
-ghost use Rattle.pc_vm.specs.Planned.{nothing_planned, planned_by};
-ghost use Rattle.pc_vm.specs.RowResult.{IsRunnable, longest, leaf_reached, outcome_of, KeepsOnFault};
+ghost use Rattle.pc_machine.specs.MachineCode.{row_of};
+ghost use Rattle.pc_word.specs.Row.{path_of, leaf_of, row_step};
+ghost use Rattle.pc_word.specs.Items.{is_effect};
+ghost use Rattle.pc_vm.specs.Contents.{names_of, state_of};
+ghost use Rattle.pc_vm.specs.models.Made.{lengths_of};
+ghost use Rattle.pc_vm.specs.models.Planned.{nothing_planned, planned_by};
+ghost use Rattle.pc_vm.specs.models.RowResult.{IsRunnable, longest, leaf_reached, outcome_of, KeepsOnFault};
+ghost use Rattle.pc_word.specs.MachineLimits.{most_ops, registers};
 
 use crate::pending::Pending;
 use crate::values::Values;
@@ -33,8 +35,8 @@ pub(crate) enum RowResult {
 /// Plans the items of the path that the values take through a tree, and gives its leaf.
 pub(crate) fn plan(tree: &Tree, values: &Values, pending: &mut Pending) -> Next
     requires row { IsRunnable (length values.now.cells) (row_of tree.now) }
-    requires writes { length pending.old.writes + longest (row_of tree.now) ≤ 32 }
-    requires stores { length pending.old.stores + longest (row_of tree.now) ≤ 32 }
+    requires writes { length pending.old.writes + longest (row_of tree.now) ≤ most_ops }
+    requires stores { length pending.old.stores + longest (row_of tree.now) ≤ most_ops }
     ensures leaf { leaf_reached result ≡ leaf_of (names_of values.now.registers) (row_of tree.now) }
     ensures planned { pending.new ≡ planned_by (lengths_of values.now.cells) (state_of values.now) (path_of (names_of values.now.registers) (row_of tree.now)) pending.old }
 {
@@ -62,13 +64,13 @@ pub(crate) fn plan(tree: &Tree, values: &Values, pending: &mut Pending) -> Next
 /// Runs a row on the values. The plan is empty before and after.
 pub(crate) fn run_row(tree: &Tree, values: &mut Values, pending: &mut Pending) -> RowResult
     requires row { IsRunnable (length values.old.cells) (row_of tree.now) }
-    requires short { longest (row_of tree.now) ≤ 32 }
+    requires short { longest (row_of tree.now) ≤ most_ops }
     requires one_effect { count_by is_effect (path_of (names_of values.old.registers) (row_of tree.now)) ≤ 1 }
-    requires registers { length values.old.registers ≡ 128 }
+    requires registers { length values.old.registers ≡ registers }
     requires empty { pending.old ≡ nothing_planned }
     ensures step { outcome_of result (state_of values.new) ≡ row_step (lengths_of values.old.cells) (row_of tree.now) (state_of values.old) }
     ensures fault { KeepsOnFault result values.old values.new }
-    ensures registers { length values.new.registers ≡ 128 }
+    ensures registers { length values.new.registers ≡ registers }
     ensures lengths { lengths_of values.new.cells ≡ lengths_of values.old.cells }
     ensures planned { pending.new ≡ nothing_planned }
 {

@@ -194,9 +194,9 @@ fn operators(rt: HostRuntime) -> Result<(), Fail> {
     Ok(())
 }
 
-#[test]
-fn all_of_a_row_reads_before_it_writes(rt: HostRuntime) -> Result<(), Fail> {
-    let alloc = rt.alloc();
+/// Two registers change places, and an element is loaded and stored in one row; the registers are
+/// printed behind it. Then loads from all sides of the arrays, and theirs.
+fn exchanges(alloc: Global) -> Result<TreeList, AllocError> {
     let swap = [
         Item::Copy {
             dest: 1,
@@ -209,7 +209,7 @@ fn all_of_a_row_reads_before_it_writes(rt: HostRuntime) -> Result<(), Fail> {
     ];
     let behind = [store(0, 3, 5), load(3, 0, 3), store(1, 0, 9)];
     let outside = [load(4, 0, 3), load(5, 1, 0), load(6, 0, 4), load(7, 0, -1)];
-    let rows = rows_of(
+    rows_of(
         alloc,
         &[
             &[copy(1, 1), copy(2, 2), copy(6, 8), copy(7, -2147483648)],
@@ -225,16 +225,14 @@ fn all_of_a_row_reads_before_it_writes(rt: HostRuntime) -> Result<(), Fail> {
             &[print(6)],
             &[print(7)],
         ],
-    )?;
-    assert!(rt;
-        shows(
-            alloc,
-            rows,
-            &[],
-            b"2\n1\n0\n-2147483648\n5\n9\n0\n0\n",
-            ENDED
-        )?
-    );
+    )
+}
+
+#[test]
+fn all_of_a_row_reads_before_it_writes(rt: HostRuntime) -> Result<(), Fail> {
+    let alloc = rt.alloc();
+    let text = b"2\n1\n0\n-2147483648\n5\n9\n0\n0\n";
+    assert!(rt; shows(alloc, exchanges(alloc)?, &[], text, ENDED)?);
     Ok(())
 }
 

@@ -1,17 +1,16 @@
 //! What a machine holds: its registers, its arrays, and the input that is left.
 ghost use Rattle.std.specs.Prelude.{◌≡◌, ◌<◌, pos, length, map, replicate, drop, slice_get, slice_set, slice_index, IfOk};
-ghost use Rattle.pc_machine.specs.RowStep.{operand_value, place_in, element_at, next_input, some_left, value_of};
+ghost use Rattle.pc_word.specs.Items.{operand_value, place_in, element_at, next_input, some_left, value_of};
 ghost use Rattle.pc_machine.specs.WellFormed.{IsOperand, IsItem};
-ghost use Rattle.pc_vm.specs.Contents.{names_of, cells_of, lengths_of, state_of, new_contents};
-ghost use Rattle.pc_vm.specs.Planned.{with_element, IsInside};
+ghost use Rattle.pc_vm.specs.Contents.{names_of, cells_of, state_of};
+ghost use Rattle.pc_vm.specs.models.Made.{lengths_of, new_contents};
+ghost use Rattle.pc_vm.specs.models.Planned.{with_element, IsInside};
+ghost use Rattle.pc_word.specs.MachineLimits.{registers};
 
 use crate::pending::{PendingStore, PendingWrite};
-use pc_word::{Item, Operand, WordList, apply};
+use pc_word::{Item, Operand, REGISTERS, WordList, apply};
 use std::alloc::{AllocError, Global};
 use std::marker::Model;
-
-/// The number of registers.
-const REGISTERS: usize = 128;
 
 /// The registers, the arrays, and the input, of whose words some are taken.
 #[derive(Drop)]
@@ -111,7 +110,7 @@ impl Values {
 
     /// Writes a register.
     pub(crate) fn write(&mut self, write: PendingWrite)
-        requires { write.dest < 128 }
+        requires { write.dest < registers }
         ensures { self.new ≡ record self.old { registers = slice_set self.old.registers write.dest write.word } }
     {
         self.registers[write.dest as usize] = write.word;

@@ -1,6 +1,6 @@
 use Rattle.std.proofs.Common.{rules, ◌≡◌}
 use Rattle.std.specs.Prelude.{slice_get}
-use Rattle.pc_machine.specs.Row.{code_of}
+use Rattle.pc_machine.specs.MachineCode.{code_of}
 use Rattle.pc_machine.specs.Flaws.{flaws_of}
 use Rattle.pc_machine.proofs.Flaws.{first_flaw}
 use Rattle.pc_machine.proofs.check.well_formed.Goals as goal

@@ -20,7 +20,8 @@ pub loop-preserved : goal.loop-preserved
 loop-preserved c =
     let fine = rw c.array_length.ensures at c.in_ok-elements.ensures in
     record {
-      so_far = rw c.in_ok-push.ensures.items (lengths_go_on c.loop.lengths.items c.args.count c.loop.counter c.loop.elements c.loop.rest.now c.in_ok-length.length c.in_ok-elements.elements c.in_ok-length.after.now
+      so_far = rw c.in_ok-push.ensures.items (lengths_go_on c.loop.lengths.items c.args.count c.loop.counter c.loop.elements c.loop.rest.now c.in_ok-length.length c.in_ok-elements.elements
+          c.in_ok-length.after.now
           (lengths_at c.args.count 0 c.args.bytes.now) c.loop-test.true c.in_ok-length.ensures fine c.loop.invariant.so_far);
       few = few_with c.loop.rest.now c.loop.elements c.in_ok-length.length c.in_ok-elements.elements fine;
     }

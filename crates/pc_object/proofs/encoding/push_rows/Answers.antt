@@ -1,7 +1,7 @@
 use Rattle.std.proofs.Common.{arith}
 use Rattle.std.proofs.lemmas.Grind.{common_steps}
 use Rattle.std.proofs.lemmas.List.Elements.{All-more}
-use Rattle.pc_machine.specs.Row.{row_of}
+use Rattle.pc_machine.specs.MachineCode.{row_of}
 use Rattle.pc_object.specs.Numbers.{RowFits}
 use Rattle.pc_object.proofs.encoding.push_rows.Goals as goal
 

@@ -1,6 +1,6 @@
 use Rattle.std.proofs.Common.{◌≡◌, ◌++◌, take, All}
 use Rattle.std.specs.List.{flat_map}
-use Rattle.pc_machine.specs.Row.{row_of, rows_of}
+use Rattle.pc_machine.specs.MachineCode.{row_of, rows_of}
 use Rattle.pc_object.specs.ObjectText.{row_text}
 use Rattle.pc_object.specs.Numbers.{RowFits}
 use Rattle.pc_object.proofs.encoding.push_rows.Given as goal

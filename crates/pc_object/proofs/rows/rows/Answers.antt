@@ -1,7 +1,7 @@
 use Rattle.std.proofs.Common.{◌≡◌, ◌++◌, ◌∷◌, []}
 use Rattle.std.proofs.lemmas.Result.{err_from_is_err_and}
 use Rattle.std.proofs.lemmas.List.{map_push}
-use Rattle.pc_machine.specs.Row.{row_of, rows_of}
+use Rattle.pc_machine.specs.MachineCode.{row_of, rows_of}
 use Rattle.pc_object.specs.Reading.{rows_at}
 use Rattle.pc_object.proofs.Loop.{rows_go_on, rows_end, rows_done}
 use Rattle.pc_object.proofs.rows.rows.Goals as goal
@@ -20,4 +20,5 @@ loop-preserved c =
     (rows_at c.args.bounds.now c.args.bounds.now.rows c.args.bytes.now) c.loop-test.true (rw (c.none.ensures, c.root-path.ensures) at c.in_ok-tree.ensures) c.loop.invariant)
 
 pub returns : goal.returns
-returns c = rows_done c.args.bounds.now (rows_of c.loop.rows.items) c.args.bounds.now.rows c.loop.counter c.loop.rest.now (rows_at c.args.bounds.now c.args.bounds.now.rows c.args.bytes.now) c.loop-test.false c.loop.invariant
+returns c = rows_done c.args.bounds.now (rows_of c.loop.rows.items) c.args.bounds.now.rows c.loop.counter c.loop.rest.now
+    (rows_at c.args.bounds.now c.args.bounds.now.rows c.args.bytes.now) c.loop-test.false c.loop.invariant

@@ -1,5 +1,5 @@
 use Rattle.std.proofs.Common.{◌≡◌, ◌-◌}
-use Rattle.pc_machine.specs.Row.{rows_of}
+use Rattle.pc_machine.specs.MachineCode.{rows_of}
 use Rattle.pc_object.specs.Reading.{rows_at}
 use Rattle.pc_object.proofs.Loop.{with_front}
 use Rattle.pc_object.proofs.rows.rows.Given as goal

@@ -1,5 +1,5 @@
 use Rattle.std.proofs.Common.{refl}
-use Rattle.pc_machine.specs.Row.{rows_of}
+use Rattle.pc_machine.specs.MachineCode.{rows_of}
 use Rattle.pc_object.proofs.Examples.{prints_seven_is_object}
 use Rattle.pc_object.proofs.tests.seven.Goals as goal
 

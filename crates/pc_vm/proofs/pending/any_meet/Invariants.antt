@@ -1,6 +1,6 @@
 use Rattle.std.proofs.Common.{◌≡◌, drop, map}
-use Rattle.pc_machine.specs.RowStep.{some_meet}
-use Rattle.pc_vm.specs.Planned.{stored_of}
+use Rattle.pc_word.specs.Commit.{some_meet}
+use Rattle.pc_vm.specs.models.Planned.{stored_of}
 use Rattle.pc_vm.proofs.pending.any_meet.Given as goal
 
 -- two stores meet where two of those that are left do

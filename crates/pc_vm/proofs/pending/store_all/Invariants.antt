@@ -1,8 +1,8 @@
 use Rattle.std.proofs.Common.{◌≡◌}
 use Rattle.std.specs.Prelude.{vec_capacity}
 use Rattle.std.specs.List.{AllByRecursion}
-use Rattle.pc_vm.specs.Contents.{lengths_of}
-use Rattle.pc_vm.specs.Planned.{stored, IsInside}
+use Rattle.pc_vm.specs.models.Made.{lengths_of}
+use Rattle.pc_vm.specs.models.Planned.{stored, IsInside}
 use Rattle.pc_vm.proofs.pending.store_all.Given as goal
 
 -- the stores that are left come to what all come to

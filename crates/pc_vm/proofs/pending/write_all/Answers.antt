@@ -2,7 +2,7 @@ use Rattle.std.proofs.Common.{◌≡◌, ◌∙◌, ◌++◌, [], ◌∷◌, Lis
 use Rattle.std.specs.List.{AllByRecursion}
 use Rattle.pc_vm.specs.declared.pending.PendingWrite.{PendingWrite}
 use Rattle.pc_vm.specs.Contents.{Contents}
-use Rattle.pc_vm.specs.Planned.{written, IsRegister}
+use Rattle.pc_vm.specs.models.Planned.{written, IsRegister}
 use Rattle.pc_vm.proofs.Plans.{written-last}
 use Rattle.pc_vm.proofs.Lists.{all_front}
 use Rattle.pc_vm.proofs.pending.write_all.Goals as goal

@@ -1,7 +1,7 @@
 use Rattle.std.proofs.Common.{◌≡◌}
 use Rattle.std.specs.Prelude.{vec_capacity}
 use Rattle.std.specs.List.{AllByRecursion}
-use Rattle.pc_vm.specs.Planned.{written, IsRegister}
+use Rattle.pc_vm.specs.models.Planned.{written, IsRegister}
 use Rattle.pc_vm.proofs.pending.write_all.Given as goal
 
 -- the writes that are left come to what all come to

@@ -1,5 +1,5 @@
 use Rattle.std.proofs.Common.{rules, ◌≡◌, Err, ◌∙◌, ap}
-use Rattle.pc_machine.specs.Row.{row_of}
+use Rattle.pc_machine.specs.MachineCode.{row_of}
 use Rattle.pc_machine.proofs.Checks.{item-stops, item-goes_on, yes-stops, yes-goes_on}
 use Rattle.pc_machine.proofs.check.Bounds.+row.Goals as goal
 
@@ -20,4 +20,5 @@ returns-in_err-counts-in-Test-2 t c =
 pub returns-in_ok-counts-in-Test-2 : goal.returns-in_ok-counts-in-Test-2
 returns-in_ok-counts-in-Test-2 t c =
     c.row-in-Test-2.ensures
-    ∙ yes-goes_on _ _ _ _ _ _ _ _ _ _ _ (ap row_of c.in-Test.is) c.in_ok-counts-in-Test.ensures (ap row_of c.deref-in-Test.ensures) c.in_ok-counts-in-Test-2.ensures (ap row_of c.deref-in-Test-2.ensures)
+    ∙ yes-goes_on _ _ _ _ _ _ _ _ _ _ _ (ap row_of c.in-Test.is) c.in_ok-counts-in-Test.ensures (ap row_of c.deref-in-Test.ensures)
+    c.in_ok-counts-in-Test-2.ensures (ap row_of c.deref-in-Test-2.ensures)

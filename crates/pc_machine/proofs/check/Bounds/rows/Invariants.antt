@@ -1,6 +1,6 @@
 use Rattle.std.proofs.Common.{◌≡◌, drop}
 use Rattle.std.specs.List.{flat_map}
-use Rattle.pc_machine.specs.Row.{rows_of}
+use Rattle.pc_machine.specs.MachineCode.{rows_of}
 use Rattle.pc_machine.specs.Flaws.{no_counts, nothing_above, row_flaws}
 use Rattle.pc_machine.proofs.check.Bounds.rows.Given as goal
 

@@ -1,9 +1,10 @@
 use Rattle.std.proofs.Common.{◌≡◌, ◌∙◌, ℕ, List, length, false, ap, sym, subst}
 use Rattle.std.proofs.lemmas.List.{length-map}
-use Rattle.pc_machine.specs.Row.{row_of, code_of}
+use Rattle.pc_machine.specs.MachineCode.{row_of, code_of}
 use Rattle.pc_machine.specs.MachineRun.{machine_step}
-use Rattle.pc_vm.specs.Contents.{names_of, lengths_of, state_of}
-use Rattle.pc_vm.specs.RowResult.{IsRunnable}
+use Rattle.pc_vm.specs.Contents.{names_of, state_of}
+use Rattle.pc_vm.specs.models.Made.{lengths_of}
+use Rattle.pc_vm.specs.models.RowResult.{IsRunnable}
 use Rattle.pc_vm.specs.Standing.{Standing, here_of, IsStep}
 use Rattle.pc_vm.proofs.Rows.{row-at, code-runnable, code-short, code-one_effect}
 use Rattle.pc_vm.proofs.Steps.{step-faults, step-done, leads-within}
@@ -16,13 +17,15 @@ run_row-requires-clause-row c =
     let tree = c.index-as_slice-self.result in
     let as_many : length code.arrays ≡ length cells = sym (ap (λ (ls : List ℕ). length ls) c.self.invariant.lengths) ∙ length-map cells length in
     subst (λ (n : ℕ). IsRunnable n (row_of tree)) as_many
-    (code-runnable (code_of code) c.self.inside.row (row_of tree) c.self.invariant.well (row-at code.rows c.as_slice.result.now c.self.inside.row tree c.as_slice.ensures c.self.invariant.row c.index-as_slice-self.is))
+    (code-runnable (code_of code) c.self.inside.row (row_of tree) c.self.invariant.well
+    (row-at code.rows c.as_slice.result.now c.self.inside.row tree c.as_slice.ensures c.self.invariant.row c.index-as_slice-self.is))
 
 pub run_row-requires-clause-short : goal.run_row-requires-clause-short
 run_row-requires-clause-short c =
     let code = c.self.inside.code in
     let tree = c.index-as_slice-self.result in
-    code-short (code_of code) c.self.inside.row (row_of tree) c.self.invariant.well (row-at code.rows c.as_slice.result.now c.self.inside.row tree c.as_slice.ensures c.self.invariant.row c.index-as_slice-self.is)
+    code-short (code_of code) c.self.inside.row (row_of tree) c.self.invariant.well
+    (row-at code.rows c.as_slice.result.now c.self.inside.row tree c.as_slice.ensures c.self.invariant.row c.index-as_slice-self.is)
 
 pub run_row-requires-clause-one_effect : goal.run_row-requires-clause-one_effect
 run_row-requires-clause-one_effect c =

@@ -1,5 +1,5 @@
 use Rattle.std.proofs.Common.{◌≡◌, ◌≤◌, false}
-use Rattle.pc_machine.specs.Row.{code_of}
+use Rattle.pc_machine.specs.MachineCode.{code_of}
 use Rattle.pc_machine.specs.MachineRun.{machine_step}
 use Rattle.pc_vm.specs.Standing.{here_of}
 use Rattle.pc_vm.proofs.Cycles.{Way}

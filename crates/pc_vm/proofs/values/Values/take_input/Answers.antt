@@ -6,7 +6,8 @@ use Rattle.pc_vm.proofs.values.Values.take_input.Goals as goal
 
 pub returns-then-self-len : goal.returns-then-self-len
 returns-then-self-len c =
-    ap (λ (words : List ℤ). let it : Contents = record { registers = c.self.inside.registers; cells = c.self.inside.arrays.items; input = words } in it) (drop-one c.self.inside.taken c.self.inside.input)
+    ap (λ (words : List ℤ). let it : Contents = record { registers = c.self.inside.registers; cells = c.self.inside.arrays.items; input = words } in it)
+    (drop-one c.self.inside.taken c.self.inside.input)
     ∙ ap (λ (held : Contents). let it : Contents = record { registers = held.registers; cells = held.cells; input = drop 1 held.input } in it) c.self.view_is
 
 pub returns-else-self-len : goal.returns-else-self-len

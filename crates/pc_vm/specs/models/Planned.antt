@@ -5,9 +5,12 @@ use Rattle.pc_word.specs.declared.item.Item.{Item}
 use Rattle.pc_word.specs.declared.item.Item.TheVariants.{Bin, Copy, Load, Store, Print, Read, More}
 use Rattle.pc_word.specs.declared.item.MachineFault.{MachineFault}
 use Rattle.pc_word.specs.declared.item.MachineFault.TheVariants.{StoreOutOfRange, StoredTwice, ReadPastEnd}
-use Rattle.pc_machine.specs.RowStep.{State, Stored, operand_value, place_in, value_of, is_outside, some_meet}
+use Rattle.pc_word.specs.State.{State}
+use Rattle.pc_word.specs.Commit.{Stored, is_outside, some_meet}
+use Rattle.pc_word.specs.Items.{operand_value, place_in, value_of}
 use Rattle.pc_vm.specs.declared.pending.PendingWrite.{PendingWrite}
 use Rattle.pc_vm.specs.declared.pending.PendingStore.{PendingStore}
+use Rattle.pc_word.specs.MachineLimits.{registers}
 
 -- the writes and stores, in order, what is printed, and whether an input number is taken
 pub record Planned : Type 0 where
@@ -79,4 +82,4 @@ IsInside lengths store = IfSome store.place (λ place. place < slice_index lengt
 
 -- the register is there
 abbrev pub IsRegister : PendingWrite → Type 0
-IsRegister write = write.dest < 128
+IsRegister write = write.dest < registers

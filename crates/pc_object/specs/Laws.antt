@@ -1,0 +1,40 @@
+-- Laws of the format, of every object and all bytes. Each is the contract of a function of laws.rt, which does nothing.
+use Rattle.std.specs.Prelude.{◌≡◌, ℕ, ◌<◌, ◌≤◌, ◌↔◌, List, ◌∷◌, ◌++◌, length, take, slice_get, slice_index, Some, Ok, Err}
+use Rattle.pc_word.specs.MachineLimits.{most_ops, most_tests, most_object}
+use Rattle.pc_machine.specs.declared.code.Flaw.{Flaw}
+use Rattle.pc_machine.specs.declared.check.Bounds.{Bounds}
+use Rattle.pc_machine.specs.Flaws.{no_counts, nothing_above, flaws_of}
+use Rattle.pc_object.specs.declared.refusal.ObjectError.TheVariants.{Truncated, BadField, Trailing}
+use Rattle.pc_object.specs.ObjectText.{CodeWithNotes, object_text, IsObject}
+use Rattle.pc_object.specs.Numbers.{HasWords, HasCounts}
+use Rattle.pc_object.specs.Reading.{object_reading, row_at, deepest}
+
+-- each text is the text of one object
+abbrev pub OneTextOneObject : Type 0
+OneTextOneObject = (a b : CodeWithNotes) → IsObject a → IsObject b → HasWords a → HasWords b → object_text a ≡ object_text b → a ≡ b
+
+-- bytes are read as an object exactly where they are its text
+abbrev pub ReadsExactlyTexts : Type 0
+ReadsExactlyTexts = (bytes : List ℕ) (object : CodeWithNotes) → ((i : ℕ) → slice_index bytes i < 256) → length bytes ≤ most_object
+    → (object_reading bytes ≡ Ok object) ↔ (IsObject object × HasWords object × (bytes ≡ object_text object))
+
+-- what follows an object's text is refused at its first byte
+abbrev pub LongerIsTrailing : Type 0
+LongerIsTrailing = (object : CodeWithNotes) (byte : ℕ) (more : List ℕ) → IsObject object → HasWords object
+    → object_reading (object_text object ++ byte ∷ more) ≡ Err (Trailing (length (object_text object)))
+
+-- each proper beginning of an object's text is read as truncated, with its length
+abbrev pub ShorterIsTruncated : Type 0
+ShorterIsTruncated = (object : CodeWithNotes) (k : ℕ) → IsObject object → HasWords object → k < length (object_text object)
+    → object_reading (take k (object_text object)) ≡ Err (Truncated k)
+
+-- the text of a code that is not well formed, whose numbers have a text of their own, is refused for the flaw that stands first
+abbrev pub FlawedIsBadField : Type 0
+FlawedIsBadField = (object : CodeWithNotes) (flaw : Flaw) → HasWords object → HasCounts object.code → slice_get (flaws_of object.code) 0 ≡ Some flaw
+    → (offset : ℕ) × (object_reading (object_text object) ≡ Err (BadField offset flaw))
+
+-- a reader that may go deeper than the one in use reads no row otherwise, since the limits stop both before
+abbrev pub DepthDecidesNothing : Type 0
+DepthDecidesNothing = (bounds : Bounds) (depth : ℕ) (bytes : List ℕ) → bounds.limits.ops ≤ most_ops → bounds.limits.tests ≤ most_tests
+    → ((i : ℕ) → slice_index bytes i < 256) → deepest ≤ depth
+    → row_at bounds depth no_counts nothing_above bytes ≡ row_at bounds deepest no_counts nothing_above bytes
