@@ -4,16 +4,19 @@ use Rattle.std.specs.Prelude.{ℤ, Option}
 use Rattle.pc_word.specs.declared.item.End.TheVariants.{Ended}
 use Rattle.pc_word.specs.Run.{Agree, ended_run}
 use Rattle.pc_word.proofs.Runs.{Agree-equal, Agree-trans}
-use Rattle.pc_syntax.specs.Source.{SourceExpression, Literal, Variable, Input, Indexed, Prefixed, Combined, Conjunction, Disjunction, Conditional, SourceStatement, Scope, ScalarDeclaration, ArrayDeclaration, Assignment, Printing, Evaluation, Branch, WhileLoop, DoLoop, ForLoop, BreakOut, ContinueOn, ReturnFrom, Nothing, SourceList, No_more, More, SourceProgram}
+use Rattle.pc_syntax.specs.Source.{SourceExpression, Literal, Variable, Input, Indexed, Prefixed, Combined, Conjunction, Disjunction, Conditional}
+use Rattle.pc_syntax.specs.Source.{SourceStatement, Scope, ScalarDeclaration, ArrayDeclaration, Assignment, Printing, Evaluation, Branch, WhileLoop}
+use Rattle.pc_syntax.specs.Source.{DoLoop, ForLoop, BreakOut, ContinueOn, ReturnFrom, Nothing, SourceList, No_more, More, SourceProgram}
 use Rattle.pc_check.specs.Names.{Names, no_names}
 use Rattle.pc_check.specs.Faults.{names_behind}
 use Rattle.pc_check.specs.Resolution.{resolved_expression, resolved_statement, resolved_list, resolved}
-use Rattle.pc_meaning.specs.State.{State, start, add_printed}
+use Rattle.pc_meaning.specs.SourceState.{SourceState, source_start, add_printed}
 use Rattle.pc_meaning.specs.Statement.{GoesOn, execute_list}
 use Rattle.pc_meaning.specs.SourceRun.{shown, outcome_of, source_run}
 use Rattle.pc_machine.specs.MachineRun.{machine_run}
 use Rattle.pc_machine.proofs.Printing.{prints_in_order}
-use Rattle.pc_tool.specs.Emission.{default_limits, printing_object}
+use Rattle.pc_tool.specs.Compilation.{default_limits}
+use Rattle.pc_tool.specs.models.Emission.{printing_object}
 use Rattle.pc_tool.specs.Source.{value_of, literal_of, literal_before, literals_of}
 use Rattle.pc_tool.specs.Meaning.{meaning_of, Same}
 
@@ -74,21 +77,21 @@ splits (Some value) (Some rest) numbers e = record { value = value; rest = rest;
 -- ---- statements that print literals
 
 -- what a print of a literal does before other statements
-one_print : (line : ℕ) (value : ℤ) (rest : SourceList) (names : Names) (lengths : List ℕ) (s : State)
+one_print : (line : ℕ) (value : ℤ) (rest : SourceList) (names : Names) (lengths : List ℕ) (s : SourceState)
     → execute_list lengths (resolved_list (More (Printing line (Literal value)) rest) names) s
     ≡ execute_list lengths (resolved_list rest (names_behind (Printing line (Literal value)) names)) (add_printed value s)
 unfolding resolved_list resolved_statement resolved_expression
 one_print line value rest names lengths s = refl
 
 -- the state in which these numbers more were printed
-abbrev after_prints : State → List ℤ → State
+abbrev after_prints : SourceState → List ℤ → SourceState
 after_prints s numbers = record s { printed = s.printed ++ numbers }
 
-no_print : (lengths : List ℕ) (names : Names) (s : State) → execute_list lengths (resolved_list No_more names) s ≡ GoesOn s
+no_print : (lengths : List ℕ) (names : Names) (s : SourceState) → execute_list lengths (resolved_list No_more names) s ≡ GoesOn s
 unfolding resolved_list
 no_print lengths names s = refl
 
-prints_all : (items : SourceList) (numbers : List ℤ) (names : Names) (lengths : List ℕ) (s : State) → literals_of items ≡ Some numbers
+prints_all : (items : SourceList) (numbers : List ℤ) (names : Names) (lengths : List ℕ) (s : SourceState) → literals_of items ≡ Some numbers
     → execute_list lengths (resolved_list items names) s ≡ GoesOn (after_prints s numbers)
 prints_all No_more numbers names lengths s e =
     let none : [] ≡ numbers = some_list [] numbers e in
@@ -109,7 +112,7 @@ ends_at_once : (program : SourceProgram) (numbers input : List ℤ) (n : ℕ) �
     → meaning_of program input n ≡ ended_run numbers Ended n
 unfolding source_run outcome_of
 ends_at_once program numbers input n e =
-    ap shown (prints_all program.items numbers no_names (resolved program).arrays (start input n) e)
+    ap shown (prints_all program.items numbers no_names (resolved program).arrays (source_start input n) e)
 
 -- a program that prints literals means that they are printed
 pub means_prints : (program : SourceProgram) (numbers input : List ℤ) → literals_of program.items ≡ Some numbers
@@ -118,6 +121,6 @@ means_prints program numbers input e = Agree-equal (meaning_of program input) (e
 
 -- and its object does the same
 pub does_the_same : (program : SourceProgram) (numbers : List ℤ) → literals_of program.items ≡ Some numbers → Same program (printing_object numbers).code
-does_the_same program numbers e input =
+does_the_same program numbers e input words =
     Agree-trans (meaning_of program input) (ended_run numbers Ended) (machine_run (printing_object numbers).code input)
     (means_prints program numbers input e) (prints_in_order default_limits numbers input)

@@ -55,7 +55,8 @@ none_before : (rest : Option (List ℤ)) → literal_before None rest ≡ None
 none_before None = refl
 none_before (Some rest) = refl
 
-left_first : (items rest : List Stmt) (i : ℕ) (item : Stmt) → drop i items ≡ item ∷ rest → left_literals items i ≡ literal_before (literal_of (statement_of item)) (literals_of (list_of rest))
+left_first : (items rest : List Stmt) (i : ℕ) (item : Stmt) → drop i items ≡ item ∷ rest
+    → left_literals items i ≡ literal_before (literal_of (statement_of item)) (literals_of (list_of rest))
 unfolding list_of
 left_first items rest i item e = ap (λ (left : List Stmt). literals_of (list_of left)) e
 

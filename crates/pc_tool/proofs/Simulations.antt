@@ -1,5 +1,5 @@
 -- What was taken from the input, and what is left of it.
-use Rattle.std.proofs.Common.{◌≡◌, ℕ, ◌<◌, ◌≤◌, List, [], length, take, Option, Some, None, sym, ◌∙◌, subst, arith, length-take, zero-le}
+use Rattle.std.proofs.Common.{◌≡◌, ℕ, ◌+◌, ◌<◌, ◌≤◌, List, [], length, take, Option, Some, None, sym, ◌∙◌, subst, arith, length-take, zero-le}
 use Rattle.std.proofs.lemmas.List.{take-append-drop}
 use Rattle.std.specs.Prelude.{ℤ, IfSome, Ok, Err, min}
 use Rattle.std.specs.Io.KnownBytes.{Consumes}
@@ -7,17 +7,20 @@ use Rattle.pc_word.specs.declared.number_text.NumbersError.{NumbersError}
 use Rattle.pc_word.specs.declared.number_text.NumbersError.TheVariants as numbers_error
 use Rattle.pc_word.specs.NumberText.{numbers_in, IsNumbersRefusal}
 use Rattle.pc_outside.specs.Stream.{TakesFirst, LosesFront}
-use Rattle.pc_tool.specs.Simulation.{Streamed, most_input, Gives, IsMisspelt, RefusesInput}
-use Rattle.pc_tool.specs.Refusals.{stop_of_numbers}
+use Rattle.pc_word.specs.MachineLimits.{most_input}
+use Rattle.pc_tool.specs.Simulation.{Streamed, SpellsInput}
+use Rattle.pc_tool.specs.models.Refusals.{stop_of_numbers}
+use Rattle.pc_tool.specs.models.Simulating.{IsMisspelt, RefusesInput}
 use Rattle.pc_tool.proofs.Files.{whole_of, longer_of}
 
-given_of : (left : Option (List ℕ)) (bytes : List ℕ) → IfSome left (λ all. bytes ≡ take 16777217 all) → length bytes ≤ 16777216 → IfSome left (λ all. all ≡ bytes)
+given_of : (left : Option (List ℕ)) (bytes : List ℕ) → IfSome left (λ all. bytes ≡ take (most_input + 1) all) → length bytes ≤ most_input
+    → IfSome left (λ all. all ≡ bytes)
 given_of None bytes first few = tt
-given_of (Some all) bytes first few = sym (whole_of 16777216 all bytes (sym first) few) ∙ sym first
+given_of (Some all) bytes first few = sym (whole_of most_input all bytes (sym first) few) ∙ sym first
 
 -- what was taken gave the numbers
-pub gives : (left : Option (List ℕ)) (bytes : List ℕ) (numbers : List ℤ) → IfSome left (λ all. bytes ≡ take 16777217 all) → length bytes ≤ 16777216
-    → numbers_in bytes ≡ Ok numbers → Gives left numbers
+pub gives : (left : Option (List ℕ)) (bytes : List ℕ) (numbers : List ℤ) → IfSome left (λ all. bytes ≡ take (most_input + 1) all) → length bytes ≤ most_input
+    → numbers_in bytes ≡ Ok numbers → SpellsInput left numbers
 gives left bytes numbers first few e = record {
   bytes = bytes;
   given = given_of left bytes first few;
@@ -25,11 +28,12 @@ gives left bytes numbers first few e = record {
 }
 
 -- more was taken than there may be
-pub long_input : (left : Option (List ℕ)) (bytes : List ℕ) → IfSome left (λ all. bytes ≡ take 16777217 all) → 16777216 < length bytes → IfSome left (λ all. most_input < length all)
+pub long_input : (left : Option (List ℕ)) (bytes : List ℕ) → IfSome left (λ all. bytes ≡ take (most_input + 1) all) → most_input < length bytes
+    → IfSome left (λ all. most_input < length all)
 long_input None bytes first big = tt
-long_input (Some all) bytes first big = longer_of 16777216 all bytes (sym first) big
+long_input (Some all) bytes first big = longer_of most_input all bytes (sym first) big
 
-misspelt_of : (left : Option (List ℕ)) (bytes : List ℕ) (offset : ℕ) → IfSome left (λ all. bytes ≡ take 16777217 all) → length bytes ≤ 16777216
+misspelt_of : (left : Option (List ℕ)) (bytes : List ℕ) (offset : ℕ) → IfSome left (λ all. bytes ≡ take (most_input + 1) all) → length bytes ≤ most_input
     → numbers_in bytes ≡ Err offset → IfSome left (IsMisspelt offset)
 misspelt_of None bytes offset first few e = tt
 misspelt_of (Some all) bytes offset first few e =
@@ -37,7 +41,7 @@ misspelt_of (Some all) bytes offset first few e =
     subst (IsMisspelt offset) (sym whole) (record { few_bytes = few; first = e })
 
 -- what was taken spells no numbers
-pub refused_numbers : (error : NumbersError) (bytes : List ℕ) (old new : Streamed) → IfSome old.told (λ all. bytes ≡ take 16777217 all) → length bytes ≤ 16777216
+pub refused_numbers : (error : NumbersError) (bytes : List ℕ) (old new : Streamed) → IfSome old.told (λ all. bytes ≡ take (most_input + 1) all) → length bytes ≤ most_input
     → IsNumbersRefusal bytes error → RefusesInput (stop_of_numbers error) old new
 refused_numbers (numbers_error.NotNumber offset) bytes old new first few h = misspelt_of old.told bytes offset first few h
 refused_numbers numbers_error.Memory bytes old new first few h = tt

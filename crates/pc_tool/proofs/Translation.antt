@@ -2,15 +2,16 @@
 use Rattle.std.proofs.Common.{◌≡◌, ℕ, ◌+◌, ◌*◌, ◌≤◌, List, [], ◌∷◌, ◌++◌, length, length-append, refl, arith}
 use Rattle.std.specs.Prelude.{ℤ}
 use Rattle.std.specs.List.{flat_map}
+use Rattle.pc_word.specs.SourceLimits.{most_tokens}
 use Rattle.pc_machine.specs.WellFormed.{AreLimits}
-use Rattle.pc_machine.specs.Printing.{printing_rows}
+use Rattle.pc_machine.specs.models.Printing.{printing_rows}
 use Rattle.pc_machine.proofs.Printing.{printing_well_formed, prints_in_order}
 use Rattle.pc_object.specs.Numbers.{HasWords}
 use Rattle.pc_object.specs.ObjectText.{IsObject, row_text}
 use Rattle.pc_tool.specs.Source.{PrintsLiterals}
-use Rattle.pc_tool.specs.Compilation.{Translates}
+use Rattle.pc_tool.specs.Compilation.{Translates, default_limits}
 use Rattle.pc_tool.proofs.Meanings.{does_the_same}
-use Rattle.pc_tool.specs.Emission.{default_limits, printing_object}
+use Rattle.pc_tool.specs.models.Emission.{printing_object}
 
 limits_are : AreLimits default_limits
 limits_are = record { ops = (omega arith, omega arith); tests = (omega arith, omega arith); mem = (omega arith, omega arith) }
@@ -21,7 +22,7 @@ rows_length i [] = omega arith
 rows_length i (w ∷ []) = omega arith
 rows_length i (w ∷ (v ∷ ws)) = let rest : length (flat_map row_text (printing_rows (i + 1) (v ∷ ws))) ≤ 11 * length (v ∷ ws) + 1 = rows_length (i + 1) (v ∷ ws) in omega arith
 
-pub printing_object_fits : (numbers : List ℤ) → length numbers ≤ 65536 → IsObject (printing_object numbers)
+pub printing_object_fits : (numbers : List ℤ) → length numbers ≤ most_tokens → IsObject (printing_object numbers)
 printing_object_fits numbers few = record {
   code = printing_well_formed default_limits numbers limits_are;
   choices = tt;
@@ -34,7 +35,7 @@ printing_object_fits numbers few = record {
 }
 
 -- the object that prints the numbers stands for the text that prints them
-pub translates : (text : List ℕ) (numbers : List ℤ) → PrintsLiterals text numbers → length numbers ≤ 65536 → HasWords (printing_object numbers)
+pub translates : (text : List ℕ) (numbers : List ℤ) → PrintsLiterals text numbers → length numbers ≤ most_tokens → HasWords (printing_object numbers)
     → Translates text (printing_object numbers)
 translates text numbers p few words = record {
   numbers = numbers;
@@ -42,6 +43,6 @@ translates text numbers p few words = record {
   loads = record { is_object = printing_object_fits numbers few; has_words = words };
   limits = refl;
   bare = refl;
-  prints = λ input. prints_in_order default_limits numbers input;
+  prints = λ input words. prints_in_order default_limits numbers input;
   same = does_the_same p.program numbers p.literals;
 }

@@ -42,11 +42,6 @@ simulation_of (object ∷ []) =
     if may_be_object object then Some (record { object = object; cycles = default_cycles }) else None
 simulation_of _ = None
 
--- a fact about what words tell to do; none holds where they are no command
-abbrev pub OfCommand : {A : Type 0} → Option A → (A → Type 0) → Type 0
-OfCommand None P = ⊥
-OfCommand (Some command) P = P command
-
 -- the bytes of each word
 abbrev pub spelled : List (String Global) → List (List ℕ)
 spelled words = map string_bytes words

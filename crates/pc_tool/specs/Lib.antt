@@ -1,12 +1,9 @@
+pub mod models
 pub mod Command
 pub mod Compilation
 pub mod Compiler
-pub mod Emission
-pub mod Literals
 pub mod Meaning
 pub mod Objects
-pub mod Refusals
-pub mod Silence
 pub mod Simulation
 pub mod Simulator
 pub mod Source

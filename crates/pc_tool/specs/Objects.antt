@@ -1,15 +1,9 @@
 -- Objects that load, and the files that hold them.
-use Rattle.std.specs.Prelude.{◌≡◌, ℕ, ◌≤◌, List, length, Option, Err}
+use Rattle.std.specs.Prelude.{◌≡◌, ℕ, List, Option}
 use Rattle.pc_object.specs.ObjectText.{CodeWithNotes, IsObject, object_text}
 use Rattle.pc_object.specs.Numbers.{HasWords}
-use Rattle.pc_object.specs.Reading.{object_reading}
-use Rattle.pc_object.specs.declared.refusal.ObjectError.{ObjectError}
 use Rattle.pc_outside.specs.Shelf.{Files}
 use Rattle.pc_tool.specs.Told.{HasText, HoldsText}
-
--- the most bytes that an object may have
-abbrev pub most_object : ℕ
-most_object = 16777216
 
 -- the object loads; it is the one that its text is read as, since its literals are words and its lines and numbers below 2^32
 pub record Loads (object : CodeWithNotes) : Type 0 where
@@ -24,11 +18,6 @@ pub record IsTextOf (bytes : List ℕ) (object : CodeWithNotes) : Type 0 where
 -- the bytes are the text of no object that loads
 abbrev pub IsNoObject : List ℕ → Type 0
 IsNoObject bytes = (object : CodeWithNotes) → IsTextOf bytes object → ⊥
-
--- the bytes are not too many, and are read as no object: this is the first thing that is wrong with them
-pub record FailsToDecode (error : ObjectError) (bytes : List ℕ) : Type 0 where
-  pub few_bytes : length bytes ≤ most_object
-  pub first : object_reading bytes ≡ Err error
 
 -- the object loads, and where the shelf tells its files, the named one has its text
 pub record Holds (held : Option Files) (name : List ℕ) (object : CodeWithNotes) : Type 0 where

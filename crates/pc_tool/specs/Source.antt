@@ -1,22 +1,11 @@
 -- Which texts are sources, and which of them do nothing but print literals.
-use Rattle.std.specs.Prelude.{◌≡◌, ℕ, ◌≤◌, ℤ, List, [], ◌∷◌, length, slice_get, Option, Some, None, Ok, Err}
+use Rattle.std.specs.Prelude.{◌≡◌, ℕ, ◌≤◌, ℤ, List, [], ◌∷◌, length, Option, Some, None, Ok}
+use Rattle.pc_word.specs.SourceLimits.{most_source, most_height}
 use Rattle.pc_lexer.specs.declared.token.Token.{Token}
-use Rattle.pc_lexer.specs.declared.error.LexError.{LexError}
 use Rattle.pc_lexer.specs.Tokens.{lexed}
 use Rattle.pc_syntax.specs.Source.{SourceExpression, Literal, SourceStatement, Printing, SourceList, No_more, More, SourceProgram}
-use Rattle.pc_parser.specs.declared.unit.ParseError.{ParseError}
-use Rattle.pc_parser.specs.declared.unit.ParseError.TheVariants as parse
-use Rattle.pc_parser.specs.Parse.{IsReadWithin, IsPlaceOfLine, NothingReads, NothingReadsWithin}
-use Rattle.pc_check.specs.declared.error.CheckError.{CheckError}
+use Rattle.pc_parser.specs.Parse.{IsReadWithin}
 use Rattle.pc_check.specs.Faults.{faults}
-
--- the most bytes that a source may have
-abbrev pub most_source : ℕ
-most_source = 1048576
-
--- the height that a program may have
-abbrev pub most_height : ℕ
-most_height = 256
 
 -- the text is not too long, and its tokens are read as this program
 pub record IsRead (text : List ℕ) (program : SourceProgram) : Type 0 where
@@ -33,32 +22,6 @@ pub record IsSource (text : List ℕ) (program : SourceProgram) : Type 0 where
 -- the text is no source
 abbrev pub IsNoSource : List ℕ → Type 0
 IsNoSource text = (program : SourceProgram) → IsSource text program → ⊥
-
--- ---- why a text is no source
-
--- the text is not too long, and is not cut into tokens: this is its first fault
-pub record FailsToLex (error : LexError) (text : List ℕ) : Type 0 where
-  pub few_bytes : length text ≤ most_source
-  pub first : lexed text ≡ Err error
-
--- no program reads what begins with the tokens up to this place, its own included; the line is that place's
-abbrev pub IsUnread : ParseError → List Token → Type 0
-IsUnread (parse.Syntax at line) tokens = IsPlaceOfLine tokens at line × NothingReads tokens at
-IsUnread (parse.TooNested at line) tokens = IsPlaceOfLine tokens at line × NothingReadsWithin most_height tokens at × (250 ≤ at)
-IsUnread parse.Memory tokens = ⊥
-
--- the text is not too long, and its tokens are no program
-pub record IsNoProgram (error : ParseError) (text : List ℕ) : Type 0 where
-  pub few_bytes : length text ≤ most_source
-  pub tokens : List Token
-  pub cut : lexed text ≡ Ok tokens
-  pub unread : IsUnread error tokens
-
--- the text is read as a program, and this is the first of its faults
-pub record IsFaulty (error : CheckError) (text : List ℕ) : Type 0 where
-  pub program : SourceProgram
-  pub read : IsRead text program
-  pub first : slice_get (faults program) 0 ≡ Some error
 
 -- ---- programs that print literals
 

@@ -4,9 +4,10 @@ ghost use Rattle.pc_object.specs.ObjectText.{object_text};
 ghost use Rattle.pc_object.specs.Numbers.{HasWords};
 ghost use Rattle.pc_outside.specs.Shelf.{WriteKeeps, HoldsFile};
 ghost use Rattle.pc_tool.specs.Command.{command_of, spelled};
-ghost use Rattle.pc_tool.specs.Compilation.{Compiled, Refuses, IsTranslation, RefusesText, RefusesToWrite};
-ghost use Rattle.pc_tool.specs.Compiler.{AnswersCommand, compiler_status};
-ghost use Rattle.pc_tool.specs.Emission.{printing_object};
+ghost use Rattle.pc_tool.specs.models.Compiling.{AnswersCommand, AnswersCompile, IsTranslation, RefusesToWrite, compiler_status};
+ghost use Rattle.pc_tool.specs.models.Emission.{printing_object};
+ghost use Rattle.pc_tool.specs.models.Texts.{RefusesText};
+ghost use Rattle.pc_word.specs.SourceLimits.{most_source, most_tokens};
 
 use crate::command::read_command;
 use crate::emit::emit;
@@ -16,10 +17,8 @@ use crate::literals::literals;
 use crate::refusal::Refusal;
 use pc_object::encode;
 use pc_outside::{Shelf, ShelfError};
+use pc_word::MOST_SOURCE;
 use std::alloc::{AllocError, Global};
-
-/// The most bytes that a source may have.
-const MOST_SOURCE: usize = 1_048_576;
 
 /// Compiles as the words say.
 pub(crate) fn run_compiler<H: Shelf>(
@@ -44,11 +43,7 @@ pub(crate) fn compiler_status(answer: Result<(), Refusal>) -> u8
         Err(Refusal::Memory) => 1,
         Err(Refusal::Usage) => 2,
         Err(Refusal::Read) => 3,
-        Err(Refusal::TooLong) => 4,
-        Err(Refusal::NoTokens { .. }) => 4,
-        Err(Refusal::NoProgram { .. }) => 4,
-        Err(Refusal::Faulty { .. }) => 4,
-        Err(Refusal::Unbuilt) => 4,
+        Err(Refusal::Text { .. }) => 4,
         Err(Refusal::Write) => 5,
     }
 }
@@ -60,7 +55,7 @@ fn compile<H: Shelf>(
     object: &str,
     shelf: &mut H,
 ) -> Result<(), Refusal>
-    ensures { MatchResult result (λ _. Compiled (record { source = source.now; object = object.now }) (H.state shelf.old) (H.state shelf.new)) (λ refusal. Refuses refusal (record { source = source.now; object = object.now }) (H.state shelf.old) (H.state shelf.new)) }
+    ensures { AnswersCompile result (record { source = source.now; object = object.now }) (H.state shelf.old) (H.state shelf.new) }
 {
     let text = read_whole(alloc, source, MOST_SOURCE, shelf)?;
     let bytes = translate(alloc, text.as_slice())?;
@@ -69,7 +64,7 @@ fn compile<H: Shelf>(
 
 /// The text of the object that does what a source does.
 fn translate(alloc: Global, text: &[u8]) -> Result<Vec<u8>, Refusal>
-    requires { length text.now ≤ 1048576 }
+    requires { length text.now ≤ most_source }
     ensures { MatchResult result (λ bytes. IsTranslation text.now bytes.items) (λ refusal. RefusesText refusal text.now) }
 {
     let program = read_program(alloc, text)?;
@@ -80,7 +75,7 @@ fn translate(alloc: Global, text: &[u8]) -> Result<Vec<u8>, Refusal>
 
 /// The text of the object that prints the numbers of a source.
 fn write_text(alloc: Global, numbers: &[i32]) -> Result<Vec<u8>, AllocError>
-    requires { length numbers.now ≤ 65536 }
+    requires { length numbers.now ≤ most_tokens }
     ensures text { IfOk result (λ bytes. bytes.items ≡ object_text (printing_object numbers.now)) }
     ensures words { IfOk result (λ bytes. HasWords (printing_object numbers.now)) }
 {
@@ -96,7 +91,9 @@ fn write_object<H: Shelf>(
     shelf: &mut H,
 ) -> Result<(), Refusal>
     ensures keeps { WriteKeeps (H.state shelf.old) (H.state shelf.new) name.now }
-    ensures written { MatchResult result (λ _. HoldsFile (H.state shelf.old).held (H.state shelf.new).held name.now bytes.now) (λ refusal. RefusesToWrite refusal name.now (H.state shelf.old) (H.state shelf.new)) }
+    ensures written { MatchResult result
+        (λ _. HoldsFile (H.state shelf.old).held (H.state shelf.new).held name.now bytes.now)
+        (λ refusal. RefusesToWrite refusal name.now (H.state shelf.old) (H.state shelf.new)) }
 {
     match shelf.write_file(alloc, name, bytes) {
         Ok(()) => Ok(()),

@@ -1,11 +1,13 @@
 //! The object of a program that prints literals.
 ghost use Rattle.std.specs.Prelude.{◌≡◌, ◌≤◌, length, IfOk};
-ghost use Rattle.pc_machine.specs.Row.{Then, row_of, rows_of};
-ghost use Rattle.pc_machine.specs.Printing.{printing_rows};
+ghost use Rattle.pc_word.specs.Row.{Then};
+ghost use Rattle.pc_machine.specs.MachineCode.{row_of, rows_of};
+ghost use Rattle.pc_machine.specs.models.Printing.{printing_rows};
 ghost use Rattle.pc_object.specs.ObjectText.{object_of};
+ghost use Rattle.pc_word.specs.SourceLimits.{most_tokens};
 ghost use Rattle.pc_word.specs.declared.item.Item.TheVariants.{Print as print};
 ghost use Rattle.pc_word.specs.declared.item.Operand.TheVariants.{Lit as literal};
-ghost use Rattle.pc_tool.specs.Emission.{printing_object};
+ghost use Rattle.pc_tool.specs.models.Emission.{printing_object};
 
 use pc_machine::{Code, Tree, TreeList};
 use pc_object::{NoteList, Object};
@@ -21,7 +23,7 @@ const LIMITS: Limits = Limits {
 
 /// The object whose rows print these numbers, one a row, and then stop.
 pub(crate) fn emit(alloc: Global, numbers: &[i32]) -> Result<Object, AllocError>
-    requires { length numbers.now ≤ 65536 }
+    requires { length numbers.now ≤ most_tokens }
     ensures { IfOk result (λ object. object_of object ≡ printing_object numbers.now) }
 {
     let code = Code {
@@ -37,7 +39,7 @@ pub(crate) fn emit(alloc: Global, numbers: &[i32]) -> Result<Object, AllocError>
 
 /// A row for each number. Each leads to the next, and the last one stops.
 fn emit_rows(alloc: Global, numbers: &[i32]) -> Result<TreeList, AllocError>
-    requires { length numbers.now ≤ 65536 }
+    requires { length numbers.now ≤ most_tokens }
     ensures { IfOk result (λ rows. rows_of rows ≡ printing_rows 0 numbers.now) }
 {
     let mut rows = TreeList::new(alloc);

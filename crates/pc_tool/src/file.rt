@@ -1,18 +1,22 @@
 //! Whole files of the shelf.
 ghost use Rattle.std.specs.Prelude.{◌≤◌, length, MatchResult, IfOk};
 ghost use Rattle.pc_outside.specs.Shelf.{ReadKeeps};
-ghost use Rattle.pc_tool.specs.Told.{HasText, RefusesFile};
+ghost use Rattle.pc_tool.specs.Told.{HasText};
+ghost use Rattle.pc_tool.specs.models.Refusals.{RefusesFile};
+ghost use Rattle.pc_word.specs.MachineLimits.{most_object};
 
 use pc_outside::{Shelf, ShelfError};
 use std::alloc::Global;
+use thiserror::Error;
 
 /// Why a file was not read whole.
-#[derive(Clone, Copy, Debug, PartialEq, Eq)]
+#[derive(Clone, Copy, Debug, PartialEq, Eq, Error)]
 pub(crate) enum FileError {
-    /// The shelf failed.
+    #[error("the shelf failed")]
     Failed,
-    /// The file has more bytes than it may.
+    #[error("the file has more bytes than it may")]
     TooLong,
+    #[error("out of memory")]
     Memory,
 }
 
@@ -23,10 +27,12 @@ pub(crate) fn read_whole<H: Shelf>(
     most: usize,
     shelf: &mut H,
 ) -> Result<Vec<u8>, FileError>
-    requires { most ≤ 16777216 }
+    requires { most ≤ most_object }
     ensures keeps { ReadKeeps (H.state shelf.old) (H.state shelf.new) }
     ensures few { IfOk result (λ text. length text.items ≤ most) }
-    ensures text { MatchResult result (λ text. HasText (H.state shelf.old).held name.now text.items) (λ error. RefusesFile error name.now most (H.state shelf.old) (H.state shelf.new)) }
+    ensures text { MatchResult result
+        (λ text. HasText (H.state shelf.old).held name.now text.items)
+        (λ error. RefusesFile error name.now most (H.state shelf.old) (H.state shelf.new)) }
 {
     match shelf.read_file(alloc, name, most + 1) {
         Ok(text) if text.len() > most => Err(FileError::TooLong),

@@ -2,7 +2,8 @@
 ghost use Rattle.std.specs.Prelude.{◌≤◌, length, MatchResult};
 ghost use Rattle.pc_syntax.specs.Erasure.{program_of};
 ghost use Rattle.pc_tool.specs.Source.{IsSource};
-ghost use Rattle.pc_tool.specs.Compilation.{RefusesText};
+ghost use Rattle.pc_tool.specs.models.Texts.{RefusesText};
+ghost use Rattle.pc_word.specs.SourceLimits.{most_source};
 
 use crate::refusal::Refusal;
 use pc_check::check;
@@ -13,7 +14,7 @@ use std::alloc::Global;
 
 /// The program that a text is, if the text is a source.
 pub(crate) fn read_program(alloc: Global, text: &[u8]) -> Result<Program, Refusal>
-    requires { length text.now ≤ 1048576 }
+    requires { length text.now ≤ most_source }
     ensures { MatchResult result (λ program. IsSource text.now (program_of program)) (λ refusal. RefusesText refusal text.now) }
 {
     let tokens = tokens(alloc, text)?;

@@ -8,6 +8,7 @@ mod compiler_tests;
 mod emit;
 mod file;
 mod front_end;
+mod host;
 mod literals;
 mod program;
 mod refusal;
@@ -17,5 +18,5 @@ mod simulator_tests;
 mod stop;
 mod words;
 
+pub use host::run;
 pub use program::{Status, Who, tool};
-pub use words::read_words;

@@ -2,17 +2,19 @@
 ghost use Rattle.std.specs.Prelude.{◌≡◌, Some, None, MatchResult};
 ghost use Rattle.pc_syntax.specs.Erasure.{expression_of, statement_of, program_of};
 ghost use Rattle.pc_tool.specs.Source.{value_of, literal_of, literals_of};
-ghost use Rattle.pc_tool.specs.Literals.{RefusesLiterals};
+ghost use Rattle.pc_tool.specs.models.Texts.{RefusesLiterals};
 
 use pc_syntax::{Expr, Program, Stmt};
 use pc_word::WordList;
 use std::alloc::{AllocError, Global};
+use thiserror::Error;
 
 /// Why literals were not read.
-#[derive(Clone, Copy, Debug, PartialEq, Eq)]
+#[derive(Clone, Copy, Debug, PartialEq, Eq, Error)]
 pub(crate) enum LiteralsError {
-    /// A statement does something else than to print a literal.
+    #[error("a statement does something else than to print a literal")]
     Other,
+    #[error("out of memory")]
     Memory,
 }
 

@@ -4,8 +4,7 @@ ghost use Rattle.pc_tool.specs.declared.program.Who.TheVariants.{Pcc, Pvm};
 ghost use Rattle.pc_tool.specs.Command.{command_of, simulation_of, spelled};
 ghost use Rattle.pc_tool.specs.Compiler.{CompilerPromise};
 ghost use Rattle.pc_tool.specs.Simulation.{outside_of};
-ghost use Rattle.pc_tool.specs.Simulator.{SimulatorPromise};
-ghost use Rattle.pc_tool.specs.Silence.{IsSilentStatus};
+ghost use Rattle.pc_tool.specs.Simulator.{SimulatorPromise, IsSilentStatus};
 
 use crate::compile::{compiler_status, run_compiler};
 use crate::simulate::{run_simulator, simulator_status};
@@ -35,7 +34,7 @@ pub struct Status {
 /// the source at SRC and writes its object to OBJ, which may be the same name. The statuses are
 ///
 /// - 0: the object is written,
-/// - 1: memory ran out; OBJ may hold anything,
+/// - 1: memory ran out; nothing was written, or SRC is a program that prints literals, and OBJ may hold anything,
 /// - 2: the words are no command,
 /// - 3: SRC could not be read,
 /// - 4: SRC is longer than 1,048,576 bytes, is no program of the language, or does something other than

@@ -1,6 +1,6 @@
 //! Why the compiler wrote no object.
 ghost use Rattle.std.specs.Prelude.{◌≡◌};
-ghost use Rattle.pc_tool.specs.Refusals.{refusal_of_file, refusal_of_lex, refusal_of_parse, refusal_of_check, refusal_of_literals};
+ghost use Rattle.pc_tool.specs.models.Refusals.{refusal_of_file, refusal_of_lex, refusal_of_parse, refusal_of_check, refusal_of_literals};
 ghost use Rattle.pc_tool.specs.declared.refusal.Refusal.TheVariants.{Memory};
 
 use crate::file::FileError;
@@ -9,27 +9,42 @@ use pc_check::CheckError;
 use pc_lexer::LexError;
 use pc_parser::ParseError;
 use std::alloc::AllocError;
+use thiserror::Error;
 
 /// Why the compiler wrote no object.
-#[derive(Clone, Copy, Debug, PartialEq, Eq)]
+#[derive(Clone, Copy, Debug, PartialEq, Eq, Error)]
 pub(crate) enum Refusal {
+    #[error("out of memory")]
     Memory,
-    /// The words are no command.
+    #[error("the words are no command")]
     Usage,
-    /// The source could not be read.
+    #[error("the source could not be read")]
     Read,
-    /// The source has more than 1,048,576 bytes.
-    TooLong,
-    /// The source is not cut into tokens; this is its first fault.
-    NoTokens { error: LexError },
-    /// The grammar reads no program in the source.
-    NoProgram { error: ParseError },
-    /// The source's names or limits have a fault; this is the first.
-    Faulty { error: CheckError },
-    /// The source does something other than print literals.
-    Unbuilt,
-    /// The object could not be written.
+    /// The source is read, but not compiled.
+    #[error("the source is not compiled")]
+    Text { flaw: TextFlaw },
+    #[error("the object could not be written")]
     Write,
+}
+
+/// Why a source is not compiled.
+#[derive(Clone, Copy, Debug, PartialEq, Eq, Error)]
+pub(crate) enum TextFlaw {
+    /// It has more than 1,048,576 bytes.
+    #[error("the source is too long")]
+    TooLong,
+    /// It is not cut into tokens; this is its first fault.
+    #[error("the source is not cut into tokens")]
+    NoTokens { error: LexError },
+    /// The grammar reads no program in it.
+    #[error("the source is no program")]
+    NoProgram { error: ParseError },
+    /// Its names or limits have a fault; this is the first.
+    #[error("the source has a fault")]
+    Faulty { error: CheckError },
+    /// It does something other than print literals.
+    #[error("the source does more than print literals")]
+    Unbuilt,
 }
 
 impl From<FileError> for Refusal {
@@ -38,7 +53,9 @@ impl From<FileError> for Refusal {
     fn from(error: FileError) -> Refusal {
         match error {
             FileError::Failed => Refusal::Read,
-            FileError::TooLong => Refusal::TooLong,
+            FileError::TooLong => Refusal::Text {
+                flaw: TextFlaw::TooLong,
+            },
             FileError::Memory => Refusal::Memory,
         }
     }
@@ -50,7 +67,9 @@ impl From<LexError> for Refusal {
     fn from(error: LexError) -> Refusal {
         match error {
             LexError::Memory => Refusal::Memory,
-            error => Refusal::NoTokens { error },
+            error => Refusal::Text {
+                flaw: TextFlaw::NoTokens { error },
+            },
         }
     }
 }
@@ -61,7 +80,9 @@ impl From<ParseError> for Refusal {
     fn from(error: ParseError) -> Refusal {
         match error {
             ParseError::Memory => Refusal::Memory,
-            error => Refusal::NoProgram { error },
+            error => Refusal::Text {
+                flaw: TextFlaw::NoProgram { error },
+            },
         }
     }
 }
@@ -72,7 +93,9 @@ impl From<CheckError> for Refusal {
     fn from(error: CheckError) -> Refusal {
         match error {
             CheckError::Memory => Refusal::Memory,
-            error => Refusal::Faulty { error },
+            error => Refusal::Text {
+                flaw: TextFlaw::Faulty { error },
+            },
         }
     }
 }
@@ -82,7 +105,9 @@ impl From<LiteralsError> for Refusal {
 
     fn from(error: LiteralsError) -> Refusal {
         match error {
-            LiteralsError::Other => Refusal::Unbuilt,
+            LiteralsError::Other => Refusal::Text {
+                flaw: TextFlaw::Unbuilt,
+            },
             LiteralsError::Memory => Refusal::Memory,
         }
     }

@@ -1,31 +1,25 @@
 //! The simulator: from the object on the shelf and the numbers of the input to the end of a run.
 ghost use Rattle.std.specs.Prelude.{◌≡◌, ◌+◌, Some, MatchResult, IfErr};
 ghost use Rattle.pc_object.specs.ObjectText.{object_of};
-ghost use Rattle.pc_machine.specs.Row.{code_of};
+ghost use Rattle.pc_machine.specs.MachineCode.{code_of};
 ghost use Rattle.pc_machine.specs.WellFormed.{WellFormed};
 ghost use Rattle.pc_outside.specs.Shelf.{ReadKeeps};
 ghost use Rattle.pc_outside.specs.Stream.{LosesFront};
 ghost use Rattle.pc_tool.specs.Command.{simulation_of, spelled};
 ghost use Rattle.pc_tool.specs.Objects.{Holds};
-ghost use Rattle.pc_tool.specs.Simulation.{outside_of, most_input, end_status, trap_status, Gives, Ready, IsPlaced, RefusesObject, RefusesInput, StopsEarly};
-ghost use Rattle.pc_tool.specs.Simulator.{AnswersWords, AnswersSimulation, simulator_status};
-ghost use Rattle.pc_tool.specs.Silence.{UnlessBroken};
+ghost use Rattle.pc_tool.specs.Simulation.{outside_of, end_status, trap_status, SpellsInput};
+ghost use Rattle.pc_tool.specs.models.Simulating.{AnswersWords, AnswersSimulation, IsPlaced, Ready, RefusesObject, RefusesInput, StopsEarly, UnlessBroken, simulator_status};
+ghost use Rattle.pc_word.specs.MachineLimits.{most_input};
 
 use crate::command::read_simulation;
 use crate::file::read_whole;
-use crate::stop::Stop;
+use crate::stop::{InputFlaw, Stop};
 use pc_machine::Code;
 use pc_object::{Object, decode};
 use pc_outside::{Shelf, Sink, Source, take_all};
 use pc_vm::{Machine, Outcome};
-use pc_word::{End, TrapKind, WordList, read_numbers};
+use pc_word::{End, MOST_INPUT, MOST_OBJECT, TrapKind, WordList, read_numbers};
 use std::alloc::Global;
-
-/// The most bytes that an object may have.
-const MOST_OBJECT: usize = 16_777_216;
-
-/// The most bytes that an input may have.
-const MOST_INPUT: usize = 16_777_216;
 
 /// Simulates as the words say.
 pub(crate) fn run_simulator<H: Shelf, I: Source, O: Sink>(
@@ -65,11 +59,9 @@ pub(crate) fn simulator_status(answer: Result<Outcome, Stop>) -> u8
         Err(Stop::Memory) => 1,
         Err(Stop::Usage) => 2,
         Err(Stop::ReadObject) => 3,
-        Err(Stop::ObjectTooLong) => 4,
-        Err(Stop::NoObject { .. }) => 4,
+        Err(Stop::Object { .. }) => 4,
         Err(Stop::ReadInput) => 3,
-        Err(Stop::InputTooLong) => 4,
-        Err(Stop::NotNumber { .. }) => 4,
+        Err(Stop::Input { .. }) => 4,
         Err(Stop::Write) => 5,
     }
 }
@@ -154,13 +146,15 @@ fn start<I: Source>(alloc: Global, code: Code, input: &mut I) -> Result<Machine,
 
 /// The numbers of the input.
 fn take_numbers<I: Source>(alloc: Global, input: &mut I) -> Result<WordList, Stop>
-    ensures numbers { MatchResult result (λ numbers. Gives (I.left input.old) numbers) (λ stop. RefusesInput stop
+    ensures numbers { MatchResult result (λ numbers. SpellsInput (I.left input.old) numbers) (λ stop. RefusesInput stop
         (record { told = I.left input.old; faults = I.faults input.old }) (record { told = I.left input.new; faults = I.faults input.new })) }
     ensures lost { LosesFront (I.left input.old) (I.left input.new) (most_input + 1) }
 {
     let bytes = take_all(alloc, input, MOST_INPUT + 1)?;
     if bytes.len() > MOST_INPUT {
-        return Err(Stop::InputTooLong);
+        return Err(Stop::Input {
+            flaw: InputFlaw::TooLong,
+        });
     }
     Ok(read_numbers(alloc, bytes.as_slice())?)
 }

@@ -1,23 +1,36 @@
 //! The words of the command line.
-ghost use Rattle.std.specs.Prelude.{◌≡◌, ◌⊎◌, IfErr};
+ghost use Rattle.std.specs.Prelude.{◌≡◌, None, drop};
+ghost use Rattle.pc_tool.specs.Command.{command_of, simulation_of, spelled};
 
-use crate::program::Status;
-use std::alloc::Global;
+use std::alloc::{AllocError, Global};
 use std::{env, io};
 
-/// The words behind the program's own name, or the status that ends it without them: 1 where memory runs
-/// out, and 2 where a word is no UTF-8, since such words are no command.
+/// The words behind the program's own name. Where one of them is no UTF-8 there are none, which is no
+/// command. An error is want of memory.
 ///
-/// Which words come, and which of 1 and 2, no clause says, since the host tells none of it.
-pub fn read_words(rt: &HostRuntime) -> Result<Vec<String>, Status>
-    ensures { IfErr result (λ status. (status.code ≡ 1) ⊎ (status.code ≡ 2)) }
-{
+/// Which words the host gives no clause says, since std tells none of it.
+pub(crate) fn read_words(rt: &HostRuntime) -> Result<Vec<String>, AllocError> {
     match env::args(rt) {
-        Ok(words) => words
-            .skip(1)
-            .collect(rt.alloc())
-            .map_err(|_| Status { code: 1 }),
-        Err(error) if error.kind() == io::ErrorKind::OutOfMemory => Err(Status { code: 1 }),
-        Err(_) => Err(Status { code: 2 }),
+        Ok(all) => Ok(behind_name(all.collect(rt.alloc())?)),
+        Err(error) if error.kind() == io::ErrorKind::OutOfMemory => Err(AllocError),
+        Err(_) => Ok(no_words(rt.alloc())),
     }
+}
+
+/// The words behind the first, which is the program's own name.
+fn behind_name(mut words: Vec<String>) -> Vec<String>
+    ensures { result.items ≡ drop 1 words.items }
+{
+    if !words.is_empty() {
+        words.remove(0);
+    }
+    words
+}
+
+/// No words, which are a command of neither program.
+fn no_words(alloc: Global) -> Vec<String>
+    ensures compiler { command_of (spelled result.items) ≡ None }
+    ensures simulator { simulation_of (spelled result.items) ≡ None }
+{
+    Vec::new(alloc)
 }

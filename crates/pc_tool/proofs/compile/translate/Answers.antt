@@ -1,9 +1,10 @@
 use Rattle.std.proofs.Common.{◌≡◌, ◌≤◌, List, length, subst, sym}
 use Rattle.std.specs.Prelude.{ℤ}
+use Rattle.pc_word.specs.SourceLimits.{most_tokens}
 use Rattle.pc_object.specs.ObjectText.{object_text}
 use Rattle.pc_object.specs.Numbers.{HasWords}
 use Rattle.pc_syntax.specs.Erasure.{program_of}
-use Rattle.pc_tool.specs.Emission.{printing_object}
+use Rattle.pc_tool.specs.models.Emission.{printing_object}
 use Rattle.pc_tool.specs.Source.{PrintsLiterals}
 use Rattle.pc_tool.proofs.Sources.{few_literals}
 use Rattle.pc_tool.proofs.Translation.{translates}
@@ -13,7 +14,7 @@ pub write_text-requires : goal.write_text-requires
 write_text-requires c =
     let prints : PrintsLiterals c.args.text.now c.in_ok-numbers.numbers =
     record { program = program_of c.in_ok-program.program; source = c.in_ok-program.ensures; literals = c.in_ok-numbers.ensures } in
-    subst (λ (numbers : List ℤ). length numbers ≤ 65536) (sym c.as_slice.ensures) (few_literals c.args.text.now c.in_ok-numbers.numbers prints)
+    subst (λ (numbers : List ℤ). length numbers ≤ most_tokens) (sym c.as_slice.ensures) (few_literals c.args.text.now c.in_ok-numbers.numbers prints)
 
 pub returns : goal.returns
 returns c =

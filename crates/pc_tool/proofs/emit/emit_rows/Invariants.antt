@@ -1,6 +1,6 @@
 use Rattle.std.proofs.Common.{◌≡◌, [], ◌∷◌, ◌++◌, drop}
-use Rattle.pc_machine.specs.Row.{rows_of}
-use Rattle.pc_machine.specs.Printing.{printing_rows}
+use Rattle.pc_machine.specs.MachineCode.{rows_of}
+use Rattle.pc_machine.specs.models.Printing.{printing_rows}
 use Rattle.pc_tool.proofs.emit.emit_rows.Given as goal
 
 abbrev pub invariant-loop-place : goal.invariant-loop-place

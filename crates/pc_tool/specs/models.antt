@@ -1,0 +1,5 @@
+pub mod Compiling
+pub mod Emission
+pub mod Refusals
+pub mod Simulating
+pub mod Texts
