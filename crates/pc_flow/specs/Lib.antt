@@ -1,0 +1,4 @@
+pub mod models
+pub mod FlowGraph
+pub mod FlowRun
+pub mod Laws
