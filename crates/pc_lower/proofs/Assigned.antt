@@ -1,0 +1,74 @@
+-- Assignments that are lowered part by part: what a part may take for granted, and what the parts together give.
+use Rattle.std.proofs.Common.{◌≡◌, ℕ, ◌+◌, ◌<◌, ◌≤◌, List, length, Some, None, refl, arith}
+use Rattle.std.specs.Prelude.{Option, slice_get}
+use Rattle.pc_word.specs.declared.item.Item.TheVariants.{Copy, Load, Store}
+use Rattle.pc_word.specs.declared.item.Operand.{Operand}
+use Rattle.pc_word.specs.declared.item.Operand.TheVariants.{Name}
+use Rattle.pc_word.specs.SourceLimits.{most_scalars}
+use Rattle.pc_syntax.specs.declared.operator.BinaryOp.{BinaryOp}
+use Rattle.pc_syntax.specs.Source.{SourceExpression, Variable, Combined}
+use Rattle.pc_check.specs.Needs.{hold}
+use Rattle.pc_check.specs.Sizes.{expression_size, operator_size}
+use Rattle.pc_flow.specs.declared.node.FlowNode.{FlowNode}
+use Rattle.pc_flow.specs.declared.node.FlowNode.TheVariants.{Op}
+use Rattle.pc_flow.specs.FlowGraph.{IsVariable, ItemFits}
+use Rattle.pc_lower.specs.Lowers.{temporary, held, Bounds, Combines, Puts, Assigns}
+use Rattle.pc_lower.specs.models.Drafts.{Draft}
+use Rattle.pc_lower.specs.models.Fills.{Lays}
+use Rattle.pc_lower.specs.models.LowersExpression.{IsReady, IsHeld, MayLower, LaysExpression}
+use Rattle.pc_lower.proofs.Fills.{lays_both, lays_as, room_left, placed_first}
+use Rattle.pc_lower.proofs.Lowered.{value_fits}
+
+-- where the value of an expression is, there is a variable or a literal
+pub held_value : {arrays : List ℕ} {e : SourceExpression} {t : ℕ} → IsHeld arrays e t → IsVariable (held e t)
+held_value {arrays} {e} {t} h = value_fits e t (length arrays) h.slots h.temporaries
+
+-- a store fits
+pub store_fits : (array arrays : ℕ) (index value : Operand) → array < arrays → IsVariable index → IsVariable value → ItemFits arrays (Store array index value)
+store_fits array arrays index value there h k = record { reads = (h, (k, tt)); writes = tt; array = there }
+
+-- a part that is lowered before nodes that were placed: it leads on to the first of them
+pub ready_part : {d d1 : Draft} {x : SourceExpression} {size to q k m u : ℕ} {inside : Option ℕ} {P : List FlowNode → List ℕ → Type 0}
+    → IsReady d size to q inside → Lays d d1 k m to P → IsHeld d.graph.arrays x u → expression_size x + k ≤ size → 1 ≤ k → MayLower d1 x u m m inside
+ready_part {x = x} ready l kept fits some = record {
+  arrays = rw l.fills.arrays ready.arrays;
+  slots = rw l.fills.arrays kept.slots;
+  temporaries = kept.temporaries;
+  room = room_left (expression_size x) ready.room l fits;
+  leads = placed_first ready.room l some;
+  contiguous = λ none. refl;
+}
+
+-- a scalar that is changed
+pub lays_compound : {a b c d : Draft} {m n j to : ℕ} (scalar line at q : ℕ) (op : BinaryOp) (v : SourceExpression) → scalar < most_scalars
+    → Lays a b 1 j to (λ nodes lengths. slice_get nodes j ≡ Some (Op (Copy scalar (Name 64)) q))
+    → Lays b c (operator_size op) n j (λ nodes lengths. Combines nodes lengths op at (temporary 0) (Name scalar) (held v 0) n j)
+    → LaysExpression v 0 m n n c d
+    → Lays a d (expression_size v + operator_size op + 1) m to (λ nodes lengths. Puts nodes lengths scalar (Combined op at (Variable scalar line) v) m q)
+lays_compound {m = m} {n = n} {j = j} scalar line at q op v small copy operation value =
+    lays_as _ (λ nodes lengths. Puts nodes lengths scalar (Combined op at (Variable scalar line) v) m q) (lays_both (lays_both copy operation) value) (omega arith)
+    (λ nodes h. (j, small, (m, n, (small, refl), h.1, h.0.1), h.0.0))
+
+-- an element that is set
+pub lays_store : {a b c d e : Draft} {p m n o to : ℕ} (array line bracket at q : ℕ) (i v : SourceExpression)
+    → Lays a b 1 o to (λ nodes lengths. slice_get nodes o ≡ Some (Op (Store array (held i 0) (held v (hold i))) q))
+    → Lays b c 3 n o (λ nodes lengths. Bounds nodes lengths array bracket (temporary (hold i + hold v)) (held i 0) n o)
+    → LaysExpression v (hold i) m n n c d → LaysExpression i 0 p m m d e
+    → Lays a e (expression_size i + expression_size v + 4) p to (λ nodes lengths. Assigns nodes lengths array line (Some i) bracket None at v p q)
+lays_store {p = p} {m = m} {n = n} {o = o} array line bracket at q i v store bounds value index =
+    lays_as _ (λ nodes lengths. Assigns nodes lengths array line (Some i) bracket None at v p q)
+    (lays_both (lays_both (lays_both store bounds) value) index) (omega arith) (λ nodes h. (m, n, o, h.1, h.0.1, h.0.0.1, h.0.0.0))
+
+-- an element that is changed
+pub lays_update : {a b c d e f g : Draft} {p m n o r v to : ℕ} (array line bracket at q : ℕ) (op : BinaryOp) (i x : SourceExpression)
+    → Lays a b 1 v to (λ nodes lengths. slice_get nodes v ≡ Some (Op (Store array (held i 0) (Name (64 + hold i))) q))
+    → Lays b c (operator_size op) r v (λ nodes lengths. Combines nodes lengths op at (temporary (hold i)) (Name (64 + hold i)) (held x (hold i + 1)) r v)
+    → LaysExpression x (hold i + 1) o r r c d
+    → Lays d e 1 n o (λ nodes lengths. slice_get nodes n ≡ Some (Op (Load (64 + hold i) array (held i 0)) o))
+    → Lays e f 3 m n (λ nodes lengths. Bounds nodes lengths array bracket (temporary (hold i)) (held i 0) m n)
+    → LaysExpression i 0 p m m f g
+    → Lays a g (expression_size i + expression_size x + (operator_size op + 5)) p to (λ nodes lengths. Assigns nodes lengths array line (Some i) bracket (Some op) at x p q)
+lays_update {p = p} {m = m} {n = n} {o = o} {r = r} {v = v} array line bracket at q op i x store operation value load bounds index =
+    lays_as _ (λ nodes lengths. Assigns nodes lengths array line (Some i) bracket (Some op) at x p q)
+    (lays_both (lays_both (lays_both (lays_both (lays_both store operation) value) load) bounds) index) (omega arith)
+    (λ nodes h. (m, n, o, r, v, h.1, h.0.1, h.0.0.1, h.0.0.0.1, h.0.0.0.0.1, h.0.0.0.0.0))

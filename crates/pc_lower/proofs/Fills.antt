@@ -1,0 +1,189 @@
+-- Numbers of a draft that are filled from the end: one part after the other.
+use Rattle.std.proofs.Common.{◌≡◌, ◌≢◌, ℕ, zero, suc, ◌+◌, ◌<◌, ◌≤◌, ◌⊎◌, inl, inr, List, [], ◌∷◌, length, Option, Some, refl, sym, ◌∙◌, ap, subst, arith}
+use Rattle.std.specs.Prelude.{IfSome, slice_get, slice_set, slice_index}
+use Rattle.pc_word.proofs.Lists.{set_length, index_set_same, index_set_other}
+use Rattle.pc_word.proofs.Truth.{decide_le}
+use Rattle.pc_flow.specs.declared.node.FlowNode.{FlowNode}
+use Rattle.pc_lower.specs.models.Drafts.{Draft, IsDraft, IsPlaced, CanPlace, draft_with}
+use Rattle.pc_lower.specs.models.Fills.{IsOutside, Fills, Keeps, Lays, HasRoom}
+
+-- ---- lists with an element replaced
+
+-- that element
+pub get_set_same : {X : Type 0} (xs : List X) (i : ℕ) (x : X) → i < length xs → slice_get (slice_set xs i x) i ≡ Some x
+get_set_same [] i x h = absurd (omega arith)
+get_set_same (y ∷ xs) zero x h = refl
+get_set_same (y ∷ xs) (suc i) x h = get_set_same xs i x (omega arith)
+
+-- and the others
+pub get_set_other : {X : Type 0} (xs : List X) (i j : ℕ) (x : X) → i ≢ j → slice_get (slice_set xs i x) j ≡ slice_get xs j
+get_set_other [] i j x h = refl
+get_set_other (y ∷ xs) zero zero x h = absurd (h refl)
+get_set_other (y ∷ xs) zero (suc j) x h = refl
+get_set_other (y ∷ xs) (suc i) zero x h = refl
+get_set_other (y ∷ xs) (suc i) (suc j) x h = get_set_other xs i j x (λ e. h (ap suc e))
+
+-- ---- one node
+
+-- a number outside of one place is another
+other_place : (at i : ℕ) → IsOutside at (at + 1) i → at ≢ i
+other_place at i (inl h) e = omega (arith, h, e)
+other_place at i (inr h) e = omega (arith, h, e)
+
+-- placing one node
+pub lays_placed : (draft : Draft) (at : ℕ) (node : FlowNode) (inside : Option ℕ) → IsDraft draft → CanPlace draft at node inside
+    → Lays draft (draft_with at node inside draft) 1 at (at + 1) (λ nodes lengths. slice_get nodes at ≡ Some node)
+lays_placed draft at node inside keeps can =
+    let in_ranks : at < length draft.graph.ranks = subst (λ (n : ℕ). at < n) (sym keeps.flow.all_ranked) can.at_open.there in
+    let ranked = index_set_same draft.graph.ranks at (draft.ranked + 1) in_ranks in
+    record {
+      size_is = refl;
+      fills = record {
+        forward = omega arith;
+        as_many = set_length draft.graph.nodes at node;
+        as_many_loops = refl;
+        arrays = refl;
+        nodes_kept = λ i h. get_set_other draft.graph.nodes at i node (other_place at i h);
+        ranks_kept = λ i h. index_set_other draft.graph.ranks at i (draft.ranked + 1) (other_place at i h);
+        filled = λ i lo hi.
+            let same : at ≡ i = omega (arith, lo, hi) in
+            subst (λ (n : ℕ). 1 ≤ slice_index (slice_set draft.graph.ranks at (draft.ranked + 1)) n) same (omega (arith, ranked));
+        ranked = omega arith;
+      };
+      gives = λ final h. h at (omega arith) (omega arith) ∙ get_set_same draft.graph.nodes at node can.at_open.there;
+    }
+
+-- ---- one part after the other
+
+-- a number outside of two adjoining parts is outside of each
+outside_later : (from mid to i : ℕ) → from ≤ mid → IsOutside from to i → mid ≤ to → IsOutside mid to i
+outside_later from mid to i h (inl k) g = inl (omega (arith, h, k))
+outside_later from mid to i h (inr k) g = inr k
+
+outside_earlier : (from mid to i : ℕ) → mid ≤ to → IsOutside from to i → IsOutside from mid i
+outside_earlier from mid to i h (inl k) = inl k
+outside_earlier from mid to i h (inr k) = inr (omega (arith, h, k))
+
+module _ (a b c : Draft) (from mid to : ℕ) (later : Fills a b mid to) (earlier : Fills b c from mid) where
+  -- each place of the two was filled
+  filled-both : (i : ℕ) → from ≤ i → i < to → (i < mid) ⊎ (mid ≤ i) → 1 ≤ slice_index c.graph.ranks i
+  filled-both i lo hi (inl h) = earlier.filled i lo h
+  filled-both i lo hi (inr h) = subst (λ (n : ℕ). 1 ≤ n) (sym (earlier.ranks_kept i (inr h))) (later.filled i h hi)
+
+  below-or : (i : ℕ) → (i < mid) ⊎ (mid ≤ i)
+  below-or i = elim (decide_le mid i) [ inl h ↦ inr h | inr h ↦ inl h ]
+
+  -- two adjoining parts are one
+  pub fills_both : Fills a c from to
+  fills_both =
+      let f = later.forward in
+      let g = earlier.forward in
+      let r = later.ranked in
+      let s = earlier.ranked in
+      record {
+        forward = omega (arith, f, g);
+        as_many = earlier.as_many ∙ later.as_many;
+        as_many_loops = earlier.as_many_loops ∙ later.as_many_loops;
+        arrays = earlier.arrays ∙ later.arrays;
+        nodes_kept = λ i h. earlier.nodes_kept i (outside_earlier from mid to i f h) ∙ later.nodes_kept i (outside_later from mid to i g h f);
+        ranks_kept = λ i h. earlier.ranks_kept i (outside_earlier from mid to i f h) ∙ later.ranks_kept i (outside_later from mid to i g h f);
+        filled = λ i lo hi. filled-both i lo hi (below-or i);
+        ranked = omega (arith, r, s);
+      }
+
+  -- what keeps both parts keeps the later as it was before the other
+  pub keeps_later : (final : List FlowNode) → Keeps c from to final → Keeps b mid to final
+  keeps_later final h i lo hi = let g = earlier.forward in h i (omega (arith, lo, g)) hi ∙ earlier.nodes_kept i (inr lo)
+
+  -- and the earlier
+  pub keeps_earlier : (final : List FlowNode) → Keeps c from to final → Keeps c from mid final
+  keeps_earlier final h i lo hi = let f = later.forward in h i lo (omega (arith, hi, f))
+
+-- two adjoining parts, of which each gives something, give both
+pub lays_both : {a b c : Draft} {from mid to k n : ℕ} {P Q : List FlowNode → List ℕ → Type 0} → Lays a b k mid to P → Lays b c n from mid Q
+    → Lays a c (n + k) from to (λ nodes lengths. P nodes lengths × Q nodes lengths)
+lays_both {a} {b} {c} {from} {mid} {to} {k} {n} {P} {Q} later earlier =
+    let e = later.size_is in
+    let d = earlier.size_is in
+    record {
+      size_is = omega (arith, e, d);
+      fills = fills_both a b c from mid to later.fills earlier.fills;
+      gives = λ final h. (
+        later.gives final (keeps_later a b c from mid to later.fills earlier.fills final h),
+        subst (Q final) later.fills.arrays (earlier.gives final (keeps_earlier a b c from mid to later.fills earlier.fills final h)),
+      );
+    }
+
+-- what is given, put another way
+pub lays_as : {old new : Draft} {k from to : ℕ} {P : List FlowNode → List ℕ → Type 0} (n : ℕ) (Q : List FlowNode → List ℕ → Type 0)
+    → Lays old new k from to P → k ≡ n → ((nodes : List FlowNode) → P nodes old.graph.arrays → Q nodes old.graph.arrays) → Lays old new n from to Q
+lays_as {old} {new} {k} {from} {to} n Q l e f =
+    record { size_is = subst (λ (x : ℕ). from + x ≡ to) e l.size_is; fills = l.fills; gives = λ final h. f final (l.gives final h) }
+
+-- ---- what is left
+
+-- room for fewer
+pub less_room : {draft : Draft} {many to : ℕ} {inside : Option ℕ} (few : ℕ) → few ≤ many → HasRoom draft many to inside → HasRoom draft few to inside
+less_room {draft} {many} {to} {inside} few h room =
+    let w = room.within in
+    let r = room.ranks in
+    record {
+      within = omega (arith, h, w);
+      there = room.there;
+      unranked = λ i lo hi. room.unranked i lo (omega (arith, h, hi));
+      ranks = omega (arith, h, r);
+      loop_there = room.loop_there;
+    }
+
+-- room that is left before a part
+pub room_left : {old new : Draft} {size k from to : ℕ} {inside : Option ℕ} {P : List FlowNode → List ℕ → Type 0} (rest : ℕ)
+    → HasRoom old size to inside → Lays old new k from to P → rest + k ≤ size → HasRoom new rest from inside
+room_left {old} {new} {size} {k} {from} {to} {inside} rest room l h =
+    let e = l.size_is in
+    let w = room.within in
+    let there = room.there in
+    let r = room.ranks in
+    let s = l.fills.ranked in
+    let n = l.fills.as_many in
+    record {
+      within = omega (arith, e, w, h);
+      there = omega (arith, there, n, e);
+      unranked = λ i lo hi. l.fills.ranks_kept i (inl lo) ∙ room.unranked i (omega (arith, lo, e)) (omega (arith, hi, e, h));
+      ranks = omega (arith, r, s, e, h);
+      loop_there = subst (λ (x : ℕ). IfSome inside (λ loop. loop < x)) (sym l.fills.as_many_loops) room.loop_there;
+    }
+
+-- ---- nodes that were placed
+
+-- a number is outside of a part or in it
+in_or_out : (from to i : ℕ) → IsOutside from to i ⊎ ((from ≤ i) × (i < to))
+in_or_out from to i = elim (decide_le from i) [
+  | inl h ↦ elim (decide_le to i) [ inl k ↦ inl (inr k) | inr k ↦ inr (h, k) ]
+  | inr h ↦ inl (inl h)
+]
+
+-- what was placed stays so
+pub placed_still : {old new : Draft} {k from to i : ℕ} {P : List FlowNode → List ℕ → Type 0} → Lays old new k from to P → IsPlaced old.graph i → IsPlaced new.graph i
+placed_still {old} {new} {k} {from} {to} {i} l h = record {
+  there = subst (λ (n : ℕ). i < n) (sym l.fills.as_many) h.there;
+  ranked = ranked-still (in_or_out from to i);
+}
+  where
+    ranked-still : IsOutside from to i ⊎ ((from ≤ i) × (i < to)) → 1 ≤ slice_index new.graph.ranks i
+    ranked-still (inl g) = subst (λ (n : ℕ). 1 ≤ n) (sym (l.fills.ranks_kept i g)) h.ranked
+    ranked-still (inr g) = l.fills.filled i g.0 g.1
+
+-- the nodes of a part were placed
+pub placed_within : {old new : Draft} {k from to size : ℕ} {inside : Option ℕ} {P : List FlowNode → List ℕ → Type 0} (i : ℕ) → HasRoom old size to inside
+    → Lays old new k from to P → from ≤ i → i < to → IsPlaced new.graph i
+placed_within {old} {new} i room l lo hi =
+    let there = room.there in
+    let n = l.fills.as_many in
+    record { there = omega (arith, hi, there, n); ranked = l.fills.filled i lo hi }
+
+-- and its first one
+pub placed_first : {old new : Draft} {k from to size : ℕ} {inside : Option ℕ} {P : List FlowNode → List ℕ → Type 0} → HasRoom old size to inside
+    → Lays old new k from to P → 1 ≤ k → IsPlaced new.graph from
+placed_first {old} {new} {k} {from} {to} room l h =
+    let e = l.size_is in
+    placed_within from room l (omega arith) (omega (arith, e, h))

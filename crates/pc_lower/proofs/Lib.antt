@@ -1,0 +1,20 @@
+pub mod Drafts
+pub mod Fills
+pub mod Layouts
+pub mod Measures
+pub mod Weights
+pub mod Assigned
+pub mod Spots
+pub mod Loops
+pub mod Constructs
+pub mod Rules
+pub mod Bounds
+pub mod Lowered
+pub mod Walks
+pub mod Operations
+pub mod Expressions
+pub mod Statements
+pub mod Payments
+pub mod Programs
+pub mod Wholes
+mod Examples

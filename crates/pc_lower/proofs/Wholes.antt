@@ -1,0 +1,94 @@
+-- A whole program: the end is placed first, then its statements.
+use Rattle.std.proofs.Common.{◌≡◌, ℕ, ◌+◌, ◌≤◌, min, List, length, None, refl, sym, ◌∙◌, subst, arith}
+use Rattle.std.proofs.lemmas.List.{length-replicate}
+use Rattle.pc_word.specs.SourceLimits.{most_nodes}
+use Rattle.pc_word.specs.declared.loop_mark.LoopMark.{LoopMark}
+use Rattle.pc_word.specs.Run.{AgreeOnInputs}
+use Rattle.pc_syntax.specs.Source.{SourceList, ResolvedProgram}
+use Rattle.pc_check.specs.Sizes.{list_size, resolved_size}
+use Rattle.pc_meaning.specs.SourceRun.{source_run}
+use Rattle.pc_meaning.specs.Trace.{trace_of}
+use Rattle.pc_flow.specs.declared.node.FlowNode.{FlowNode}
+use Rattle.pc_flow.specs.declared.node.FlowNode.TheVariants.{Stop}
+use Rattle.pc_flow.specs.FlowGraph.{FlowGraph}
+use Rattle.pc_flow.specs.FlowRun.{flow_start, nodes_run}
+use Rattle.pc_lower.specs.Kinds.{kinds_from}
+use Rattle.pc_lower.specs.Lowers.{Lowers}
+use Rattle.pc_lower.specs.Lowered.{IsLowered}
+use Rattle.pc_lower.specs.models.Drafts.{Draft, first_draft}
+use Rattle.pc_lower.specs.models.Fills.{Lays, HasRoom}
+use Rattle.pc_lower.specs.models.LowersExpression.{AreLengths}
+use Rattle.pc_lower.specs.models.LowersStatement.{list_loops, IsSpot, IsUnplaced, IsLaid}
+use Rattle.pc_lower.proofs.Drafts.{zero_at}
+use Rattle.pc_lower.proofs.Fills.{room_left, placed_first}
+use Rattle.pc_lower.proofs.Bounds.{list-loops_sized}
+use Rattle.pc_lower.proofs.Programs.{lowered_runs_agree, lowered_runs_pass_the_trace}
+
+-- a draft in which nothing was placed
+pub is_unplaced : (count : ℕ) (loops : List LoopMark) (arrays : List ℕ) (body : SourceList) → count ≡ list_size body + 1 → count ≤ most_nodes
+    → length loops ≡ list_loops body → AreLengths arrays → IsUnplaced (first_draft count loops arrays) body
+is_unplaced count loops arrays body e few l lengths = record {
+  nodes = length-replicate count Stop ∙ e;
+  few = omega (arith, e, few);
+  loops = l;
+  unranked = zero_at count;
+  ranked = refl;
+  arrays = lengths;
+}
+
+-- there is room for all
+whole_room : {d : Draft} {body : SourceList} → IsUnplaced d body → HasRoom d (list_size body + 1) (list_size body + 1) None
+whole_room is =
+    let n = is.nodes in
+    let few = is.few in
+    let ranked = is.ranked in
+    record {
+      within = omega arith;
+      there = omega (arith, n);
+      unranked = λ i lo hi. is.unranked i;
+      ranks = omega (arith, few, ranked);
+      loop_there = tt;
+    }
+
+-- the spot of its statements: all lead to the end
+pub whole_spot : {d d1 : Draft} {P : List FlowNode → List ℕ → Type 0} (last ends : ℕ) (body : SourceList) → IsUnplaced d body → last ≡ list_size body
+    → Lays d d1 1 last (last + 1) P → ends ≡ min (list_loops body) 65535
+    → IsSpot d1 (list_size body) (list_loops body)
+    (record { end = last; next = last; break_to = last; continue_to = last; return_to = last; inside = None; loops_end = ends })
+whole_spot {d} {d1} {P} last ends body is same l e =
+    let room = subst (λ (n : ℕ). HasRoom d (list_size body + 1) (n + 1) None) (sym same) (whole_room is) in
+    let placed = placed_first room l (omega arith) in
+    let sized = list-loops_sized body in
+    let few = is.few in
+    let loops = is.loops in
+    let as_many = l.fills.as_many_loops in
+    record {
+      arrays = rw l.fills.arrays is.arrays;
+      room = room_left (list_size body) room l (omega arith);
+      next = placed;
+      breaks = placed;
+      continues = placed;
+      returns = placed;
+      loops_there = omega (arith, e, sized, few, loops, as_many);
+      numbers = omega (arith, e, sized, few);
+      outer = tt;
+    }
+
+-- what was laid is the flow graph of the program
+pub is_lowered : (program : ResolvedProgram) (old new : Draft) (entry : ℕ) (flow : FlowGraph) → IsLaid old new program.body entry → old.graph.arrays ≡ program.arrays
+    → length old.graph.nodes ≡ resolved_size program → resolved_size program ≤ most_nodes → flow ≡ record new.graph { entry = entry } → IsLowered program flow
+is_lowered program old new entry flow laid same count few e = subst (IsLowered program) (sym e) (record {
+  agree = subst (λ (arrays : List ℕ). AgreeOnInputs (nodes_run new.graph.nodes arrays entry) (source_run program)) (sym arrays)
+      (lowered_runs_agree new.graph.nodes program entry lowers);
+  traced = λ input n. subst (λ (lengths : List ℕ). kinds_from new.graph.nodes lengths (length (trace_of program input n)) (flow_start entry input) ≡ trace_of program input n) (sym arrays)
+      (lowered_runs_pass_the_trace new.graph.nodes program entry lowers input n);
+  counted = laid.counted ∙ count;
+  arrays = arrays;
+  few = few;
+})
+  where
+    arrays : new.graph.arrays ≡ program.arrays
+    arrays = laid.arrays ∙ same
+
+    lowers : Lowers new.graph.nodes program.arrays program.body entry
+    lowers = subst (λ (lengths : List ℕ). Lowers new.graph.nodes lengths program.body entry) same laid.lowers

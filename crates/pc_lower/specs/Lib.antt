@@ -1,0 +1,5 @@
+pub mod models
+pub mod Kinds
+pub mod Laws
+pub mod Lowers
+pub mod Lowered

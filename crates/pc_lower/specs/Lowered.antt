@@ -1,0 +1,30 @@
+-- What the flow graph of a program is, and when it has none.
+use Rattle.std.specs.Prelude.{◌≡◌, ℕ, ℤ, ◌<◌, ◌≤◌, min, List, length}
+use Rattle.pc_word.specs.Run.{AgreeOnInputs}
+use Rattle.pc_word.specs.SourceLimits.{most_nodes}
+use Rattle.pc_syntax.specs.Source.{ResolvedProgram}
+use Rattle.pc_check.specs.Sizes.{resolved_size}
+use Rattle.pc_meaning.specs.SourceRun.{source_run}
+use Rattle.pc_meaning.specs.Trace.{trace_of}
+use Rattle.pc_flow.specs.FlowGraph.{FlowGraph}
+use Rattle.pc_flow.specs.FlowRun.{flow_start, flow_run}
+use Rattle.pc_lower.specs.Kinds.{kinds_from}
+use Rattle.pc_lower.specs.declared.error.LowerError.{LowerError}
+use Rattle.pc_lower.specs.declared.error.LowerError.TheVariants.{TooLarge, Memory}
+
+-- A flow graph is that of a program: for every input of words both show the same, each in its own time; the nodes that
+-- are passed first are those of the program's trace; there are as many nodes as the program's size; and the arrays are
+-- the program's.
+pub record IsLowered (program : ResolvedProgram) (flow : FlowGraph) : Type 0 where
+  pub agree : AgreeOnInputs (flow_run flow) (source_run program)
+  pub traced : (input : List ℤ) (n : ℕ)
+      → kinds_from flow.nodes flow.arrays (length (trace_of program input n)) (flow_start flow.entry input) ≡ trace_of program input n
+  pub counted : length flow.nodes ≡ resolved_size program
+  pub arrays : flow.arrays ≡ program.arrays
+  pub few : resolved_size program ≤ most_nodes
+
+-- Why a program of a size has no flow graph: it has too many nodes, and they are told, as far as a number goes; or
+-- it has not, and memory ran out.
+abbrev pub IsRefused : (size : ℕ) → LowerError → Type 0
+IsRefused size (TooLarge nodes) = (most_nodes < size) × (nodes ≡ min size 4294967295)
+IsRefused size Memory = size ≤ most_nodes

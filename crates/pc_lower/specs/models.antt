@@ -1,0 +1,4 @@
+pub mod Drafts
+pub mod Fills
+pub mod LowersExpression
+pub mod LowersStatement

@@ -1,0 +1,123 @@
+-- A flow graph in the making: all its nodes are there from the start, and are placed one after the other. A node that is
+-- not placed yet has rank 0 and stops; each one that is placed gets a rank above all before it.
+use Rattle.std.specs.Prelude.{◌≡◌, ℕ, ◌+◌, ◌<◌, ◌≤◌, List, length, replicate, Option, Some, None, IfSome, slice_get, slice_set, slice_index}
+use Rattle.pc_word.specs.SourceLimits.{most_nodes}
+use Rattle.pc_word.specs.MachineLimits.{most_arrays}
+use Rattle.pc_word.specs.declared.item.Operand.{Operand}
+use Rattle.pc_word.specs.declared.loop_mark.LoopMark.{LoopMark}
+use Rattle.pc_flow.specs.declared.node.FlowNode.{FlowNode}
+use Rattle.pc_flow.specs.declared.node.FlowNode.TheVariants.{Op, Test, Stop, Trap}
+use Rattle.pc_flow.specs.FlowGraph.{FlowGraph, IsFlow, ItemFits, IsVariable, IsTarget}
+
+-- the graph, and the greatest rank so far
+pub record Draft : Type 0 where
+  pub graph : FlowGraph
+  pub ranked : ℕ
+
+-- a number that a node has which was placed
+pub record IsPlaced (graph : FlowGraph) (number : ℕ) : Type 0 where
+  pub there : IsTarget graph number
+  pub ranked : 1 ≤ slice_index graph.ranks number
+
+-- a number that a node has which was not placed yet
+pub record IsOpen (graph : FlowGraph) (number : ℕ) : Type 0 where
+  pub there : IsTarget graph number
+  pub unranked : slice_index graph.ranks number ≡ 0
+
+-- the edges of a node lead to nodes that were placed; those of a loop's test to any that are there
+abbrev pub LeadsToPlaced : FlowGraph → FlowNode → Type 0
+LeadsToPlaced graph (Op item to) = IsPlaced graph to
+LeadsToPlaced graph (Test on on_yes on_no None) = IsPlaced graph on_yes × IsPlaced graph on_no
+LeadsToPlaced graph (Test on on_yes on_no (Some turn)) =
+    IsTarget graph on_yes × IsTarget graph on_no × (turn < length graph.loops)
+LeadsToPlaced graph Stop = Unit {0}
+LeadsToPlaced graph (Trap kind line) = Unit {0}
+
+-- the names and the array of a node are there
+abbrev pub HasNames : FlowGraph → FlowNode → Type 0
+HasNames graph (Op item to) = ItemFits (length graph.arrays) item
+HasNames graph (Test on on_yes on_no turn) = IsVariable on
+HasNames graph Stop = Unit {0}
+HasNames graph (Trap kind line) = Unit {0}
+
+-- a node that may be placed
+pub record MayPlace (graph : FlowGraph) (node : FlowNode) : Type 0 where
+  pub names : HasNames graph node
+  pub leads : LeadsToPlaced graph node
+
+-- a node may be placed at a number, inside a loop that there is or none, while there are ranks
+pub record CanPlace (draft : Draft) (at : ℕ) (node : FlowNode) (inside : Option ℕ) : Type 0 where
+  pub at_open : IsOpen draft.graph at
+  pub fits : MayPlace draft.graph node
+  pub room : draft.ranked < most_nodes
+  pub loop_there : IfSome inside (λ loop. loop < length draft.graph.loops)
+
+-- what every draft keeps
+pub record IsDraft (draft : Draft) : Type 0 where
+  pub flow : IsFlow draft.graph
+  pub leads : (number : ℕ) (node : FlowNode) → slice_get draft.graph.nodes number ≡ Some node → LeadsToPlaced draft.graph node
+  pub below : (number : ℕ) → slice_index draft.graph.ranks number ≤ draft.ranked
+  pub few : draft.ranked ≤ most_nodes
+
+-- the graph with a node placed at an open number
+abbrev pub graph_with : ℕ → FlowNode → Option ℕ → ℕ → FlowGraph → FlowGraph
+graph_with at node inside rank graph = record graph {
+  nodes = slice_set graph.nodes at node;
+  ranks = slice_set graph.ranks at rank;
+  inside = slice_set graph.inside at inside;
+}
+
+-- and the draft
+abbrev pub draft_with : ℕ → FlowNode → Option ℕ → Draft → Draft
+draft_with at node inside draft = record {
+  graph = graph_with at node inside (draft.ranked + 1) draft.graph;
+  ranked = draft.ranked + 1;
+}
+
+-- ---- the test of a loop, which may lead to what is placed later
+
+-- a loop's test that may stand at a number
+pub record CanAim (draft : Draft) (at : ℕ) (on : Operand) (on_yes on_no turn : ℕ) : Type 0 where
+  pub there : IsTarget draft.graph at
+  pub names : IsVariable on
+  pub yes_there : IsTarget draft.graph on_yes
+  pub no_there : IsTarget draft.graph on_no
+  pub turn_there : turn < length draft.graph.loops
+
+-- the draft with another node in the place of one
+abbrev pub aimed : ℕ → FlowNode → Draft → Draft
+aimed at node draft = record draft { graph = record draft.graph { nodes = slice_set draft.graph.nodes at node } }
+
+-- ---- the mark of a loop
+
+-- a mark that a loop may have
+pub record CanMark (draft : Draft) (number : ℕ) (mark : LoopMark) : Type 0 where
+  pub there : number < length draft.graph.loops
+  pub outer : IfSome mark.outer (λ outer. outer < number)
+
+-- the draft with the mark of a loop
+abbrev pub marked : ℕ → LoopMark → Draft → Draft
+marked number mark draft = record draft { graph = record draft.graph { loops = slice_set draft.graph.loops number mark } }
+
+-- ---- from the first to the last
+
+-- loops and arrays that a graph may have
+pub record MayBegin (count : ℕ) (loops : List LoopMark) (arrays : List ℕ) : Type 0 where
+  pub some_nodes : 1 ≤ count
+  pub few_nodes : count ≤ most_nodes
+  pub few_arrays : length arrays ≤ most_arrays
+  pub outer_first : (loop : ℕ) (mark : LoopMark) → slice_get loops loop ≡ Some mark → IfSome mark.outer (λ outer. outer < loop)
+
+-- so many nodes, of which none is placed
+abbrev pub first_draft : ℕ → List LoopMark → List ℕ → Draft
+first_draft count loops arrays = record {
+  graph = record {
+    nodes = replicate count Stop;
+    ranks = replicate count 0;
+    inside = replicate count None;
+    entry = 0;
+    loops = loops;
+    arrays = arrays;
+  };
+  ranked = 0;
+}

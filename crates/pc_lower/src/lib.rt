@@ -1,0 +1,22 @@
+//! From the syntax tree to the flow graph: when nodes implement a program, and that they then do
+//! what the program does.
+#![tactic(auto)]
+
+mod assignment;
+mod draft;
+mod error;
+mod expression;
+mod laws;
+mod measure;
+mod parts;
+mod program;
+mod site;
+mod spot;
+mod statement;
+#[cfg(test)]
+mod tests;
+mod value;
+
+pub use error::LowerError;
+pub use laws::laws_of_lowered_runs;
+pub use program::lower;

@@ -1,0 +1,97 @@
+//! Values that a statement evaluates, prints or tests.
+ghost use Rattle.std.specs.Prelude.{◌≡◌, ◌+◌, ◌<◌, ℕ, Some, None, length, slice_get};
+ghost use Rattle.pc_word.specs.declared.item.Item.TheVariants.{Print};
+ghost use Rattle.pc_syntax.specs.Erasure.{expression_of};
+ghost use Rattle.pc_check.specs.Sizes.{expression_size};
+ghost use Rattle.pc_flow.specs.declared.node.FlowNode.TheVariants.{Test};
+ghost use Rattle.pc_lower.specs.Lowers.{held, Does, Gives, Tests};
+ghost use Rattle.pc_lower.specs.models.Drafts.{IsPlaced, CanAim, CanMark};
+ghost use Rattle.pc_lower.specs.models.Fills.{Lays};
+ghost use Rattle.pc_lower.specs.models.LowersExpression.{IsReady, IsHeld};
+ghost use Rattle.pc_lower.specs.models.LowersStatement.{LaysTurn, closed};
+
+use crate::draft::Draft;
+use crate::expression::lower_expression;
+use crate::parts::{held, hold, lay, lay_item, lay_test};
+use crate::site::Site;
+use crate::spot::Laid;
+use pc_flow::FlowNode;
+use pc_syntax::Expr;
+use pc_word::{Item, LoopMark};
+
+/// A value that nothing is done with. A number or a scalar has no node.
+pub(crate) fn lower_value(draft: &mut Draft, value: &Expr, site: Site) -> Laid
+    requires ready { IsReady draft.now (expression_size (expression_of value.now)) site.end site.next site.inside }
+    requires value { IsHeld draft.now.graph.arrays (expression_of value.now) 0 }
+    ensures laid { Lays draft.old draft.new (expression_size (expression_of value.now)) result.start site.end
+        (λ nodes lengths. Gives nodes lengths (expression_of value.now) 0 result.entry site.next) }
+    ensures begins { IsPlaced draft.new.graph result.entry }
+{
+    if hold(value) == 0 {
+        return Laid::empty(site.end, site.next);
+    }
+    Laid::at(lower_expression(draft, value, site.above(0)))
+}
+
+/// A value and its print.
+pub(crate) fn lower_print(draft: &mut Draft, value: &Expr, site: Site) -> u32
+    requires ready { IsReady draft.now (expression_size (expression_of value.now) + 1) site.end site.next site.inside }
+    requires value { IsHeld draft.now.graph.arrays (expression_of value.now) 0 }
+    ensures { Lays draft.old draft.new (expression_size (expression_of value.now) + 1) result site.end
+        (λ nodes lengths. (m : ℕ) × Gives nodes lengths (expression_of value.now) 0 result m
+        × Does nodes lengths m (Print (held (expression_of value.now) 0)) site.next) }
+{
+    let item = Item::Print {
+        value: held(value, 0),
+    };
+    let last = lay_item(draft, item, site);
+    lower_expression(draft, value, site.leading_to(last).above(0))
+}
+
+/// A condition and its test, which leads to what follows the site where the value is not 0.
+pub(crate) fn lower_condition(draft: &mut Draft, test: &Expr, no: u32, site: Site) -> u32
+    requires ready { IsReady draft.now (expression_size (expression_of test.now) + 1) site.end site.next site.inside }
+    requires test { IsHeld draft.now.graph.arrays (expression_of test.now) 0 }
+    requires no { IsPlaced draft.now.graph no }
+    ensures { Lays draft.old draft.new (expression_size (expression_of test.now) + 1) result site.end
+        (λ nodes lengths. (m : ℕ) × Gives nodes lengths (expression_of test.now) 0 result m
+        × Tests nodes lengths m (held (expression_of test.now) 0) site.next no) }
+{
+    let last = lay_test(draft, held(test, 0), site.next, no, site);
+    lower_expression(draft, test, site.leading_to(last).above(0))
+}
+
+/// The condition of a loop and its test. Where the test leads is said by `close_loop`.
+pub(crate) fn lower_turn(draft: &mut Draft, test: &Expr, own: u16, site: Site) -> u32
+    requires ready { IsReady draft.now (expression_size (expression_of test.now) + 1) site.end site.next site.inside }
+    requires test { IsHeld draft.now.graph.arrays (expression_of test.now) 0 }
+    requires own { own < length draft.now.graph.loops }
+    ensures { (at : ℕ) → at + 1 ≡ site.end → LaysTurn draft.old draft.new (expression_of test.now) result at }
+{
+    let node = FlowNode::Test {
+        on: held(test, 0),
+        yes: site.next,
+        no: site.next,
+        turn: Some(own),
+    };
+    let last = lay(draft, node, site);
+    lower_expression(draft, test, site.leading_to(last).above(0))
+}
+
+/// Lets the test of a loop lead to its body and to what follows, and puts the mark of the loop.
+pub(crate) fn close_loop(
+    draft: &mut Draft,
+    test: &Expr,
+    at: u32,
+    yes: u32,
+    no: u32,
+    own: u16,
+    mark: LoopMark,
+)
+    requires can { CanAim draft.now at (held (expression_of test.now) 0) yes no own }
+    requires mark { CanMark draft.now own mark }
+    ensures { draft.new ≡ closed at (Test (held (expression_of test.now) 0) yes no (Some own)) own mark draft.old }
+{
+    draft.aim(at, held(test, 0), yes, no, own);
+    draft.mark(own, mark);
+}
