@@ -1,7 +1,7 @@
 # make        proves and builds the programs into build/
 # make demo   compiles the examples with them, runs their objects, and compares bytes and output
 # make test   runs the gate
-# make try    compiles and runs one example without proving anything
+# make try    compiles one example and runs another, without proving anything
 
 PROGRAMS = pcc pvm
 
@@ -23,16 +23,25 @@ demo: all
 
 try:
 	@mkdir -p build
-	@echo "compiling and running examples/numbers.c; nothing is proved here"
-	@cd crates/pcc && rt try --data numbers.c=../../examples/numbers.c -- numbers.c -o /dev/stdout >../../build/numbers.tv
-	@cd crates/pvm && rt try --data numbers.tv=../../build/numbers.tv -- numbers.tv </dev/null >../../build/numbers.out
-	@cat build/numbers.out
-	@cmp build/numbers.out examples/numbers.out
+	@echo "compiling examples/numbers.c and running examples/sum.hex; nothing is proved here"
+	@xxd -r -p examples/sum.hex build/sum.tv
+	@$(MAKE) --no-print-directory -j2 try-pcc try-pvm
 	@echo "as expected; nothing was proved"
+
+try-pcc:
+	@cd crates/pcc && rt try --data numbers.c=../../examples/numbers.c -- numbers.c -o /dev/stdout >../../build/numbers.tv 2>../../build/try-pcc.log
+	@tr -d ' \n' <examples/numbers.hex >build/numbers.wanted
+	@xxd -p build/numbers.tv | tr -d '\n' | cmp - build/numbers.wanted
+	@echo "pcc wrote the object of examples/numbers.c"
+
+try-pvm:
+	@cd crates/pvm && rt try --data sum.tv=../../build/sum.tv -- sum.tv <../../examples/sum.in >../../build/sum.out 2>../../build/try-pvm.log
+	@cmp build/sum.out examples/sum.out
+	@echo "pvm ran examples/sum.hex, which prints $$(cat build/sum.out)"
 
 test:
 	rt ci
 
 FORCE:
 
-.PHONY: all demo test try FORCE
+.PHONY: all demo test try try-pcc try-pvm FORCE
