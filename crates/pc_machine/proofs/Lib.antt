@@ -2,5 +2,4 @@ pub mod Checks
 pub mod Flaws
 pub mod MachineRuns
 pub mod Paths
-pub mod Printing
 mod WorkedRows

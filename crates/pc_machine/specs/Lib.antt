@@ -1,4 +1,3 @@
-pub mod models
 pub mod MachineCode
 pub mod MachineRun
 pub mod WellFormed

@@ -1,15 +1,15 @@
 -- What the operators on words give.
 use Rattle.std.proofs.Common.{◌<◌, ◌⊎◌, inl, inr, sym, ◌∙◌, ◌+ℤ◌, ◌*ℤ◌, ◌≡◌, ◌≢◌, ℕ, zero, suc, ◌-◌, ◌%◌, ◌^◌, ◌≤◌, refl, ap, arith, w32, ℤ, pos, neg_ℤ, FitsSigned}
 use Rattle.std.specs.Prelude.{negsuc, int_div, unsigned_abs}
-use Rattle.std.specs.Int.{int_wrap, cast_signed, cast_unsigned}
+use Rattle.std.specs.Int.{int_wrap, int_shl, cast_signed, cast_unsigned}
 use Rattle.std.proofs.Math.Nat.{div-le_self}
 use Rattle.std.proofs.lemmas.Int.{ints}
 use Rattle.std.specs.Prelude.{int_rem, Bool, true, false, int_lt, nat_lt}
 use Rattle.std.specs.Int.Signed.{mag_rem, mag_shr}
 use Rattle.std.proofs.Math.Facts.{sfits_to_z}
-use Rattle.std.proofs.lemmas.Int.{SFits-int_wrap, int_wrap_fits, int_wrap-add_left, int_wrap-mul_left, quot-rem}
+use Rattle.std.proofs.lemmas.Int.{SFits-int_wrap, int_wrap_fits, int_wrap-add_left, int_wrap-mul_left, int_wrap-mul_right, wrapping_mul-bits, to_z-of_z, quot-rem}
 use Rattle.std.specs.Int.Bits.{and_lt}
-use Rattle.std.proofs.lemmas.Nat.{or_lt, xor_lt}
+use Rattle.std.proofs.lemmas.Nat.{or_lt, xor_lt, pow_below}
 use Rattle.std.proofs.lemmas.Bool.Decides.{nat_tests}
 use Rattle.pc_word.specs.declared.item.OpCode.{OpCode}
 use Rattle.pc_word.specs.declared.item.OpCode.TheVariants.{Add, Sub, Mul, Div, Rem, Shl, Shr, And, Or, Xor, Less, LessEq, Equal, Unequal, Below}
@@ -103,6 +103,23 @@ IsWord-below (pos a) (negsuc b) = record { sfits = omega arith }
 IsWord-below (negsuc a) (pos b) = record { sfits = omega arith }
 IsWord-below (negsuc a) (negsuc b) = IsWord-of_test (int_lt (negsuc a) (negsuc b))
 
+-- what is left of a natural number
+int_wrap-pos : (n : ℕ) → int_wrap w32 (pos n) ≡ cast_signed w32 (n % 2 ^ 32)
+unfolding int_wrap
+int_wrap-pos n = refl
+
+-- the left shift of a word, by its bits
+pub word_shl-bits : (a b : ℤ) → IsWord a → int_shl w32 a (cast_unsigned w32 b % 32) ≡ word_shl a b
+unfolding word_shl
+word_shl-bits a b g =
+    let k = cast_unsigned w32 b % 32 in
+    let less : k < 32 = omega arith in
+    let small : 2 ^ k < 2 ^ 32 = pow_below k 32 less in
+    let whole : (2 ^ k) % 2 ^ 32 ≡ 2 ^ k = omega arith in
+    wrapping_mul-bits w32 (cast_unsigned w32 a) (2 ^ k) (cast_unsigned-word a g) small
+    ∙ (λ i. int_wrap w32 (to_z-of_z w32 a g i *ℤ sym (int_wrap-pos (2 ^ k) ∙ ap (λ (n : ℕ). cast_signed w32 n) whole) i))
+    ∙ int_wrap-mul_right w32 a (pos (2 ^ k))
+
 -- every operator gives a word
 pub IsWord-apply : (op : OpCode) (a b : ℤ) → IsWord a → IsWord b → IsWord (word_apply op a b)
 unfolding word_add word_sub word_mul word_shl word_shr word_and word_or word_xor word_less word_less_eq word_equal word_unequal
@@ -111,7 +128,7 @@ IsWord-apply Sub a b g h = SFits-int_wrap w32 _
 IsWord-apply Mul a b g h = SFits-int_wrap w32 _
 IsWord-apply Div a b g h = IsWord-div a b g
 IsWord-apply Rem a b g h = IsWord-rem a b g
-IsWord-apply Shl a b g h = IsWord-bits _ (omega arith)
+IsWord-apply Shl a b g h = SFits-int_wrap w32 _
 IsWord-apply Shr a b g h = record { sfits = omega (arith, mag_shr a (2 ^ (cast_unsigned w32 b % 32)), g.sfits) }
 IsWord-apply And a b g h = IsWord-bits _ (and_lt 32 (cast_unsigned w32 a) (cast_unsigned w32 b) (cast_unsigned-word a g) (cast_unsigned-word b h))
 IsWord-apply Or a b g h = IsWord-bits _ (or_lt 32 (cast_unsigned w32 a) (cast_unsigned w32 b) (cast_unsigned-word a g) (cast_unsigned-word b h))

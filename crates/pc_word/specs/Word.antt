@@ -1,5 +1,5 @@
 -- The operators of the language on words: whole numbers from -2147483648 to 2147483647, which wrap modulo 2^32.
-use Rattle.std.specs.Prelude.{zero, suc, ℤ, pos, negsuc, ◌+ℤ◌, ◌-ℤ◌, ◌*ℤ◌, ◌%◌, Bool, true, false, not, int_lt, int_le, int_div, int_rem, FitsSigned}
+use Rattle.std.specs.Prelude.{zero, suc, ℤ, pos, negsuc, ◌+ℤ◌, ◌-ℤ◌, ◌*ℤ◌, ◌%◌, ◌^◌, Bool, true, false, not, int_lt, int_le, int_div, int_rem, FitsSigned}
 use Rattle.std.specs.Int.{w32, cast_unsigned, int_wrap, int_shl, int_shr, int_bit_and, int_bit_or, int_bit_xor}
 use Rattle.std.specs.Ordering.{int_eq}
 use Rattle.pc_word.specs.declared.item.OpCode.{OpCode}
@@ -44,9 +44,9 @@ word_rem a (pos zero) = pos 0
 word_rem a (pos (suc b)) = int_rem a (pos (suc b))
 word_rem a (negsuc b) = int_rem a (negsuc b)
 
--- the left shift by the count modulo 32, wrapped
+-- the left shift by the count modulo 32, wrapped: so many times doubled
 unfoldable pub word_shl : ℤ → ℤ → ℤ
-word_shl a b = int_shl w32 a (cast_unsigned w32 b % 32)
+word_shl a b = int_wrap w32 (a *ℤ pos (2 ^ (cast_unsigned w32 b % 32)))
 
 -- the right shift by the count modulo 32, which copies the sign
 unfoldable pub word_shr : ℤ → ℤ → ℤ

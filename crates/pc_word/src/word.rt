@@ -49,7 +49,7 @@ pub fn rem(a: i32, b: i32) -> i32
 }
 
 /// The left shift by `b` modulo 32, wrapped.
-#[tactic(auto, unfolding(crate::specs::Word::word_shl))]
+#[tactic(auto)]
 pub fn shl(a: i32, b: i32) -> i32
     ensures { result ≡ word_shl a b }
 {
