@@ -58,9 +58,10 @@ impl Flow {
         }
     }
 
-    /// The number of nodes.
+    /// The number of nodes. It also tells what every graph keeps.
     pub fn count(&self) -> u32
-        ensures { result ≡ length self.now.nodes }
+        ensures number { result ≡ length self.now.nodes }
+        ensures kept { IsFlow self.now }
     {
         self.nodes.len() as u32
     }
