@@ -34,7 +34,13 @@ power_told zero d le h = absurd (cc)
 power_told (suc n) d le h = elim (or_true (divides_factors (suc n) d.terms && not (divides (suc n) d.constant)) (some_power_tells n d.terms d.constant) h) [
   | inl p ↦
       let q = and_true (divides_factors (suc n) d.terms) (not (divides (suc n) d.constant)) p in
-      record { power = suc n; least = omega arith; most = le; factors = all_divide (suc n) d.terms q.0; constant = λ m. contrary (divides_is (suc n) d.constant m) (not_true (divides (suc n) d.constant) q.1) }
+      record {
+        power = suc n;
+        least = omega arith;
+        most = le;
+        factors = all_divide (suc n) d.terms q.0;
+        constant = λ m. contrary (divides_is (suc n) d.constant m) (not_true (divides (suc n) d.constant) q.1);
+      }
   | inr p ↦ power_told n d (omega arith) p
 ]
   where

@@ -9,12 +9,12 @@ use lib.IntN.{+ℤ_idl, +ℤ_assoc, *ℤ-zero, *ℤ_comm, zero-*ℤ}
 use Rattle.pc_word.proofs.Truth.{and_true, or_false}
 use Rattle.pc_word.proofs.Words.{unsigned_abs-neg}
 use Rattle.pc_linear.specs.declared.term.Term.{Term}
-use Rattle.pc_linear.specs.Form.{Form, sum_of, ◌≈◌, number_of, Means, Rising}
+use Rattle.pc_linear.specs.Form.{Form, sum_of, ◌≈◌, number_of, Rising}
 use Rattle.pc_linear.specs.Combine.{plus}
 use Rattle.pc_linear.specs.Equality.{Divides}
 use Rattle.std.specs.List.{list_all}
 use Rattle.pc_linear.proofs.Words.{distribute, distribute_left, times_times, one_times, minus_one, wrap_zero, wrap_whole, bits_zero, add_same, times_same}
-use Rattle.pc_linear.proofs.Forms.{plus-number, means_number}
+use Rattle.pc_linear.proofs.Forms.{plus-number}
 use Rattle.pc_linear.proofs.Normal.{add_times-rising}
 
 -- ---- the test
@@ -136,7 +136,8 @@ power_tells σ zero ts c le h m = absurd (cc)
 power_tells σ (suc k) ts c le h m = elim (or_true (divides_factors (suc k) ts && not (divides (suc k) c)) (some_power_tells k ts c) h) [
   | inl p ↦
       let q = and_true (divides_factors (suc k) ts) (not (divides (suc k) c)) p in
-      let whole : Divides (suc k) (sum_of σ ts +ℤ c) = Divides-below (suc k) (32 - suc k) (sum_of σ ts +ℤ c) (subst (λ (j : ℕ). Divides j (sum_of σ ts +ℤ c)) (let e : 32 ≡ 32 - suc k + suc k = omega arith in e) m) in
+      let e : 32 ≡ 32 - suc k + suc k = omega arith in
+      let whole : Divides (suc k) (sum_of σ ts +ℤ c) = Divides-below (suc k) (32 - suc k) (sum_of σ ts +ℤ c) (subst (λ (j : ℕ). Divides j (sum_of σ ts +ℤ c)) e m) in
       let both = Divides-add (suc k) (neg_ℤ (sum_of σ ts)) (sum_of σ ts +ℤ c) (Divides-neg (suc k) (sum_of σ ts) (sum_multiple σ (suc k) ts q.0)) whole in
       let rest : Divides (suc k) c = subst (λ (z : ℤ). Divides (suc k) z) (cancel (sum_of σ ts) c) both in
       let d = divides_is (suc k) c rest in
@@ -332,10 +333,6 @@ pub never_equal_tells : (f g : Form) → never_zero (plus f (negsuc 0) g) ≡ tr
 never_equal_tells f g h σ e =
     let d = plus f (negsuc 0) g in
     power_tells σ 32 d.terms d.constant (omega arith) h (zero_multiple (number_of σ d) (difference σ f g ∙ same_difference (number_of σ f) (number_of σ g) e))
-
--- so values that two such forms mean are not equal
-pub never_equal_means : (f g : Form) (σ : ℕ → ℤ) (a b : ℤ) → never_zero (plus f (negsuc 0) g) ≡ true → Means σ f a → Means σ g b → a ≡ b → ⊥
-never_equal_means f g σ a b h p q e = never_equal_tells f g h σ (sym (means_number σ f a p) ∙ ap (int_wrap w32) e ∙ means_number σ g b q)
 
 -- where the test is false, some values make the forms equal as words
 pub never_equal_finds : (f g : Form) → Rising 0 f.terms → never_zero (plus f (negsuc 0) g) ≡ false → (σ : ℕ → ℤ) × (number_of σ f ≈ number_of σ g)

@@ -27,7 +27,8 @@ none_past_end v (t ∷ ts) le = by_test (nat_lt t.variable v) le (none_past_end 
     by_test false le next = absurd (omega arith)
 
 -- the term at a variable's place has its factor, where it is that variable's
-pub some_there : (v : ℕ) (ts : List Term) (blank : Term) → rank v ts < length ts → (slice_index_or ts (rank v ts) blank).variable ≡ v → factor_at v ts ≡ Some (slice_index_or ts (rank v ts) blank).factor
+pub some_there : (v : ℕ) (ts : List Term) (blank : Term) → rank v ts < length ts → (slice_index_or ts (rank v ts) blank).variable ≡ v
+    → factor_at v ts ≡ Some (slice_index_or ts (rank v ts) blank).factor
 some_there v [] blank lt e = absurd (omega arith)
 some_there v (t ∷ ts) blank lt e = by_test (nat_lt t.variable v) lt e (some_there v ts blank)
   where
@@ -106,7 +107,8 @@ put_some v k found (t ∷ ts) h = by_order (nat_lt t.variable v) (nat_lt v t.var
     by_order : (below less equal : Bool) → nat_lt t.variable v ≡ below → nat_lt v t.variable ≡ less → nat_eq v t.variable ≡ equal
         → (if below then factor_at v ts else if equal then Some t.factor else None) ≡ Some found
         → (factor_at v ts ≡ Some found → take (rank v ts) (remove ts (rank v ts)) ++ prepended v (int_wrap w32 (k +ℤ found)) (drop (rank v ts) (remove ts (rank v ts))) ≡ add_term v k ts)
-        → take (if below then suc (rank v ts) else 0) (remove (t ∷ ts) (if below then suc (rank v ts) else 0)) ++ prepended v (int_wrap w32 (k +ℤ found)) (drop (if below then suc (rank v ts) else 0) (remove (t ∷ ts) (if below then suc (rank v ts) else 0)))
+        → take (if below then suc (rank v ts) else 0) (remove (t ∷ ts) (if below then suc (rank v ts) else 0))
+        ++ prepended v (int_wrap w32 (k +ℤ found)) (drop (if below then suc (rank v ts) else 0) (remove (t ∷ ts) (if below then suc (rank v ts) else 0)))
         ≡ (if less then prepended v (int_wrap w32 k) (t ∷ ts) else if equal then prepended v (int_wrap w32 (k +ℤ t.factor)) ts else t ∷ add_term v k ts)
     by_order true true equal p q r h next = absurd (not_both v t.variable p q)
     by_order true false true p q r h next = absurd (not_less_same v t.variable p r)

@@ -47,16 +47,6 @@ times_of_zeros (suc w) (suc k) n le = by_bit (n % 2) refl le (times_of_zeros w k
         (h.0, omega arith)
     by_bit (suc d) odd le next = absurd (omega arith)
 
--- a count of trailing zeros is at most the number of digits
-zeros-le : (w n : ℕ) → count_trailing_zeros w n ≤ w
-unfolding count_trailing_zeros
-zeros-le zero n = omega arith
-zeros-le (suc w) n = by_bit (n % 2) (zeros-le w (n / 2))
-  where
-    by_bit : (d : ℕ) → count_trailing_zeros w (n / 2) ≤ w → under d (count_trailing_zeros w (n / 2)) ≤ suc w
-    by_bit zero le = omega arith
-    by_bit (suc d) le = omega arith
-
 -- 2^k divides a word, k at most 32, exactly where 2 divides it so many times
 pub twos_of_divides : (k : ℕ) (z : ℤ) → k ≤ 32 → Divides k z → k ≤ twos z
 twos_of_divides k z le h = zeros_of_times 32 k (unsigned_abs z) (unsigned_abs h.quotient) le (ap (λ (x : ℤ). unsigned_abs x) h.is ∙ abs-times h.quotient (2 ^ k))

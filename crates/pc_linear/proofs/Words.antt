@@ -73,11 +73,6 @@ bits_zero z h = sym (of_z-to_z w32 (unsigned_abs (int_rem_euclid z (pos (2 ^ 32)
     small (pos n) = omega arith
     small (negsuc n) = omega arith
 
--- 1 is a word
-pub wrap_one : int_wrap w32 (pos 1) ≡ pos 1
-unfolding int_wrap
-wrap_one = refl
-
 -- the operators that the code uses on factors
 pub word_add-is : (a b : ℤ) → word_add a b ≡ int_wrap w32 (a +ℤ b)
 unfolding word_add

@@ -4,7 +4,7 @@ use Rattle.std.specs.Int.{w32, int_wrap}
 use Rattle.pc_word.specs.declared.item.OpCode.{OpCode}
 use Rattle.pc_word.specs.Word.{word_apply}
 use Rattle.pc_linear.specs.Form.{Form, IsNormal, form_value, ◌≈◌, Means, factor_of}
-use Rattle.pc_linear.specs.Combine.{plus}
+use Rattle.pc_linear.specs.Combine.{plus, variable_form}
 use Rattle.pc_linear.specs.Equality.{NeverEqual}
 
 -- ---- what a combined form means
@@ -36,6 +36,10 @@ FactorsTellTheForm = (f g : Form) → IsNormal f → IsNormal g → ((x : ℕ) �
 -- a form means its value
 abbrev pub FormsMeanTheirValues : Type 0
 FormsMeanTheirValues = (σ : ℕ → ℤ) (f : Form) → IsNormal f → Means σ f (form_value σ f)
+
+-- the form of a variable means the variable's value
+abbrev pub VariablesMeanTheirValues : Type 0
+VariablesMeanTheirValues = (σ : ℕ → ℤ) (v : ℕ) → Means σ (variable_form v) (σ v)
 
 -- a number that a form means is its value modulo 2^32
 abbrev pub WhatIsMeantIsTheValue : Type 0

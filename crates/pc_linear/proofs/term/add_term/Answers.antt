@@ -1,4 +1,4 @@
-use Rattle.std.proofs.Common.{rules, ◌≡◌, ◌++◌, take, drop, ap, sym, ◌∙◌, Some, None, arith, ℕ, ℤ, List, w32}
+use Rattle.std.proofs.Common.{rules, ◌≡◌, ◌++◌, take, drop, ap, sym, ◌∙◌, Some, None, arith, ℕ, ℤ, List, w32, to_z, of_z}
 use Rattle.std.specs.Prelude.{FitsSigned, remove, ◌+ℤ◌}
 use Rattle.std.specs.Int.{int_wrap}
 use Rattle.std.proofs.lemmas.Int.{int_wrap_fits, to_z-of_z}
@@ -29,7 +29,8 @@ returns-in-None c =
     let at : c.place_of-place.result ≡ rank c.args.variable ts = cc in
     let none : factor_at c.args.variable ts ≡ None = cc in
     c.put.ensures
-    ∙ ap (λ (z : ℤ). take c.place_of-place.result ts ++ prepended c.args.variable z (drop c.place_of-place.result ts)) (to_z-of_z w32 c.args.factor c.ranges.factor ∙ sym (int_wrap_fits w32 c.args.factor c.ranges.factor))
+    ∙ ap (λ (z : ℤ). take c.place_of-place.result ts ++ prepended c.args.variable z (drop c.place_of-place.result ts))
+    (to_z-of_z w32 c.args.factor c.ranges.factor ∙ sym (int_wrap_fits w32 c.args.factor c.ranges.factor))
     ∙ ap (λ (place : ℕ). take place ts ++ prepended c.args.variable (int_wrap w32 c.args.factor) (drop place ts)) at
     ∙ put_none c.args.variable c.args.factor ts none
 
@@ -40,8 +41,11 @@ returns-in-Some c =
     let some : factor_at c.args.variable ts ≡ Some c.in-Some.found = cc in
     let fits : FitsSigned w32 c.in-Some.found = search rules in
     let sum_fits : FitsSigned w32 c.add.result = search rules in
+    let sum : to_z w32 (of_z w32 c.add.result) ≡ int_wrap w32 (c.args.factor +ℤ c.in-Some.found) =
+    to_z-of_z w32 c.add.result sum_fits ∙ c.add.ensures ∙ (λ i. word_add (to_z-of_z w32 c.args.factor c.ranges.factor i) (to_z-of_z w32 c.in-Some.found fits i))
+    ∙ word_add-is c.args.factor c.in-Some.found in
     c.put-in-Some.ensures
-    ∙ ap (λ (z : ℤ). take c.place_of-place.result c.remove.new.self.items ++ prepended c.args.variable z (drop c.place_of-place.result c.remove.new.self.items)) (to_z-of_z w32 c.add.result sum_fits ∙ c.add.ensures ∙ (λ i. word_add (to_z-of_z w32 c.args.factor c.ranges.factor i) (to_z-of_z w32 c.in-Some.found fits i)) ∙ word_add-is c.args.factor c.in-Some.found)
+    ∙ ap (λ (z : ℤ). take c.place_of-place.result c.remove.new.self.items ++ prepended c.args.variable z (drop c.place_of-place.result c.remove.new.self.items)) sum
     ∙ ap (λ (us : List Term). take c.place_of-place.result us ++ prepended c.args.variable (int_wrap w32 (c.args.factor +ℤ c.in-Some.found)) (drop c.place_of-place.result us)) c.remove.ensures.items
     ∙ ap (λ (place : ℕ). take place (remove ts place) ++ prepended c.args.variable (int_wrap w32 (c.args.factor +ℤ c.in-Some.found)) (drop place (remove ts place))) at
     ∙ put_some c.args.variable c.args.factor c.in-Some.found ts some

@@ -24,7 +24,8 @@ loop-term-preserved c =
     let lt : at < length more = omega (arith, c.loop-term-test.true) in
     let added : c.add_term.new.terms.items ≡ add_term term.variable (number *ℤ term.factor) before =
     c.add_term.ensures
-    ∙ ap (λ (z : ℤ). add_term term.variable z before) (to_z-of_z w32 c.mul.result product_fits ∙ c.mul.ensures ∙ (λ i. word_mul number (to_z-of_z w32 term.factor fits i)) ∙ word_mul-is number term.factor)
+    ∙ ap (λ (z : ℤ). add_term term.variable z before)
+    (to_z-of_z w32 c.mul.result product_fits ∙ c.mul.ensures ∙ (λ i. word_mul number (to_z-of_z w32 term.factor fits i)) ∙ word_mul-is number term.factor)
     ∙ add_term-same term.variable (int_wrap w32 (number *ℤ term.factor)) (number *ℤ term.factor) before (wrap_same (number *ℤ term.factor)) in
     let longer = add_term-length term.variable (number *ℤ term.factor) before in
     let shorter = at_drop_more (λ (ts : List Term). length ts) more at blank lt in

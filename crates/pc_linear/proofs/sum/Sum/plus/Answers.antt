@@ -8,7 +8,8 @@ use Rattle.pc_linear.proofs.Normal.{plus-normal}
 use Rattle.pc_linear.proofs.sum.Sum.plus.Goals as goal
 
 -- the parts are those of the sum
-parts : (c : goal.After-add_product-constant) → record { terms = c.add_times.new.terms.items; constant = to_z w32 (of_z w32 c.add_product-constant.result) } ≡ plus c.args.left.now c.args.number c.args.right.now
+parts : (c : goal.After-add_product-constant)
+    → record { terms = c.add_times.new.terms.items; constant = to_z w32 (of_z w32 c.add_product-constant.result) } ≡ plus c.args.left.now c.args.number c.args.right.now
 parts c =
     let f = c.args.left.now in
     let g = c.args.right.now in
