@@ -1,12 +1,10 @@
 -- Sets of variables as bits of a number.
-use Rattle.std.proofs.Common.{◌≡◌, ◌⊎◌, inl, inr, ℕ, zero, suc, ◌+◌, ◌-◌, ◌*◌, ◌%◌, ◌^◌, ◌<◌, ◌≤◌, max, Bool, true, false, not, ◌&&◌, ◌||◌, refl, sym, ◌∙◌, ap, arith, eq-eqb, ne_eqb}
+use Rattle.std.proofs.Common.{◌≡◌, inl, inr, ℕ, zero, suc, ◌*◌, ◌%◌, ◌^◌, ◌<◌, ◌≤◌, max, Bool, true, false, not, ◌&&◌, ◌||◌, refl, sym, ◌∙◌, ap, arith, eq-eqb, ne_eqb}
 use Rattle.std.proofs.lemmas.Bool.{cases_eq}
 use Rattle.std.proofs.lemmas.Nat.{le_or_l, or_lt}
 use Rattle.std.proofs.lemmas.Nat.Bits.{bit_at_set_same, bit_at_set_other, bit_at_clear_same, bit_at_clear_other, bit_at_or, bit_at-lt, bit_at-zero}
 use Rattle.std.specs.Prelude.{nat_eq, bit_and, bit_or}
 use Rattle.std.specs.Int.{w128, bit_at, bit_not}
-use Rattle.pc_live.specs.declared.variable_set.VariableSet.{VariableSet}
-use Rattle.pc_live.specs.Liveness.{member}
 
 -- one bit set
 pub with_is : (n v x : ℕ) → v < 128 → nat_eq (bit_at (bit_or n (1 * 2 ^ v % 2 ^ 128)) x) 1 ≡ (nat_eq v x || nat_eq (bit_at n x) 1)

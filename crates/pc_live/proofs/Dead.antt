@@ -1,5 +1,5 @@
 -- Variables that are not live do not matter.
-use Rattle.std.proofs.Common.{◌≡◌, ◌⊎◌, inl, inr, ℕ, zero, suc, Bool, true, false, ◌||◌, ◌&&◌, List, [], ◌∷◌, Option, Some, None, refl, sym, ◌∙◌, ap, subst, eq-eqb, eqb-true}
+use Rattle.std.proofs.Common.{◌≡◌, ◌⊎◌, inl, inr, ℕ, zero, suc, Bool, true, false, ◌&&◌, List, [], ◌∷◌, Option, Some, None, refl, sym, ◌∙◌, ap, subst, eq-eqb, eqb-true}
 use Rattle.std.specs.Prelude.{ℤ, nat_eq, if◌then◌else◌, slice_get, slice_index}
 use Rattle.std.specs.List.{AllByRecursion, list_any}
 use Rattle.pc_word.specs.declared.item.Item.{Item}
@@ -20,7 +20,7 @@ use Rattle.pc_flow.specs.declared.node.FlowNode.{FlowNode}
 use Rattle.pc_flow.specs.declared.node.FlowNode.TheVariants.{Op, Test, Stop, Trap}
 use Rattle.pc_flow.specs.FlowGraph.{FlowGraph}
 use Rattle.pc_flow.specs.FlowRun.{FlowState, after_item, run_node, flow_step}
-use Rattle.pc_live.specs.Live.{is_variable, node_reads, node_writes, LeadsTo, IsLive, Read_here, Read_later}
+use Rattle.pc_live.specs.Live.{is_variable, IsLive, Read_here, Read_later}
 use Rattle.pc_live.specs.Laws.{AlikeWhereLive, StepsAlike}
 use Rattle.pc_live.proofs.Logic.{or_first, or_second}
 

@@ -1,5 +1,5 @@
 -- A small graph with a loop: it is one, and which of its variables are live.
-use Rattle.std.proofs.Common.{◌≡◌, ◌<◌, inl, inr, Bool, true, false, ℕ, zero, suc, List, [], ◌∷◌, Option, Some, None, IfSome, refl, subst, arith}
+use Rattle.std.proofs.Common.{◌≡◌, ◌<◌, inl, inr, true, false, ℕ, zero, suc, Some, None, IfSome, refl, subst, arith}
 use Rattle.std.specs.Prelude.{pos, slice_get}
 use Rattle.pc_word.specs.declared.item.Item.TheVariants.{Bin, Copy, Print}
 use Rattle.pc_word.specs.declared.item.OpCode.TheVariants.{Sub}
@@ -8,7 +8,7 @@ use Rattle.pc_word.specs.declared.loop_mark.LoopMark.{LoopMark}
 use Rattle.pc_flow.specs.declared.node.FlowNode.{FlowNode}
 use Rattle.pc_flow.specs.declared.node.FlowNode.TheVariants.{Op, Test, Stop}
 use Rattle.pc_flow.specs.FlowGraph.{IsFlow, NodeFits}
-use Rattle.pc_live.specs.Live.{node_reads, node_writes, LeadsTo, IsLive, Read_here, Read_later}
+use Rattle.pc_live.specs.Live.{node_reads, node_writes, IsLive, Read_here, Read_later}
 use Rattle.pc_live.specs.models.Example.{example}
 
 -- ---- it is a graph

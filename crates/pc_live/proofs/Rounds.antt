@@ -1,5 +1,5 @@
 -- Rounds over the nodes: what is put into a set is live there, and sets that lack nothing hold all that is live.
-use Rattle.std.proofs.Common.{◌≡◌, ◌⊎◌, inl, inr, ℕ, ◌+◌, ◌-◌, ◌*◌, ◌^◌, ◌<◌, ◌≤◌, Bool, true, false, not, ◌||◌, ◌&&◌, List, length, replicate, set, get_or, All, Option, Some, None, refl, sym, ◌∙◌, ap, subst, arith, length-set, get_or-set_same, get_or-set_other, true≢false}
+use Rattle.std.proofs.Common.{◌≡◌, inl, inr, ℕ, ◌-◌, ◌*◌, ◌^◌, ◌<◌, ◌≤◌, true, false, not, ◌||◌, ◌&&◌, List, length, replicate, set, get_or, All, Option, Some, None, refl, sym, ◌∙◌, ap, subst, arith, length-set, get_or-set_same, get_or-set_other, true≢false}
 use Rattle.std.proofs.lemmas.Bool.{cases_eq, cases_lt}
 use Rattle.std.proofs.lemmas.List.{get_or-replicate, get_or_past, length-replicate}
 use Rattle.std.proofs.lemmas.List.Sums.{sum_by-set, sum_by-le}
@@ -7,7 +7,7 @@ use Rattle.std.specs.Prelude.{slice_get, slice_set}
 use Rattle.pc_word.proofs.Truth.{and_true, and_made, not_true}
 use Rattle.pc_flow.specs.declared.node.FlowNode.{FlowNode}
 use Rattle.pc_flow.specs.declared.node.FlowNode.TheVariants.{Op, Test, Stop, Trap}
-use Rattle.pc_flow.specs.FlowGraph.{FlowGraph, IsFlow, TestFits, variables}
+use Rattle.pc_flow.specs.FlowGraph.{FlowGraph, TestFits, variables}
 use Rattle.pc_live.specs.declared.variable_set.VariableSet.{VariableSet}
 use Rattle.pc_live.specs.Live.{node_reads, node_writes, LeadsTo, IsLive, Read_here, Read_later}
 use Rattle.pc_live.specs.Liveness.{member, set_at, IsLivenessOf}

@@ -1,4 +1,4 @@
-use Rattle.std.proofs.Common.{◌≡◌, ◌*◌, ◌^◌, ◌-◌, length}
+use Rattle.std.proofs.Common.{◌*◌, ◌^◌, ◌-◌, length}
 use Rattle.pc_live.specs.models.Rounds.{AreSound, total}
 use Rattle.pc_live.proofs.analysis.settle.Given as goal
 
