@@ -1,0 +1,5 @@
+pub mod Bits
+pub mod Dead
+pub mod Example
+pub mod Logic
+pub mod Rounds

@@ -1,0 +1,4 @@
+pub mod models
+pub mod Live
+pub mod Liveness
+pub mod Laws

@@ -1,0 +1,16 @@
+//! Which variables are live at each node of a flow graph.
+#![tactic(auto)]
+
+mod analysis;
+mod error;
+mod laws;
+mod liveness;
+#[cfg(test)]
+mod tests;
+mod uses;
+mod variable_set;
+
+pub use analysis::live;
+pub use error::LiveError;
+pub use laws::law_of_dead_variables;
+pub use liveness::Liveness;
