@@ -1,11 +1,11 @@
 -- Words that are a command or none, as the definitions compute them.
-use Rattle.std.proofs.Common.{◌≡◌, ℕ, Bool, true, false, List, [], ◌∷◌, refl, codes}
+use Rattle.std.proofs.Common.{◌≡◌, ℕ, true, false, List, [], ◌∷◌, refl, codes}
 use Rattle.std.specs.Prelude.{Option, Some, None}
 use Rattle.std.specs.Fmt.{digits}
 use Rattle.clap.proofs.OnLiterals.{clap_on_literals}
 use Rattle.pc_command.specs.Arguments.{compiler, flag_in, matches_taken, simulator, word_in}
 use Rattle.pc_command.specs.Options.{number_in, ops_option, tests_option, mem_option, window_option, rows_option, cycles_option}
-use Rattle.pc_command.specs.Requests.{CompileRequest, OfFile, OfSample, Origin, compile_command_of, compile_request_in, origin_of, simulate_command_of, simulate_request_in}
+use Rattle.pc_command.specs.Requests.{CompileRequest, OfFile, OfSample, Origin, behind_at, compile_command_of, compile_request_in, origin_of, simulate_command_of, simulate_request_in}
 
 -- what is asked of the compiler with the defaults
 abbrev plain : Origin → CompileRequest
@@ -17,8 +17,17 @@ plain source = record {
   report = false;
 }
 
+-- what is opened to compute them
+unfoldable options : Unit {0}
+unfolding ops_option tests_option mem_option window_option rows_option cycles_option digits number_in
+options = tt
+
+unfoldable requests : Unit {0}
+unfolding compile_command_of compile_request_in simulate_command_of simulate_request_in origin_of behind_at
+requests = tt
+
 unfoldable commands : Unit {0}
-unfolding clap_on_literals compile_command_of compile_request_in simulate_command_of simulate_request_in compiler simulator matches_taken flag_in word_in number_in ops_option tests_option mem_option window_option rows_option cycles_option digits origin_of
+unfolding clap_on_literals options requests compiler simulator matches_taken flag_in word_in
 commands = tt
 
 -- words that the compiler is asked with

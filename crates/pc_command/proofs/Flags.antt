@@ -1,6 +1,6 @@
 -- A flag, as std reads it of the matches.
-use Rattle.std.proofs.Common.{◌≡◌, ◌∙◌, ◌≢◌, Bool, true, false, List, refl, sym, ap}
-use Rattle.std.specs.Prelude.{Option, Some, None, Result, Ok, Err, unwrap_or, codes, bytes_eq}
+use Rattle.std.proofs.Common.{◌≡◌, Bool, true, false, List, refl}
+use Rattle.std.specs.Prelude.{Option, Some, None, unwrap_or, codes, bytes_eq}
 use Rattle.std.specs.declared.str.ParseBoolError.{ParseBoolError}
 use Rattle.std.specs.Str.Parse.{ParsesBool}
 use Rattle.std.proofs.lemmas.Slice.Eq.{bytes_eq-Decides}

@@ -1,16 +1,16 @@
 -- Commands are in range.
-use Rattle.std.proofs.Common.{◌≡◌, ◌≢◌, ◌==◌, ◌^◌, ◌<◌, ℕ, Bool, true, false, List, [], ◌∷◌, refl, ap, subst, eq-eqb, arith}
+use Rattle.std.proofs.Common.{◌≡◌, ◌^◌, ◌<◌, ℕ, Bool, true, false, List, refl, ap, subst}
 use Rattle.std.specs.Prelude.{Option, Some, None, codes, nat_lt, option_and_then, option_map, unwrap_or}
 use Rattle.std.specs.Str.Parse.{digits_value}
 use Rattle.std.proofs.lemmas.Bool.{ltb-true}
-use Rattle.clap.specs.Walk.{Row, Text}
+use Rattle.clap.specs.Walk.{Row}
 use Rattle.pc_word.specs.NumberText.{is_numeral}
-use Rattle.pc_word.proofs.Truth.{and_true}
 use Rattle.pc_command.specs.Arguments.{compiler, flag_in, matches_taken, simulator, word_in}
 use Rattle.pc_command.specs.Laws.{CompileCommandsAreInRange, IsInRange, IsOrigin, SimulateCommandsAreInRange}
 use Rattle.pc_command.specs.Ranges.{AreCyclesInRange}
 use Rattle.pc_command.specs.Requests.{CompileRequest, OfFile, OfSample, Origin, SimulateRequest, compile_command_of, compile_request_in}
-use Rattle.pc_command.specs.Requests.{extent_in, limits_in, origin_of, sample_number_of, simulate_command_of, simulate_request_in}
+use Rattle.pc_command.specs.Requests.{behind_at, extent_in, limits_in, origin_behind, origin_of, sample_number_of, simulate_command_of, simulate_request_in}
+use Rattle.pc_command.proofs.Sources.{behind_at-is_none}
 use Rattle.pc_command.proofs.Ranges.{cycles-between, extent_in-range, limits_in-range}
 
 -- equal where they are there
@@ -41,20 +41,14 @@ sample_number_of-small digits origin e = by (is_numeral digits) (nat_lt (digits_
 -- a word names a file that does not begin with `@`, or a sample
 origin_of-IsOrigin : (word : List ℕ) (origin : Origin) → origin_of word ≡ Some origin → IsOrigin origin
 unfolding origin_of
-origin_of-IsOrigin [] (OfFile path) e = λ rest bad. let empty : [] ≡ path = cc in cc
-origin_of-IsOrigin [] (OfSample number) e = cc
-origin_of-IsOrigin (first ∷ after) origin e = by (first == 64) refl origin e
+origin_of-IsOrigin word origin e = by (behind_at word) refl origin e
   where
-    by : (b : Bool) → (first == 64) ≡ b → (origin : Origin) → origin_of (first ∷ after) ≡ Some origin → IsOrigin origin
-    by true h origin e = sample_number_of-small after origin (rw h at e)
-    by false h (OfSample number) e =
-        let bad : Some (OfFile (first ∷ after)) ≡ Some (OfSample number) = rw h at e in
-        cc
-    by false h (OfFile path) e = λ rest at.
-        let is : Some (OfFile (first ∷ after)) ≡ Some (OfFile path) = rw h at e in
-        let head : first ≡ 64 = cc in
-        let hit : (first == 64) ≡ true = eq-eqb first 64 head in
-        cc
+    by : (o : Option (List ℕ)) → behind_at word ≡ o → (origin : Origin) → origin_behind word o ≡ Some origin → IsOrigin origin
+    by (Some digits) h origin e = sample_number_of-small digits origin e
+    by None h (OfSample number) e = cc
+    by None h (OfFile path) e = λ rest.
+        let is : word ≡ path = cc in
+        rw (← is) (behind_at-is_none word rest h)
 
 -- what the compiler's matches ask is in range
 compile_request_in-range : (matches : List Row) (request : CompileRequest) → compile_request_in matches ≡ Some request → IsInRange request

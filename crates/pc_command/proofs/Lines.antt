@@ -1,5 +1,5 @@
 -- The lines of the table of options, and their defaults as text.
-use Rattle.std.proofs.Common.{◌≡◌, List, ℕ, refl, codes}
+use Rattle.std.proofs.Common.{◌≡◌, refl, codes}
 use Rattle.std.specs.Fmt.{decimal, digits}
 use Rattle.pc_command.specs.Options.{number_option, ops_option, tests_option, mem_option, window_option, rows_option, cycles_option}
 

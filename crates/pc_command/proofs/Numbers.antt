@@ -1,8 +1,8 @@
 -- The number of an option, as std reads it of the matches.
-use Rattle.std.proofs.Common.{◌≡◌, ◌∙◌, ◌≤◌, ◌<◌, ◌⊎◌, ◌^◌, ℕ, Bool, true, false, List, refl, sym, ap, inl, inr, arith, lit≤}
-use Rattle.std.specs.Prelude.{Option, Some, None, Result, Ok, Err, unwrap_or, option_and_then}
+use Rattle.std.proofs.Common.{◌≡◌, ◌∙◌, ◌≤◌, ◌<◌, ◌⊎◌, ℕ, Bool, true, false, List, refl, sym, ap, inl, inr, arith}
+use Rattle.std.specs.Prelude.{Option, Some, None, Result, unwrap_or}
 use Rattle.std.specs.declared.num.ParseIntError.{ParseIntError}
-use Rattle.std.specs.Str.Parse.{ExplainsUnsignedError, HasUnsignedDigitsIfOk, IsNumeral, ParsesUnsigned, digits_value, without_leading_plus}
+use Rattle.std.specs.Str.Parse.{ExplainsUnsignedError, HasUnsignedDigitsIfOk, ParsesUnsigned, digits_value, without_leading_plus}
 use Rattle.clap.specs.Walk.{Row, Text, one_of}
 use Rattle.clap.specs.Matches.{ReadsOne}
 use Rattle.clap.specs.Values.{IsUnsignedIn}

@@ -1,5 +1,5 @@
 -- The programs' arguments, as `clap` keeps them.
-use Rattle.std.proofs.Common.{◌≡◌, ◌∙◌, List, [], ◌∷◌, ap, ap₂, refl, true, false}
+use Rattle.std.proofs.Common.{◌≡◌, ◌∙◌, [], ap, ap₂, refl, true, false}
 use Rattle.clap.specs.Built.{AddsArg}
 use Rattle.clap.specs.Faults.{is_simple_and_free}
 use Rattle.clap.specs.Simple.{App, app_of, app_of_fields, new_app, on_top, with_rule}

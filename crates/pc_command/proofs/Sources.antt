@@ -1,28 +1,35 @@
 -- What a word for SRC names.
-use Rattle.std.proofs.Common.{◌≡◌, ◌≢◌, ◌∙◌, ◌==◌, ◌&&◌, ◌^◌, ◌<◌, ℕ, Bool, true, false, List, [], ◌∷◌, refl, sym, ap, drop, arith, eqb-true}
-use Rattle.std.specs.Prelude.{Option, Some, None, Result, Ok, Err, nat_lt, option_map, slice_index}
+use Rattle.std.proofs.Common.{◌≡◌, ◌≢◌, ◌==◌, ◌^◌, ◌<◌, ℕ, Bool, true, false, List, [], ◌∷◌, refl, sym, ap, eqb-true}
+use Rattle.std.specs.Prelude.{Some, None, Result, Ok, Err, nat_lt, slice_index}
 use Rattle.std.specs.Result.{result_ok}
 use Rattle.std.specs.Str.Parse.{IsNumeral, ParsesUnsigned, digits_value, without_leading_plus}
 use Rattle.std.proofs.lemmas.Bool.{lt-ltb, ltb-true}
 use Rattle.pc_word.specs.NumberText.{is_numeral}
 use Rattle.pc_word.proofs.NumberTexts.{is_numeral-from, is_numeral-to}
 use Rattle.pc_word.proofs.Truth.{and_true}
-use Rattle.pc_command.specs.Requests.{Origin, OfFile, OfSample, origin_of, sample_number_of}
+use Rattle.pc_command.specs.Requests.{behind_at, sample_number_of}
 
--- behind a `@` stands the number of a sample
-pub origin_of-sample : (word rest : List ℕ) → word ≡ 64 ∷ rest → origin_of word ≡ option_map OfSample (sample_number_of rest)
-unfolding origin_of
-origin_of-sample word rest e = rw e refl
+-- behind a `@`
+pub behind_at-Some : (word rest : List ℕ) → word ≡ 64 ∷ rest → behind_at word ≡ Some rest
+unfolding behind_at
+behind_at-Some word rest e = rw e refl
 
--- a word that does not begin with a `@` names a file
-pub origin_of-file : (word : List ℕ) → ((rest : List ℕ) → word ≢ 64 ∷ rest) → origin_of word ≡ Some (OfFile word)
-unfolding origin_of
-origin_of-file [] other = refl
-origin_of-file (first ∷ rest) other = by (first == 64) refl
+-- a word that does not begin with a `@`
+pub behind_at-None : (word : List ℕ) → ((rest : List ℕ) → word ≢ 64 ∷ rest) → behind_at word ≡ None
+unfolding behind_at
+behind_at-None [] other = refl
+behind_at-None (first ∷ rest) other = by (first == 64) refl
   where
-    by : (b : Bool) → (first == 64) ≡ b → origin_of (first ∷ rest) ≡ Some (OfFile (first ∷ rest))
+    by : (b : Bool) → (first == 64) ≡ b → behind_at (first ∷ rest) ≡ None
     by true e = absurd (other rest (ap (λ (n : ℕ). n ∷ rest) (eqb-true first 64 e)))
     by false e = simp e refl
+
+-- and what that says of the word
+pub behind_at-is_none : (word rest : List ℕ) → behind_at word ≡ None → word ≢ 64 ∷ rest
+unfolding behind_at
+behind_at-is_none word rest e at =
+    let bad : Some rest ≡ None = rw at at e in
+    cc
 
 -- digits with a sign are not digits alone
 pub sample_number_of-signed : (digits : List ℕ) → (slice_index digits 0 == 43) ≡ true → sample_number_of digits ≡ None

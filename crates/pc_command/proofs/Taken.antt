@@ -1,10 +1,10 @@
 -- What a parse gives is what `clap`'s definitions say of the words.
-use Rattle.std.proofs.Common.{◌≡◌, ◌∙◌, ◌⊎◌, List, [], ◌∷◌, Bool, true, false, refl, ap, inl, inr}
-use Rattle.std.specs.Prelude.{Option, Some, None, Result, Ok, Err, ok_or}
+use Rattle.std.proofs.Common.{◌≡◌, List, [], ◌∷◌, true, refl, inl, inr}
+use Rattle.std.specs.Prelude.{Ok, Err, ok_or}
 use Rattle.clap.specs.Faults.{fault_of, is_simple_and_free}
 use Rattle.clap.specs.Kinds.{HasKind, IsAmong, Kinds}
 use Rattle.clap.specs.Matches.{found_of}
-use Rattle.clap.specs.Simple.{App, HasMatchesOf, is_simple, matches_of}
+use Rattle.clap.specs.Simple.{App, HasMatchesOf, is_simple}
 use Rattle.clap.specs.Values.{kind_of}
 use Rattle.clap.specs.Walk.{Row, Text, rows_of}
 use Rattle.clap.specs.declared.error.Error.{Error}
@@ -16,8 +16,7 @@ use Rattle.pc_word.proofs.Truth.{and_true}
 use Rattle.pc_command.specs.Arguments.{matches_taken}
 use Rattle.pc_command.specs.Requests.{command_cause}
 use Rattle.pc_command.specs.models.Refusal.{refusal_for}
-use Rattle.pc_command.specs.declared.error.CommandError.{CommandError}
-use Rattle.pc_command.specs.declared.error.CommandError.TheVariants.{NoCommand, Memory}
+use Rattle.pc_command.specs.declared.error.CommandError.TheVariants.{NoCommand}
 
 -- a simple command with no rules between arguments is simple
 is_simple-of : (app : App) → is_simple_and_free app ≡ true → is_simple app ≡ true

@@ -36,10 +36,19 @@ pub record SimulateRequest : Type 0 where
 abbrev pub sample_number_of : List ℕ → Option ℕ
 sample_number_of digits = if is_numeral digits && nat_lt (digits_value 10 digits) (2 ^ 32) then Some (digits_value 10 digits) else None
 
--- what a word for SRC names: behind a `@` (64) the number of a sample, and with any other first byte a file
+-- what stands behind a first `@` (64), if the word begins with one
+unfoldable pub behind_at : List ℕ → Option (List ℕ)
+behind_at [] = None
+behind_at (first ∷ rest) = if first == 64 then Some rest else None
+
+-- what a word for SRC names by what stands behind its `@`: a sample by its number, and without a `@` a file
+abbrev pub origin_behind : List ℕ → Option (List ℕ) → Option Origin
+origin_behind word (Some digits) = option_map OfSample (sample_number_of digits)
+origin_behind word None = Some (OfFile word)
+
+-- what a word for SRC names, if anything
 unfoldable pub origin_of : List ℕ → Option Origin
-origin_of [] = Some (OfFile [])
-origin_of (first ∷ rest) = if first == 64 then option_map OfSample (sample_number_of rest) else Some (OfFile (first ∷ rest))
+origin_of word = origin_behind word (behind_at word)
 
 -- the limits of a row that the matches ask for
 abbrev pub limits_in : List Row → Limits

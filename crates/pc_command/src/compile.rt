@@ -1,10 +1,10 @@
 //! What the words ask of the compiler.
-ghost use Rattle.std.specs.Prelude.{◌≡◌, IfOk, ok_or};
+ghost use Rattle.std.specs.Prelude.{◌≡◌, IfOk, IfSome, ok_or, option_map};
 ghost use Rattle.clap.specs.Walk.{rows_of};
 ghost use Rattle.clap.specs.Matches.{found_of};
 ghost use Rattle.pc_word.specs.Exact.{IsExact};
 ghost use Rattle.pc_command.specs.Ranges.{HasExtentInRange, HasLimitsInRange};
-ghost use Rattle.pc_command.specs.Requests.{command_cause, compile_command_of, compile_request, extent_in, limits_in};
+ghost use Rattle.pc_command.specs.Requests.{command_cause, compile_command_of, compile_request, compile_request_in, extent_in, limits_in};
 ghost use Rattle.pc_command.specs.Words.{spelled};
 
 use crate::arguments::{compiler, flag_in, matches_of, word_in};
@@ -43,15 +43,23 @@ pub fn compile_command<'a>(
     ensures extent { IfOk result (λ command. HasExtentInRange command.extent) }
 {
     let matches = matches_of(compiler(alloc)?, words)?;
-    let Some(source) = source_named(word_in(&matches, "SRC")) else {
-        return Err(CommandError::NoCommand);
-    };
-    Ok(CompileCommand {
+    command_in(&matches).ok_or(CommandError::NoCommand)
+}
+
+/// What the matches ask, where SRC names a source.
+#[tactic(auto, unfolding(crate::specs::Requests::compile_request_in))]
+fn command_in<'a>(matches: &ArgMatches<'a>) -> Option<CompileCommand<'a>>
+    ensures value { option_map compile_request result ≡ compile_request_in (rows_of (found_of matches.now)) }
+    ensures limits { IfSome result (λ command. HasLimitsInRange command.limits) }
+    ensures extent { IfSome result (λ command. HasExtentInRange command.extent) }
+{
+    let source = source_named(word_in(matches, "SRC"))?;
+    Some(CompileCommand {
         source,
-        object: word_in(&matches, "OBJ"),
-        limits: limits_in(&matches),
-        extent: extent_in(&matches),
-        report: flag_in(&matches, "report"),
+        object: word_in(matches, "OBJ"),
+        limits: limits_in(matches),
+        extent: extent_in(matches),
+        report: flag_in(matches, "report"),
     })
 }
 

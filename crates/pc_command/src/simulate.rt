@@ -1,13 +1,16 @@
 //! What the words ask of the simulator.
-ghost use Rattle.std.specs.Prelude.{IfOk, ok_or};
+ghost use Rattle.std.specs.Prelude.{◌≡◌, IfOk, ok_or};
+ghost use Rattle.clap.specs.Walk.{rows_of};
+ghost use Rattle.clap.specs.Matches.{found_of};
 ghost use Rattle.pc_word.specs.Exact.{IsExact};
 ghost use Rattle.pc_command.specs.Ranges.{AreCyclesInRange};
-ghost use Rattle.pc_command.specs.Requests.{command_cause, simulate_command_of, simulate_request};
+ghost use Rattle.pc_command.specs.Requests.{command_cause, simulate_command_of, simulate_request, simulate_request_in};
 ghost use Rattle.pc_command.specs.Words.{spelled};
 
 use crate::CommandError;
 use crate::arguments::{matches_of, simulator, word_in};
 use crate::number_option::OptionLine;
+use clap::ArgMatches;
 use std::alloc::Global;
 
 /// What the simulator is to do.
@@ -31,8 +34,16 @@ pub fn simulate_command<'a>(
     ensures cycles { IfOk result (λ command. AreCyclesInRange command.cycles) }
 {
     let matches = matches_of(simulator(alloc)?, words)?;
-    Ok(SimulateCommand {
-        object: word_in(&matches, "OBJ"),
-        cycles: OptionLine::cycles().number_in(&matches),
-    })
+    Ok(command_in(&matches))
+}
+
+/// What the matches ask.
+#[tactic(auto, unfolding(crate::specs::Requests::simulate_request_in))]
+fn command_in<'a>(matches: &ArgMatches<'a>) -> SimulateCommand<'a>
+    ensures { simulate_request result ≡ simulate_request_in (rows_of (found_of matches.now)) }
+{
+    SimulateCommand {
+        object: word_in(matches, "OBJ"),
+        cycles: OptionLine::cycles().number_in(matches),
+    }
 }

@@ -1,5 +1,5 @@
 -- The arguments are added in their order.
-use Rattle.std.proofs.Common.{◌∙◌, ap, refl, codes}
+use Rattle.std.proofs.Common.{◌∙◌, ap, codes}
 use Rattle.pc_command.specs.Arguments.{compiler, number_argument}
 use Rattle.pc_command.proofs.Programs.{added, nameless}
 use Rattle.pc_command.proofs.arguments.compiler.Goals as goal

@@ -9,4 +9,5 @@ use Rattle.pc_command.proofs.arguments.flag_in.Goals as goal
 pub returns : goal.returns
 returns c =
     let is : _ = one_text-rows (found_of c.args.matches.now) c.args.name.now in
-    c.unwrap_or.ensures ∙ sym (flag_in-read c.args.name.now (rows_of (found_of c.args.matches.now)) c.get_one.result (λ e. c.get_one.ensures.none (is ∙ e)) (λ text e. c.get_one.ensures.value text (is ∙ e)))
+    c.unwrap_or.ensures
+    ∙ sym (flag_in-read c.args.name.now (rows_of (found_of c.args.matches.now)) c.get_one.result (λ e. c.get_one.ensures.none (is ∙ e)) (λ text e. c.get_one.ensures.value text (is ∙ e)))

@@ -1,7 +1,6 @@
 -- The arguments are added in their order.
-use Rattle.std.proofs.Common.{◌∙◌, ap, refl, codes}
-use Rattle.clap.specs.Simple.{App}
-use Rattle.pc_command.specs.Arguments.{number_argument, program, simulator}
+use Rattle.std.proofs.Common.{◌∙◌, ap, codes}
+use Rattle.pc_command.specs.Arguments.{number_argument, simulator}
 use Rattle.pc_command.proofs.Programs.{added, nameless}
 use Rattle.pc_command.proofs.arguments.simulator.Goals as goal
 

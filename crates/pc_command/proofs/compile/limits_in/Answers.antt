@@ -1,10 +1,7 @@
 -- Each number is in its range, so it fits a byte.
-use Rattle.std.proofs.Common.{◌∙◌, ◌≡◌, ◌≤◌, ap, arith, rules}
+use Rattle.std.proofs.Common.{◌≤◌, arith}
 use Rattle.clap.specs.Matches.{found_of}
 use Rattle.clap.specs.Walk.{rows_of}
-use Rattle.pc_command.specs.Options.{NumberOption, number_in}
-use Rattle.pc_command.specs.Ranges.{HasLimitsInRange, IsBetween}
-use Rattle.pc_command.specs.Requests.{limits_in}
 use Rattle.pc_command.proofs.Ranges.{limits_in-range, mem-between, number-most, ops-between, tests-between}
 use Rattle.pc_command.proofs.compile.limits_in.Goals as goal
 

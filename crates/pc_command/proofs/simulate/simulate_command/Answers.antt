@@ -1,14 +1,16 @@
 -- The words are a command where `clap` takes them.
-use Rattle.std.proofs.Common.{◌∙◌, ◌≡◌, List, ap, sym, codes}
+use Rattle.std.proofs.Common.{◌∙◌, ap, sym}
 use Rattle.std.proofs.lemmas.Result.{err_from_is_err_and}
+use Rattle.std.specs.Prelude.{Option, Some, ok_or}
 use Rattle.clap.specs.Faults.{is_simple_and_free}
 use Rattle.clap.specs.Matches.{found_of}
-use Rattle.clap.specs.Walk.{Row, rows_of}
-use Rattle.pc_command.specs.Options.{cycles_option, number_in}
+use Rattle.clap.specs.Walk.{rows_of}
+use Rattle.pc_command.specs.Requests.{SimulateRequest, simulate_request}
 use Rattle.pc_command.specs.Words.{spelled}
 use Rattle.pc_command.proofs.Commands.{simulate-refused, simulate-taken}
+use Rattle.pc_command.specs.declared.error.CommandError.TheVariants.{NoCommand}
+use Rattle.pc_command.proofs.InRange.{simulate_command_of-range}
 use Rattle.pc_command.proofs.Programs.{simulator_is_simple}
-use Rattle.pc_command.proofs.Ranges.{cycles-between}
 use Rattle.pc_command.proofs.simulate.simulate_command.Goals as goal
 
 pub matches_of-requires : goal.matches_of-requires
@@ -22,8 +24,11 @@ returns-in_err-matches-clause-exact c =
 pub returns-clause-exact : goal.returns-clause-exact
 returns-clause-exact c =
     let taken = rw c.in_ok-simulator.ensures.app at c.in_ok-matches.ensures in
-    simulate-taken (spelled c.args.words.now) (rows_of (found_of c.in_ok-matches.matches)) _ taken (sym c.word_in.ensures)
-    (sym (rw c.cycles.ensures at c.number_in.ensures))
+    let is = simulate-taken (spelled c.args.words.now) (rows_of (found_of c.in_ok-matches.matches)) taken in
+    ap (λ (o : Option SimulateRequest). ok_or o NoCommand) (is ∙ ap (λ (r : SimulateRequest). Some r) (sym c.command_in.ensures))
 
 pub returns-clause-cycles : goal.returns-clause-cycles
-returns-clause-cycles c = rw (c.number_in.ensures, c.cycles.ensures) (cycles-between (rows_of (found_of c.in_ok-matches.matches)))
+returns-clause-cycles c =
+    let taken = rw c.in_ok-simulator.ensures.app at c.in_ok-matches.ensures in
+    let is = simulate-taken (spelled c.args.words.now) (rows_of (found_of c.in_ok-matches.matches)) taken in
+    simulate_command_of-range (spelled c.args.words.now) (simulate_request c.command_in.result) (is ∙ ap (λ (r : SimulateRequest). Some r) (sym c.command_in.ensures))

@@ -1,7 +1,7 @@
 -- What std reads of digits without a sign is what the definition takes them to spell.
 use Rattle.std.proofs.Common.{◌≡◌, ◌∙◌, ◌==◌, sym, false, rules}
 use Rattle.std.specs.Prelude.{slice_index}
-use Rattle.pc_command.proofs.Sources.{sample_number_of-parses, sample_number_of-signed}
+use Rattle.pc_command.proofs.Sources.{sample_number_of-parses}
 use Rattle.pc_command.proofs.source.sample_number.Goals as goal
 
 pub returns : goal.returns
