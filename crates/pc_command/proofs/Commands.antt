@@ -1,0 +1,57 @@
+-- What the matches make of the words, as a command or none.
+use Rattle.std.proofs.Common.{◌≡◌, List, refl}
+use Rattle.std.specs.Prelude.{Option, Some, None, Ok, ok_or, option_and_then, option_map}
+use Rattle.clap.specs.Walk.{Row, Text}
+use Rattle.pc_word.specs.Exact.{IsExact, IsRefusal}
+use Rattle.pc_command.specs.Arguments.{compiler, matches_taken, simulator}
+use Rattle.pc_command.specs.Requests.{command_cause, compile_command_of, compile_request_in}
+use Rattle.pc_command.specs.Requests.{simulate_command_of, simulate_request_in}
+use Rattle.pc_command.specs.declared.error.CommandError.{CommandError}
+use Rattle.pc_command.specs.declared.error.CommandError.TheVariants.{NoCommand, Memory}
+
+-- a value that is there
+there : {X : Type 0} (o : Option X) (x : X) → ok_or o NoCommand ≡ Ok x → o ≡ Some x
+there None x e = cc
+there (Some y) x e = cc
+
+-- what is refused stays so when it is read on
+refused_on : {X Y : Type 0} (error : CommandError) (o : Option X) (f : X → Option Y) → IsRefusal (command_cause error) (ok_or o NoCommand)
+    → IsRefusal (command_cause error) (ok_or (option_and_then f o) NoCommand)
+refused_on Memory o f h = tt
+refused_on NoCommand None f h = refl
+refused_on NoCommand (Some x) f h = cc
+
+refused_as : {X Y : Type 0} (error : CommandError) (o : Option X) (f : X → Y) → IsRefusal (command_cause error) (ok_or o NoCommand)
+    → IsRefusal (command_cause error) (ok_or (option_map f o) NoCommand)
+refused_as Memory o f h = tt
+refused_as NoCommand None f h = refl
+refused_as NoCommand (Some x) f h = cc
+
+-- a value that is seen by `view`, or no command
+pub exact_in : {X Y : Type 0} (view : X → Y) (read : Option X) (asked : Option Y) → option_map view read ≡ asked
+    → IsExact view command_cause (ok_or read NoCommand) (ok_or asked NoCommand)
+exact_in view None asked h = rw (← h) refl
+exact_in view (Some x) asked h = rw (← h) refl
+
+-- words of which `clap` gives the compiler no matches are no command
+pub compile-refused : (error : CommandError) (words : List Text) → IsRefusal (command_cause error) (ok_or (matches_taken compiler words) NoCommand)
+    → IsRefusal (command_cause error) (ok_or (compile_command_of words) NoCommand)
+unfolding compile_command_of
+compile-refused error words h = refused_on error (matches_taken compiler words) compile_request_in h
+
+-- other words are a command where the matches ask for something
+pub compile-taken : (words : List Text) (matches : List Row) → ok_or (matches_taken compiler words) NoCommand ≡ Ok matches
+    → compile_command_of words ≡ compile_request_in matches
+unfolding compile_command_of
+compile-taken words matches taken = rw (there _ matches taken) refl
+
+-- so of the simulator
+pub simulate-refused : (error : CommandError) (words : List Text) → IsRefusal (command_cause error) (ok_or (matches_taken simulator words) NoCommand)
+    → IsRefusal (command_cause error) (ok_or (simulate_command_of words) NoCommand)
+unfolding simulate_command_of
+simulate-refused error words h = refused_as error (matches_taken simulator words) simulate_request_in h
+
+pub simulate-taken : (words : List Text) (matches : List Row) → ok_or (matches_taken simulator words) NoCommand ≡ Ok matches
+    → simulate_command_of words ≡ Some (simulate_request_in matches)
+unfolding simulate_command_of
+simulate-taken words matches taken = rw (there _ matches taken) refl

@@ -1,0 +1,125 @@
+-- Words that are a command or none, as the definitions compute them.
+use Rattle.std.proofs.Common.{◌≡◌, ℕ, true, false, List, [], ◌∷◌, refl, codes}
+use Rattle.std.specs.Prelude.{Option, Some, None}
+use Rattle.std.specs.Fmt.{digits}
+use Rattle.clap.proofs.OnLiterals.{clap_on_literals}
+use Rattle.pc_command.specs.Arguments.{compiler, flag_in, matches_taken, simulator, word_in}
+use Rattle.pc_command.specs.Options.{number_in, ops_option, tests_option, mem_option, window_option, rows_option, cycles_option}
+use Rattle.pc_command.specs.Requests.{CompileRequest, OfFile, OfSample, Origin, behind_at, compile_command_of, compile_request_in, origin_of, simulate_command_of, simulate_request_in}
+
+-- what is asked of the compiler with the defaults
+abbrev plain : Origin → CompileRequest
+plain source = record {
+  source = source;
+  object = codes "y";
+  limits = record { ops = 8; tests = 3; mem = 2 };
+  extent = record { window = 4; rows = 256 };
+  report = false;
+}
+
+-- what is opened to compute them
+unfoldable options : Unit {0}
+unfolding ops_option tests_option mem_option window_option rows_option cycles_option digits number_in
+options = tt
+
+unfoldable requests : Unit {0}
+unfolding compile_command_of compile_request_in simulate_command_of simulate_request_in origin_of behind_at
+requests = tt
+
+unfoldable commands : Unit {0}
+unfolding clap_on_literals options requests compiler simulator matches_taken flag_in word_in
+commands = tt
+
+-- words that the compiler is asked with
+abbrev asked : List (List ℕ) → Option CompileRequest
+asked more = compile_command_of (codes "x.c" ∷ (codes "-o" ∷ (codes "y" ∷ more)))
+
+-- the defaults
+defaults : asked [] ≡ Some (plain (OfFile (codes "x.c")))
+unfolding commands
+defaults = refl
+
+-- each option at the ends of its range
+ops-ends : asked (codes "--ops" ∷ (codes "1" ∷ [])) ≡ Some (record (plain (OfFile (codes "x.c"))) { limits = record { ops = 1; tests = 3; mem = 2 } })
+unfolding commands
+ops-ends = refl
+
+greatest : asked (codes "--ops=32" ∷ (codes "--tests=7" ∷ (codes "--mem=32" ∷ (codes "--window=8" ∷ (codes "--rows=512" ∷ (codes "--report" ∷ []))))))
+    ≡ Some (record {
+      source = OfFile (codes "x.c");
+      object = codes "y";
+      limits = record { ops = 32; tests = 7; mem = 32 };
+      extent = record { window = 8; rows = 512 };
+      report = true;
+    })
+unfolding commands
+greatest = refl
+
+-- numbers outside of it
+ops-below : asked (codes "--ops" ∷ (codes "0" ∷ [])) ≡ None
+unfolding commands
+ops-below = refl
+
+ops-above : asked (codes "--ops" ∷ (codes "33" ∷ [])) ≡ None
+unfolding commands
+ops-above = refl
+
+rows-above : asked (codes "--rows" ∷ (codes "513" ∷ [])) ≡ None
+unfolding commands
+rows-above = refl
+
+-- what `clap` takes besides
+attached : compile_command_of (codes "-oy" ∷ (codes "x.c" ∷ (codes "--ops=+8" ∷ (codes "--tests" ∷ (codes "003" ∷ []))))) ≡ Some (plain (OfFile (codes "x.c")))
+unfolding commands
+attached = refl
+
+-- words that lack what they need, have too much, or ask for help
+bare : compile_command_of (codes "x.c" ∷ []) ≡ None
+unfolding commands
+bare = refl
+
+empty : compile_command_of [] ≡ None
+unfolding commands
+empty = refl
+
+twice : asked (codes "--mem" ∷ (codes "1" ∷ (codes "--mem" ∷ (codes "1" ∷ [])))) ≡ None
+unfolding commands
+twice = refl
+
+valueless : asked (codes "--mem" ∷ []) ≡ None
+unfolding commands
+valueless = refl
+
+unknown : asked (codes "--fast" ∷ []) ≡ None
+unfolding commands
+unknown = refl
+
+help : asked (codes "--help" ∷ []) ≡ None
+unfolding commands
+help = refl
+
+-- samples, and what spells none
+sampled : compile_command_of (codes "@4294967295" ∷ (codes "-o" ∷ (codes "y" ∷ []))) ≡ Some (plain (OfSample 4294967295))
+unfolding commands
+sampled = refl
+
+past : compile_command_of (codes "@4294967296" ∷ (codes "-o" ∷ (codes "y" ∷ []))) ≡ None
+unfolding commands
+past = refl
+
+signed : compile_command_of (codes "@+7" ∷ (codes "-o" ∷ (codes "y" ∷ []))) ≡ None
+unfolding commands
+signed = refl
+
+-- the simulator's
+cycles-default : simulate_command_of (codes "y" ∷ []) ≡ Some (record { object = codes "y"; cycles = 100000000 })
+unfolding commands
+cycles-default = refl
+
+cycles-greatest : simulate_command_of (codes "y" ∷ (codes "--cycles" ∷ (codes "1000000000000" ∷ []))) ≡ Some (record { object = codes "y"; cycles = 1000000000000 })
+unfolding commands
+cycles-greatest = refl
+
+cycles-below : simulate_command_of (codes "y" ∷ (codes "--cycles" ∷ (codes "0" ∷ []))) ≡ None
+unfolding commands
+cycles-below = refl

@@ -1,0 +1,72 @@
+-- The arguments of both programs, as `clap` takes them, and the matches that `clap` gives of words.
+use Rattle.std.specs.Prelude.{ℕ, Bool, true, false, List, [], ◌∷◌, Option, Some, None, codes, decimal, bytes_eq, unwrap_or}
+use Rattle.std.specs.Option.{option_map_or}
+use Rattle.clap.specs.Walk.{Row, Rule, Text, first_of, one_of}
+use Rattle.clap.specs.Simple.{App, matches_of, new_rule, new_shape}
+use Rattle.clap.specs.Faults.{fault_of}
+use Rattle.clap.specs.Kinds.{Kinds}
+use Rattle.clap.specs.declared.builder.action.ArgAction.TheVariants.{Set, SetTrue}
+use Rattle.clap.specs.declared.builder.value_parser.ValueParser.TheVariants as vp
+use Rattle.pc_command.specs.Options.{NumberOption, ops_option, tests_option, mem_option, window_option, rows_option, cycles_option}
+
+-- `NAME`: a word at its place, which may not be left out
+abbrev pub word_argument : Text → Rule
+word_argument name = record (new_rule name) { action = Some Set; required = true }
+
+-- `-LETTER NAME`: a letter and a word, which may not be left out
+abbrev pub letter_argument : ℕ → Text → Rule
+letter_argument letter name = record (word_argument name) { short = Some letter }
+
+-- `[--NAME N]`: a number in the option's range, or its default
+abbrev pub number_argument : NumberOption → Rule
+number_argument option = record (new_rule option.name) {
+  long = Some option.name;
+  action = Some Set;
+  parser = Some (vp.Unsigned option.least option.greatest);
+  defaults = decimal option.default ∷ [];
+}
+
+-- `[--NAME]`: a flag, which is off where it is left out
+abbrev pub flag_argument : Text → Rule
+flag_argument name = record (new_rule name) { long = Some name; action = Some SetTrue }
+
+-- a program of this name with these arguments, whose words begin behind its name
+abbrev pub program : Text → List Rule → App
+program name arguments = record { top = record (new_shape name) { rules = arguments; no_binary_name = true }; subs = [] }
+
+-- `pcc SRC -o OBJ [--ops N] [--tests N] [--mem N] [--window N] [--rows N] [--report]`; 111 is `o`
+unfoldable pub compiler : App
+compiler = program (codes "pcc") (
+    word_argument (codes "SRC")
+    ∷ (letter_argument 111 (codes "OBJ")
+    ∷ (number_argument ops_option
+    ∷ (number_argument tests_option
+    ∷ (number_argument mem_option
+    ∷ (number_argument window_option
+    ∷ (number_argument rows_option
+    ∷ (flag_argument (codes "report")
+    ∷ []))))))))
+
+-- `pvm OBJ [--cycles N]`
+unfoldable pub simulator : App
+simulator = program (codes "pvm") (
+    word_argument (codes "OBJ")
+    ∷ (number_argument cycles_option
+    ∷ []))
+
+-- matches, unless there is a fault
+abbrev pub unless_faulty : Kinds → List Row → Option (List Row)
+unless_faulty [] matches = Some matches
+unless_faulty (fault ∷ faults) matches = None
+
+-- the matches that `clap` gives of the words, where it finds no fault with them; a request for help is a fault
+unfoldable pub matches_taken : App → List Text → Option (List Row)
+matches_taken app words = unless_faulty (fault_of app words) (matches_of app words)
+
+-- the word that an argument has in the matches; one that may not be left out has one in all that `clap` gives
+unfoldable pub word_in : Text → List Row → Text
+word_in name matches = unwrap_or (first_of name matches) []
+
+-- a flag is on
+unfoldable pub flag_in : Text → List Row → Bool
+flag_in name matches = option_map_or (λ text. bytes_eq text (codes "true")) (one_of name matches) false

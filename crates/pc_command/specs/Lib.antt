@@ -1,0 +1,7 @@
+pub mod models
+pub mod Arguments
+pub mod Laws
+pub mod Options
+pub mod Ranges
+pub mod Requests
+pub mod Words

@@ -1,0 +1,97 @@
+//! The arguments of both programs, as `clap` takes them.
+ghost use Rattle.std.specs.Prelude.{◌≡◌, true, false, codes, IfOk, IfErr, ok_or};
+ghost use Rattle.clap.specs.Walk.{rows_of, rule_of};
+ghost use Rattle.clap.specs.Simple.{app_of};
+ghost use Rattle.clap.specs.Matches.{found_of};
+ghost use Rattle.clap.specs.Faults.{is_simple_and_free};
+ghost use Rattle.clap.specs.Values.{kind_of};
+ghost use Rattle.clap.specs.declared.error.kind.ErrorKind.TheVariants.{OutOfMemory};
+ghost use Rattle.pc_word.specs.Exact.{IsExact};
+ghost use Rattle.pc_command.specs.Arguments.{compiler, flag_argument, flag_in, letter_argument, matches_taken, simulator, word_argument, word_in};
+ghost use Rattle.pc_command.specs.Requests.{command_cause};
+ghost use Rattle.pc_command.specs.Words.{spelled};
+
+use crate::CommandError;
+use crate::number_option::OptionLine;
+use clap::{Arg, ArgAction, ArgMatches, Command};
+use std::alloc::Global;
+
+/// `NAME`: a word at its place, which may not be left out.
+fn word_argument<'a>(alloc: Global, name: &'a str) -> Arg<'a>
+    ensures rule { rule_of result ≡ word_argument name.entry.now }
+    ensures local { result.global ≡ false }
+{
+    Arg::new(alloc, name).action(ArgAction::Set).required(true)
+}
+
+/// `-LETTER NAME`: a letter and a word, which may not be left out.
+fn letter_argument<'a>(alloc: Global, letter: char, name: &'a str) -> Arg<'a>
+    ensures rule { rule_of result ≡ letter_argument letter name.entry.now }
+    ensures local { result.global ≡ false }
+{
+    word_argument(alloc, name).short(letter)
+}
+
+/// `[--NAME]`: a flag, which is off where it is left out.
+fn flag_argument<'a>(alloc: Global, name: &'a str) -> Arg<'a>
+    ensures rule { rule_of result ≡ flag_argument name.entry.now }
+    ensures local { result.global ≡ false }
+{
+    Arg::new(alloc, name).long(name).action(ArgAction::SetTrue)
+}
+
+/// `pcc SRC -o OBJ [--ops N] [--tests N] [--mem N] [--window N] [--rows N] [--report]`.
+pub(crate) fn compiler<'a>(alloc: Global) -> Result<Command<'a>, clap::Error>
+    ensures app { IfOk result (λ command. app_of command ≡ compiler) }
+    ensures memory { IfErr result (λ error. kind_of error ≡ OutOfMemory) }
+{
+    let command = Command::new(alloc, "pcc")
+        .no_binary_name(true)
+        .arg(word_argument(alloc, "SRC"))?
+        .arg(letter_argument(alloc, 'o', "OBJ"))?
+        .arg(OptionLine::ops().argument(alloc))?
+        .arg(OptionLine::tests().argument(alloc))?
+        .arg(OptionLine::mem().argument(alloc))?
+        .arg(OptionLine::window().argument(alloc))?
+        .arg(OptionLine::rows().argument(alloc))?
+        .arg(flag_argument(alloc, "report"))?;
+    Ok(command)
+}
+
+/// `pvm OBJ [--cycles N]`.
+pub(crate) fn simulator<'a>(alloc: Global) -> Result<Command<'a>, clap::Error>
+    ensures app { IfOk result (λ command. app_of command ≡ simulator) }
+    ensures memory { IfErr result (λ error. kind_of error ≡ OutOfMemory) }
+{
+    let command = Command::new(alloc, "pvm")
+        .no_binary_name(true)
+        .arg(word_argument(alloc, "OBJ"))?
+        .arg(OptionLine::cycles().argument(alloc))?;
+    Ok(command)
+}
+
+/// The matches that `clap` gives of the words.
+pub(crate) fn matches_of<'a>(
+    command: Command<'a>,
+    words: &'a [String],
+) -> Result<ArgMatches<'a>, CommandError>
+    requires { is_simple_and_free (app_of command) ≡ true }
+    ensures { IsExact (λ matches. rows_of (found_of matches)) command_cause result
+        (ok_or (matches_taken (app_of command.entry) (spelled words.entry.now)) CommandError.NoCommand) }
+{
+    Ok(command.try_get_matches_from(words)?)
+}
+
+/// The word that an argument has in the matches; one that may not be left out has one.
+pub(crate) fn word_in<'a>(matches: &ArgMatches<'a>, name: &str) -> &'a str
+    ensures { result.now ≡ word_in name.now (rows_of (found_of matches.now)) }
+{
+    matches.get_str(name).unwrap_or("")
+}
+
+/// Whether a flag is on.
+pub(crate) fn flag_in(matches: &ArgMatches<'_>, name: &str) -> bool
+    ensures { result ≡ flag_in name.now (rows_of (found_of matches.now)) }
+{
+    matches.get_one::<bool>(name).unwrap_or(false)
+}

@@ -1,0 +1,19 @@
+//! The words of the command line of both programs, read with `clap`.
+#![tactic(auto)]
+
+mod arguments;
+mod compile;
+mod error;
+mod laws;
+mod number_option;
+mod simulate;
+mod source;
+
+pub use compile::{CompileCommand, compile_command};
+pub use error::CommandError;
+pub use laws::laws_of_ranges;
+pub use simulate::{SimulateCommand, simulate_command};
+pub use source::SourceName;
+
+#[cfg(test)]
+mod tests;

@@ -1,0 +1,110 @@
+//! The options that take a number, as a table.
+ghost use Rattle.std.specs.Prelude.{◌≡◌, ◌≤◌, decimal, false};
+ghost use Rattle.clap.specs.Walk.{rows_of, rule_of};
+ghost use Rattle.clap.specs.Matches.{found_of};
+ghost use Rattle.pc_command.specs.Arguments.{number_argument};
+ghost use Rattle.pc_command.specs.Options.{number_in, number_option};
+ghost use Rattle.pc_command.specs.Options.{ops_option, tests_option, mem_option, window_option, rows_option, cycles_option};
+
+use clap::builder::ValueParser;
+use clap::{Arg, ArgAction, ArgMatches};
+use std::alloc::Global;
+
+/// An option `--NAME N`: the numbers that it takes, and the number that it has where the words leave
+/// it out.
+#[derive(Clone, Copy)]
+pub(crate) struct OptionLine<'a> {
+    name: &'a str,
+    least: u64,
+    greatest: u64,
+    default: u64,
+    default_text: &'a str,
+    ghost spelled: { default_text.now ≡ decimal default },
+}
+
+impl<'a> OptionLine<'a> {
+    ghost use Rattle.pc_command.specs.models.Lines.{option_of};
+
+    /// A line of the table. The default stands there as a number and as its text.
+    fn new(name: &'a str, least: u64, greatest: u64, default: u64, default_text: &'a str) -> Self
+        requires { default_text.now ≡ decimal default }
+        ensures { option_of result ≡ number_option name.entry.now least greatest default }
+    {
+        OptionLine {
+            name,
+            least,
+            greatest,
+            default,
+            default_text,
+        }
+    }
+
+    /// The option as an argument of a command.
+    pub(crate) fn argument(self, alloc: Global) -> Arg<'a>
+        ensures rule { rule_of result ≡ number_argument (option_of self.entry) }
+        ensures local { result.global ≡ false }
+    {
+        Arg::new(alloc, self.name)
+            .long(self.name)
+            .action(ArgAction::Set)
+            .value_parser(ValueParser::Unsigned(self.least, self.greatest))
+            .default_value(self.default_text)
+    }
+
+    /// The option's number in the matches, or its default where they have none that it takes.
+    pub(crate) fn number_in(self, matches: &ArgMatches<'_>) -> u64
+        ensures { result ≡ number_in (option_of self.entry) (rows_of (found_of matches.now)) }
+    {
+        match matches.get_one::<u64>(self.name) {
+            Some(number) if self.least <= number && number <= self.greatest => number,
+            _ => self.default,
+        }
+    }
+}
+
+#[tactic(auto, using(crate::proofs::Lines::option_lines))]
+impl<'a> OptionLine<'a> {
+    ghost use Rattle.pc_command.specs.models.Lines.{option_of};
+
+    /// How many items a row may have.
+    pub(crate) fn ops() -> Self
+        ensures { option_of result ≡ ops_option }
+    {
+        OptionLine::new("ops", 1, 32, 8, "8")
+    }
+
+    /// How many tests a row may have.
+    pub(crate) fn tests() -> Self
+        ensures { option_of result ≡ tests_option }
+    {
+        OptionLine::new("tests", 1, 7, 3, "3")
+    }
+
+    /// How many loads and stores together a row may have.
+    pub(crate) fn mem() -> Self
+        ensures { option_of result ≡ mem_option }
+    {
+        OptionLine::new("mem", 1, 32, 2, "2")
+    }
+
+    /// How many turns of a loop a window may hold.
+    pub(crate) fn window() -> Self
+        ensures { option_of result ≡ window_option }
+    {
+        OptionLine::new("window", 1, 8, 4, "4")
+    }
+
+    /// How many rows the schedule of a window may have.
+    pub(crate) fn rows() -> Self
+        ensures { option_of result ≡ rows_option }
+    {
+        OptionLine::new("rows", 1, 512, 256, "256")
+    }
+
+    /// How many cycles a run may take.
+    pub(crate) fn cycles() -> Self
+        ensures { option_of result ≡ cycles_option }
+    {
+        OptionLine::new("cycles", 1, 1_000_000_000_000, 100_000_000, "100000000")
+    }
+}
