@@ -1,0 +1,99 @@
+//! What the programs have to tell when they do not end with success.
+use pc_machine::Flaw;
+use pc_word::{MachineFault, TrapKind};
+
+/// The program that speaks.
+#[derive(Clone, Copy, Debug, PartialEq, Eq)]
+pub enum Speaker {
+    /// The compiler.
+    Pcc,
+    /// The simulator.
+    Pvm,
+}
+
+/// Why a program does not end with success. It borrows the name of a file.
+#[derive(Clone, Copy, Debug)]
+pub enum ToolFault<'a> {
+    /// Memory ran out.
+    NoMemory { who: Speaker },
+    /// The words of the command line are no command.
+    Usage { who: Speaker },
+    /// A file was not read.
+    ReadFile { who: Speaker, name: &'a str },
+    /// The simulator's input was not read.
+    ReadInput,
+    /// The source is refused.
+    Source { who: Speaker, fault: SourceFault },
+    /// The object is refused.
+    Object { who: Speaker, fault: ObjectFault },
+    /// The simulator's input is refused.
+    Input { fault: InputFault },
+    /// A file was not written.
+    WriteFile { who: Speaker, name: &'a str },
+    /// The output was not written.
+    WriteOutput { who: Speaker },
+    /// The run did not end within this number of cycles.
+    Budget { number: u64 },
+    /// The machine could not run a row.
+    Machine { fault: MachineFault },
+    /// The run was stopped by a trap, whose line in the source is counted from 1.
+    Trap { kind: TrapKind, line: u32 },
+}
+
+/// Why a source is refused.
+#[derive(Clone, Copy, Debug, PartialEq, Eq)]
+pub enum SourceFault {
+    /// It has more than 1,048,576 bytes.
+    TooLong,
+    /// A byte outside of comments begins no token. Offsets are counted from 0.
+    BadByte { offset: u32 },
+    /// It has more than 65,536 tokens.
+    TooManyTokens,
+    /// Its flow graph would have this number of nodes, which is more than 16,384.
+    TooLarge { number: u32 },
+    /// A fault that has a line, counted from 1.
+    AtLine { what: LineFault, line: u32 },
+}
+
+/// The faults of a source that have a line.
+#[derive(Clone, Copy, Debug, PartialEq, Eq)]
+pub enum LineFault {
+    BadLiteral,
+    OpenComment,
+    Syntax,
+    NestedTooDeep,
+    Undeclared,
+    DeclaredTwice,
+    NotArray,
+    NotScalar,
+    BadSize,
+    OutsideLoop,
+    TooManyScalars,
+    TooManyArrays,
+    TooManyElements,
+    ExpressionTooDeep,
+}
+
+/// Why an object is refused. Offsets are those of bytes, counted from 0.
+#[derive(Clone, Copy, Debug, PartialEq, Eq)]
+pub enum ObjectFault {
+    /// It has more than 16,777,216 bytes.
+    TooLong,
+    /// It does not begin as an object does.
+    BadMagic,
+    /// It ends before a field that is due.
+    Truncated { offset: u32 },
+    /// A field has this flaw.
+    BadField { offset: u32, flaw: Flaw },
+    /// A byte follows where it should have ended.
+    Trailing { offset: u32 },
+}
+
+/// Why the input of the simulator is refused.
+#[derive(Clone, Copy, Debug, PartialEq, Eq)]
+pub enum InputFault {
+    /// It has more than 16,777,216 bytes.
+    TooLong,
+    /// The word whose first byte is at this offset, counted from 0, spells no number.
+    NotNumber { offset: u32 },
+}

@@ -1,0 +1,10 @@
+//! Generated sources: a program for each number.
+#![tactic(auto)]
+
+mod generate;
+mod laws;
+#[cfg(test)]
+mod tests;
+
+pub use generate::{MOST_SAMPLE, SampleError, sample};
+pub use laws::laws_of_samples;
