@@ -1,11 +1,11 @@
 -- Lists of passes of which one was applied, and graphs that were kept.
-use Rattle.std.proofs.Common.{◌≡◌, ◌⊎◌, inl, inr, ℕ, ◌+◌, ◌<◌, ◌≤◌, List, length, map, set, get_or, refl, sym, ◌∙◌, ap, subst, arith, length-set, get_or-set_same, get_or-set_other}
+use Rattle.std.proofs.Common.{◌≡◌, inl, inr, ℕ, ◌+◌, ◌<◌, ◌≤◌, List, length, map, set, get_or, refl, sym, ◌∙◌, ap, subst, arith, get_or-set_same, get_or-set_other}
 use Rattle.std.proofs.lemmas.Bool.{cases_eq}
 use Rattle.std.proofs.lemmas.List.{map-set, set-get_or, get_or-map, length-map}
 use Rattle.pc_word.proofs.Runs.{AgreeOnInputs-refl, AgreeOnInputs-trans}
 use Rattle.pc_flow.specs.FlowGraph.{FlowGraph}
 use Rattle.pc_flow.specs.FlowRun.{flow_run}
-use Rattle.pc_pass.specs.Pass.{Keeps, Rose, EachRose, NoneFell}
+use Rattle.pc_pass.specs.Pass.{Keeps, Rose, NoneFell}
 
 -- ---- graphs
 

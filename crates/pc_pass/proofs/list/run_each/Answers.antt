@@ -1,4 +1,4 @@
-use Rattle.std.proofs.Common.{◌≡◌, ℕ, ◌<◌, length, map, refl, ◌∙◌, arith}
+use Rattle.std.proofs.Common.{◌≡◌, ◌<◌, length, map, refl, ◌∙◌, arith}
 use Rattle.std.proofs.lemmas.List.{length-map}
 use Rattle.pc_pass.proofs.Lists.{keeps_refl, keeps_trans, one_named, one_counted, one_ran}
 use Rattle.pc_pass.proofs.list.run_each.Goals as goal
