@@ -11,9 +11,9 @@ use Rattle.pc_object.specs.ObjectText.{object_text}
 use Rattle.pc_outside.specs.Shelf.{Files, Shelved, ReadFaultOf, WriteFaultOf, ReadKeeps, HoldsFile, OnlyFileDiffers}
 use Rattle.pc_tool.specs.Command.{CompileCommand}
 use Rattle.pc_tool.specs.Told.{HoldsText}
-use Rattle.pc_tool.specs.Source.{IsBuilt}
+use Rattle.pc_tool.specs.Source.{IsSomeSource, IsNoSource}
 use Rattle.pc_tool.specs.Compilation.{Compiled}
-use Rattle.pc_tool.specs.Compiler.{IsRefused, RunsOut, CompilerPromise}
+use Rattle.pc_tool.specs.Compiler.{RunsOut, CompilerPromise}
 use Rattle.pc_tool.specs.declared.refusal.Refusal.{Refusal}
 use Rattle.pc_tool.specs.declared.refusal.Refusal.TheVariants as refusal
 use Rattle.pc_tool.specs.declared.refusal.TextFlaw.{TextFlaw}
@@ -21,7 +21,7 @@ use Rattle.pc_tool.specs.declared.refusal.TextFlaw.TheVariants as flaws
 use Rattle.pc_tool.specs.models.Compiling.{AnswersCommand, AnswersCompile, compiler_status}
 use Rattle.pc_tool.specs.models.Texts.{HasFlaw}
 use Rattle.pc_tool.proofs.Files.{held_map, told, told_text, same_differs}
-use Rattle.pc_tool.proofs.Sources.{long_is_none, uncut_is_none, no_program_is_none, faulty_is_none, built_is_not_refused}
+use Rattle.pc_tool.proofs.Sources.{long_is_none, uncut_is_none, no_program_is_none, faulty_is_none, too_large_is_none}
 
 -- ---- no file but the object differs
 
@@ -61,17 +61,17 @@ Says command old new zero = Compiled command old new
 Says command old new (suc zero) = RunsOut command old new
 Says command old new (suc (suc zero)) = ⊥
 Says command old new (suc (suc (suc zero))) = ReadKeeps old new × ReadFaultOf old new command.source
-Says command old new (suc (suc (suc (suc zero)))) = ReadKeeps old new × HoldsText old.held command.source IsRefused
-Says command old new (suc (suc (suc (suc (suc zero))))) = WriteFaultOf old new command.object × HoldsText old.held command.source IsBuilt
+Says command old new (suc (suc (suc (suc zero)))) = ReadKeeps old new × HoldsText old.held command.source IsNoSource
+Says command old new (suc (suc (suc (suc (suc zero))))) = WriteFaultOf old new command.object × HoldsText old.held command.source IsSomeSource
 Says command old new code = ⊥
 
--- a text with a flaw is not compiled
-flawed : (flaw : TextFlaw) (text : List ℕ) → HasFlaw flaw text → IsRefused text
-flawed flaws.TooLong text h = inl (long_is_none text h)
-flawed (flaws.NoTokens error) text h = inl (uncut_is_none error text h)
-flawed (flaws.NoProgram error) text h = inl (no_program_is_none error text h)
-flawed (flaws.Faulty error) text h = inl (faulty_is_none error text h)
-flawed flaws.Unbuilt text h = inr h
+-- a text with a flaw is no source
+flawed : (flaw : TextFlaw) (text : List ℕ) → HasFlaw flaw text → IsNoSource text
+flawed flaws.TooLong text h = long_is_none text h
+flawed (flaws.NoTokens error) text h = uncut_is_none error text h
+flawed (flaws.NoProgram error) text h = no_program_is_none error text h
+flawed (flaws.Faulty error) text h = faulty_is_none error text h
+flawed (flaws.TooLarge nodes) text h = too_large_is_none nodes text h
 
 -- each answer says what its status does
 says : (answer : Result ⊤ Refusal) (command : CompileCommand) (old new : Shelved) → AnswersCompile answer command old new
@@ -80,7 +80,7 @@ says (Ok done) command old new h = h
 says (Err refusal.Memory) command old new h = h
 says (Err refusal.Usage) command old new h = h
 says (Err refusal.Read) command old new h = h
-says (Err (refusal.Text flaw)) command old new h = (h.0, held_map old.held command.source (HasFlaw flaw) IsRefused (flawed flaw) h.1)
+says (Err (refusal.Text flaw)) command old new h = (h.0, held_map old.held command.source (HasFlaw flaw) IsNoSource (flawed flaw) h.1)
 says (Err refusal.Write) command old new h = (h.1, h.2)
 
 known_of : (answer : Result ⊤ Refusal) → compiler_status answer ≤ 5
@@ -93,19 +93,19 @@ known_of (Err refusal.Write) = omega arith
 
 -- ---- sources that are told
 
--- a source that prints literals, and one that is refused, are not one
+-- a source, and a text that is none, are not one
 never_both : (old : Shelved) (files : Files) (name text : List ℕ) → old.held ≡ Some files → get files name ≡ Some text
-    → IsBuilt text → HoldsText old.held name IsRefused → ⊥
-never_both old files name text f g built refused = built_is_not_refused text built (told old.held files name text IsRefused f g refused)
+    → IsSomeSource text → HoldsText old.held name IsNoSource → ⊥
+never_both old files name text f g (program, source) refused = told old.held files name text IsNoSource f g refused program source
 
 -- the source of an object that was written
 compiled_source : (command : CompileCommand) (old new : Shelved) (files : Files) (text : List ℕ) → old.held ≡ Some files
-    → get files command.source ≡ Some text → Compiled command old new → IsBuilt text
+    → get files command.source ≡ Some text → Compiled command old new → IsSomeSource text
 compiled_source command old new files text f g c =
-    subst IsBuilt (told_text old.held files command.source text c.text f g c.in_file) (c.translates.numbers, c.translates.source)
+    subst IsSomeSource (told_text old.held files command.source text c.text f g c.in_file) (c.translates.program, c.translates.source)
 
 complete_of : (answer : Result ⊤ Refusal) (command : CompileCommand) (old new : Shelved) (files : Files) (text : List ℕ)
-    → AnswersCompile answer command old new → old.held ≡ Some files → get files command.source ≡ Some text → IsBuilt text
+    → AnswersCompile answer command old new → old.held ≡ Some files → get files command.source ≡ Some text → IsSomeSource text
     → (compiler_status answer ≡ 0) ⊎ (compiler_status answer ≡ 1) ⊎ ((compiler_status answer ≡ 3) × ReadFaultOf old new command.source)
     ⊎ ((compiler_status answer ≡ 5) × WriteFaultOf old new command.object)
 complete_of (Ok done) command old new files text h f g p = inl refl
@@ -117,15 +117,16 @@ complete_of (Err (refusal.Text flaw)) command old new files text h f g p =
 complete_of (Err refusal.Write) command old new files text h f g p = inr (inr (inr (refl, h.1)))
 
 strict_of : (answer : Result ⊤ Refusal) (command : CompileCommand) (old new : Shelved) (files : Files) (text : List ℕ)
-    → AnswersCompile answer command old new → old.held ≡ Some files → get files command.source ≡ Some text → IsRefused text
+    → AnswersCompile answer command old new → old.held ≡ Some files → get files command.source ≡ Some text → IsNoSource text
     → (compiler_status answer ≡ 4) ⊎ (compiler_status answer ≡ 1) ⊎ ((compiler_status answer ≡ 3) × ReadFaultOf old new command.source)
-strict_of (Ok done) command old new files text h f g r = absurd (built_is_not_refused text (compiled_source command old new files text f g h) r)
+strict_of (Ok done) command old new files text h f g r =
+    let source = compiled_source command old new files text f g h in absurd (r source.0 source.1)
 strict_of (Err refusal.Memory) command old new files text h f g r = inr (inl refl)
 strict_of (Err refusal.Usage) command old new files text h f g r = absurd h
 strict_of (Err refusal.Read) command old new files text h f g r = inr (inr (refl, h.1))
 strict_of (Err (refusal.Text flaw)) command old new files text h f g r = inl refl
 strict_of (Err refusal.Write) command old new files text h f g r =
-    absurd (built_is_not_refused text (told old.held files command.source text IsBuilt f g h.2) r)
+    let source = told old.held files command.source text IsSomeSource f g h.2 in absurd (r source.0 source.1)
 
 -- ---- the promise
 
@@ -146,7 +147,7 @@ usage_promise old new same = record {
   refused = λ e. absurd cc;
   unwritten = λ e. absurd cc;
   known = omega arith;
-  complete = λ command files text numbers e f g p. absurd (some_is_none command (sym e));
+  complete = λ command files text e f g p. absurd (some_is_none command (sym e));
   strict = λ command files text e f g r. absurd (some_is_none command (sym e));
   kept = λ e. absurd (two_is_neither 2 refl e);
   others = same;
@@ -174,8 +175,8 @@ command_promise answer command old new h =
       refused = λ e. (subst (Says command old new) e said).1;
       unwritten = λ e. subst (Says command old new) e said;
       known = known_of answer;
-      complete = λ other files text numbers is f g p.
-          complete_of answer other old new files text (answers_same answer command other old new h is) f g (numbers, p);
+      complete = λ other files text is f g p.
+          complete_of answer other old new files text (answers_same answer command other old new h is) f g p;
       strict = λ other files text is f g r. strict_of answer other old new files text (answers_same answer command other old new h is) f g r;
       kept = kept_of command old new (compiler_status answer) said;
       others = differs_of answer command old new h;

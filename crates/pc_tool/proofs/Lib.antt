@@ -2,8 +2,6 @@ pub mod Compilations
 pub mod CompilerPromises
 pub mod Files
 pub mod FrontEnd
-pub mod Meanings
-pub mod Prints
 pub mod Simulations
 pub mod SimulatorPromises
 pub mod Sources

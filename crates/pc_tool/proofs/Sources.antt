@@ -1,9 +1,9 @@
--- A text is one program at most, and it has no more statements than tokens.
+-- A text is one program at most, and which texts are no source.
 use Rattle.std.proofs.Common.{◌≡◌, ℕ, suc, ◌+◌, ◌<◌, ◌≤◌, ◌⊎◌, inl, inr, List, [], ◌∷◌, length, Option, Some, None}
 use Rattle.std.proofs.Common.{refl, sym, ◌∙◌, ap, subst, cond, Bool, true, false, arith}
 use Rattle.std.proofs.lemmas.Bool.Decides.{nat_tests}
 use Rattle.std.specs.Prelude.{ℤ, Result, Ok, Err, nat_lt, slice_get}
-use Rattle.pc_word.specs.SourceLimits.{most_source, most_tokens, most_height}
+use Rattle.pc_word.specs.SourceLimits.{most_source, most_tokens, most_height, most_nodes}
 use Rattle.pc_lexer.specs.declared.token.Token.{Token}
 use Rattle.pc_lexer.specs.declared.token.TokenKind.{TokenKind}
 use Rattle.pc_lexer.specs.declared.piece.Shape.{Shape}
@@ -20,8 +20,9 @@ use Rattle.pc_parser.proofs.Onward.{inside, declarator-onward, statement-onward}
 use Rattle.pc_parser.proofs.Top.{one-program}
 use Rattle.pc_check.specs.declared.error.CheckError.{CheckError}
 use Rattle.pc_check.specs.Faults.{faults}
-use Rattle.pc_tool.specs.Source.{IsRead, IsNoSource, IsUnbuilt, IsBuilt, PrintsLiterals, literal_of, literal_before, literals_of}
-use Rattle.pc_tool.specs.models.Texts.{FailsToLex, IsUnread, IsNoProgram, IsFaulty}
+use Rattle.pc_check.specs.Sizes.{size}
+use Rattle.pc_tool.specs.Source.{IsRead, IsNoSource}
+use Rattle.pc_tool.specs.models.Texts.{FailsToLex, IsUnread, IsNoProgram, IsFaulty, IsTooLarge}
 
 -- ---- one program
 
@@ -69,66 +70,13 @@ faulty_is_none error text f program source =
     let nothing : slice_get [] 0 ≡ Some error = subst (λ found. slice_get found 0 ≡ Some error) none first in
     cc
 
--- a text that prints literals is a source, and does nothing else
-pub built_is_not_refused : (text : List ℕ) → IsBuilt text → IsNoSource text ⊎ IsUnbuilt text → ⊥
-built_is_not_refused text (numbers, p) (inl none) = none p.program p.source
-built_is_not_refused text (numbers, p) (inr u) =
-    let same : u.program ≡ p.program = read_once text u.program p.program u.source.read p.source.read in
-    let other : literals_of p.program.items ≡ None = subst (λ program. literals_of program.items ≡ None) same u.other in
-    let some : literals_of p.program.items ≡ Some numbers = p.literals in
-    cc
-
--- ---- no more statements than tokens
-
-abbrev count : SourceList → ℕ
-count No_more = 0
-count (More first rest) = suc (count rest)
-
-count_appended : (some others : SourceList) → count (appended some others) ≡ count some + count others
-count_appended No_more others = omega arith
-count_appended (More first rest) others = let e = count_appended rest others in omega arith
-
-declarators_count : (tokens : List Token) (p : ℕ) (trees : SourceList) (h q : ℕ) → ReadsDeclarators tokens p trees h q → count trees + p ≤ q
-declarators_count tokens p trees h q (ReadsDeclarators.last {q = r} {tree = tree} d close') = let a = declarator-onward tokens p tree h r d in omega arith
-declarators_count tokens p trees h q (ReadsDeclarators.comma {i = i} {q = r} {j = j} {tree = tree} {rest = rest} d comma e) =
-    let a = declarator-onward tokens p tree i r d in let b = declarators_count tokens (r + 1) rest j q e in omega arith
-
-declaration_count : (tokens : List Token) (p : ℕ) (trees : SourceList) (h q : ℕ) → ReadsDeclaration tokens p trees h q → count trees + p ≤ q
-declaration_count tokens p trees h q (ReadsDeclaration.declaration is d) = let a = declarators_count tokens (p + 1) trees h q d in omega arith
-
--- items are no more than the tokens that they are read from
-items_count : (tokens : List Token) (p : ℕ) (trees : SourceList) (h q : ℕ) → ReadsItems tokens p trees h q → count trees + p ≤ q
-items_count tokens p trees h q (ReadsItems.close is) = omega arith
-items_count tokens p trees h q (ReadsItems.declared {i = i} {q = r} {j = j} {trees = some} {rest = rest} d e) =
-    let a = declaration_count tokens p some i r d in let b = items_count tokens r rest j q e in
-    let sum : count (appended some rest) ≡ count some + count rest = count_appended some rest in omega arith
-items_count tokens p trees h q (ReadsItems.stated {i = i} {q = r} {j = j} {tree = tree} {rest = rest} d e) =
-    let a = statement-onward tokens p tree i r d in let b = items_count tokens r rest j q e in omega arith
-
--- and they end among the tokens
-items_inside : (tokens : List Token) (p : ℕ) (trees : SourceList) (h q : ℕ) → ReadsItems tokens p trees h q → q ≤ length tokens
-items_inside tokens p trees h q (ReadsItems.close is) = let a = inside tokens p _ is in omega arith
-items_inside tokens p trees h q (ReadsItems.declared {i = i} {q = r} {j = j} {trees = some} {rest = rest} d e) = items_inside tokens r rest j q e
-items_inside tokens p trees h q (ReadsItems.stated {i = i} {q = r} {j = j} {tree = tree} {rest = rest} d e) = items_inside tokens r rest j q e
-
-program_count : (tokens : List Token) (program : SourceProgram) (h : ℕ) → ReadsProgram tokens program h → count program.items ≤ length tokens
-program_count tokens program h (ReadsProgram.without_void {height = i} {to = q} {items = items} a b c d e f g) =
-    let more = items_count tokens 5 items i q f in let most = items_inside tokens 5 items i q f in omega arith
-program_count tokens program h (ReadsProgram.with_void {height = i} {to = q} {items = items} a b c d e f g k) =
-    let more = items_count tokens 6 items i q g in let most = items_inside tokens 6 items i q g in omega arith
-
-before_some : (one : Option ℤ) (others : Option (List ℤ)) (numbers : List ℤ) → literal_before one others ≡ Some numbers
-    → (rest : List ℤ) × (others ≡ Some rest) × (length numbers ≡ suc (length rest))
-before_some None others numbers e = absurd cc
-before_some (Some value) None numbers e = absurd cc
-before_some (Some value) (Some values) numbers e =
-    let same : value ∷ values ≡ numbers = cc in (values, refl, sym (ap length same))
-
-literals_count : (items : SourceList) (numbers : List ℤ) → literals_of items ≡ Some numbers → length numbers ≡ count items
-literals_count No_more numbers e = let same : [] ≡ numbers = cc in sym (ap length same)
-literals_count (More first rest) numbers e =
-    let found = before_some (literal_of first) (literals_of rest) numbers e in
-    found.2 ∙ ap suc (literals_count rest found.0 found.1)
+-- a text whose program has too large a flow graph
+pub too_large_is_none : (nodes : ℕ) (text : List ℕ) → IsTooLarge nodes text → IsNoSource text
+too_large_is_none nodes text large program source =
+    let same : large.program ≡ program = read_once text large.program program large.read source.read in
+    let few : size large.program ≤ most_nodes = subst (λ (p : SourceProgram). size p ≤ most_nodes) (sym same) source.few_nodes in
+    let many = large.many_nodes in
+    omega (arith, few, many)
 
 -- ---- no more tokens than there may be
 
@@ -171,11 +119,3 @@ few_read begun names (Next before spelling shape others) tokens small e =
 -- the tokens of a text are at most so many
 pub few_tokens : (text : List ℕ) (tokens : List Token) → lexed text ≡ Ok tokens → length tokens ≤ most_tokens
 few_tokens text tokens e = let few : 0 + length tokens ≤ most_tokens = few_read 0 [] (pieces_of text) tokens (omega arith) e in omega arith
-
--- and so are the literals that it prints
-pub few_literals : (text : List ℕ) (numbers : List ℤ) → PrintsLiterals text numbers → length numbers ≤ most_tokens
-few_literals text numbers p =
-    let tokens : length p.source.read.tokens ≤ most_tokens = few_tokens text p.source.read.tokens p.source.read.cut in
-    let items : count p.program.items ≤ length p.source.read.tokens = program_count p.source.read.tokens p.program p.source.read.read.0 p.source.read.read.2 in
-    let same : length numbers ≡ count p.program.items = literals_count p.program.items numbers p.literals in
-    omega arith

@@ -1,48 +1,57 @@
--- The object of a program that prints literals may be written: it is well formed and has not too many bytes.
-use Rattle.std.proofs.Common.{◌≡◌, ℕ, ◌+◌, ◌*◌, ◌≤◌, List, [], ◌∷◌, ◌++◌, length, length-append, refl, arith}
-use Rattle.std.specs.Prelude.{ℤ}
-use Rattle.std.specs.List.{flat_map}
-use Rattle.pc_word.specs.SourceLimits.{most_tokens}
+-- From a checked text to the object that translates it.
+use Rattle.std.proofs.Common.{◌≡◌, ℕ, ◌<◌, ◌≤◌, List, [], sym, ◌∙◌, ap, subst, arith}
+use Rattle.std.specs.Prelude.{min}
+use Rattle.pc_word.specs.SourceLimits.{most_nodes}
+use Rattle.pc_syntax.specs.Source.{SourceProgram, ResolvedProgram}
+use Rattle.pc_check.specs.Sizes.{size, resolved_size}
+use Rattle.pc_check.proofs.ResolvedSizes.{size-resolved}
+use Rattle.pc_flow.specs.FlowGraph.{FlowGraph}
+use Rattle.pc_compile.specs.Compiled.{IsCompiled, IsUncompiled}
+use Rattle.pc_compile.specs.declared.error.CompileError.{CompileError}
+use Rattle.pc_compile.specs.declared.error.CompileError.TheVariants.{TooLarge, Memory}
+use Rattle.pc_machine.specs.MachineRun.{machine_run}
 use Rattle.pc_machine.specs.WellFormed.{AreLimits}
-use Rattle.pc_machine.specs.models.Printing.{printing_rows}
-use Rattle.pc_machine.proofs.Printing.{printing_well_formed, prints_in_order}
+use Rattle.pc_meaning.specs.SourceRun.{source_run}
 use Rattle.pc_object.specs.Numbers.{HasWords}
-use Rattle.pc_object.specs.ObjectText.{IsObject, row_text}
-use Rattle.pc_tool.specs.Source.{PrintsLiterals}
+use Rattle.pc_object.specs.ObjectText.{CodeWithNotes}
+use Rattle.pc_word.specs.Run.{AgreeOnInputs}
 use Rattle.pc_tool.specs.Compilation.{Translates, default_limits}
-use Rattle.pc_tool.proofs.Meanings.{does_the_same}
-use Rattle.pc_tool.specs.models.Emission.{printing_object}
+use Rattle.pc_tool.specs.models.Refusals.{refusal_of_compile}
+use Rattle.pc_tool.specs.models.Texts.{IsChecked, RefusesText}
 
-limits_are : AreLimits default_limits
+-- the limits where the command gives none are limits of the machine
+pub limits_are : AreLimits default_limits
 limits_are = record { ops = (omega arith, omega arith); tests = (omega arith, omega arith); mem = (omega arith, omega arith) }
 
--- a row has at most 11 bytes
-rows_length : (i : ℕ) (ws : List ℤ) → length (flat_map row_text (printing_rows i ws)) ≤ 11 * length ws + 1
-rows_length i [] = omega arith
-rows_length i (w ∷ []) = omega arith
-rows_length i (w ∷ (v ∷ ws)) = let rest : length (flat_map row_text (printing_rows (i + 1) (v ∷ ws))) ≤ 11 * length (v ∷ ws) + 1 = rows_length (i + 1) (v ∷ ws) in omega arith
+-- a program has as many nodes as with numbers for names
+sized : (text : List ℕ) (checked : ResolvedProgram) (h : IsChecked text checked) → resolved_size checked ≡ size h.program
+sized text checked h = ap resolved_size (sym h.is_resolved) ∙ size-resolved h.program
 
-pub printing_object_fits : (numbers : List ℤ) → length numbers ≤ most_tokens → IsObject (printing_object numbers)
-printing_object_fits numbers few = record {
-  code = printing_well_formed default_limits numbers limits_are;
-  choices = tt;
-  few_notes = omega arith;
-  few_bytes =
-      let rows : length (flat_map row_text (printing_rows 0 numbers)) ≤ 11 * length numbers + 1 = rows_length 0 numbers in
-      let split : length (flat_map row_text (printing_rows 0 numbers) ++ (0 ∷ (0 ∷ []))) ≡ length (flat_map row_text (printing_rows 0 numbers)) + 2 =
-      length-append (flat_map row_text (printing_rows 0 numbers)) (0 ∷ (0 ∷ [])) in
-      omega arith;
-}
+-- the object of a checked text translates it
+pub translates : (text : List ℕ) (checked : ResolvedProgram) (flow : FlowGraph) (object : CodeWithNotes) → IsChecked text checked
+    → IsCompiled checked default_limits flow object → HasWords object → Translates text object
+translates text checked flow object h compiled words =
+    let same = sized text checked h in
+    let few = compiled.lowered.few in
+    record {
+      program = h.program;
+      source = record { read = h.read; faultless = h.faultless; few_nodes = omega (arith, same, few) };
+      loads = record { is_object = compiled.is_object; has_words = words };
+      limits = compiled.limited;
+      bare = compiled.bare;
+      same = subst (λ (program : ResolvedProgram). AgreeOnInputs (source_run program) (machine_run object.code)) (sym h.is_resolved) compiled.agree;
+    }
 
--- the object that prints the numbers stands for the text that prints them
-pub translates : (text : List ℕ) (numbers : List ℤ) → PrintsLiterals text numbers → length numbers ≤ most_tokens → HasWords (printing_object numbers)
-    → Translates text (printing_object numbers)
-translates text numbers p few words = record {
-  numbers = numbers;
-  source = p;
-  loads = record { is_object = printing_object_fits numbers few; has_words = words };
-  limits = refl;
-  bare = refl;
-  prints = λ input words. prints_in_order default_limits numbers input;
-  same = does_the_same p.program numbers p.literals;
-}
+-- a checked text without an object is too large
+pub uncompiled : (error : CompileError) (text : List ℕ) (checked : ResolvedProgram) → IsChecked text checked
+    → IsUncompiled (resolved_size checked) error → RefusesText (refusal_of_compile error) text
+uncompiled (TooLarge nodes) text checked h why =
+    let same = sized text checked h in
+    record {
+      program = h.program;
+      read = h.read;
+      faultless = h.faultless;
+      many_nodes = subst (λ (n : ℕ). most_nodes < n) same why.0;
+      told = why.1 ∙ ap (λ (n : ℕ). min n 4294967295) same;
+    }
+uncompiled Memory text checked h why = tt

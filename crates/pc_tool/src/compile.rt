@@ -1,24 +1,27 @@
 //! The compiler: from the source on the shelf to the object on it.
-ghost use Rattle.std.specs.Prelude.{◌≡◌, ◌≤◌, length, MatchResult, IfOk};
-ghost use Rattle.pc_object.specs.ObjectText.{object_text};
-ghost use Rattle.pc_object.specs.Numbers.{HasWords};
+ghost use Rattle.std.specs.Prelude.{◌≡◌, ◌≤◌, length, MatchResult};
 ghost use Rattle.pc_outside.specs.Shelf.{WriteKeeps, HoldsFile};
 ghost use Rattle.pc_tool.specs.Command.{command_of, spelled};
 ghost use Rattle.pc_tool.specs.models.Compiling.{AnswersCommand, AnswersCompile, IsTranslation, RefusesToWrite, compiler_status};
-ghost use Rattle.pc_tool.specs.models.Emission.{printing_object};
 ghost use Rattle.pc_tool.specs.models.Texts.{RefusesText};
-ghost use Rattle.pc_word.specs.SourceLimits.{most_source, most_tokens};
+ghost use Rattle.pc_word.specs.SourceLimits.{most_source};
 
 use crate::command::read_command;
-use crate::emit::emit;
 use crate::file::read_whole;
 use crate::front_end::read_program;
-use crate::literals::literals;
 use crate::refusal::Refusal;
-use pc_object::encode;
+use pc_compile::compile;
+use pc_object::{EncodeError, encode};
 use pc_outside::{Shelf, ShelfError};
-use pc_word::MOST_SOURCE;
-use std::alloc::{AllocError, Global};
+use pc_word::{Limits, MOST_SOURCE};
+use std::alloc::Global;
+
+/// The limits of the rows where the command gives none.
+const LIMITS: Limits = Limits {
+    ops: 8,
+    tests: 3,
+    mem: 2,
+};
 
 /// Compiles as the words say.
 pub(crate) fn run_compiler<H: Shelf>(
@@ -29,7 +32,7 @@ pub(crate) fn run_compiler<H: Shelf>(
     ensures { AnswersCommand result (command_of (spelled words.now)) (H.state shelf.old) (H.state shelf.new) }
 {
     match read_command(words) {
-        Some(command) => compile(alloc, command.source, command.object, shelf),
+        Some(command) => compile_file(alloc, command.source, command.object, shelf),
         None => Err(Refusal::Usage),
     }
 }
@@ -49,7 +52,7 @@ pub(crate) fn compiler_status(answer: Result<(), Refusal>) -> u8
 }
 
 /// Compiles the source and writes its object.
-fn compile<H: Shelf>(
+fn compile_file<H: Shelf>(
     alloc: Global,
     source: &str,
     object: &str,
@@ -67,20 +70,10 @@ fn translate(alloc: Global, text: &[u8]) -> Result<Vec<u8>, Refusal>
     requires { length text.now ≤ most_source }
     ensures { MatchResult result (λ bytes. IsTranslation text.now bytes.items) (λ refusal. RefusesText refusal text.now) }
 {
-    let program = read_program(alloc, text)?;
-    let numbers = literals(alloc, &program)?;
-    let bytes = write_text(alloc, numbers.as_slice())?;
+    let checked = read_program(alloc, text)?;
+    let compiled = compile(alloc, &checked, LIMITS)?;
+    let bytes = encode(alloc, &compiled.object)?;
     Ok(bytes)
-}
-
-/// The text of the object that prints the numbers of a source.
-fn write_text(alloc: Global, numbers: &[i32]) -> Result<Vec<u8>, AllocError>
-    requires { length numbers.now ≤ most_tokens }
-    ensures text { IfOk result (λ bytes. bytes.items ≡ object_text (printing_object numbers.now)) }
-    ensures words { IfOk result (λ bytes. HasWords (printing_object numbers.now)) }
-{
-    let object = emit(alloc, numbers)?;
-    encode(alloc, &object).map_err(|_| AllocError)
 }
 
 /// Writes the object.

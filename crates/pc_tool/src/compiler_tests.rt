@@ -39,7 +39,7 @@ impl Sink for Unused {
 }
 
 /// The status of a command line over a shelf.
-fn status(alloc: Global, shelf: &mut MemoryShelf, words: &[String]) -> u8 {
+pub(crate) fn status(alloc: Global, shelf: &mut MemoryShelf, words: &[String]) -> u8 {
     let status = tool(
         alloc,
         Who::Pcc,
@@ -61,7 +61,7 @@ fn holds(shelf: &MemoryShelf, name: &str, bytes: &[u8]) -> bool {
 }
 
 /// The words of a command.
-fn command(alloc: Global, source: &str, object: &str) -> Result<Vec<String>, Fail> {
+pub(crate) fn command(alloc: Global, source: &str, object: &str) -> Result<Vec<String>, Fail> {
     let source = String::from_str(alloc, source)?;
     let flag = String::from_str(alloc, "-o")?;
     let object = String::from_str(alloc, object)?;
@@ -69,7 +69,7 @@ fn command(alloc: Global, source: &str, object: &str) -> Result<Vec<String>, Fai
 }
 
 /// A shelf with the file `a.c`, of whose reads and writes, counted from 1, this one fails.
-fn shelf_with(alloc: Global, text: &[u8], failing: u64) -> Result<MemoryShelf, Fail> {
+pub(crate) fn shelf_with(alloc: Global, text: &[u8], failing: u64) -> Result<MemoryShelf, Fail> {
     let failing = CallList::from_slice(alloc, &[failing])?;
     let mut shelf = MemoryShelf::new(alloc, failing);
     shelf.put(alloc, "a.c", text)?;
@@ -186,12 +186,30 @@ fn refuses_what_is_no_source(rt: HostRuntime) -> Result<(), Fail> {
     Ok(())
 }
 
+/// A source of two scalars, more declarations, and so many statements of three nodes each.
+fn long_source(alloc: Global, more: &str, count: usize) -> Result<String, Fail> {
+    let mut text = String::from_str(alloc, "int main(void){int x;int y;")?;
+    text.push_str(more)?;
+    for _ in 0..count {
+        text.push_str("x/y;x=y;")?;
+    }
+    text.push_str("}")?;
+    Ok(text)
+}
+
+/// Whether the compiler ends with this status on such a source.
+fn long_source_ends(alloc: Global, more: &str, count: usize, code: u8) -> Result<bool, Fail> {
+    let text = long_source(alloc, more, count)?;
+    let words = command(alloc, "a.c", "b.tv")?;
+    let mut shelf = shelf_with(alloc, text.as_bytes(), 9)?;
+    Ok(status(alloc, &mut shelf, words.as_slice()) == code)
+}
+
+/// Each declaration has a node, each round has four, and the end has one.
 #[test]
-fn refuses_what_is_not_built(rt: HostRuntime) -> Result<(), Fail> {
+fn refuses_more_than_16384_nodes(rt: HostRuntime) -> Result<(), Fail> {
     let alloc = rt.alloc();
-    assert!(rt; compiles(alloc, b"int main(void){print(1+2);}", 4, b"")?);
-    assert!(rt; compiles(alloc, b"int main(void){print(1);return 0;}", 4, b"")?);
-    assert!(rt; compiles(alloc, b"int main(void){{print(1);}}", 4, b"")?);
-    assert!(rt; compiles(alloc, b"int main(void){;}", 4, b"")?);
+    assert!(rt; long_source_ends(alloc, "int z;", 4095, 0)?);
+    assert!(rt; long_source_ends(alloc, "int z;x=y;", 4095, 4)?);
     Ok(())
 }

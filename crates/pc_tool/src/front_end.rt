@@ -1,24 +1,22 @@
-//! From a source's text to its program.
+//! From a source's text to its checked program.
 ghost use Rattle.std.specs.Prelude.{◌≤◌, length, MatchResult};
-ghost use Rattle.pc_syntax.specs.Erasure.{program_of};
-ghost use Rattle.pc_tool.specs.Source.{IsSource};
-ghost use Rattle.pc_tool.specs.models.Texts.{RefusesText};
+ghost use Rattle.pc_check.specs.Checks.{resolved_of};
+ghost use Rattle.pc_tool.specs.models.Texts.{IsChecked, RefusesText};
 ghost use Rattle.pc_word.specs.SourceLimits.{most_source};
 
 use crate::refusal::Refusal;
-use pc_check::check;
+use pc_check::{Checked, check};
 use pc_lexer::tokens;
 use pc_parser::parse;
-use pc_syntax::Program;
 use std::alloc::Global;
 
-/// The program that a text is, if the text is a source.
-pub(crate) fn read_program(alloc: Global, text: &[u8]) -> Result<Program, Refusal>
+/// The program that a text is read as, with numbers for names, if none of them is faulty.
+pub(crate) fn read_program(alloc: Global, text: &[u8]) -> Result<Checked, Refusal>
     requires { length text.now ≤ most_source }
-    ensures { MatchResult result (λ program. IsSource text.now (program_of program)) (λ refusal. RefusesText refusal text.now) }
+    ensures { MatchResult result (λ checked. IsChecked text.now (resolved_of checked)) (λ refusal. RefusesText refusal text.now) }
 {
     let tokens = tokens(alloc, text)?;
     let program = parse(alloc, &tokens)?;
-    check(alloc, &program)?;
-    Ok(program)
+    let checked = check(alloc, &program)?;
+    Ok(checked)
 }

@@ -5,12 +5,12 @@ mod command;
 mod compile;
 #[cfg(test)]
 mod compiler_tests;
-mod emit;
 mod file;
 mod front_end;
 mod host;
-mod literals;
 mod program;
+#[cfg(test)]
+mod program_tests;
 mod refusal;
 mod simulate;
 #[cfg(test)]

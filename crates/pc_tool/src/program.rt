@@ -34,11 +34,11 @@ pub struct Status {
 /// the source at SRC and writes its object to OBJ, which may be the same name. The statuses are
 ///
 /// - 0: the object is written,
-/// - 1: memory ran out; nothing was written, or SRC is a program that prints literals, and OBJ may hold anything,
+/// - 1: memory ran out; nothing was written, or SRC is a source, and OBJ may hold anything,
 /// - 2: the words are no command,
 /// - 3: SRC could not be read,
-/// - 4: SRC is longer than 1,048,576 bytes, is no program of the language, or does something other than
-///   print literals,
+/// - 4: SRC is longer than 1,048,576 bytes, is no program of the language, or has more than 16,384
+///   operations and tests,
 /// - 5: OBJ could not be written, and may hold anything.
 ///
 /// `Pvm` is called as `OBJ`, which does not begin with `-`. It loads the object at OBJ, takes the whole input,

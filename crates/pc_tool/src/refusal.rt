@@ -1,12 +1,13 @@
 //! Why the compiler wrote no object.
 ghost use Rattle.std.specs.Prelude.{◌≡◌};
-ghost use Rattle.pc_tool.specs.models.Refusals.{refusal_of_file, refusal_of_lex, refusal_of_parse, refusal_of_check, refusal_of_literals};
+ghost use Rattle.pc_tool.specs.models.Refusals.{refusal_of_file, refusal_of_lex, refusal_of_parse, refusal_of_check, refusal_of_compile};
 ghost use Rattle.pc_tool.specs.declared.refusal.Refusal.TheVariants.{Memory};
 
 use crate::file::FileError;
-use crate::literals::LiteralsError;
 use pc_check::CheckError;
+use pc_compile::CompileError;
 use pc_lexer::LexError;
+use pc_object::EncodeError;
 use pc_parser::ParseError;
 use std::alloc::AllocError;
 use thiserror::Error;
@@ -42,9 +43,10 @@ pub(crate) enum TextFlaw {
     /// Its names or limits have a fault; this is the first.
     #[error("the source has a fault")]
     Faulty { error: CheckError },
-    /// It does something other than print literals.
-    #[error("the source does more than print literals")]
-    Unbuilt,
+    /// Its flow graph would have so many nodes, more than 16,384, or 4294967295 where it would have more
+    /// than that.
+    #[error("the source is too large")]
+    TooLarge { nodes: u32 },
 }
 
 impl From<FileError> for Refusal {
@@ -100,15 +102,25 @@ impl From<CheckError> for Refusal {
     }
 }
 
-impl From<LiteralsError> for Refusal {
-    ghost from_gives = { λ error given. given ≡ refusal_of_literals error };
+impl From<CompileError> for Refusal {
+    ghost from_gives = { λ error given. given ≡ refusal_of_compile error };
 
-    fn from(error: LiteralsError) -> Refusal {
+    fn from(error: CompileError) -> Refusal {
         match error {
-            LiteralsError::Other => Refusal::Text {
-                flaw: TextFlaw::Unbuilt,
+            CompileError::TooLarge { nodes } => Refusal::Text {
+                flaw: TextFlaw::TooLarge { nodes },
             },
-            LiteralsError::Memory => Refusal::Memory,
+            CompileError::Memory => Refusal::Memory,
+        }
+    }
+}
+
+impl From<EncodeError> for Refusal {
+    ghost from_gives = { λ error given. given ≡ Memory };
+
+    fn from(error: EncodeError) -> Refusal {
+        match error {
+            EncodeError::Memory => Refusal::Memory,
         }
     }
 }

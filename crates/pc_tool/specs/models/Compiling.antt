@@ -4,7 +4,7 @@ use Rattle.pc_object.specs.ObjectText.{CodeWithNotes, object_text}
 use Rattle.pc_outside.specs.Shelf.{Shelved, ReadFaultOf, WriteFaultOf, ReadKeeps, OnlyFileDiffers}
 use Rattle.pc_tool.specs.Command.{CompileCommand}
 use Rattle.pc_tool.specs.Told.{HoldsText}
-use Rattle.pc_tool.specs.Source.{IsBuilt}
+use Rattle.pc_tool.specs.Source.{IsSomeSource}
 use Rattle.pc_tool.specs.Compilation.{Translates, Compiled}
 use Rattle.pc_tool.specs.Compiler.{RunsOut}
 use Rattle.pc_tool.specs.declared.refusal.Refusal.{Refusal}
@@ -30,7 +30,7 @@ Refuses refusal.Usage command old new = ⊥
 Refuses refusal.Read command old new = ReadKeeps old new × ReadFaultOf old new command.source
 Refuses (refusal.Text flaw) command old new = ReadKeeps old new × HoldsText old.held command.source (HasFlaw flaw)
 Refuses refusal.Write command old new =
-    OnlyFileDiffers old.held new.held command.object × WriteFaultOf old new command.object × HoldsText old.held command.source IsBuilt
+    OnlyFileDiffers old.held new.held command.object × WriteFaultOf old new command.object × HoldsText old.held command.source IsSomeSource
 
 -- the status that an answer ends with
 abbrev pub compiler_status : Result ⊤ Refusal → ℕ

@@ -7,6 +7,8 @@ use Rattle.pc_parser.specs.declared.unit.ParseError.{ParseError}
 use Rattle.pc_parser.specs.declared.unit.ParseError.TheVariants as parse
 use Rattle.pc_check.specs.declared.error.CheckError.{CheckError}
 use Rattle.pc_check.specs.declared.error.CheckError.TheVariants as check
+use Rattle.pc_compile.specs.declared.error.CompileError.{CompileError}
+use Rattle.pc_compile.specs.declared.error.CompileError.TheVariants as compile
 use Rattle.pc_object.specs.declared.refusal.ObjectError.{ObjectError}
 use Rattle.pc_object.specs.declared.refusal.ObjectError.TheVariants as object
 use Rattle.pc_outside.specs.declared.error.TakeError.{TakeError}
@@ -15,8 +17,6 @@ use Rattle.pc_word.specs.declared.number_text.NumbersError.{NumbersError}
 use Rattle.pc_word.specs.declared.number_text.NumbersError.TheVariants as numbers
 use Rattle.pc_tool.specs.declared.file.FileError.{FileError}
 use Rattle.pc_tool.specs.declared.file.FileError.TheVariants as file
-use Rattle.pc_tool.specs.declared.literals.LiteralsError.{LiteralsError}
-use Rattle.pc_tool.specs.declared.literals.LiteralsError.TheVariants as literals
 use Rattle.pc_tool.specs.declared.refusal.Refusal.{Refusal}
 use Rattle.pc_tool.specs.declared.refusal.Refusal.TheVariants as refusal
 use Rattle.pc_tool.specs.declared.refusal.TextFlaw.TheVariants as flaw
@@ -49,10 +49,10 @@ abbrev pub refusal_of_check : CheckError → Refusal
 refusal_of_check check.Memory = refusal.Memory
 refusal_of_check error = refusal.Text (flaw.Faulty error)
 
--- a refusal of the reader of literals
-abbrev pub refusal_of_literals : LiteralsError → Refusal
-refusal_of_literals literals.Other = refusal.Text flaw.Unbuilt
-refusal_of_literals literals.Memory = refusal.Memory
+-- a refusal of the compiler of checked programs
+abbrev pub refusal_of_compile : CompileError → Refusal
+refusal_of_compile (compile.TooLarge nodes) = refusal.Text (flaw.TooLarge nodes)
+refusal_of_compile compile.Memory = refusal.Memory
 
 -- ---- of the simulator
 

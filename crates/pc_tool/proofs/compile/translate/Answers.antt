@@ -1,28 +1,17 @@
-use Rattle.std.proofs.Common.{◌≡◌, ◌≤◌, List, length, subst, sym}
-use Rattle.std.specs.Prelude.{ℤ}
-use Rattle.pc_word.specs.SourceLimits.{most_tokens}
-use Rattle.pc_object.specs.ObjectText.{object_text}
-use Rattle.pc_object.specs.Numbers.{HasWords}
-use Rattle.pc_syntax.specs.Erasure.{program_of}
-use Rattle.pc_tool.specs.models.Emission.{printing_object}
-use Rattle.pc_tool.specs.Source.{PrintsLiterals}
-use Rattle.pc_tool.proofs.Sources.{few_literals}
-use Rattle.pc_tool.proofs.Translation.{translates}
+use Rattle.std.proofs.Common.{subst}
+use Rattle.std.proofs.lemmas.Result.{err_from_is_err_and}
+use Rattle.pc_check.specs.Checks.{resolved_of}
+use Rattle.pc_object.specs.ObjectText.{object_of}
+use Rattle.pc_tool.proofs.Translation.{limits_are, translates, uncompiled}
 use Rattle.pc_tool.proofs.compile.translate.Goals as goal
 
-pub write_text-requires : goal.write_text-requires
-write_text-requires c =
-    let prints : PrintsLiterals c.args.text.now c.in_ok-numbers.numbers =
-    record { program = program_of c.in_ok-program.program; source = c.in_ok-program.ensures; literals = c.in_ok-numbers.ensures } in
-    subst (λ (numbers : List ℤ). length numbers ≤ most_tokens) (sym c.as_slice.ensures) (few_literals c.args.text.now c.in_ok-numbers.numbers prints)
+pub compile-requires : goal.compile-requires
+compile-requires c = limits_are
 
 pub returns : goal.returns
-returns c =
-    let prints : PrintsLiterals c.args.text.now c.in_ok-numbers.numbers =
-    record { program = program_of c.in_ok-program.program; source = c.in_ok-program.ensures; literals = c.in_ok-numbers.ensures } in
-    record {
-      object = printing_object c.in_ok-numbers.numbers;
-      translates = translates c.args.text.now c.in_ok-numbers.numbers prints (few_literals c.args.text.now c.in_ok-numbers.numbers prints)
-          (subst (λ (numbers : List ℤ). HasWords (printing_object numbers)) c.as_slice.ensures c.in_ok-bytes.ensures.words);
-      written = subst (λ (numbers : List ℤ). c.in_ok-bytes.bytes.items ≡ object_text (printing_object numbers)) c.as_slice.ensures c.in_ok-bytes.ensures.text;
-    }
+returns c = record {
+  object = object_of c.in_ok-compiled.compiled.object;
+  translates = translates c.args.text.now (resolved_of c.in_ok-checked.checked) c.in_ok-compiled.compiled.flow (object_of c.in_ok-compiled.compiled.object)
+      c.in_ok-checked.ensures c.in_ok-compiled.ensures.compiled c.in_ok-bytes.ensures.words;
+  written = c.in_ok-bytes.ensures.text;
+}

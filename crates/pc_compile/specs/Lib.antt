@@ -1,0 +1,4 @@
+pub mod models
+pub mod Compiled
+pub mod Plain
+pub mod Reached

@@ -1,0 +1,173 @@
+//! Sources that are compiled, and whose objects are run.
+
+use crate::compiler_tests::{command, shelf_with, status};
+use crate::{Who, tool};
+use pc_outside::{CallList, MemoryShelf, MemorySink, MemorySource};
+use std::alloc::Global;
+use std::test::Fail;
+
+/// A source, the input of its run, the status with which the run ends, and what it prints.
+#[derive(Clone, Copy)]
+struct Program {
+    source: &'static [u8],
+    input: &'static [u8],
+    code: u8,
+    output: &'static [u8],
+}
+
+/// What C says, and where C leaves it open, what the language says: words wrap, `/` truncates, `%` has the sign
+/// of the dividend, operands are evaluated from left to right.
+const PROGRAMS: [Program; 17] = [
+    Program {
+        source: b"int main(void){print(2147483647+1);print((-2147483647-1)/-1);print(-7/2);print(-7%2);}",
+        input: b"",
+        code: 0,
+        output: b"-2147483648\n-2147483648\n-3\n-1\n",
+    },
+    Program {
+        source: b"int main(void){int a[4];print(1);a[4]=read();}",
+        input: b"",
+        code: 12,
+        output: b"1\n",
+    },
+    Program {
+        source: b"int main(void){int a[4];print(1);a[4]=read();}",
+        input: b"9",
+        code: 11,
+        output: b"1\n",
+    },
+    Program {
+        source: b"int main(void){\nprint(1);print(5/0);\nprint(2);}",
+        input: b"",
+        code: 10,
+        output: b"1\n",
+    },
+    // A dot product.
+    Program {
+        source: b"int main(void){int a[100];int b[100];int i;int s=0;\n\
+            for(i=0;i<100;i++){a[i]=i;b[i]=i+1;}\nfor(i=0;i<100;i++)s=s+a[i]*b[i];\nprint(s);return 0;}",
+        input: b"",
+        code: 0,
+        output: b"333300\n",
+    },
+    // Each turn reads what the one before has stored.
+    Program {
+        source: b"int main(void){int a[51];int i;a[0]=3;for(i=0;i<50;i++)a[i+1]=a[i]+1;print(a[50]);}",
+        input: b"",
+        code: 0,
+        output: b"53\n",
+    },
+    Program {
+        source: b"int main(void){int a[64];int i;for(i=0;i<64;i++)a[i]=i;\
+            for(i=0;i<32;i++)a[2*i]=a[2*i+1];print(a[0]);print(a[62]);}",
+        input: b"",
+        code: 0,
+        output: b"1\n63\n",
+    },
+    // Only what C evaluates is evaluated, so no index is out of bounds.
+    Program {
+        source: b"int main(void){int a[4];int i;int n=4;int s=0;for(i=0;i<8;i++){if(i<n)s=s+a[i]+1;}print(s);}",
+        input: b"",
+        code: 0,
+        output: b"4\n",
+    },
+    Program {
+        source: b"int main(void){int i;int t;int x=1;int y=2;\nfor(i=0;i<5;i++){t=x;x=y;y=t;print(x);}}",
+        input: b"",
+        code: 0,
+        output: b"2\n1\n2\n1\n2\n",
+    },
+    Program {
+        source: b"int main(void){int i;int x=1;int y=2;int t;\
+            for(i=0;i<5;i++){if(i!=2){t=x;x=y;y=t;}print(x);}}",
+        input: b"",
+        code: 0,
+        output: b"2\n1\n1\n2\n1\n",
+    },
+    // An `else` belongs to the nearest `if`.
+    Program {
+        source: b"int main(void){int a=read();int b=read();if(a)if(b)print(1);else print(2);}",
+        input: b"1 0",
+        code: 0,
+        output: b"2\n",
+    },
+    Program {
+        source: b"int main(void){int a=read();int b=read();if(a)if(b)print(1);else print(2);}",
+        input: b"0 1",
+        code: 0,
+        output: b"",
+    },
+    Program {
+        source: b"#include <stdio.h>\n/* x */ int main(void){print(0x10);print(010);return 0;} // end",
+        input: b"",
+        code: 0,
+        output: b"16\n8\n",
+    },
+    Program {
+        source: b"int main(void){print(read());print(read());print(read());}",
+        input: b"+3 -0 007",
+        code: 0,
+        output: b"3\n0\n7\n",
+    },
+    // `continue` goes to the step of a `for` and to the condition of a `do`.
+    Program {
+        source: b"int main(void){int i;for(i=0;i<4;i++){if(i==1)continue;print(i);}\
+            do{i++;if(i<6)continue;break;}while(1);print(i);}",
+        input: b"",
+        code: 0,
+        output: b"0\n2\n3\n6\n",
+    },
+    // The right operand is read where it is evaluated, and not before.
+    Program {
+        source: b"int main(void){int x=5;int a[2];a[1]=7;print(x>read()&&a[x-4]>6||read());print(0&&read());\
+            print(x<0?read():x<<33);}",
+        input: b"3",
+        code: 0,
+        output: b"1\n0\n10\n",
+    },
+    Program {
+        source: b"int main(void){int i=0;while(i<3){int j=3;while(j){j-=1;if(j==i)break;}print(j*10+i);i+=1;}}",
+        input: b"",
+        code: 0,
+        output: b"0\n11\n22\n",
+    },
+];
+
+/// The shelf that holds a source and the object that was compiled from it, and the compiler's status.
+fn compiled(alloc: Global, source: &[u8]) -> Result<(MemoryShelf, u8), Fail> {
+    let words = command(alloc, "a.c", "o.tv")?;
+    let mut shelf = shelf_with(alloc, source, 9)?;
+    let code = status(alloc, &mut shelf, words.as_slice());
+    Ok((shelf, code))
+}
+
+/// Whether the simulator ends so on the object of a shelf.
+fn runs(alloc: Global, shelf: &mut MemoryShelf, program: &Program) -> Result<bool, Fail> {
+    let word = String::from_str(alloc, "o.tv")?;
+    let words = vec![in alloc; word]?;
+    let input = Vec::from_slice(alloc, program.input)?;
+    let mut input = MemorySource::new(input, CallList::new(alloc));
+    let mut out = MemorySink::new(alloc, 256, CallList::new(alloc))?;
+    let mut err = MemorySink::new(alloc, 0, CallList::new(alloc))?;
+    let status = tool(
+        alloc,
+        Who::Pvm,
+        words.as_slice(),
+        shelf,
+        &mut input,
+        &mut out,
+        &mut err,
+    );
+    Ok(status.code == program.code && out.taken() == program.output)
+}
+
+#[test]
+fn objects_do_what_their_sources_mean(rt: HostRuntime) -> Result<(), Fail> {
+    let alloc = rt.alloc();
+    for (number, program) in PROGRAMS.iter().enumerate() {
+        let (mut shelf, code) = compiled(alloc, program.source)?;
+        assert_eq!(rt; code, 0, "program {number} is compiled");
+        assert!(rt; runs(alloc, &mut shelf, program)?, "program {number} is run");
+    }
+    Ok(())
+}
