@@ -1,5 +1,5 @@
 -- Where the edges of a graph lead to, and the rows that are met on the way.
-use Rattle.std.proofs.Common.{◌≡◌, ℕ, suc, ◌+◌, ◌-◌, ◌<◌, ◌≤◌, ◌⊎◌, inl, inr, List, [], ◌∷◌, ◌++◌, length, Option, Some, None, refl, sym, ◌∙◌, ap, subst, arith, append_assoc, append-nil}
+use Rattle.std.proofs.Common.{◌≡◌, ℕ, suc, inl, inr, List, ◌++◌, length, Option, Some, None, sym, ◌∙◌, ap, subst, arith, append_assoc}
 use Rattle.std.specs.Prelude.{slice_get}
 use Rattle.std.proofs.lemmas.List.Elements.{Contains-append_left, Contains-append_right}
 use Rattle.pc_word.specs.declared.item.Item.{Item}
@@ -12,7 +12,6 @@ use Rattle.pc_flow.specs.FlowGraph.{FlowGraph, IsFlow, IsTarget, TestFits}
 use Rattle.pc_machine.specs.MachineCode.{CodeRow, Leads_to, Ends, Traps}
 use Rattle.pc_word.proofs.Truth.{decide_le}
 use Rattle.pc_compile.specs.Plain.{IsEdge, To_stop, To_trap, To_row, Does, Tests, Stops, Traps_here, IsRowAt}
-use Rattle.pc_compile.specs.Reached.{LeadsOn}
 use Rattle.pc_compile.specs.models.Numbered.{Numbered, GrowsBehind}
 use Rattle.pc_compile.proofs.Orders.{edge_later}
 

@@ -1,15 +1,14 @@
 -- The loop that makes the rows: what it keeps from row to row.
-use Rattle.std.proofs.Common.{◌≡◌, ℕ, zero, suc, ◌+◌, ◌-◌, ◌<◌, ◌≤◌, ◌⊎◌, inl, inr, List, [], ◌∷◌, ◌++◌, length, Option, Some, None, refl, sym, ◌∙◌, ap, subst, arith}
+use Rattle.std.proofs.Common.{◌≡◌, ℕ, zero, suc, ◌-◌, ◌<◌, ◌≤◌, inl, inr, List, [], ◌∷◌, ◌++◌, length, Option, Some, None, refl, sym, ◌∙◌, ap, subst, arith}
 use Rattle.std.specs.Prelude.{is_some, slice_get}
 use Rattle.std.proofs.lemmas.List.Sums.{count_by-le-length}
-use Rattle.std.proofs.lemmas.Option.{slice_get_within, slice_get-get_or}
-use Rattle.pc_word.specs.SourceLimits.{most_nodes}
+use Rattle.std.proofs.lemmas.Option.{slice_get_within}
 use Rattle.pc_word.proofs.Truth.{decide_le}
 use Rattle.pc_flow.specs.FlowGraph.{FlowGraph}
 use Rattle.std.proofs.lemmas.List.{length-map, length-append, length-replicate, map-append}
 use Rattle.pc_machine.specs.declared.tree.Tree.{Tree}
 use Rattle.pc_machine.specs.MachineCode.{CodeRow, row_of, rows_of}
-use Rattle.pc_compile.specs.Plain.{IsRowAt, AreRowsOf, IsPlain}
+use Rattle.pc_compile.specs.Plain.{IsRowAt, IsPlain}
 use Rattle.pc_compile.specs.Reached.{IsReached, Entry, Behind}
 use Rattle.pc_compile.specs.models.Numbered.{Numbered, IsNumbered, none_met, Meets, GrowsBehind}
 use Rattle.pc_compile.proofs.Orders.{get_front, get_last, get_more, length_more, row_at_later}

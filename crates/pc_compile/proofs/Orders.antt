@@ -1,5 +1,5 @@
 -- Lists that grow by an element, and a node that gets the next number.
-use Rattle.std.proofs.Common.{◌≡◌, ◌≢◌, ℕ, zero, suc, ◌+◌, ◌<◌, ◌≤◌, ◌⊎◌, inl, inr, Bool, true, false, cond, List, [], ◌∷◌, ◌++◌, length, Option, Some, None, refl, sym, ◌∙◌, ap, subst, arith, get_or}
+use Rattle.std.proofs.Common.{◌≡◌, ◌≢◌, ℕ, zero, suc, ◌<◌, ◌≤◌, ◌⊎◌, inl, inr, List, [], ◌∷◌, ◌++◌, length, Option, Some, None, refl, sym, ◌∙◌, ap, subst, arith, get_or}
 use Rattle.std.specs.Prelude.{is_some, slice_get, slice_set, replicate}
 use Rattle.std.specs.List.{count_by}
 use Rattle.std.proofs.lemmas.Option.{slice_get_within, slice_get-get_or}
@@ -9,7 +9,7 @@ use Rattle.pc_word.specs.SourceLimits.{most_nodes}
 use Rattle.pc_flow.specs.declared.node.FlowNode.{FlowNode}
 use Rattle.pc_machine.specs.MachineCode.{CodeRow}
 use Rattle.pc_compile.specs.Plain.{IsEdge, To_stop, To_trap, To_row, IsRowOf, Does, Tests, Stops, Traps_here, IsRowAt}
-use Rattle.pc_compile.specs.models.Numbered.{Numbered, IsNumbered, none_met, Meets, GrowsBehind}
+use Rattle.pc_compile.specs.models.Numbered.{Numbered, IsNumbered, none_met, Meets}
 
 -- what stands in a list stands there in a longer one
 pub get_front : {X : Type 0} (xs ys : List X) (i : ℕ) (x : X) → slice_get xs i ≡ Some x → slice_get (xs ++ ys) i ≡ Some x

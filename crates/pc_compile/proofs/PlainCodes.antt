@@ -1,23 +1,21 @@
 -- Plain code is well formed, and its text is not long.
-use Rattle.std.proofs.Common.{◌≡◌, ℕ, zero, suc, ◌+◌, ◌*◌, ◌<◌, ◌≤◌, List, [], ◌∷◌, ◌++◌, length, Option, Some, None, refl, sym, ◌∙◌, ap, subst, arith}
+use Rattle.std.proofs.Common.{◌≡◌, ℕ, suc, ◌*◌, ◌<◌, ◌≤◌, List, [], ◌∷◌, ◌++◌, length, Some, refl, sym, subst, arith}
 use Rattle.std.specs.Prelude.{slice_get, nat_eq}
-use Rattle.std.specs.List.{AllByRecursion, IsDistinct, filter_map, flat_map, count_by}
+use Rattle.std.specs.List.{AllByRecursion, IsDistinct, filter_map, flat_map}
 use Rattle.std.proofs.lemmas.List.{length-append}
 use Rattle.std.proofs.lemmas.List.Sums.{count_by-le-length}
 use Rattle.std.proofs.lemmas.Option.{slice_get_within}
-use Rattle.pc_word.specs.SourceLimits.{most_nodes}
-use Rattle.pc_word.specs.MachineLimits.{registers, most_arrays, most_object}
+use Rattle.pc_word.specs.MachineLimits.{most_object}
 use Rattle.pc_word.specs.declared.item.Item.{Item}
 use Rattle.pc_word.specs.declared.item.Item.TheVariants.{Bin, Copy, Load, Store, Print, Read, More}
 use Rattle.pc_word.specs.declared.item.Operand.{Operand}
 use Rattle.pc_word.specs.declared.item.Operand.TheVariants.{Name, Lit}
 use Rattle.pc_word.specs.declared.item.Limits.{Limits}
 use Rattle.pc_word.specs.Items.{dest_of, is_effect, is_memory}
-use Rattle.pc_word.specs.Row.{Then, Either, At_leaf, items_of, tests_of, leaves_of, paths_of}
+use Rattle.pc_word.specs.Row.{Then, Either, At_leaf}
 use Rattle.pc_flow.specs.declared.node.FlowNode.{FlowNode}
-use Rattle.pc_flow.specs.declared.node.FlowNode.TheVariants.{Op, Test, Stop, Trap}
 use Rattle.pc_flow.specs.FlowGraph.{FlowGraph, IsFlow, IsVariable, ItemFits, NodeFits}
-use Rattle.pc_machine.specs.MachineCode.{Leaf, Leads_to, Ends, Traps, CodeRow, RowCode}
+use Rattle.pc_machine.specs.MachineCode.{Leaf, Leads_to, Ends, Traps, CodeRow}
 use Rattle.pc_machine.specs.WellFormed.{IsOperand, IsItem, IsLeaf, IsPath, IsRow, AreLimits, AreArrays, WellFormed}
 use Rattle.pc_object.specs.ObjectText.{CodeWithNotes, u32_text, operand_text, item_text, leaf_text, row_text, header_text, notes_text, object_text}
 use Rattle.pc_compile.specs.Plain.{IsEdge, To_stop, To_trap, To_row, IsRowOf, Does, Tests, Stops, Traps_here, IsRowAt, AreRowsOf}

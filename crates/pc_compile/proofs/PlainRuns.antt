@@ -1,29 +1,28 @@
 -- Plain code shows what its graph shows: a row does what the node does whose row it is.
-use Rattle.std.proofs.Common.{◌≡◌, ℕ, zero, suc, ◌<◌, Bool, true, false, List, [], ◌∷◌, ◌++◌, length, Option, Some, None, refl, sym, ◌∙◌, ap, subst, arith, append-nil}
+use Rattle.std.proofs.Common.{◌≡◌, ℕ, ◌<◌, Bool, true, false, List, [], ◌∷◌, length, Option, Some, None, refl, sym, ap, subst, append-nil}
 use Rattle.std.specs.Prelude.{ℤ, if◌then◌else◌, slice_get}
 use Rattle.std.proofs.lemmas.Option.{slice_get_within}
 use Rattle.pc_compile.proofs.Orders.{found_within}
 use Rattle.pc_word.specs.declared.item.Item.{Item}
 use Rattle.pc_word.specs.declared.item.Operand.{Operand}
 use Rattle.pc_word.specs.declared.item.End.{End}
-use Rattle.pc_word.specs.declared.item.End.TheVariants.{Ended, Trapped, Fault}
 use Rattle.pc_word.specs.declared.item.MachineFault.{MachineFault}
 use Rattle.pc_word.specs.declared.item.Limits.{Limits}
 use Rattle.pc_word.specs.Word.{holds}
-use Rattle.pc_word.specs.State.{State, start_state}
+use Rattle.pc_word.specs.State.{State}
 use Rattle.pc_word.specs.Items.{operand_value}
 use Rattle.pc_word.specs.Commit.{fault_of, state_after}
 use Rattle.pc_word.specs.Row.{Then, Either, At_leaf, commit_of, row_step}
-use Rattle.pc_word.specs.Run.{Step, Goes, Stops, AgreeOnInputs, reach}
-use Rattle.pc_word.specs.models.Simulation.{Meet, MeetsAgain, Simulates}
+use Rattle.pc_word.specs.Run.{Step, Goes, Stops, AgreeOnInputs}
+use Rattle.pc_word.specs.models.Simulation.{MeetsAgain, Simulates}
 use Rattle.pc_word.proofs.Runs.{Agree-simulated}
 use Rattle.pc_flow.specs.declared.node.FlowNode.{FlowNode}
-use Rattle.pc_flow.specs.declared.node.FlowNode.TheVariants.{Op, Test, Stop, Trap}
+use Rattle.pc_flow.specs.declared.node.FlowNode.TheVariants.{Op, Test}
 use Rattle.pc_flow.specs.FlowGraph.{FlowGraph}
 use Rattle.pc_flow.specs.FlowRun.{FlowState, after_item, run_node, flow_step, flow_start, flow_run}
-use Rattle.pc_machine.specs.MachineCode.{Leaf, Leads_to, Ends, Traps, CodeRow, RowCode}
+use Rattle.pc_machine.specs.MachineCode.{Leaf, Ends, CodeRow, RowCode}
 use Rattle.pc_machine.specs.MachineRun.{Cycle, after_row, run_row, machine_step, machine_start, machine_run}
-use Rattle.pc_compile.specs.Plain.{IsEdge, To_stop, To_trap, To_row, IsRowOf, Does, Tests, Stops as Stops_here, Traps_here, IsRowAt, AreRowsOf}
+use Rattle.pc_compile.specs.Plain.{IsEdge, To_stop, To_trap, To_row, IsRowOf, Does, Tests, Stops as Stops_here, Traps_here, AreRowsOf}
 
 module _ (flow : FlowGraph) (order : List ℕ) where
   -- the machine is at the row of the graph's node, in the same state

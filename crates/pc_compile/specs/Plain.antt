@@ -1,6 +1,6 @@
 -- Plain code: each node of a flow graph that a run may come to is a row of its own, with variable v in register v. A stop or
 -- a trap has no row, but where the graph begins with it: it is the leaf of the rows that lead to it.
-use Rattle.std.specs.Prelude.{◌≡◌, ℕ, ◌≤◌, List, length, Option, Some, None, slice_get}
+use Rattle.std.specs.Prelude.{◌≡◌, ℕ, ◌≤◌, List, length, Option, Some, slice_get}
 use Rattle.pc_word.specs.declared.item.Item.{Item}
 use Rattle.pc_word.specs.declared.item.Operand.{Operand}
 use Rattle.pc_word.specs.declared.item.TrapKind.{TrapKind}

@@ -167,7 +167,10 @@ fn objects_do_what_their_sources_mean(rt: HostRuntime) -> Result<(), Fail> {
     for (number, program) in PROGRAMS.iter().enumerate() {
         let (mut shelf, code) = compiled(alloc, program.source)?;
         assert_eq!(rt; code, 0, "program {number} is compiled");
-        assert!(rt; runs(alloc, &mut shelf, program)?, "program {number} is run");
+        assert!(rt;
+            runs(alloc, &mut shelf, program)?,
+            "program {number} is run"
+        );
     }
     Ok(())
 }

@@ -1,5 +1,5 @@
 -- The rows in the making: each node that was met has a number, in the order in which they were met.
-use Rattle.std.specs.Prelude.{◌≡◌, ℕ, ◌+◌, ◌<◌, ◌≤◌, ◌⊎◌, List, [], ◌∷◌, ◌++◌, length, Option, Some, None, is_some, slice_get, replicate}
+use Rattle.std.specs.Prelude.{◌≡◌, ℕ, ◌<◌, ◌≤◌, ◌⊎◌, List, [], ◌∷◌, ◌++◌, length, Option, Some, None, is_some, slice_get, replicate}
 use Rattle.std.specs.List.{count_by}
 use Rattle.pc_word.specs.SourceLimits.{most_nodes}
 use Rattle.pc_machine.specs.MachineCode.{CodeRow}

@@ -1,4 +1,4 @@
-use Rattle.std.proofs.Common.{◌∙◌, arith, ap}
+use Rattle.std.proofs.Common.{◌∙◌, arith}
 use Rattle.std.proofs.lemmas.List.{length-map}
 use Rattle.pc_check.specs.Checks.{resolved_of}
 use Rattle.pc_machine.specs.MachineCode.{row_of, rows_of}

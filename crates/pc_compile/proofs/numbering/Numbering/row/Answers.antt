@@ -1,4 +1,4 @@
-use Rattle.std.proofs.Common.{◌≡◌, ◌<◌, length, sym, ◌∙◌, ap, subst, rules}
+use Rattle.std.proofs.Common.{◌<◌, length, sym, subst}
 use Rattle.pc_compile.specs.models.Numbered.{Numbered, Meets}
 use Rattle.pc_compile.specs.contracts.numbering.Numbering.{the_view}
 use Rattle.pc_compile.proofs.Orders.{GetsNext, gets_next_is_numbered, gets_next_meets}
