@@ -1,5 +1,5 @@
 -- Where the edges of a graph lead to, and the rows that are met on the way.
-use Rattle.std.proofs.Common.{◌≡◌, ℕ, suc, inl, inr, List, ◌++◌, length, Option, Some, None, sym, ◌∙◌, ap, subst, arith, append_assoc}
+use Rattle.std.proofs.Common.{◌≡◌, ℕ, suc, inl, inr, List, [], ◌++◌, length, Option, Some, None, refl, sym, ◌∙◌, ap, subst, arith, append_assoc, append-nil}
 use Rattle.std.specs.Prelude.{slice_get}
 use Rattle.std.proofs.lemmas.List.Elements.{Contains-append_left, Contains-append_right}
 use Rattle.pc_word.specs.declared.item.Item.{Item}
@@ -11,7 +11,8 @@ use Rattle.pc_flow.specs.declared.node.FlowNode.TheVariants.{Op, Test, Stop, Tra
 use Rattle.pc_flow.specs.FlowGraph.{FlowGraph, IsFlow, IsTarget, TestFits}
 use Rattle.pc_machine.specs.MachineCode.{CodeRow, Leads_to, Ends, Traps}
 use Rattle.pc_word.proofs.Truth.{decide_le}
-use Rattle.pc_compile.specs.Plain.{IsEdge, To_stop, To_trap, To_row, Does, Tests, Stops, Traps_here, IsRowAt}
+use Rattle.pc_compile.specs.Plain.{HasRow, IsEdge, To_stop, To_trap, To_row, Does, Tests, Stops, Traps_here, IsRowAt}
+use Rattle.pc_compile.specs.models.Endings.{IsEnding}
 use Rattle.pc_compile.specs.models.Numbered.{Numbered, GrowsBehind}
 use Rattle.pc_compile.proofs.Orders.{edge_later}
 
@@ -48,14 +49,17 @@ grown_by_both on one other old mid new p q = record {
 -- ---- the rows of nodes, by what the node is
 
 module _ (nodes : List FlowNode) (order : List ℕ) (number : ℕ) where
-  pub stop_edge : slice_get nodes number ≡ Some Stop → IsEdge nodes order number (At_leaf Ends)
-  stop_edge stop = To_stop stop
+  -- the leaf of a stop or a trap
+  pub end_edge : (node : FlowNode) (rest : CodeRow) → slice_get nodes number ≡ Some node → IsEnding node rest → IsEdge nodes order number rest
+  end_edge (Op item to) rest at is = absurd is
+  end_edge (Test on on_yes on_no turn) rest at is = absurd is
+  end_edge Stop rest at is = subst (λ (r : CodeRow). IsEdge nodes order number r) (sym is) (To_stop at)
+  end_edge (Trap kind line) rest at is = subst (λ (r : CodeRow). IsEdge nodes order number r) (sym is) (To_trap at)
 
-  pub trap_edge : (kind : TrapKind) (line : ℕ) → slice_get nodes number ≡ Some (Trap kind line) → IsEdge nodes order number (At_leaf (Traps kind line))
-  trap_edge kind line trap = To_trap trap
-
-  pub row_edge : (row : ℕ) → slice_get order row ≡ Some number → IsEdge nodes order number (At_leaf (Leads_to row))
-  row_edge row there = To_row there
+  -- a goto to the row of an item or a test
+  pub row_edge : (node : FlowNode) (row : ℕ) → slice_get nodes number ≡ Some node → HasRow node → slice_get order row ≡ Some number
+      → IsEdge nodes order number (At_leaf (Leads_to row))
+  row_edge node row at has there = To_row at has there
 
   pub item_row : (item : Item) (to : ℕ) (rest : CodeRow) → slice_get nodes number ≡ Some (Op item to) → IsEdge nodes order to rest
       → IsRowAt nodes order number (Then item rest)
@@ -71,6 +75,10 @@ module _ (nodes : List FlowNode) (order : List ℕ) (number : ℕ) where
   pub trap_row : (kind : TrapKind) (line : ℕ) → slice_get nodes number ≡ Some (Trap kind line) → IsRowAt nodes order number (At_leaf (Traps kind line))
   trap_row kind line at = record { node = Trap kind line; there = at; is_row = Traps_here }
 
-pub ruleset edges = (stop_edge, trap_edge, row_edge)
+-- nothing is met behind a leaf
+pub grows_none : (row : CodeRow) (it : Numbered) → GrowsBehind row it it
+grows_none row it = record { as_many_nodes = refl; more = []; grown = sym (append-nil it.order); led = λ number low high. absurd (omega arith) }
+
+pub ruleset edges = (end_edge, row_edge, grows_none)
 
 pub ruleset rows = (item_row, test_row, stop_row, trap_row, edge_kept, item_leads, test_leads, grown_by_both)

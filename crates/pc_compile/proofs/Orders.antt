@@ -167,7 +167,7 @@ none_met_is_numbered count few = record {
 pub edge_later : (nodes : List FlowNode) (order more : List ℕ) (to : ℕ) (rest : CodeRow) → IsEdge nodes order to rest → IsEdge nodes (order ++ more) to rest
 edge_later nodes order more to _ (To_stop stop) = To_stop stop
 edge_later nodes order more to _ (To_trap trap) = To_trap trap
-edge_later nodes order more to _ (To_row there) = To_row (get_front order more _ to there)
+edge_later nodes order more to _ (To_row at has there) = To_row at has (get_front order more _ to there)
 
 -- and the row of a node stays its row
 pub row_of_later : (nodes : List FlowNode) (order more : List ℕ) (node : FlowNode) (row : CodeRow) → IsRowOf nodes order node row → IsRowOf nodes (order ++ more) node row

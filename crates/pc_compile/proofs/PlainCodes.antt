@@ -77,7 +77,7 @@ module _ (flow : FlowGraph) (limits : Limits) (order : List ℕ) (rows : List Co
   edge_leaf : (to : ℕ) (rest : CodeRow) → IsEdge flow.nodes order to rest → IsOneLeaf rest
   edge_leaf to _ (To_stop stop) = leaf_only Ends tt
   edge_leaf to _ (To_trap {kind} {line} trap) = leaf_only (Traps kind line) tt
-  edge_leaf to _ (To_row {row} there) =
+  edge_leaf to _ (To_row {row} {node} at has there) =
       leaf_only (Leads_to row) (subst (λ (n : ℕ). row < n) (sym plain.as_many) (slice_get_within order row to there))
 
   item_row : AreLimits limits → (item : Item) (rest : CodeRow) → ItemFits (length flow.arrays) item → IsOneLeaf rest → Fits (Then item rest)
@@ -180,7 +180,7 @@ leaf_short (Traps kind line) = omega arith
 edge_short : (nodes : List FlowNode) (order : List ℕ) (to : ℕ) (rest : CodeRow) → IsEdge nodes order to rest → length (row_text rest) ≤ 6
 edge_short nodes order to _ (To_stop stop) = leaf_short Ends
 edge_short nodes order to _ (To_trap {kind} {line} trap) = leaf_short (Traps kind line)
-edge_short nodes order to _ (To_row {row} there) = leaf_short (Leads_to row)
+edge_short nodes order to _ (To_row {row} {node} at has there) = leaf_short (Leads_to row)
 
 -- the row of a node has at most nineteen bytes
 row_short : (nodes : List FlowNode) (order : List ℕ) (node : FlowNode) (row : CodeRow) → IsRowOf nodes order node row → length (row_text row) ≤ 19

@@ -47,22 +47,22 @@ module _ (flow : FlowGraph) (order : List ℕ) where
   edge_committed to _ s items (To_trap trap) (Some fault) = both_end
   edge_committed to _ s items (To_trap trap) None =
       one_ends (ap (λ (node : Option FlowNode). run_node flow.arrays (state_after flow.arrays s items) node) trap)
-  edge_committed to _ s items (To_row there) (Some fault) = both_end
-  edge_committed to _ s items (To_row there) None = both_go (record { at = there; same = refl })
+  edge_committed to _ s items (To_row at has there) (Some fault) = both_end
+  edge_committed to _ s items (To_row at has there) None = both_go (record { at = there; same = refl })
 
   -- an item before an edge
   item_joined : (item : Item) (to : ℕ) (rest : CodeRow) (s : State) → IsEdge flow.nodes order to rest
       → Joined (after_row (row_step flow.arrays (Then item rest) s)) (run_node flow.arrays s (Some (Op item to)))
   item_joined item to _ s (To_stop stop) = edge_committed to Ends s (item ∷ []) (To_stop stop) (fault_of flow.arrays s (item ∷ []))
   item_joined item to (At_leaf leaf) s (To_trap trap) = edge_committed to leaf s (item ∷ []) (To_trap trap) (fault_of flow.arrays s (item ∷ []))
-  item_joined item to (At_leaf leaf) s (To_row there) = edge_committed to leaf s (item ∷ []) (To_row there) (fault_of flow.arrays s (item ∷ []))
+  item_joined item to (At_leaf leaf) s (To_row at has there) = edge_committed to leaf s (item ∷ []) (To_row at has there) (fault_of flow.arrays s (item ∷ []))
 
   -- an edge alone
   edge_joined : (to : ℕ) (rest : CodeRow) (s : State) → IsEdge flow.nodes order to rest
       → Joined (after_row (row_step flow.arrays rest s)) (Goes [] (record { node = to; state = s }))
   edge_joined to _ s (To_stop stop) = one_ends (ap (λ (node : Option FlowNode). run_node flow.arrays s node) stop)
   edge_joined to _ s (To_trap trap) = one_ends (ap (λ (node : Option FlowNode). run_node flow.arrays s node) trap)
-  edge_joined to _ s (To_row there) = both_go (record { at = there; same = refl })
+  edge_joined to _ s (To_row at has there) = both_go (record { at = there; same = refl })
 
   -- the side that a test takes
   side_joined : (taken : Bool) (on : Operand) (on_yes on_no : ℕ) (rest_yes rest_no : CodeRow) (s : State) → holds (operand_value s.names on) ≡ taken

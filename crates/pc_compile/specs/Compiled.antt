@@ -15,7 +15,7 @@ use Rattle.pc_compile.specs.declared.error.CompileError.{CompileError}
 use Rattle.pc_compile.specs.declared.error.CompileError.TheVariants.{TooLarge, Memory}
 
 -- The object does what the program does, for every input of words, and may be written; it has the given limits, the
--- program's arrays and no notes. Its rows are those of the graph, which is the program's; a run may come to each of them.
+-- program's arrays and no notes. Its rows are those of the graph, which is the program's; leaves lead to each from row 0.
 pub record IsCompiled (program : ResolvedProgram) (limits : Limits) (flow : FlowGraph) (object : CodeWithNotes) : Type 0 where
   pub agree : AgreeOnInputs (source_run program) (machine_run object.code)
   pub is_object : IsObject object

@@ -1,5 +1,5 @@
--- Plain code: each node of a flow graph that a run may come to is a row of its own, with variable v in register v. A stop or
--- a trap has no row, but where the graph begins with it: it is the leaf of the rows that lead to it.
+-- Plain code: each node of a flow graph to which edges lead from its entry is a row of its own, with variable v in register
+-- v. A stop or a trap has no row, but where the graph begins with it: it is the leaf of the rows that lead to it.
 use Rattle.std.specs.Prelude.{◌≡◌, ℕ, ◌≤◌, List, length, Option, Some, slice_get}
 use Rattle.pc_word.specs.declared.item.Item.{Item}
 use Rattle.pc_word.specs.declared.item.Operand.{Operand}
@@ -10,14 +10,23 @@ use Rattle.pc_flow.specs.declared.node.FlowNode.TheVariants.{Op, Test, Stop, Tra
 use Rattle.pc_flow.specs.FlowGraph.{FlowGraph}
 use Rattle.pc_machine.specs.MachineCode.{Leads_to, Ends, Traps, CodeRow}
 
--- what stands where an edge leads to a node: the end, the trap, or a goto to the row of the node. `order` has the node of
--- each row
+-- a node that has a row wherever it stands: an item or a test
+abbrev pub HasRow : FlowNode → Type 0
+HasRow (Op item to) = Unit {0}
+HasRow (Test on on_yes on_no turn) = Unit {0}
+HasRow Stop = ⊥
+HasRow (Trap kind line) = ⊥
+
+-- what stands where an edge leads to a node: the end, the trap, or a goto to the row of an item or a test. `order` has the
+-- node of each row
 pub data IsEdge (nodes : List FlowNode) (order : List ℕ) (to : ℕ) : (rest : CodeRow) → Type 0 where
   To_stop : slice_get nodes to ≡ Some Stop → IsEdge nodes order to (At_leaf Ends)
   To_trap : {kind : TrapKind} {line : ℕ} →
       slice_get nodes to ≡ Some (Trap kind line) →
       IsEdge nodes order to (At_leaf (Traps kind line))
-  To_row : {row : ℕ} →
+  To_row : {row : ℕ} {node : FlowNode} →
+      slice_get nodes to ≡ Some node →
+      HasRow node →
       slice_get order row ≡ Some to →
       IsEdge nodes order to (At_leaf (Leads_to row))
 

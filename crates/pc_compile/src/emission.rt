@@ -1,9 +1,10 @@
 //! The rows of a flow graph, one a node, in the order in which they are first met from the entry.
-ghost use Rattle.std.specs.Prelude.{◌≡◌, ℕ, ◌<◌, length, IfOk};
+ghost use Rattle.std.specs.Prelude.{◌≡◌, ℕ, ◌<◌, length, IfOk, MatchOption};
 ghost use Rattle.pc_flow.specs.FlowGraph.{IsFlow};
 ghost use Rattle.pc_machine.specs.MachineCode.{row_of, rows_of};
-ghost use Rattle.pc_compile.specs.Plain.{IsEdge, IsRowAt, IsPlain};
+ghost use Rattle.pc_compile.specs.Plain.{HasRow, IsEdge, IsRowAt, IsPlain};
 ghost use Rattle.pc_compile.specs.Reached.{IsReached};
+ghost use Rattle.pc_compile.specs.models.Endings.{IsEnding};
 ghost use Rattle.pc_compile.specs.models.Numbered.{GrowsBehind};
 
 use crate::numbering::Numbering;
@@ -64,12 +65,22 @@ fn edge(flow: &Flow, to: u32, numbering: &mut Numbering) -> Result<Tree, AllocEr
     ensures edge { IfOk result (λ tree. IsEdge flow.now.nodes numbering.new.order to (row_of tree)) }
     ensures grown { IfOk result (λ tree. GrowsBehind (row_of tree) numbering.old numbering.new) }
 {
-    match flow.node(to) {
-        FlowNode::Stop => Ok(Tree::Stop),
-        FlowNode::Trap { kind, line } => Ok(Tree::Trap { kind, line }),
-        FlowNode::Op { .. } | FlowNode::Test { .. } => {
+    match ending(flow.node(to)) {
+        Some(leaf) => Ok(leaf),
+        None => {
             let row = numbering.row(to)?;
             Ok(Tree::Goto { row })
         }
+    }
+}
+
+/// The leaf of a stop or a trap; nothing for a node that has a row.
+fn ending(node: FlowNode) -> Option<Tree>
+    ensures { MatchOption result (HasRow node) (λ leaf. IsEnding node (row_of leaf)) }
+{
+    match node {
+        FlowNode::Stop => Some(Tree::Stop),
+        FlowNode::Trap { kind, line } => Some(Tree::Trap { kind, line }),
+        FlowNode::Op { .. } | FlowNode::Test { .. } => None,
     }
 }

@@ -38,7 +38,7 @@ pub struct Status {
 /// - 2: the words are no command,
 /// - 3: SRC could not be read,
 /// - 4: SRC is longer than 1,048,576 bytes, is no program of the language, or has more than 16,384
-///   operations and tests,
+///   nodes in its flow graph,
 /// - 5: OBJ could not be written, and may hold anything.
 ///
 /// `Pvm` is called as `OBJ`, which does not begin with `-`. It loads the object at OBJ, takes the whole input,
