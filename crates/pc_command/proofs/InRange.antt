@@ -7,7 +7,7 @@ use Rattle.clap.specs.Walk.{Row}
 use Rattle.pc_word.specs.NumberText.{is_numeral}
 use Rattle.pc_command.specs.Arguments.{compiler, flag_in, matches_taken, simulator, word_in}
 use Rattle.pc_command.specs.Laws.{CompileCommandsAreInRange, IsInRange, IsOrigin, SimulateCommandsAreInRange}
-use Rattle.pc_command.specs.Ranges.{AreCyclesInRange}
+use Rattle.pc_word.specs.Ranges.{AreCycles}
 use Rattle.pc_command.specs.Requests.{CompileRequest, OfFile, OfSample, Origin, SimulateRequest, compile_command_of, compile_request_in}
 use Rattle.pc_command.specs.Requests.{behind_at, extent_in, limits_in, origin_behind, origin_of, sample_number_of, simulate_command_of, simulate_request_in}
 use Rattle.pc_command.proofs.Sources.{behind_at-is_none}
@@ -86,8 +86,8 @@ pub simulate_command_of-range : SimulateCommandsAreInRange
 unfolding simulate_command_of simulate_request_in
 simulate_command_of-range words request e = by (matches_taken simulator words) e
   where
-    by : (o : Option (List Row)) → option_map simulate_request_in o ≡ Some request → AreCyclesInRange request.cycles
+    by : (o : Option (List Row)) → option_map simulate_request_in o ≡ Some request → AreCycles request.cycles
     by None e = cc
     by (Some matches) e =
         let is = value_is (simulate_request_in matches) request e in
-        subst (λ (r : SimulateRequest). AreCyclesInRange r.cycles) is (cycles-between matches)
+        subst (λ (r : SimulateRequest). AreCycles r.cycles) is (cycles-between matches)

@@ -2,7 +2,7 @@
 use Rattle.std.proofs.Common.{◌≡◌, ◌≤◌, ℕ, lit≤, List}
 use Rattle.clap.specs.Walk.{Row}
 use Rattle.pc_command.specs.Options.{NumberOption, number_in, ops_option, tests_option, mem_option, window_option, rows_option, cycles_option}
-use Rattle.pc_command.specs.Ranges.{AreCyclesInRange, HasExtentInRange, HasLimitsInRange, IsBetween}
+use Rattle.pc_word.specs.Ranges.{AreCycles, IsExtent, AreLimits, IsBetween}
 use Rattle.pc_command.specs.Requests.{extent_in, limits_in}
 use Rattle.pc_command.proofs.Numbers.{number_in-between}
 
@@ -26,7 +26,7 @@ pub rows-between : (matches : List Row) → IsBetween 1 512 (number_in rows_opti
 unfolding rows_option
 rows-between matches = number_in-between rows_option matches (lit≤ tt) (lit≤ tt)
 
-pub cycles-between : (matches : List Row) → AreCyclesInRange (number_in cycles_option matches)
+pub cycles-between : (matches : List Row) → AreCycles (number_in cycles_option matches)
 unfolding cycles_option
 cycles-between matches = number_in-between cycles_option matches (lit≤ tt) (lit≤ tt)
 
@@ -36,8 +36,8 @@ pub number-most : (line option : NumberOption) (matches : List Row) (number most
 number-most line option matches number most is read h = rw (read, is) h
 
 -- so do the limits and the extent that matches ask for
-pub limits_in-range : (matches : List Row) → HasLimitsInRange (limits_in matches)
+pub limits_in-range : (matches : List Row) → AreLimits (limits_in matches)
 limits_in-range matches = record { ops = ops-between matches; tests = tests-between matches; mem = mem-between matches }
 
-pub extent_in-range : (matches : List Row) → HasExtentInRange (extent_in matches)
+pub extent_in-range : (matches : List Row) → IsExtent (extent_in matches)
 extent_in-range matches = record { window = window-between matches; rows = rows-between matches }

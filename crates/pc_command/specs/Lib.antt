@@ -2,6 +2,5 @@ pub mod models
 pub mod Arguments
 pub mod Laws
 pub mod Options
-pub mod Ranges
 pub mod Requests
 pub mod Words

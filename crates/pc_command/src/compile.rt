@@ -3,7 +3,7 @@ ghost use Rattle.std.specs.Prelude.{◌≡◌, IfOk, IfSome, ok_or, option_map};
 ghost use Rattle.clap.specs.Walk.{rows_of};
 ghost use Rattle.clap.specs.Matches.{found_of};
 ghost use Rattle.pc_word.specs.Exact.{IsExact};
-ghost use Rattle.pc_command.specs.Ranges.{HasExtentInRange, HasLimitsInRange};
+ghost use Rattle.pc_word.specs.Ranges.{IsExtent, AreLimits};
 ghost use Rattle.pc_command.specs.Requests.{command_cause, compile_command_of, compile_request, compile_request_in, extent_in, limits_in};
 ghost use Rattle.pc_command.specs.Words.{spelled};
 
@@ -39,8 +39,8 @@ pub fn compile_command<'a>(
 ) -> Result<CompileCommand<'a>, CommandError>
     ensures exact { IsExact compile_request command_cause result
         (ok_or (compile_command_of (spelled words.entry.now)) CommandError.NoCommand) }
-    ensures limits { IfOk result (λ command. HasLimitsInRange command.limits) }
-    ensures extent { IfOk result (λ command. HasExtentInRange command.extent) }
+    ensures limits { IfOk result (λ command. AreLimits command.limits) }
+    ensures extent { IfOk result (λ command. IsExtent command.extent) }
 {
     let matches = matches_of(compiler(alloc)?, words)?;
     command_in(&matches).ok_or(CommandError::NoCommand)
@@ -50,8 +50,8 @@ pub fn compile_command<'a>(
 #[tactic(auto, unfolding(crate::specs::Requests::compile_request_in))]
 fn command_in<'a>(matches: &ArgMatches<'a>) -> Option<CompileCommand<'a>>
     ensures value { option_map compile_request result ≡ compile_request_in (rows_of (found_of matches.now)) }
-    ensures limits { IfSome result (λ command. HasLimitsInRange command.limits) }
-    ensures extent { IfSome result (λ command. HasExtentInRange command.extent) }
+    ensures limits { IfSome result (λ command. AreLimits command.limits) }
+    ensures extent { IfSome result (λ command. IsExtent command.extent) }
 {
     let source = source_named(word_in(matches, "SRC"))?;
     Some(CompileCommand {
@@ -66,7 +66,7 @@ fn command_in<'a>(matches: &ArgMatches<'a>) -> Option<CompileCommand<'a>>
 /// The limits of a row that the matches ask for.
 fn limits_in(matches: &ArgMatches<'_>) -> Limits
     ensures value { result ≡ limits_in (rows_of (found_of matches.now)) }
-    ensures range { HasLimitsInRange result }
+    ensures range { AreLimits result }
 {
     Limits {
         ops: OptionLine::ops().number_in(matches) as u8,
@@ -78,7 +78,7 @@ fn limits_in(matches: &ArgMatches<'_>) -> Limits
 /// The extent of a window and of its schedule that the matches ask for.
 fn extent_in(matches: &ArgMatches<'_>) -> Extent
     ensures value { result ≡ extent_in (rows_of (found_of matches.now)) }
-    ensures range { HasExtentInRange result }
+    ensures range { IsExtent result }
 {
     Extent {
         window: OptionLine::window().number_in(matches) as u8,

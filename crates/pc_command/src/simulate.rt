@@ -3,7 +3,7 @@ ghost use Rattle.std.specs.Prelude.{◌≡◌, IfOk, ok_or};
 ghost use Rattle.clap.specs.Walk.{rows_of};
 ghost use Rattle.clap.specs.Matches.{found_of};
 ghost use Rattle.pc_word.specs.Exact.{IsExact};
-ghost use Rattle.pc_command.specs.Ranges.{AreCyclesInRange};
+ghost use Rattle.pc_word.specs.Ranges.{AreCycles};
 ghost use Rattle.pc_command.specs.Requests.{command_cause, simulate_command_of, simulate_request, simulate_request_in};
 ghost use Rattle.pc_command.specs.Words.{spelled};
 
@@ -31,7 +31,7 @@ pub fn simulate_command<'a>(
 ) -> Result<SimulateCommand<'a>, CommandError>
     ensures exact { IsExact simulate_request command_cause result
         (ok_or (simulate_command_of (spelled words.entry.now)) CommandError.NoCommand) }
-    ensures cycles { IfOk result (λ command. AreCyclesInRange command.cycles) }
+    ensures cycles { IfOk result (λ command. AreCycles command.cycles) }
 {
     let matches = matches_of(simulator(alloc)?, words)?;
     Ok(command_in(&matches))

@@ -15,11 +15,12 @@ use Rattle.pc_flow.specs.FlowRun.{flow_run}
 use Rattle.pc_lower.specs.Lowered.{IsLowered}
 use Rattle.pc_machine.specs.MachineCode.{CodeRow}
 use Rattle.pc_machine.specs.MachineRun.{machine_run}
-use Rattle.pc_machine.specs.WellFormed.{IsBetween, AreLimits, AreArrays}
+use Rattle.pc_machine.specs.WellFormed.{AreArrays}
+use Rattle.pc_word.specs.Ranges.{IsBetween, AreLimits}
 use Rattle.pc_object.specs.declared.object.Note.{Note}
 use Rattle.pc_object.specs.ObjectText.{CodeWithNotes}
 use Rattle.pc_compile.specs.Plain.{IsPlain}
-use Rattle.pc_compile.specs.Reached.{IsReached}
+use Rattle.pc_machine.specs.Reachable.{IsReachable}
 use Rattle.pc_compile.specs.Compiled.{IsCompiled}
 use Rattle.pc_compile.proofs.PlainCodes.{plain_is_well_formed, plain_is_short}
 use Rattle.pc_compile.proofs.PlainRuns.{rows_show}
@@ -46,7 +47,7 @@ module _ (program : ResolvedProgram) (limits : Limits) (flow : FlowGraph) (rows 
 
   -- it is the program's
   pub made_is_compiled : AreLimits limits → AreArrays program.arrays → IsFlow flow → IsLowered program flow → IsPlain flow rows
-      → ((row : ℕ) → row < length rows → IsReached rows row) → IsCompiled program limits flow made
+      → ((row : ℕ) → row < length rows → IsReachable rows row) → IsCompiled program limits flow made
   made_is_compiled fine arrays is lowered plain reached =
       let own_arrays = subst AreArrays (sym lowered.arrays) arrays in
       record {

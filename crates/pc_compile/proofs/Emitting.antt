@@ -9,7 +9,7 @@ use Rattle.std.proofs.lemmas.List.{length-map, length-append, length-replicate, 
 use Rattle.pc_machine.specs.declared.tree.Tree.{Tree}
 use Rattle.pc_machine.specs.MachineCode.{CodeRow, row_of, rows_of}
 use Rattle.pc_compile.specs.Plain.{IsRowAt, IsPlain}
-use Rattle.pc_compile.specs.Reached.{IsReached, Entry, Behind}
+use Rattle.pc_machine.specs.Reachable.{IsReachable, Entry, Behind}
 use Rattle.pc_compile.specs.models.Numbered.{Numbered, IsNumbered, none_met, Meets, GrowsBehind}
 use Rattle.pc_compile.proofs.Orders.{get_front, get_last, get_more, length_more, row_at_later}
 
@@ -20,7 +20,7 @@ pub record Emitting (flow : FlowGraph) (it : Numbered) (rows : List CodeRow) : T
   pub few : length rows ≤ length it.order
   pub each : (number node : ℕ) (row : CodeRow) → slice_get it.order number ≡ Some node → slice_get rows number ≡ Some row
       → IsRowAt flow.nodes it.order node row
-  pub reached : (number : ℕ) → number < length it.order → IsReached rows number
+  pub reached : (number : ℕ) → number < length it.order → IsReachable rows number
 
 -- ---- before the first row
 
@@ -33,7 +33,7 @@ first_of it new node row none meets = elim meets.grown [
   | inr more ↦ more.0 ∙ ap (λ (order : List ℕ). order ++ node ∷ []) none
 ]
 
-only_entry : (number : ℕ) → number < 1 → IsReached [] number
+only_entry : (number : ℕ) → number < 1 → IsReachable [] number
 only_entry zero lt = Entry
 only_entry (suc number) lt = absurd (omega arith)
 
@@ -60,7 +60,7 @@ get_within (x ∷ xs) ys zero lt = refl
 get_within (x ∷ xs) ys (suc i) lt = get_within xs ys i (omega arith)
 
 -- what leads to a row still does where there are more rows
-reached_later : (rows more : List CodeRow) (number : ℕ) → IsReached rows number → IsReached (rows ++ more) number
+reached_later : (rows more : List CodeRow) (number : ℕ) → IsReachable rows number → IsReachable (rows ++ more) number
 reached_later rows more _ Entry = Entry
 reached_later rows more _ (Behind from at leads) = Behind (reached_later rows more _ from) (get_front rows more _ _ at) leads
 
@@ -87,7 +87,7 @@ module _ (flow : FlowGraph) (it new : Numbered) (rows : List CodeRow) (node : �
   ]
 
   -- the nodes before were reached, and the row leads to the new ones
-  reached_more : (number : ℕ) → number < length new.order → IsReached (rows ++ row ∷ []) number
+  reached_more : (number : ℕ) → number < length new.order → IsReachable (rows ++ row ∷ []) number
   reached_more number lt = elim (decide_le (suc number) (length it.order)) [
     | inl before ↦ reached_later rows (row ∷ []) number (h.reached number before)
     | inr behind ↦
@@ -138,7 +138,7 @@ emitted_is_plain flow it rows h is none = record {
 }
 
 -- and each of them is reached
-pub emitted_are_reached : (flow : FlowGraph) (it : Numbered) (rows : List CodeRow) → Emitting flow it rows → (number : ℕ) → number < length rows → IsReached rows number
+pub emitted_are_reached : (flow : FlowGraph) (it : Numbered) (rows : List CodeRow) → Emitting flow it rows → (number : ℕ) → number < length rows → IsReachable rows number
 emitted_are_reached flow it rows h number lt = h.reached number (let few = h.few in omega (arith, few, lt))
 
 -- a node that was met is one of the graph

@@ -16,7 +16,8 @@ use Rattle.pc_word.specs.Row.{Then, Either, At_leaf}
 use Rattle.pc_flow.specs.declared.node.FlowNode.{FlowNode}
 use Rattle.pc_flow.specs.FlowGraph.{FlowGraph, IsFlow, IsVariable, ItemFits, NodeFits}
 use Rattle.pc_machine.specs.MachineCode.{Leaf, Leads_to, Ends, Traps, CodeRow}
-use Rattle.pc_machine.specs.WellFormed.{IsOperand, IsItem, IsLeaf, IsPath, IsRow, AreLimits, AreArrays, WellFormed}
+use Rattle.pc_machine.specs.WellFormed.{IsOperand, IsItem, IsLeaf, IsPath, IsRow, AreArrays, WellFormed}
+use Rattle.pc_word.specs.Ranges.{AreLimits}
 use Rattle.pc_object.specs.ObjectText.{CodeWithNotes, u32_text, operand_text, item_text, leaf_text, row_text, header_text, notes_text, object_text}
 use Rattle.pc_compile.specs.Plain.{IsEdge, To_stop, To_trap, To_row, IsRowOf, Does, Tests, Stops, Traps_here, IsRowAt, AreRowsOf}
 use Rattle.pc_compile.proofs.Orders.{found_within}

@@ -10,7 +10,7 @@ use Rattle.pc_lower.specs.Lowered.{IsLowered}
 use Rattle.pc_machine.specs.MachineRun.{machine_run}
 use Rattle.pc_object.specs.ObjectText.{CodeWithNotes, IsObject}
 use Rattle.pc_compile.specs.Plain.{IsPlain}
-use Rattle.pc_compile.specs.Reached.{IsReached}
+use Rattle.pc_machine.specs.Reachable.{IsReachable}
 use Rattle.pc_compile.specs.declared.error.CompileError.{CompileError}
 use Rattle.pc_compile.specs.declared.error.CompileError.TheVariants.{TooLarge, Memory}
 
@@ -24,7 +24,7 @@ pub record IsCompiled (program : ResolvedProgram) (limits : Limits) (flow : Flow
   pub bare : object.notes ≡ []
   pub lowered : IsLowered program flow
   pub plain : IsPlain flow object.code.rows
-  pub reached : (row : ℕ) → row < length object.code.rows → IsReached object.code.rows row
+  pub reached : (row : ℕ) → row < length object.code.rows → IsReachable object.code.rows row
 
 -- Why a program of a size has no object: its flow graph would have too many nodes, and they are told, as far as a number
 -- goes; or it would not, and memory ran out.

@@ -1,4 +1,3 @@
 pub mod models
 pub mod Compiled
 pub mod Plain
-pub mod Reached

@@ -3,7 +3,7 @@ ghost use Rattle.std.specs.Prelude.{◌≡◌, ℕ, ◌<◌, length, IfOk, Match
 ghost use Rattle.pc_flow.specs.FlowGraph.{IsFlow};
 ghost use Rattle.pc_machine.specs.MachineCode.{row_of, rows_of};
 ghost use Rattle.pc_compile.specs.Plain.{HasRow, IsEdge, IsRowAt, IsPlain};
-ghost use Rattle.pc_compile.specs.Reached.{IsReached};
+ghost use Rattle.pc_machine.specs.Reachable.{IsReachable};
 ghost use Rattle.pc_compile.specs.models.Endings.{IsEnding};
 ghost use Rattle.pc_compile.specs.models.Numbered.{GrowsBehind};
 
@@ -16,7 +16,7 @@ use std::alloc::{AllocError, Global};
 pub(crate) fn emit(alloc: Global, flow: &Flow) -> Result<TreeList, AllocError>
     ensures kept { IsFlow flow.now }
     ensures plain { IfOk result (λ rows. IsPlain flow.now (rows_of rows)) }
-    ensures reached { IfOk result (λ rows. (row : ℕ) → row < length rows → IsReached (rows_of rows) row) }
+    ensures reached { IfOk result (λ rows. (row : ℕ) → row < length rows → IsReachable (rows_of rows) row) }
 {
     let mut numbering = Numbering::new(alloc, flow.count())?;
     numbering.row(flow.entry())?;

@@ -2,7 +2,7 @@
 ghost use Rattle.std.specs.Prelude.{IfOk, IfErr};
 ghost use Rattle.pc_check.specs.Checks.{resolved_of};
 ghost use Rattle.pc_check.specs.Sizes.{resolved_size};
-ghost use Rattle.pc_machine.specs.WellFormed.{AreLimits};
+ghost use Rattle.pc_word.specs.Ranges.{AreLimits};
 ghost use Rattle.pc_object.specs.ObjectText.{object_of};
 ghost use Rattle.pc_compile.specs.Compiled.{IsCompiled, IsUncompiled};
 

@@ -1,5 +1,5 @@
 -- The flow graph as plain data, and what every one keeps.
-use Rattle.std.specs.Prelude.{◌≡◌, ℕ, ◌+◌, ◌<◌, ◌≤◌, List, length, Option, Some, None, IfSome, slice_get, slice_index}
+use Rattle.std.specs.Prelude.{◌≡◌, ◌⊎◌, ℕ, ◌+◌, ◌<◌, ◌≤◌, List, length, Option, Some, None, IfSome, slice_get, slice_index}
 use Rattle.std.specs.List.{AllByRecursion}
 use Rattle.pc_word.specs.SourceLimits.{most_scalars, most_temporaries, most_nodes}
 use Rattle.pc_word.specs.MachineLimits.{most_arrays}
@@ -39,6 +39,13 @@ pub record ItemFits (arrays : ℕ) (item : Item) : Type 0 where
   pub array : IfSome (array_of item) (λ array. array < arrays)
 
 -- ---- edges
+
+-- an edge leads from a node to this one
+abbrev pub HasEdge : FlowNode → ℕ → Type 0
+HasEdge (Op item to) next = to ≡ next
+HasEdge (Test on on_yes on_no turn) next = (on_yes ≡ next) ⊎ (on_no ≡ next)
+HasEdge Stop next = ⊥
+HasEdge (Trap kind line) next = ⊥
 
 -- an edge leads to a node that is there
 abbrev pub IsTarget : FlowGraph → ℕ → Type 0

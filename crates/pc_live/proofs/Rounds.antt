@@ -8,9 +8,9 @@ use Rattle.std.specs.Prelude.{slice_get, slice_set}
 use Rattle.pc_word.proofs.Truth.{and_true, and_made, not_true}
 use Rattle.pc_flow.specs.declared.node.FlowNode.{FlowNode}
 use Rattle.pc_flow.specs.declared.node.FlowNode.TheVariants.{Op, Test, Stop, Trap}
-use Rattle.pc_flow.specs.FlowGraph.{FlowGraph, TestFits, variables}
+use Rattle.pc_flow.specs.FlowGraph.{FlowGraph, TestFits, variables, HasEdge}
 use Rattle.pc_live.specs.declared.variable_set.VariableSet.{VariableSet}
-use Rattle.pc_live.specs.Live.{node_reads, node_writes, LeadsTo, IsLive, Read_here, Read_later}
+use Rattle.pc_live.specs.Live.{node_reads, node_writes, IsLive, Read_here, Read_later}
 use Rattle.pc_live.specs.Liveness.{member, set_at, IsLivenessOf}
 use Rattle.pc_live.specs.models.Rounds.{behind, needs, needs_of, needs_at, AreSound, IsClosedAt, IsClosed, total}
 use Rattle.pc_live.proofs.Logic.{or_true, or_first, or_second, place_within}
@@ -29,7 +29,7 @@ test_targets flow from on_yes on_no (Some turn) h = (h.0, h.1)
 -- a node to which an edge leads, with the variable in its set
 record Behind (sets : List VariableSet) (node : FlowNode) (variable : ℕ) : Type 0 where
   next : ℕ
-  leads : LeadsTo node next
+  leads : HasEdge node next
   has : member (set_at sets next) variable ≡ true
 
 -- there is one where `behind` passes
@@ -44,7 +44,7 @@ behind_some sets Stop variable h = absurd (cc)
 behind_some sets (Trap kind line) variable h = absurd (cc)
 
 -- and where there is one it passes
-some_behind : (sets : List VariableSet) (node : FlowNode) (variable next : ℕ) → LeadsTo node next → member (set_at sets next) variable ≡ true
+some_behind : (sets : List VariableSet) (node : FlowNode) (variable next : ℕ) → HasEdge node next → member (set_at sets next) variable ≡ true
     → behind sets node variable ≡ true
 some_behind sets (Op item to) variable next leads h = subst (λ (n : ℕ). member (set_at sets n) variable ≡ true) (sym leads) h
 some_behind sets (Test on on_yes on_no turn) variable next (inl e) h =

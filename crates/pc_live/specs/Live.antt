@@ -1,5 +1,5 @@
 -- When a variable is live at a node of a flow graph.
-use Rattle.std.specs.Prelude.{◌≡◌, ◌⊎◌, ℕ, Bool, true, false, nat_eq, Some, slice_get}
+use Rattle.std.specs.Prelude.{◌≡◌, ℕ, Bool, true, false, nat_eq, Some, slice_get}
 use Rattle.std.specs.List.{list_any}
 use Rattle.pc_word.specs.declared.item.Operand.{Operand}
 use Rattle.pc_word.specs.declared.item.Operand.TheVariants.{Name, Lit}
@@ -7,7 +7,7 @@ use Rattle.pc_word.specs.Items.{operands_of, dest_of}
 use Rattle.pc_word.specs.Commit.{writes}
 use Rattle.pc_flow.specs.declared.node.FlowNode.{FlowNode}
 use Rattle.pc_flow.specs.declared.node.FlowNode.TheVariants.{Op, Test, Stop, Trap}
-use Rattle.pc_flow.specs.FlowGraph.{FlowGraph}
+use Rattle.pc_flow.specs.FlowGraph.{FlowGraph, HasEdge}
 
 -- whether an operand is this variable
 abbrev pub is_variable : Operand → ℕ → Bool
@@ -28,13 +28,6 @@ node_writes (Test on on_yes on_no turn) variable = false
 node_writes Stop variable = false
 node_writes (Trap kind line) variable = false
 
--- an edge leads from a node to this one
-abbrev pub LeadsTo : FlowNode → ℕ → Type 0
-LeadsTo (Op item to) next = to ≡ next
-LeadsTo (Test on on_yes on_no turn) next = (on_yes ≡ next) ⊎ (on_no ≡ next)
-LeadsTo Stop next = ⊥
-LeadsTo (Trap kind line) next = ⊥
-
 -- A variable is live at a node: some path from there reads it before it writes it. Either the node itself reads it, and a node
 -- that also writes it reads it first; or the node does not write it, and it is live at a node to which an edge leads.
 pub data IsLive (flow : FlowGraph) (variable : ℕ) : (at : ℕ) → Type 0 where
@@ -45,6 +38,6 @@ pub data IsLive (flow : FlowGraph) (variable : ℕ) : (at : ℕ) → Type 0 wher
   Read_later : {at next : ℕ} {node : FlowNode} →
       slice_get flow.nodes at ≡ Some node →
       node_writes node variable ≡ false →
-      LeadsTo node next →
+      HasEdge node next →
       IsLive flow variable next →
       IsLive flow variable at

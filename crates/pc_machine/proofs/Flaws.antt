@@ -18,7 +18,8 @@ use Rattle.pc_machine.specs.MachineCode.{Leaf, Leads_to, Ends, Traps, CodeRow, R
 use Rattle.pc_word.specs.Row.{Then, Either, At_leaf, items_of, tests_of, leaves_of, paths_of}
 use Rattle.pc_word.specs.Items.{dest_of, is_memory, is_effect}
 use Rattle.pc_word.specs.Commit.{writes}
-use Rattle.pc_machine.specs.WellFormed.{IsOperand, IsItem, IsLeaf, IsPath, IsRow, IsBetween, AreLimits, WellFormed}
+use Rattle.pc_machine.specs.WellFormed.{IsOperand, IsItem, IsLeaf, IsPath, IsRow, WellFormed}
+use Rattle.pc_word.specs.Ranges.{IsBetween, AreLimits}
 use Rattle.pc_word.proofs.Lists.{all_front, all_back, all_both, all_of_map, map_of_all, all_imply, count_more, count_both}
 use Rattle.pc_machine.specs.Flaws.{flaw_where, is_between, limit_flaws, limits_flaws, array_count_flaws, length_flaws, lengths_flaws}
 use Rattle.pc_machine.specs.Flaws.{row_count_flaws, Above, nothing_above, above_with, no_counts, one_where, counts_with_item, counts_with_test}

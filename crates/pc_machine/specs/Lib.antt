@@ -1,5 +1,6 @@
 pub mod MachineCode
 pub mod MachineRun
+pub mod Reachable
 pub mod WellFormed
 pub mod Flaws
 pub mod Checks

@@ -9,7 +9,8 @@ use Rattle.pc_word.specs.declared.item.Limits.{Limits}
 use Rattle.pc_machine.specs.MachineCode.{Leaf, Leads_to, Ends, Traps, CodeRow, RowCode}
 use Rattle.pc_word.specs.Row.{items_of, leaves_of, paths_of, tests_of}
 use Rattle.pc_word.specs.Items.{dest_of, is_effect, is_memory}
-use Rattle.pc_word.specs.MachineLimits.{most_arrays, most_elements, most_length, most_mem, most_ops, most_tests, registers}
+use Rattle.pc_word.specs.MachineLimits.{most_arrays, most_elements, most_length, registers}
+use Rattle.pc_word.specs.Ranges.{AreLimits, IsBetween}
 
 -- ---- what a row keeps
 
@@ -50,16 +51,6 @@ pub record IsRow (limits : Limits) (arrays rows : ℕ) (row : CodeRow) : Type 0 
   pub paths : AllByRecursion IsPath (paths_of row)
 
 -- ---- the code
-
--- a number is from one to another
-abbrev pub IsBetween : ℕ → ℕ → ℕ → Type 0
-IsBetween low high n = (low ≤ n) × (n ≤ high)
-
--- limits that the machine has: from 1 to 32 items, 7 tests, and 32 loads and stores
-pub record AreLimits (limits : Limits) : Type 0 where
-  pub ops : IsBetween 1 most_ops limits.ops
-  pub tests : IsBetween 1 most_tests limits.tests
-  pub mem : IsBetween 1 most_mem limits.mem
 
 -- at most 32 arrays of 1 to 65536 elements, and 1048576 elements in all
 pub record AreArrays (lengths : List ℕ) : Type 0 where

@@ -1,7 +1,7 @@
 //! Bytes as an object.
 
 ghost use Rattle.std.specs.Prelude.{◌≡◌, ◌≤◌, ◌∷◌, [], length, Result, Ok, Err, IfOk};
-ghost use Rattle.pc_machine.specs.WellFormed.{AreLimits};
+ghost use Rattle.pc_word.specs.Ranges.{AreLimits};
 ghost use Rattle.pc_object.specs.ObjectText.{CodeWithNotes, object_of, object_text, IsObject};
 ghost use Rattle.pc_object.specs.Numbers.{HasWords};
 ghost use Rattle.pc_object.specs.models.Headers.{shown};

@@ -1,17 +1,10 @@
 -- Counts of faults. A count is a u64 that never falls and stands still at its end.
-use Rattle.std.specs.Prelude.{◌≡◌, ℕ, ◌+◌, ◌-◌, ◌^◌, ◌≤◌, List, min}
+use Rattle.std.specs.Prelude.{◌≡◌, ℕ, List}
+use Rattle.pc_word.specs.Count.{Rose}
 use Rattle.pc_outside.specs.declared.error.ShelfError.{ShelfError}
 use Rattle.pc_outside.specs.declared.error.ShelfError.TheVariants as ShelfErrors
 use Rattle.pc_outside.specs.declared.error.TakeError.{TakeError}
 use Rattle.pc_outside.specs.declared.error.TakeError.TheVariants as TakeErrors
-
--- the count with one more, which stands still at the end of u64
-abbrev pub one_more : ℕ → ℕ
-one_more count = min (count + 1) (2 ^ 64 - 1)
-
--- something was counted between the two moments; a count that stands at the end of u64 counts as risen
-abbrev pub Rose : ℕ → ℕ → Type 0
-Rose before now = one_more before ≤ now
 
 -- the count rose, and the name beside it is this one
 pub record FaultOf (before now : ℕ) (beside name : List ℕ) : Type 0 where

@@ -2,7 +2,7 @@
 use Rattle.std.specs.Prelude.{ℕ, ◌-◌, Bool, ◌==◌, ◌||◌, List, [], length, min, Some, is_none, nat_le}
 use Rattle.std.specs.List.{list_any}
 use Rattle.std.specs.FinMap as map
-use Rattle.pc_outside.specs.Fault.{one_more}
+use Rattle.pc_word.specs.Count.{one_more}
 use Rattle.pc_outside.specs.Shelf.{Files, Shelved}
 
 -- a source: what it has left, its faults, how many calls it has had, and the numbers of those that are to fail

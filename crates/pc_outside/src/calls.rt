@@ -1,6 +1,6 @@
 //! The calls of an object in memory: how many there were, and which are to fail.
 ghost use Rattle.std.specs.Prelude.{◌≡◌};
-ghost use Rattle.pc_outside.specs.Fault.{one_more};
+ghost use Rattle.pc_word.specs.Count.{one_more};
 ghost use Rattle.pc_outside.specs.InMemory.{next_is_listed};
 
 use crate::CallList;

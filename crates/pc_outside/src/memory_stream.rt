@@ -1,7 +1,7 @@
 //! A source and a sink in memory, some of whose calls fail on purpose.
 ghost use Rattle.std.specs.Prelude.{◌≡◌, ◌<◌, ◌≤◌, ◌↔◌, [], ◌++◌, length, take, drop, Some, IfOk, OnErr, IsErr, IsTrue};
 ghost use Rattle.std.specs.Io.KnownBytes.{ReadConsumes, WriteAppends};
-ghost use Rattle.pc_outside.specs.Fault.{Rose, one_more};
+ghost use Rattle.pc_word.specs.Count.{Rose, one_more};
 ghost use Rattle.pc_outside.specs.InMemory.{next_is_listed, given_count, taken_count, write_fails};
 ghost use Rattle.pc_outside.specs.Stream.{KeepsRest};
 

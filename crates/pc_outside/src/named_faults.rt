@@ -1,6 +1,6 @@
 //! A count of faults, and beside it the name of the last.
 ghost use Rattle.std.specs.Prelude.{◌≡◌, ◌≤◌, []};
-ghost use Rattle.pc_outside.specs.Fault.{one_more};
+ghost use Rattle.pc_word.specs.Count.{one_more};
 
 use std::alloc::Global;
 use std::marker::Model;

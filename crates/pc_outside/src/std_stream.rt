@@ -2,7 +2,7 @@
 //! of standard input, standard output, standard error and files, and all of bytes in memory.
 ghost use Rattle.std.specs.Prelude.{◌≡◌, ◌<◌, ◌≤◌, length, IfOk, OnErr};
 ghost use Rattle.std.specs.Io.KnownBytes.{Keeps, ReadConsumes, WriteAppends};
-ghost use Rattle.pc_outside.specs.Fault.{Rose, one_more};
+ghost use Rattle.pc_word.specs.Count.{Rose, one_more};
 ghost use Rattle.pc_outside.specs.Stream.{KeepsRest, flushed};
 
 use crate::error::Failed;

@@ -1,7 +1,7 @@
 //! Sources and sinks of bytes.
 ghost use Rattle.std.specs.Prelude.{ℕ, ◌<◌, ◌≤◌, List, length, Option, IfOk, OnErr};
 ghost use Rattle.std.specs.Io.KnownBytes.{ReadConsumes, WriteAppends};
-ghost use Rattle.pc_outside.specs.Fault.{Rose};
+ghost use Rattle.pc_word.specs.Count.{Rose};
 ghost use Rattle.pc_outside.specs.Stream.{KeepsRest};
 
 use crate::error::Failed;

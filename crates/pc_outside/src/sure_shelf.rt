@@ -2,7 +2,7 @@
 ghost use Rattle.std.specs.Prelude.{◌≡◌, [], Some, IfOk, OnOk, OnErr, IsErrOf, IsSome, IsNone};
 ghost use Rattle.std.specs.Option.{option_copied};
 ghost use Rattle.std.specs.FinMap as map;
-ghost use Rattle.pc_outside.specs.Fault.{one_more};
+ghost use Rattle.pc_word.specs.Count.{one_more};
 ghost use Rattle.pc_outside.specs.InMemory.{sure_shelved};
 ghost use Rattle.pc_outside.specs.Shelf.{ReadFaultOf, WriteFaultOf, ReadKeeps, WriteKeeps, GivesFile, HoldsFile};
 

@@ -1,7 +1,7 @@
 //! A source and a sink in memory that fail on no list: the source never, the sink where it is full.
 ghost use Rattle.std.specs.Prelude.{◌≡◌, ◌<◌, ◌≤◌, ◌↔◌, [], ◌++◌, length, take, drop, Some, IfOk, OnErr, IsErr, IsOk};
 ghost use Rattle.std.specs.Io.KnownBytes.{ReadConsumes, WriteAppends};
-ghost use Rattle.pc_outside.specs.Fault.{Rose, one_more};
+ghost use Rattle.pc_word.specs.Count.{Rose, one_more};
 ghost use Rattle.pc_outside.specs.InMemory.{given_count, taken_count};
 ghost use Rattle.pc_outside.specs.Stream.{KeepsRest};
 

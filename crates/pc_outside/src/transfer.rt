@@ -1,7 +1,7 @@
 //! Whole transfers, made of single reads and writes.
 ghost use Rattle.std.specs.Prelude.{◌≤◌, IfOk, OnOk, OnErr, IsErrOf};
 ghost use Rattle.std.specs.Io.KnownBytes.{Appends};
-ghost use Rattle.pc_outside.specs.Fault.{Rose};
+ghost use Rattle.pc_word.specs.Count.{Rose};
 ghost use Rattle.pc_outside.specs.Stream.{TakesFirst, LosesFront, AppendsPart};
 
 use crate::error::{Failed, TakeError};

@@ -5,7 +5,8 @@ use Rattle.std.proofs.lemmas.List.{map-set, set-get_or, get_or-map, length-map}
 use Rattle.pc_word.proofs.Runs.{AgreeOnInputs-refl, AgreeOnInputs-trans}
 use Rattle.pc_flow.specs.FlowGraph.{FlowGraph}
 use Rattle.pc_flow.specs.FlowRun.{flow_run}
-use Rattle.pc_pass.specs.Pass.{Keeps, Rose, NoneFell}
+use Rattle.pc_pass.specs.Pass.{Keeps, NoneFell}
+use Rattle.pc_word.specs.Count.{Rose}
 
 -- ---- graphs
 

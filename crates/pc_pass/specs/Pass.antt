@@ -1,5 +1,6 @@
 -- What passes keep, and their counts.
-use Rattle.std.specs.Prelude.{◌≡◌, ℕ, ◌+◌, ◌-◌, ◌^◌, ◌<◌, ◌≤◌, min, List, length, slice_index}
+use Rattle.std.specs.Prelude.{◌≡◌, ℕ, ◌<◌, ◌≤◌, List, length, slice_index}
+use Rattle.pc_word.specs.Count.{Rose}
 use Rattle.pc_word.specs.Run.{AgreeOnInputs}
 use Rattle.pc_flow.specs.FlowGraph.{FlowGraph}
 use Rattle.pc_flow.specs.FlowRun.{flow_run}
@@ -12,11 +13,7 @@ pub record Keeps (old new : FlowGraph) : Type 0 where
   pub same_loops : new.loops ≡ old.loops
   pub same_arrays : new.arrays ≡ old.arrays
 
--- a count rose, or stands at the end of u64
-abbrev pub Rose : ℕ → ℕ → Type 0
-Rose before now = min (before + 1) (2 ^ 64 - 1) ≤ now
-
--- so did each of a list of counts
+-- each of a list of counts rose, or stands at the end of u64
 abbrev pub EachRose : List ℕ → List ℕ → Type 0
 EachRose before now = (at : ℕ) → at < length before → Rose (slice_index before at) (slice_index now at)
 

@@ -1,6 +1,7 @@
 //! What a pass is.
 ghost use Rattle.std.specs.Prelude.{◌≡◌, ◌≤◌, ℕ, List, OnOk, OnErr};
-ghost use Rattle.pc_pass.specs.Pass.{Keeps, Rose};
+ghost use Rattle.pc_pass.specs.Pass.{Keeps};
+ghost use Rattle.pc_word.specs.Count.{Rose};
 
 use crate::PassMemory;
 use pc_flow::Flow;

@@ -19,7 +19,7 @@ use Rattle.pc_report.specs.declared.fault.InputFault.{InputFault}
 use Rattle.pc_report.specs.declared.fault.InputFault.TheVariants as input
 use Rattle.pc_report.specs.declared.fault.ToolFault.{ToolFault}
 use Rattle.pc_report.specs.declared.fault.ToolFault.TheVariants as tool
-use Rattle.pc_report.specs.Line.{line}
+use Rattle.pc_word.specs.Line.{line}
 
 -- the name of a program
 abbrev pub speaker_text : Speaker → List ℕ

@@ -5,7 +5,7 @@ use Rattle.std.specs.Fmt.{decimal}
 use Rattle.pc_object.specs.declared.object.Note.{Note}
 use Rattle.pc_report.specs.declared.report.PassFact.{PassFact}
 use Rattle.pc_report.specs.declared.report.ReportFacts.{ReportFacts}
-use Rattle.pc_report.specs.Line.{line}
+use Rattle.pc_word.specs.Line.{line}
 
 -- a pass over the flow graph: its name, and how many changes it made
 pub record PassCount : Type 0 where

@@ -2,7 +2,8 @@
 use Rattle.std.proofs.Common.{ℕ, zero, suc, ◌+◌, ◌*◌, ◌%◌, ◌<◌, ◌≤◌, Bool, true, false, if◌then◌else◌, nat_eq, List, [], ◌∷◌, ◌++◌, length, codes, arith, lit<, lit≤, length-append}
 use Rattle.std.specs.Fmt.{decimal}
 use Rattle.std.proofs.lemmas.Fmt.{length-decimal-le}
-use Rattle.pc_sample.specs.SampleText.{line, factor_of, mask_of, fill_line, head_text, sum_line, difference_line, gather_line, block_line, block_text, blocks_text, block_count, sample_text}
+use Rattle.pc_sample.specs.SampleText.{factor_of, mask_of, fill_line, head_text, sum_line, difference_line, gather_line, block_line, block_text, blocks_text, block_count, sample_text}
+use Rattle.pc_word.specs.Line.{line}
 
 -- a number below 100 has at most two digits
 two_digits : (n : ℕ) → n < 100 → length (decimal n) ≤ 2

@@ -1,10 +1,7 @@
 -- The source that belongs to a number.
 use Rattle.std.specs.Prelude.{ℕ, zero, suc, ◌+◌, ◌%◌, List, [], ◌∷◌, ◌++◌, if◌then◌else◌, nat_eq, codes}
 use Rattle.std.specs.Fmt.{decimal}
-
--- a text and a line feed behind it
-abbrev pub line : List ℕ → List ℕ
-line text = text ++ 10 ∷ []
+use Rattle.pc_word.specs.Line.{line}
 
 -- the factor of whose multiples the first array is made, 1 to 97
 abbrev pub factor_of : ℕ → ℕ

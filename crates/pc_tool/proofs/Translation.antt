@@ -10,7 +10,7 @@ use Rattle.pc_compile.specs.Compiled.{IsCompiled, IsUncompiled}
 use Rattle.pc_compile.specs.declared.error.CompileError.{CompileError}
 use Rattle.pc_compile.specs.declared.error.CompileError.TheVariants.{TooLarge, Memory}
 use Rattle.pc_machine.specs.MachineRun.{machine_run}
-use Rattle.pc_machine.specs.WellFormed.{AreLimits}
+use Rattle.pc_word.specs.Ranges.{AreLimits}
 use Rattle.pc_meaning.specs.SourceRun.{source_run}
 use Rattle.pc_object.specs.Numbers.{HasWords}
 use Rattle.pc_object.specs.ObjectText.{CodeWithNotes}

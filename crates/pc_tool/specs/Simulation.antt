@@ -10,7 +10,7 @@ use Rattle.pc_word.specs.NumberText.{text_of, numbers_in}
 use Rattle.pc_word.specs.Run.{Seen}
 use Rattle.pc_machine.specs.MachineRun.{machine_run}
 use Rattle.pc_object.specs.ObjectText.{CodeWithNotes}
-use Rattle.pc_outside.specs.Fault.{Rose}
+use Rattle.pc_word.specs.Count.{Rose}
 use Rattle.pc_outside.specs.Stream.{AppendsPart}
 use Rattle.pc_outside.specs.Shelf.{Files, Shelved}
 use Rattle.pc_tool.specs.Command.{SimulateCommand}

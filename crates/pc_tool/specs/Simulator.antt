@@ -6,7 +6,7 @@ use Rattle.pc_word.specs.declared.item.End.{End}
 use Rattle.pc_word.specs.MachineLimits.{most_input}
 use Rattle.pc_machine.specs.MachineRun.{machine_run}
 use Rattle.pc_object.specs.ObjectText.{CodeWithNotes}
-use Rattle.pc_outside.specs.Fault.{Rose}
+use Rattle.pc_word.specs.Count.{Rose}
 use Rattle.pc_outside.specs.Stream.{LosesFront}
 use Rattle.pc_outside.specs.Shelf.{Files, ReadKeeps, ReadFaultOf}
 use Rattle.pc_tool.specs.Command.{SimulateCommand}

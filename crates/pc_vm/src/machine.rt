@@ -6,7 +6,7 @@ ghost use Rattle.pc_word.specs.Run.{run_from, reach};
 ghost use Rattle.pc_machine.specs.MachineCode.{code_of};
 ghost use Rattle.pc_machine.specs.MachineRun.{machine_step, machine_start};
 ghost use Rattle.pc_machine.specs.WellFormed.{WellFormed};
-ghost use Rattle.pc_outside.specs.Fault.{Rose};
+ghost use Rattle.pc_word.specs.Count.{Rose};
 ghost use Rattle.pc_outside.specs.Stream.{AppendsPart};
 ghost use Rattle.pc_vm.specs.Standing.{here_of, IsStep, KeepsAll, end_of, StandsAt};
 ghost use Rattle.pc_vm.specs.models.Moves.{LeadsWithin, event_of, moved};

@@ -32,3 +32,14 @@ most_object = 16777216
 -- bytes of an input
 abbrev pub most_input : ℕ
 most_input = 16777216
+
+-- turns of a loop that a window may hold, and rows that its schedule may have
+abbrev pub most_window : ℕ
+most_window = 8
+
+abbrev pub most_rows : ℕ
+most_rows = 512
+
+-- cycles of a run
+abbrev pub most_cycles : ℕ
+most_cycles = 1000000000000

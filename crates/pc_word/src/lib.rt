@@ -14,9 +14,9 @@ mod word;
 pub use item::{End, Extent, Item, Limits, MachineFault, OpCode, Operand, TrapKind};
 pub use laws::{law_of_single_items, laws_of_agreement, laws_of_number_texts, laws_of_words};
 pub use limits::{
-    MOST_ARRAYS, MOST_ELEMENTS, MOST_HEIGHT, MOST_INPUT, MOST_LENGTH, MOST_MEM, MOST_NODES,
-    MOST_OBJECT, MOST_OPS, MOST_SCALARS, MOST_SOURCE, MOST_TEMPORARIES, MOST_TESTS, MOST_TOKENS,
-    REGISTERS,
+    MOST_ARRAYS, MOST_CYCLES, MOST_ELEMENTS, MOST_HEIGHT, MOST_INPUT, MOST_LENGTH, MOST_MEM,
+    MOST_NODES, MOST_OBJECT, MOST_OPS, MOST_ROWS, MOST_SCALARS, MOST_SOURCE, MOST_TEMPORARIES,
+    MOST_TESTS, MOST_TOKENS, MOST_WINDOW, REGISTERS,
 };
 pub use loop_mark::LoopMark;
 pub use number_text::{NumberLine, NumbersError, read_numbers};

@@ -44,3 +44,12 @@ pub const MOST_OBJECT: usize = 16_777_216;
 
 /// Bytes of an input.
 pub const MOST_INPUT: usize = 16_777_216;
+
+/// Turns of a loop that a window may hold.
+pub const MOST_WINDOW: u8 = 8;
+
+/// Rows that the schedule of a window may have.
+pub const MOST_ROWS: u16 = 512;
+
+/// Cycles of a run.
+pub const MOST_CYCLES: u64 = 1_000_000_000_000;

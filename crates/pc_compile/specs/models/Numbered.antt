@@ -3,7 +3,7 @@ use Rattle.std.specs.Prelude.{◌≡◌, ℕ, ◌<◌, ◌≤◌, ◌⊎◌, Lis
 use Rattle.std.specs.List.{count_by}
 use Rattle.pc_word.specs.SourceLimits.{most_nodes}
 use Rattle.pc_machine.specs.MachineCode.{CodeRow}
-use Rattle.pc_compile.specs.Reached.{LeadsOn}
+use Rattle.pc_machine.specs.Reachable.{HasLeafTo}
 
 -- the row of each node that was met, by the node's number, and the node of each row
 pub record Numbered : Type 0 where
@@ -32,4 +32,4 @@ pub record GrowsBehind (row : CodeRow) (old new : Numbered) : Type 0 where
   pub as_many_nodes : length new.rows ≡ length old.rows
   pub more : List ℕ
   pub grown : new.order ≡ old.order ++ more
-  pub led : (number : ℕ) → length old.order ≤ number → number < length new.order → LeadsOn row number
+  pub led : (number : ℕ) → length old.order ≤ number → number < length new.order → HasLeafTo row number

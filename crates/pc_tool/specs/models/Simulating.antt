@@ -7,7 +7,7 @@ use Rattle.pc_machine.specs.MachineRun.{machine_start}
 use Rattle.pc_object.specs.ObjectText.{CodeWithNotes}
 use Rattle.pc_object.specs.Reading.{object_reading}
 use Rattle.pc_object.specs.declared.refusal.ObjectError.{ObjectError}
-use Rattle.pc_outside.specs.Fault.{Rose}
+use Rattle.pc_word.specs.Count.{Rose}
 use Rattle.pc_outside.specs.Shelf.{Files, Shelved, ReadFaultOf}
 use Rattle.pc_vm.specs.Standing.{Standing, here_of, end_of}
 use Rattle.pc_vm.specs.declared.event.Outcome.{Outcome}

@@ -1,5 +1,6 @@
 use Rattle.std.proofs.Common.{◌≡◌, ℕ, ◌<◌, map, get_or}
-use Rattle.pc_pass.specs.Pass.{Keeps, Rose, NoneFell}
+use Rattle.pc_pass.specs.Pass.{Keeps, NoneFell}
+use Rattle.pc_word.specs.Count.{Rose}
 use Rattle.pc_pass.proofs.list.run_each.Given as goal
 
 -- the passes so far have come to their end

@@ -4,14 +4,14 @@ use Rattle.pc_machine.specs.MachineCode.{CodeRow, Leads_to}
 use Rattle.pc_word.specs.Row.{leaves_of}
 
 -- a leaf of this row leads to the row with this number
-abbrev pub LeadsOn : CodeRow → ℕ → Type 0
-LeadsOn row number = Contains (leaves_of row) (Leads_to number)
+abbrev pub HasLeafTo : CodeRow → ℕ → Type 0
+HasLeafTo row number = Contains (leaves_of row) (Leads_to number)
 
 -- the row with this number is row 0, or leaves lead to it from row 0
-pub data IsReached (rows : List CodeRow) : (number : ℕ) → Type 0 where
-  Entry : IsReached rows 0
+pub data IsReachable (rows : List CodeRow) : (number : ℕ) → Type 0 where
+  Entry : IsReachable rows 0
   Behind : {from number : ℕ} {row : CodeRow} →
-      IsReached rows from →
+      IsReachable rows from →
       slice_get rows from ≡ Some row →
-      LeadsOn row number →
-      IsReached rows number
+      HasLeafTo row number →
+      IsReachable rows number
