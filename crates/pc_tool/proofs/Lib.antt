@@ -1,8 +1,12 @@
-pub mod Compilations
-pub mod CompilerPromises
+pub mod CompilerEndings
+pub mod CompilerStatuses
 pub mod Files
 pub mod FrontEnd
+pub mod Promises
 pub mod Simulations
-pub mod SimulatorPromises
+pub mod SimulatorEndings
+pub mod SimulatorStatuses
 pub mod Sources
-pub mod Translation
+pub mod Statuses
+pub mod Streams
+pub mod Translations

@@ -12,8 +12,6 @@ use Rattle.pc_lexer.specs.declared.error.LexError.TheVariants as lex
 use Rattle.pc_lexer.specs.Cut.{Cut, Done, Next, Stuck, line_behind, pieces_of}
 use Rattle.pc_lexer.specs.Tokens.{kind_of, names_after, token_before, read, lexed}
 use Rattle.pc_syntax.specs.Source.{SourceList, No_more, More, appended, SourceProgram}
-use Rattle.pc_parser.specs.declared.unit.ParseError.{ParseError}
-use Rattle.pc_parser.specs.declared.unit.ParseError.TheVariants as parse
 use Rattle.pc_parser.specs.Statements.{ReadsDeclarators, ReadsDeclaration, ReadsItems, ReadsProgram}
 use Rattle.pc_parser.specs.Parse.{IsReadWithin}
 use Rattle.pc_parser.proofs.Onward.{inside, declarator-onward, statement-onward}
@@ -21,8 +19,9 @@ use Rattle.pc_parser.proofs.Top.{one-program}
 use Rattle.pc_check.specs.declared.error.CheckError.{CheckError}
 use Rattle.pc_check.specs.Faults.{faults}
 use Rattle.pc_check.specs.Sizes.{size}
+use Rattle.pc_report.specs.declared.fault.SourceFault.{SourceFault}
 use Rattle.pc_tool.specs.Source.{IsRead, IsNoSource}
-use Rattle.pc_tool.specs.models.Texts.{FailsToLex, IsUnread, IsNoProgram, IsFaulty, IsTooLarge}
+use Rattle.pc_tool.specs.SourceFaults.{HasFault, Long, Uncut, Unread, Nested, Faulty, Large}
 
 -- ---- one program
 
@@ -39,44 +38,47 @@ read_once text one other r s =
 -- ---- texts that are no source
 
 -- a text that is too long
-pub long_is_none : (text : List ℕ) → most_source < length text → IsNoSource text
+long_is_none : (text : List ℕ) → most_source < length text → IsNoSource text
 long_is_none text long program source = let few : length text ≤ most_source = source.read.few_bytes in omega arith
 
 -- a text without tokens
-pub uncut_is_none : (error : LexError) (text : List ℕ) → FailsToLex error text → IsNoSource text
-uncut_is_none error text u program source =
-    let first : lexed text ≡ Err error = u.first in
+uncut_is_none : (text : List ℕ) (error : LexError) → lexed text ≡ Err error → IsNoSource text
+uncut_is_none text error first program source =
     let cut : lexed text ≡ Ok source.read.tokens = source.read.cut in
     cc
 
--- tokens that no program reads up to a place are no program
-unread_is_none : (error : ParseError) (tokens : List Token) → IsUnread error tokens → (program : SourceProgram) → IsReadWithin most_height tokens program → ⊥
-unread_is_none (parse.Syntax at line) tokens u program read = u.1 tokens program read.0 (λ place below. refl) read.2
-unread_is_none (parse.TooNested at line) tokens u program read = u.1 tokens program read.0 (λ place below. refl) read.1 read.2
-unread_is_none parse.Memory tokens u program read = u
-
--- a text whose tokens are no program
-pub no_program_is_none : (error : ParseError) (text : List ℕ) → IsNoProgram error text → IsNoSource text
-no_program_is_none error text n program source =
-    let same : source.read.tokens ≡ n.tokens = ok_same source.read.tokens n.tokens (lexed text) source.read.cut n.cut in
-    unread_is_none error n.tokens n.unread program (subst (λ tokens. IsReadWithin most_height tokens program) same source.read.read)
+-- a text whose tokens no program reads
+unread_is_none : (text : List ℕ) (tokens : List Token) → lexed text ≡ Ok tokens
+    → ((program : SourceProgram) → IsReadWithin most_height tokens program → ⊥) → IsNoSource text
+unread_is_none text tokens cut nothing program source =
+    let same : source.read.tokens ≡ tokens = ok_same source.read.tokens tokens (lexed text) source.read.cut cut in
+    nothing program (subst (λ tokens. IsReadWithin most_height tokens program) same source.read.read)
 
 -- a text whose program has a fault
-pub faulty_is_none : (error : CheckError) (text : List ℕ) → IsFaulty error text → IsNoSource text
-faulty_is_none error text f program source =
-    let same : f.program ≡ program = read_once text f.program program f.read source.read in
-    let none : faults f.program ≡ [] = ap faults same ∙ source.faultless in
-    let first : slice_get (faults f.program) 0 ≡ Some error = f.first in
-    let nothing : slice_get [] 0 ≡ Some error = subst (λ found. slice_get found 0 ≡ Some error) none first in
+faulty_is_none : (text : List ℕ) (found : SourceProgram) (error : CheckError) → IsRead text found → slice_get (faults found) 0 ≡ Some error → IsNoSource text
+faulty_is_none text found error read first program source =
+    let same : found ≡ program = read_once text found program read source.read in
+    let none : faults found ≡ [] = ap faults same ∙ source.faultless in
+    let nothing : slice_get [] 0 ≡ Some error = subst (λ list. slice_get list 0 ≡ Some error) none first in
     cc
 
 -- a text whose program has too large a flow graph
-pub too_large_is_none : (nodes : ℕ) (text : List ℕ) → IsTooLarge nodes text → IsNoSource text
-too_large_is_none nodes text large program source =
-    let same : large.program ≡ program = read_once text large.program program large.read source.read in
-    let few : size large.program ≤ most_nodes = subst (λ (p : SourceProgram). size p ≤ most_nodes) (sym same) source.few_nodes in
-    let many = large.many_nodes in
+large_is_none : (text : List ℕ) (found : SourceProgram) → IsRead text found → most_nodes < size found → IsNoSource text
+large_is_none text found read many program source =
+    let same : found ≡ program = read_once text found program read source.read in
+    let few : size found ≤ most_nodes = subst (λ (p : SourceProgram). size p ≤ most_nodes) (sym same) source.few_nodes in
     omega (arith, few, many)
+
+-- a text with a fault is no source
+pub fault_is_none : (text : List ℕ) (fault : SourceFault) → HasFault text fault → IsNoSource text
+fault_is_none text fault (Long long) = long_is_none text long
+fault_is_none text fault (Uncut {error} few first told) = uncut_is_none text error first
+fault_is_none text fault (Unread {tokens} few cut place nothing) =
+    unread_is_none text tokens cut (λ program read. nothing tokens program read.0 (λ place below. refl) read.2)
+fault_is_none text fault (Nested {tokens} few cut place nothing far) =
+    unread_is_none text tokens cut (λ program read. nothing tokens program read.0 (λ place below. refl) read.1 read.2)
+fault_is_none text fault (Faulty {program} {error} read first told) = faulty_is_none text program error read first
+fault_is_none text fault (Large {program} read faultless many told) = large_is_none text program read many
 
 -- ---- no more tokens than there may be
 

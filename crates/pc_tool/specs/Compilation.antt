@@ -1,33 +1,40 @@
--- What is compiled: the object that stands for a source.
-use Rattle.std.specs.Prelude.{◌≡◌, ℕ, List, []}
+-- What is compiled: the object that stands for a source, and what is reported of it.
+use Rattle.std.specs.Prelude.{◌≡◌, ℕ, Bool, true, false, List, [], length}
+use Rattle.std.specs.Io.KnownBytes.{Appends}
 use Rattle.pc_word.specs.declared.item.Limits.{Limits}
 use Rattle.pc_syntax.specs.Source.{SourceProgram}
+use Rattle.pc_check.specs.Sizes.{size}
 use Rattle.pc_object.specs.ObjectText.{CodeWithNotes, object_text}
 use Rattle.pc_outside.specs.Shelf.{Shelved, HoldsFile}
-use Rattle.pc_tool.specs.Command.{CompileCommand}
-use Rattle.pc_tool.specs.Told.{HasText}
-use Rattle.pc_tool.specs.Objects.{Loads}
-use Rattle.pc_tool.specs.Source.{IsSource}
+use Rattle.pc_command.specs.Requests.{CompileRequest}
+use Rattle.pc_report.specs.Report.{Report, report_lines}
+use Rattle.pc_tool.specs.Files.{HasSource}
 use Rattle.pc_tool.specs.Meaning.{Same}
+use Rattle.pc_tool.specs.Objects.{Loads}
+use Rattle.pc_tool.specs.Outside.{Streamed}
+use Rattle.pc_tool.specs.Source.{IsSource}
 
--- the limits of the rows where the command gives none
-abbrev pub default_limits : Limits
-default_limits = record { ops = 8; tests = 3; mem = 2 }
-
--- The text is a source; the object loads under the default limits, without notes; for every input of words it does what
--- the source means.
-pub record Translates (text : List ℕ) (object : CodeWithNotes) : Type 0 where
-  pub program : SourceProgram
+-- The text is the source of this program; the object loads under the limits, without notes; for every input of words it does
+-- what the source means.
+pub record Translates (limits : Limits) (text : List ℕ) (program : SourceProgram) (object : CodeWithNotes) : Type 0 where
   pub source : IsSource text program
   pub loads : Loads object
-  pub limits : object.code.limits ≡ default_limits
+  pub limits : object.code.limits ≡ limits
   pub bare : object.notes ≡ []
   pub same : Same program object.code
 
--- the source that was held was translated; its object is held now, and all else is as before
-pub record Compiled (command : CompileCommand) (old new : Shelved) : Type 0 where
+-- the source that is asked for was translated; its object is held now, and all else is as before
+pub record Compiled (request : CompileRequest) (program : SourceProgram) (object : CodeWithNotes) (old new : Shelved) : Type 0 where
   pub text : List ℕ
-  pub object : CodeWithNotes
-  pub in_file : HasText old.held command.source text
-  pub translates : Translates text object
-  pub written : HoldsFile old.held new.held command.object (object_text object)
+  pub in_source : HasSource old.held request.source text
+  pub translates : Translates request.limits text program object
+  pub written : HoldsFile old.held new.held request.object (object_text object)
+
+-- what is reported: the size of the program, which is the number of nodes of its flow graph, and the rows of the object
+abbrev pub report_on : SourceProgram → CodeWithNotes → Report
+report_on program object = record { nodes = size program; rows = length object.code.rows; passes = []; notes = object.notes }
+
+-- the report was sent where it is asked for, and else nothing
+abbrev pub Reports : Bool → Report → Streamed → Streamed → Type 0
+Reports true report old new = Appends old.told new.told (report_lines report)
+Reports false report old new = new ≡ old

@@ -1,57 +1,91 @@
--- What the compiler promises with each status.
-use Rattle.std.specs.Prelude.{◌≡◌, ℕ, ◌≤◌, ◌⊎◌, ◌↔◌, List, Option, Some, None}
-use Rattle.std.specs.FinMap.{get}
-use Rattle.std.specs.Option.{IsSomeAnd}
-use Rattle.pc_outside.specs.Shelf.{Files, Shelved, ReadFaultOf, WriteFaultOf, ReadKeeps, OnlyFileDiffers}
-use Rattle.pc_tool.specs.Command.{CompileCommand}
-use Rattle.pc_tool.specs.Told.{HoldsText}
-use Rattle.pc_tool.specs.Source.{IsSomeSource, IsNoSource}
-use Rattle.pc_tool.specs.Compilation.{Compiled}
+-- What the compiler promises.
+use Rattle.std.specs.Prelude.{◌≡◌, ℕ, true, List, Option, Some, None}
+use Rattle.std.specs.Borrow.{Bor}
+use Rattle.pc_word.specs.Count.{Rose}
+use Rattle.pc_syntax.specs.Source.{SourceProgram}
+use Rattle.pc_object.specs.ObjectText.{CodeWithNotes}
+use Rattle.pc_outside.specs.Shelf.{Shelved, ReadFaultOf, WriteFaultOf, ReadKeeps, OnlyFileDiffers}
+use Rattle.pc_outside.specs.Stream.{AppendsPart}
+use Rattle.pc_command.specs.Requests.{CompileRequest, OfFile}
+use Rattle.pc_report.specs.declared.fault.Speaker.TheVariants.{Pcc}
+use Rattle.pc_report.specs.declared.fault.SourceFault.{SourceFault}
+use Rattle.pc_report.specs.declared.fault.ToolFault.{ToolFault}
+use Rattle.pc_report.specs.declared.fault.ToolFault.TheVariants as fault
+use Rattle.pc_report.specs.Report.{report_lines}
+use Rattle.pc_tool.specs.Compilation.{Compiled, Reports, report_on}
+use Rattle.pc_tool.specs.Due.{Told}
+use Rattle.pc_tool.specs.Files.{HoldsSource}
+use Rattle.pc_tool.specs.Outside.{Outside, Streamed, SendsFront}
+use Rattle.pc_tool.specs.Source.{IsSomeSource}
+use Rattle.pc_tool.specs.SourceFaults.{HasFault}
 
--- nothing was written; or SRC holds a source, and no file but OBJ differs
-abbrev pub RunsOut : CompileCommand → Shelved → Shelved → Type 0
-RunsOut command old new =
-    ReadKeeps old new ⊎ (OnlyFileDiffers old.held new.held command.object × HoldsText old.held command.source IsSomeSource)
+-- What stands where memory ran out: nothing was written and sent; or SRC is a source, and at most OBJ differs; or OBJ holds its
+-- object, and the front of the report was sent.
+pub data CompilerLacks (old new : Shelved) (out out_now : Streamed) : (given : Option CompileRequest) → Type 0 where
+  Early : {given : Option CompileRequest} →
+      ReadKeeps old new →
+      out_now ≡ out →
+      CompilerLacks old new out out_now given
+  Writing : {request : CompileRequest} →
+      HoldsSource old.held request.source IsSomeSource →
+      OnlyFileDiffers old.held new.held request.object →
+      out_now ≡ out →
+      CompilerLacks old new out out_now (Some request)
+  Reporting : {request : CompileRequest} {program : SourceProgram} {object : CodeWithNotes} →
+      request.report ≡ true →
+      Compiled request program object old new →
+      SendsFront out out_now (report_lines (report_on program object)) →
+      CompilerLacks old new out out_now (Some request)
 
--- other words than a command leave the shelf as it was; whatever the status, no file but OBJ differs
-abbrev pub KeepsOthers : Option CompileCommand → Shelved → Shelved → Type 0
-KeepsOthers None old new = new ≡ old
-KeepsOthers (Some command) old new = OnlyFileDiffers old.held new.held command.object
+-- How the compiler ends, by what is due: what was given, and what stands on the shelf and was sent to the output.
+pub data CompilerEnds (old new : Shelved) (out out_now : Streamed) : (given : Option CompileRequest) (due : Option ToolFault) → Type 0 where
+  -- the object is written, and the report sent where it is asked for
+  Done : {request : CompileRequest} {program : SourceProgram} {object : CodeWithNotes} →
+      Compiled request program object old new →
+      Reports request.report (report_on program object) out out_now →
+      CompilerEnds old new out out_now (Some request) None
+  -- the words are no command
+  Misused :
+      new ≡ old →
+      out_now ≡ out →
+      CompilerEnds old new out out_now None (Some (fault.Usage Pcc))
+  -- the shelf had a read fault of SRC
+  Unread : {request : CompileRequest} {name : Bor (List ℕ)} →
+      request.source ≡ OfFile name.now →
+      ReadKeeps old new →
+      ReadFaultOf old new name.now →
+      out_now ≡ out →
+      CompilerEnds old new out out_now (Some request) (Some (fault.ReadFile Pcc name))
+  -- SRC has a text with this fault
+  Refused : {request : CompileRequest} {what : SourceFault} →
+      ReadKeeps old new →
+      HoldsSource old.held request.source (λ text. HasFault text what) →
+      out_now ≡ out →
+      CompilerEnds old new out out_now (Some request) (Some (fault.Source Pcc what))
+  -- SRC is a source, and the shelf had a write fault of OBJ
+  Unwritten : {request : CompileRequest} {name : Bor (List ℕ)} →
+      request.object ≡ name.now →
+      HoldsSource old.held request.source IsSomeSource →
+      OnlyFileDiffers old.held new.held name.now →
+      WriteFaultOf old new name.now →
+      out_now ≡ out →
+      CompilerEnds old new out out_now (Some request) (Some (fault.WriteFile Pcc name))
+  -- the object is written, and a proper prefix of the report was sent before the output failed
+  Unreported : {request : CompileRequest} {program : SourceProgram} {object : CodeWithNotes} →
+      request.report ≡ true →
+      Compiled request program object old new →
+      Rose out.faults out_now.faults →
+      AppendsPart out.told out_now.told (report_lines (report_on program object)) →
+      CompilerEnds old new out out_now (Some request) (Some (fault.WriteOutput Pcc))
+  -- memory ran out
+  Lacking : {given : Option CompileRequest} →
+      CompilerLacks old new out out_now given →
+      CompilerEnds old new out out_now given (Some (fault.NoMemory Pcc))
 
--- Words of a command and a source give 0, or 1 for want of memory, unless the shelf had a fault.
-abbrev pub IsComplete : Option CompileCommand → Shelved → Shelved → ℕ → Type 0
-IsComplete given old new code =
-    (command : CompileCommand) (files : Files) (text : List ℕ) →
-    given ≡ Some command → old.held ≡ Some files → get files command.source ≡ Some text → IsSomeSource text →
-    (code ≡ 0) ⊎ (code ≡ 1) ⊎ ((code ≡ 3) × ReadFaultOf old new command.source) ⊎ ((code ≡ 5) × WriteFaultOf old new command.object)
-
--- Words of a command and a text that is no source give 4, or 1 for want of memory, unless the shelf had a read fault.
-abbrev pub IsStrict : Option CompileCommand → Shelved → Shelved → ℕ → Type 0
-IsStrict given old new code =
-    (command : CompileCommand) (files : Files) (text : List ℕ) →
-    given ≡ Some command → old.held ≡ Some files → get files command.source ≡ Some text → IsNoSource text →
-    (code ≡ 4) ⊎ (code ≡ 1) ⊎ ((code ≡ 3) × ReadFaultOf old new command.source)
-
--- what the compiler promises, of the shelf before and after it, by its status
-pub record CompilerPromise (given : Option CompileCommand) (old new : Shelved) (code : ℕ) : Type 0 where
-  -- 2 exactly where the words are no command
-  pub usage : (code ≡ 2) ↔ (given ≡ None)
-  -- 0: the object at OBJ does what the source at SRC does, and all else is as before
-  pub compiled : code ≡ 0 → IsSomeAnd given (λ command. Compiled command old new)
-  -- 1: nothing was written, or SRC holds a source
-  pub lacking : code ≡ 1 → IsSomeAnd given (λ command. RunsOut command old new)
-  -- 3: the shelf had a read fault of SRC
-  pub unread : code ≡ 3 → IsSomeAnd given (λ command. ReadFaultOf old new command.source)
-  -- 4: SRC holds a text that is no source
-  pub refused : code ≡ 4 → IsSomeAnd given (λ command. HoldsText old.held command.source IsNoSource)
-  -- 5: the shelf had a write fault of OBJ, and SRC holds a source
-  pub unwritten : code ≡ 5 → IsSomeAnd given (λ command. WriteFaultOf old new command.object × HoldsText old.held command.source IsSomeSource)
-  -- there is no other status
-  pub known : code ≤ 5
-  -- a source is compiled, and another text is refused, but for want of memory and faults
-  pub complete : IsComplete given old new code
-  pub strict : IsStrict given old new code
-  -- 3 and 4: nothing was written
-  pub kept : (code ≡ 3) ⊎ (code ≡ 4) → ReadKeeps old new
-  -- other words than a command leave the shelf as it was; whatever the status, no file but OBJ differs
-  pub others : KeepsOthers given old new
+-- What the compiler promises of the outside before and after it: it came to an end, what was due then is told, and the input
+-- was not touched.
+pub record CompilerPromise (given : Option CompileRequest) (old new : Outside) (code : ℕ) : Type 0 where
+  pub due : Option ToolFault
+  pub ends : CompilerEnds old.shelf new.shelf old.out new.out given due
+  pub told : Told due old.err new.err code
+  pub input : new.input ≡ old.input

@@ -1,10 +1,14 @@
 pub mod models
-pub mod Command
 pub mod Compilation
 pub mod Compiler
+pub mod CompilerLaws
+pub mod Due
+pub mod Files
 pub mod Meaning
 pub mod Objects
+pub mod Outside
 pub mod Simulation
 pub mod Simulator
+pub mod SimulatorLaws
 pub mod Source
-pub mod Told
+pub mod SourceFaults

@@ -3,7 +3,7 @@ use Rattle.std.specs.Prelude.{◌≡◌, ℕ, List, Option}
 use Rattle.pc_object.specs.ObjectText.{CodeWithNotes, IsObject, object_text}
 use Rattle.pc_object.specs.Numbers.{HasWords}
 use Rattle.pc_outside.specs.Shelf.{Files}
-use Rattle.pc_tool.specs.Told.{HasText, HoldsText}
+use Rattle.pc_tool.specs.Files.{HasText, HoldsText}
 
 -- the object loads; it is the one that its text is read as, since its literals are words and its lines and numbers below 2^32
 pub record Loads (object : CodeWithNotes) : Type 0 where

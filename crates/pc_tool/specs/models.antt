@@ -1,4 +1,5 @@
 pub mod Compiling
+pub mod Reading
 pub mod Refusals
 pub mod Simulating
-pub mod Texts
+pub mod Translating

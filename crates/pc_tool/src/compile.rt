@@ -1,96 +1,135 @@
-//! The compiler: from the source on the shelf to the object on it.
-ghost use Rattle.std.specs.Prelude.{◌≡◌, ◌≤◌, length, MatchResult};
-ghost use Rattle.pc_outside.specs.Shelf.{WriteKeeps, HoldsFile};
-ghost use Rattle.pc_tool.specs.Command.{command_of, spelled};
-ghost use Rattle.pc_tool.specs.models.Compiling.{AnswersCommand, AnswersCompile, IsTranslation, RefusesToWrite, compiler_status};
-ghost use Rattle.pc_tool.specs.models.Texts.{RefusesText};
+//! The compiler: from the words of its command to the object on the shelf and the report.
+ghost use Rattle.std.specs.Prelude.{◌≡◌, ◌≤◌, length, Some};
+ghost use Rattle.pc_command.specs.Requests.{compile_command_of, compile_request, origin_named};
+ghost use Rattle.pc_command.specs.Words.{spelled};
+ghost use Rattle.pc_tool.specs.Compiler.{CompilerEnds};
+ghost use Rattle.pc_tool.specs.Files.{HasSource};
+ghost use Rattle.pc_tool.specs.Outside.{streamed};
+ghost use Rattle.pc_tool.specs.models.Compiling.{HasTranslation, ReportEnds, reported};
+ghost use Rattle.pc_word.specs.Ranges.{AreLimits};
 ghost use Rattle.pc_word.specs.SourceLimits.{most_source};
 
-use crate::command::read_command;
-use crate::file::read_whole;
-use crate::front_end::read_program;
 use crate::refusal::Refusal;
-use pc_compile::compile;
-use pc_object::{EncodeError, encode};
-use pc_outside::{Shelf, ShelfError};
-use pc_word::{Limits, MOST_SOURCE};
+use crate::source::read_source;
+use crate::translation::{Translation, translate};
+use pc_command::{CommandError, CompileCommand, compile_command};
+use pc_outside::{Shelf, ShelfError, Sink, send};
+use pc_report::{ReportError, ReportFacts, Speaker, ToolFault, report_text};
 use std::alloc::Global;
 
-/// The limits of the rows where the command gives none.
-const LIMITS: Limits = Limits {
-    ops: 8,
-    tests: 3,
-    mem: 2,
-};
-
-/// Compiles as the words say.
-pub(crate) fn run_compiler<H: Shelf>(
+/// Compiles as the words say, and gives what is due then.
+pub(crate) fn run_compiler<'a, H: Shelf, O: Sink>(
     alloc: Global,
-    words: &[String],
+    words: &'a [String],
     shelf: &mut H,
-) -> Result<(), Refusal>
-    ensures { AnswersCommand result (command_of (spelled words.now)) (H.state shelf.old) (H.state shelf.new) }
+    out: &mut O,
+) -> Option<ToolFault<'a>>
+    ensures { CompilerEnds (H.state shelf.old) (H.state shelf.new) (streamed (O.taken out.old) (O.faults out.old))
+        (streamed (O.taken out.new) (O.faults out.new)) (compile_command_of (spelled words.entry.now)) result }
 {
-    match read_command(words) {
-        Some(command) => compile_file(alloc, command.source, command.object, shelf),
-        None => Err(Refusal::Usage),
+    match compile_command(alloc, words) {
+        Ok(command) => compile_source(alloc, command, shelf, out),
+        Err(CommandError::NoCommand) => Some(ToolFault::Usage { who: Speaker::Pcc }),
+        Err(CommandError::Memory) => Some(ToolFault::NoMemory { who: Speaker::Pcc }),
     }
 }
 
-/// The status that an answer of the compiler ends with.
-pub(crate) fn compiler_status(answer: Result<(), Refusal>) -> u8
-    ensures { result ≡ compiler_status answer }
+/// Compiles the source that the command names.
+fn compile_source<'a, H: Shelf, O: Sink>(
+    alloc: Global,
+    command: CompileCommand<'a>,
+    shelf: &mut H,
+    out: &mut O,
+) -> Option<ToolFault<'a>>
+    requires { AreLimits command.limits }
+    ensures { CompilerEnds (H.state shelf.old) (H.state shelf.new) (streamed (O.taken out.old) (O.faults out.old))
+        (streamed (O.taken out.new) (O.faults out.new)) (Some (compile_request command)) result }
 {
-    match answer {
-        Ok(()) => 0,
-        Err(Refusal::Memory) => 1,
-        Err(Refusal::Usage) => 2,
-        Err(Refusal::Read) => 3,
-        Err(Refusal::Text { .. }) => 4,
-        Err(Refusal::Write) => 5,
+    match read_source(alloc, command.source, shelf) {
+        Ok(text) => compile_text(alloc, text.as_slice(), command, shelf, out),
+        Err(fault) => Some(fault),
     }
 }
 
-/// Compiles the source and writes its object.
-fn compile_file<H: Shelf>(
+/// Compiles the source's text.
+fn compile_text<'a, H: Shelf, O: Sink>(
     alloc: Global,
-    source: &str,
-    object: &str,
+    text: &[u8],
+    command: CompileCommand<'a>,
     shelf: &mut H,
-) -> Result<(), Refusal>
-    ensures { AnswersCompile result (record { source = source.now; object = object.now }) (H.state shelf.old) (H.state shelf.new) }
+    out: &mut O,
+) -> Option<ToolFault<'a>>
+    requires few_bytes { length text.now ≤ most_source }
+    requires limits { AreLimits command.limits }
+    requires source { HasSource (H.state shelf.old).held (origin_named command.source) text.now }
+    ensures { CompilerEnds (H.state shelf.old) (H.state shelf.new) (streamed (O.taken out.old) (O.faults out.old))
+        (streamed (O.taken out.new) (O.faults out.new)) (Some (compile_request command)) result }
 {
-    let text = read_whole(alloc, source, MOST_SOURCE, shelf)?;
-    let bytes = translate(alloc, text.as_slice())?;
-    write_object(alloc, object, bytes.as_slice(), shelf)
+    match translate(alloc, text, command.limits) {
+        Ok(translation) => write_object(alloc, &translation, command, shelf, out),
+        Err(Refusal::Source { fault }) => Some(ToolFault::Source {
+            who: Speaker::Pcc,
+            fault,
+        }),
+        Err(Refusal::Memory) => Some(ToolFault::NoMemory { who: Speaker::Pcc }),
+    }
 }
 
-/// The text of the object that does what a source does.
-fn translate(alloc: Global, text: &[u8]) -> Result<Vec<u8>, Refusal>
-    requires { length text.now ≤ most_source }
-    ensures { MatchResult result (λ bytes. IsTranslation text.now bytes.items) (λ refusal. RefusesText refusal text.now) }
+/// Writes the object, and sends the report where it is asked for.
+fn write_object<'a, H: Shelf, O: Sink>(
+    alloc: Global,
+    translation: &Translation,
+    command: CompileCommand<'a>,
+    shelf: &mut H,
+    out: &mut O,
+) -> Option<ToolFault<'a>>
+    requires { HasTranslation (H.state shelf.old).held (compile_request command) translation.now }
+    ensures { CompilerEnds (H.state shelf.old) (H.state shelf.new) (streamed (O.taken out.old) (O.faults out.old))
+        (streamed (O.taken out.new) (O.faults out.new)) (Some (compile_request command)) result }
 {
-    let checked = read_program(alloc, text)?;
-    let compiled = compile(alloc, &checked, LIMITS)?;
-    let bytes = encode(alloc, &compiled.object)?;
-    Ok(bytes)
+    match shelf.write_file(alloc, command.object, translation.bytes.as_slice()) {
+        Ok(()) => report(alloc, translation, command.report, out),
+        Err(ShelfError::Failed) => Some(ToolFault::WriteFile {
+            who: Speaker::Pcc,
+            name: command.object,
+        }),
+        Err(ShelfError::Memory) => Some(ToolFault::NoMemory { who: Speaker::Pcc }),
+    }
 }
 
-/// Writes the object.
-fn write_object<H: Shelf>(
+/// Sends the report where it is asked for.
+fn report<'a, O: Sink>(
     alloc: Global,
-    name: &str,
-    bytes: &[u8],
-    shelf: &mut H,
-) -> Result<(), Refusal>
-    ensures keeps { WriteKeeps (H.state shelf.old) (H.state shelf.new) name.now }
-    ensures written { MatchResult result
-        (λ _. HoldsFile (H.state shelf.old).held (H.state shelf.new).held name.now bytes.now)
-        (λ refusal. RefusesToWrite refusal name.now (H.state shelf.old) (H.state shelf.new)) }
+    translation: &Translation,
+    asked: bool,
+    out: &mut O,
+) -> Option<ToolFault<'a>>
+    requires { AllByRecursion IsChoice translation.now.notes }
+    ensures { ReportEnds asked (report_lines (reported translation.now))
+        (streamed (O.taken out.old) (O.faults out.old)) (streamed (O.taken out.new) (O.faults out.new)) result }
 {
-    match shelf.write_file(alloc, name, bytes) {
-        Ok(()) => Ok(()),
-        Err(ShelfError::Failed) => Err(Refusal::Write),
-        Err(ShelfError::Memory) => Err(Refusal::Memory),
+    if !asked {
+        return None;
+    }
+    let facts = ReportFacts {
+        nodes: translation.nodes,
+        rows: translation.rows,
+        passes: &[],
+        notes: translation.notes.as_slice(),
+    };
+    match report_text(alloc, &facts) {
+        Ok(text) => send_report(text.as_slice(), out),
+        Err(ReportError::Memory) => Some(ToolFault::NoMemory { who: Speaker::Pcc }),
+    }
+}
+
+/// Sends the text of a report.
+fn send_report<'a, O: Sink>(text: &[u8], out: &mut O) -> Option<ToolFault<'a>>
+    ensures { ReportEnds true text.now
+        (streamed (O.taken out.old) (O.faults out.old)) (streamed (O.taken out.new) (O.faults out.new)) result }
+{
+    match send(out, text) {
+        Ok(()) => None,
+        Err(_) => Some(ToolFault::WriteOutput { who: Speaker::Pcc }),
     }
 }

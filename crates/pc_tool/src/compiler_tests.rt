@@ -1,7 +1,8 @@
-//! The compiler over a shelf in memory.
+//! The compiler: each status with its line, its options and its report.
 
-use crate::{Who, tool};
-use pc_outside::{CallList, Failed, MemoryShelf, Sink, Source};
+use crate::Who;
+use crate::bench::{Failing, Left, NONE_FAILS, call, holds, shelf_with};
+use pc_outside::MemoryShelf;
 use std::alloc::Global;
 use std::test::Fail;
 
@@ -10,206 +11,444 @@ const SEVEN: &[u8] = b"int main(void){print(7);}";
 const SEVEN_OBJECT: &[u8] =
     b"PTV1\x08\x03\x02\x00\x00\x00\x00\x01\x24\x01\x00\x00\x00\x07\x02\x00\x00";
 
-/// A stream that is never used.
-#[derive(Drop)]
-struct Unused;
+const USAGE: &str =
+    "usage: pcc SRC -o OBJ [--ops N] [--tests N] [--mem N] [--window N] [--rows N] [--report]\n";
 
-impl Source for Unused {
-    ghost use Rattle.std.specs.Prelude.{None};
+/// Lines that are no command.
+const NO_COMMANDS: [&str; 8] = [
+    "",
+    "a.c",
+    "a.c -o b.tv --ops 0",
+    "a.c -o b.tv --rows 513",
+    "a.c -o b.tv c.tv",
+    "@q -o b.tv",
+    "--help",
+    "--version",
+];
 
-    ghost left = { λ _. None };
+/// Sources, and the line that tells why each is refused.
+const REFUSED: [(&[u8], &str); 26] = [
+    (b"int main(void){$}", "bad byte at offset 15"),
+    (b"int main(void){print(08);}", "bad literal at line 1"),
+    (b"int main(void){}\n\n/* x", "open comment at line 3"),
+    (b"", "syntax at line 1"),
+    (b"int main(void){print(1)}", "syntax at line 1"),
+    (b"int main(void){\nint x\nx=1;}", "syntax at line 3"),
+    (b"int main(void){x=1;}", "undeclared at line 1"),
+    (
+        b"int main(void){\nint x;\nint x;}",
+        "declared twice at line 3",
+    ),
+    (b"int main(void){int x;\nx[0]=1;}", "not an array at line 2"),
+    (
+        b"int main(void){int a[2];\n\na=1;}",
+        "not a scalar at line 3",
+    ),
+    (b"int main(void){int a[0];}", "bad size at line 1"),
+    (b"int main(void){int a[65537];}", "bad size at line 1"),
+    (b"int main(void){\nbreak;}", "outside a loop at line 2"),
+    (b"int main(void){\n{continue;}}", "outside a loop at line 2"),
+    // At each kind of place the line is that of the token at which nothing goes on.
+    (b"int\nmain\n(\nvoid\n)\n{\n}\n}", "syntax at line 8"),
+    (b"int main(void){\nif 1)print(1);}", "syntax at line 2"),
+    (b"int main(void){\nwhile(1\n{}}", "syntax at line 3"),
+    (b"int main(void){\nfor(;;\n{}}", "syntax at line 3"),
+    (b"int main(void){\ndo{}\nwhile(1)\n}", "syntax at line 4"),
+    (b"int main(void){\nprint(1+\n);}", "syntax at line 3"),
+    (b"int main(void){\nprint(1 2);}", "syntax at line 2"),
+    (b"int main(void){int a[2];\na[0=1;}", "syntax at line 2"),
+    (b"int main(void){int x;\nx?1:2;\nx?1;}", "syntax at line 3"),
+    (b"int main(void){\nelse;}", "syntax at line 2"),
+    (b"int main(void){\nreturn\n0}", "syntax at line 3"),
+    (b"int main(void){\nint x=1,;}", "syntax at line 2"),
+];
 
-    ghost faults = { λ _. 0 };
-
-    fn read(&mut self, _into: &mut [u8]) -> Result<usize, Failed> {
-        Ok(0)
-    }
+/// Compiles a text.
+fn compile(alloc: Global, line: &str, text: &[u8]) -> Result<Left, Fail> {
+    let mut shelf = shelf_with(alloc, "a.c", text, 0)?;
+    call(alloc, Who::Pcc, line, &mut shelf, b"", NONE_FAILS)
 }
 
-impl Sink for Unused {
-    ghost use Rattle.std.specs.Prelude.{None};
-
-    ghost taken = { λ _. None };
-
-    ghost faults = { λ _. 0 };
-
-    fn write(&mut self, from: &[u8]) -> Result<usize, Failed> {
-        Ok(from.len())
-    }
+/// Whether a text is refused with this line.
+fn refuses(alloc: Global, text: &[u8], told: &str) -> Result<bool, Fail> {
+    let line = format!(in alloc; "pcc: source: {told}\n")?;
+    let left = compile(alloc, "a.c -o b.tv", text)?;
+    Ok(left.is(4, b"", line.as_str()))
 }
 
-/// The status of a command line over a shelf.
-pub(crate) fn status(alloc: Global, shelf: &mut MemoryShelf, words: &[String]) -> u8 {
-    let status = tool(
+#[test]
+fn tells_what_is_no_command(rt: HostRuntime) -> Result<(), Fail> {
+    let alloc = rt.alloc();
+    for line in NO_COMMANDS {
+        let left = compile(alloc, line, SEVEN)?;
+        assert!(rt; left.is(2, b"", USAGE), "{line}");
+    }
+    Ok(())
+}
+
+#[test]
+fn tells_why_a_text_is_no_source(rt: HostRuntime) -> Result<(), Fail> {
+    let alloc = rt.alloc();
+    for (number, (text, told)) in REFUSED.iter().enumerate() {
+        assert!(rt; refuses(alloc, text, told)?, "source {number}");
+    }
+    Ok(())
+}
+
+/// A text made of a piece, so many times, between two others.
+fn repeated(
+    alloc: Global,
+    before: &str,
+    piece: &str,
+    count: usize,
+    behind: &str,
+) -> Result<String, Fail> {
+    let mut text = String::from_str(alloc, before)?;
+    for _ in 0..count {
+        text.push_str(piece)?;
+    }
+    text.push_str(behind)?;
+    Ok(text)
+}
+
+/// A source that is long, and what is told of it, or nothing where it is accepted.
+#[derive(Clone, Copy)]
+struct Long {
+    before: &'static str,
+    piece: &'static str,
+    count: usize,
+    behind: &'static str,
+    told: &'static str,
+}
+
+const LONG: [Long; 12] = [
+    // Two declarations of one node each, four nodes a round, and the end.
+    Long {
+        before: "int main(void){int x;int y;int z;",
+        piece: "print(x/y);",
+        count: 4095,
+        behind: "}",
+        told: "",
+    },
+    Long {
+        before: "int main(void){int x;int y;",
+        piece: "print(x/y);",
+        count: 4096,
+        behind: "}",
+        told: "too large: 16387 nodes",
+    },
+    Long {
+        before: "int main(void){",
+        piece: "\n{int v;}",
+        count: 64,
+        behind: "\n}",
+        told: "",
+    },
+    Long {
+        before: "int main(void){",
+        piece: "\n{int v;}",
+        count: 65,
+        behind: "\n}",
+        told: "too many scalars at line 66",
+    },
+    Long {
+        before: "int main(void){",
+        piece: "\n{int a[65536];}",
+        count: 16,
+        behind: "}",
+        told: "",
+    },
+    Long {
+        before: "int main(void){",
+        piece: "\n{int a[65536];}",
+        count: 16,
+        behind: "\nint b[1];}",
+        told: "too many elements at line 18",
+    },
+    Long {
+        before: "int main(void){",
+        piece: "{int a[1];}",
+        count: 32,
+        behind: "\nint b[1];}",
+        told: "too many arrays at line 2",
+    },
+    // A missing semicolon far behind is told as such.
+    Long {
+        before: "int main(void){int x;",
+        piece: "x=x+1;\n",
+        count: 100,
+        behind: "x=1\nx=2;}",
+        told: "syntax at line 102",
+    },
+    Long {
+        before: "int main(void){print(",
+        piece: "(",
+        count: 300,
+        behind: "1;}",
+        told: "nested too deep at line 1",
+    },
+    Long {
+        before: "int main(void)",
+        piece: "{\n",
+        count: 300,
+        behind: "",
+        told: "nested too deep at line 257",
+    },
+    Long {
+        before: "int main(void){",
+        piece: "1;1;1;1;1;1;1;1;1;1;1;1;1;1;1;1;",
+        count: 2048,
+        behind: "}",
+        told: "too many tokens",
+    },
+    Long {
+        before: "int main(void){}",
+        piece: "                                ",
+        count: 32768,
+        behind: "",
+        told: "longer than 1048576 bytes",
+    },
+];
+
+/// Whether a long source ends as it is to.
+fn ends_as_told(alloc: Global, long: &Long) -> Result<bool, Fail> {
+    let text = repeated(alloc, long.before, long.piece, long.count, long.behind)?;
+    if !long.told.is_empty() {
+        return refuses(alloc, text.as_bytes(), long.told);
+    }
+    let left = compile(alloc, "a.c -o b.tv", text.as_bytes())?;
+    Ok(left.is(0, b"", ""))
+}
+
+#[test]
+fn tells_what_is_too_much(rt: HostRuntime) -> Result<(), Fail> {
+    let alloc = rt.alloc();
+    for (number, long) in LONG.iter().enumerate() {
+        assert!(rt; ends_as_told(alloc, long)?, "source {number}");
+    }
+    Ok(())
+}
+
+/// Whether so many elements, summed from the right, are compiled, or else refused as too deep.
+fn sums(alloc: Global, elements: usize, fits: bool) -> Result<bool, Fail> {
+    let inner = repeated(
         alloc,
-        Who::Pcc,
-        words,
-        shelf,
-        &mut Unused,
-        &mut Unused,
-        &mut Unused,
-    );
-    status.code
-}
-
-/// Whether a shelf holds exactly these bytes under a name.
-fn holds(shelf: &MemoryShelf, name: &str, bytes: &[u8]) -> bool {
-    match shelf.held(name) {
-        Some(held) => held == bytes,
-        None => false,
+        "int main(void){int a[1];print(",
+        "a[0]+(",
+        elements - 1,
+        "a[0]",
+    )?;
+    let text = repeated(alloc, inner.as_str(), ")", elements - 1, ");}")?;
+    if fits {
+        Ok(compile(alloc, "a.c -o b.tv", text.as_bytes())?.is(0, b"", ""))
+    } else {
+        refuses(alloc, text.as_bytes(), "expression too deep at line 1")
     }
 }
 
-/// The words of a command.
-pub(crate) fn command(alloc: Global, source: &str, object: &str) -> Result<Vec<String>, Fail> {
-    let source = String::from_str(alloc, source)?;
-    let flag = String::from_str(alloc, "-o")?;
-    let object = String::from_str(alloc, object)?;
-    Ok(vec![in alloc; source, flag, object]?)
+#[test]
+fn sums_at_most_32_elements_from_the_right(rt: HostRuntime) -> Result<(), Fail> {
+    let alloc = rt.alloc();
+    assert!(rt; sums(alloc, 32, true)?);
+    assert!(rt; sums(alloc, 33, false)?);
+    Ok(())
 }
 
-/// A shelf with the file `a.c`, of whose reads and writes, counted from 1, this one fails.
-pub(crate) fn shelf_with(alloc: Global, text: &[u8], failing: u64) -> Result<MemoryShelf, Fail> {
-    let failing = CallList::from_slice(alloc, &[failing])?;
-    let mut shelf = MemoryShelf::new(alloc, failing);
-    shelf.put(alloc, "a.c", text)?;
-    Ok(shelf)
+/// Lines, and the first bytes of the object that each makes of `print(7)`: its limits.
+const LIMITS: [(&str, &[u8]); 4] = [
+    ("a.c -o b.tv", b"PTV1\x08\x03\x02"),
+    (
+        "a.c -o b.tv --ops 32 --tests 7 --mem 32",
+        b"PTV1\x20\x07\x20",
+    ),
+    ("--mem=1 -ob.tv a.c --ops +4", b"PTV1\x04\x03\x01"),
+    ("a.c -o b.tv --window 8 --rows 512", b"PTV1\x08\x03\x02"),
+];
+
+/// Whether the compiler ends with success, and the object begins with these bytes.
+fn begins_with(alloc: Global, line: &str, front: &[u8]) -> Result<bool, Fail> {
+    let mut shelf = shelf_with(alloc, "a.c", SEVEN, 0)?;
+    let left = call(alloc, Who::Pcc, line, &mut shelf, b"", NONE_FAILS)?;
+    let begins = match shelf.held("b.tv") {
+        Some(object) => object.starts_with(front),
+        None => false,
+    };
+    Ok(begins && left.is(0, b"", ""))
+}
+
+#[test]
+fn declares_the_limits_of_its_options(rt: HostRuntime) -> Result<(), Fail> {
+    let alloc = rt.alloc();
+    for (line, front) in LIMITS {
+        assert!(rt; begins_with(alloc, line, front)?, "{line}");
+    }
+    Ok(())
+}
+
+/// A call of the compiler on `print(7)` in `a.c`: the calls that fail, what it leaves, and whether the object
+/// stands.
+#[derive(Clone, Copy)]
+struct Call {
+    line: &'static str,
+    failing: Failing,
+    code: u8,
+    out: &'static [u8],
+    err: &'static str,
+    stands: bool,
+}
+
+const CALLS: [Call; 9] = [
+    Call {
+        line: "a.c -o b.tv",
+        failing: NONE_FAILS,
+        code: 0,
+        out: b"",
+        err: "",
+        stands: true,
+    },
+    Call {
+        line: "a.c -o b.tv --report",
+        failing: NONE_FAILS,
+        code: 0,
+        out: b"nodes 2\nrows 1\n",
+        err: "",
+        stands: true,
+    },
+    Call {
+        line: "b.c -o b.tv --report",
+        failing: NONE_FAILS,
+        code: 3,
+        out: b"",
+        err: "pcc: read failed: b.c\n",
+        stands: false,
+    },
+    Call {
+        line: "a.c -o b.tv",
+        failing: Failing {
+            shelf: 1,
+            ..NONE_FAILS
+        },
+        code: 3,
+        out: b"",
+        err: "pcc: read failed: a.c\n",
+        stands: false,
+    },
+    Call {
+        line: "a.c -o b.tv --report",
+        failing: Failing {
+            shelf: 2,
+            ..NONE_FAILS
+        },
+        code: 5,
+        out: b"",
+        err: "pcc: write failed: b.tv\n",
+        stands: false,
+    },
+    Call {
+        line: "a.c -o b.tv --report",
+        failing: Failing {
+            out: 1,
+            ..NONE_FAILS
+        },
+        code: 5,
+        out: b"",
+        err: "pcc: write failed: output\n",
+        stands: true,
+    },
+    // Without a report the output is not touched.
+    Call {
+        line: "a.c -o b.tv",
+        failing: Failing {
+            out: 1,
+            err: 1,
+            ..NONE_FAILS
+        },
+        code: 0,
+        out: b"",
+        err: "",
+        stands: true,
+    },
+    // A line that cannot be told is status 5, whatever it tells.
+    Call {
+        line: "b.c -o b.tv",
+        failing: Failing {
+            err: 1,
+            ..NONE_FAILS
+        },
+        code: 5,
+        out: b"",
+        err: "",
+        stands: false,
+    },
+    Call {
+        line: "-x",
+        failing: Failing {
+            err: 1,
+            ..NONE_FAILS
+        },
+        code: 5,
+        out: b"",
+        err: "",
+        stands: false,
+    },
+];
+
+/// Whether a call leaves what it is to.
+fn leaves(alloc: Global, made: &Call) -> Result<bool, Fail> {
+    let mut shelf = shelf_with(alloc, "a.c", SEVEN, made.failing.shelf)?;
+    let left = call(alloc, Who::Pcc, made.line, &mut shelf, b"", made.failing)?;
+    let stands = holds(&shelf, "b.tv", SEVEN_OBJECT);
+    Ok(
+        stands == made.stands
+            && holds(&shelf, "a.c", SEVEN)
+            && left.is(made.code, made.out, made.err),
+    )
+}
+
+#[test]
+fn tells_what_failed(rt: HostRuntime) -> Result<(), Fail> {
+    let alloc = rt.alloc();
+    for (number, made) in CALLS.iter().enumerate() {
+        assert!(rt; leaves(alloc, made)?, "call {number}");
+    }
+    Ok(())
 }
 
 #[test]
 fn writes_the_object_over_the_source(rt: HostRuntime) -> Result<(), Fail> {
     let alloc = rt.alloc();
-    let words = command(alloc, "a.c", "a.c")?;
-    let mut shelf = shelf_with(alloc, SEVEN, 9)?;
-    assert!(rt; status(alloc, &mut shelf, words.as_slice()) == 0);
+    let mut shelf = shelf_with(alloc, "a.c", SEVEN, 0)?;
+    let left = call(alloc, Who::Pcc, "a.c -o a.c", &mut shelf, b"", NONE_FAILS)?;
+    assert!(rt; left.is(0, b"", ""));
     assert!(rt; holds(&shelf, "a.c", SEVEN_OBJECT));
     Ok(())
 }
 
-#[test]
-fn tells_a_failed_write(rt: HostRuntime) -> Result<(), Fail> {
-    let alloc = rt.alloc();
-    let words = command(alloc, "a.c", "b.tv")?;
-    let mut shelf = shelf_with(alloc, SEVEN, 2)?;
-    assert!(rt; status(alloc, &mut shelf, words.as_slice()) == 5);
-    assert!(rt; holds(&shelf, "a.c", SEVEN));
-    Ok(())
+/// The report of a sample, compiled over a shelf.
+fn sample_report(alloc: Global, line: &str) -> Result<(MemoryShelf, Left), Fail> {
+    let mut shelf = shelf_with(alloc, "a.c", SEVEN, 0)?;
+    let left = call(alloc, Who::Pcc, line, &mut shelf, b"", NONE_FAILS)?;
+    Ok((shelf, left))
 }
 
 #[test]
-fn tells_a_source_that_is_not_held(rt: HostRuntime) -> Result<(), Fail> {
+fn compiles_samples_alike_each_time(rt: HostRuntime) -> Result<(), Fail> {
     let alloc = rt.alloc();
-    let words = command(alloc, "b.c", "b.tv")?;
-    let mut shelf = shelf_with(alloc, SEVEN, 9)?;
-    assert!(rt; status(alloc, &mut shelf, words.as_slice()) == 3);
-    Ok(())
-}
-
-/// Whether the compiler ends with this status on a text, and leaves these bytes as the object; none where
-/// it is to write no object.
-fn compiles(alloc: Global, text: &[u8], code: u8, object: &[u8]) -> Result<bool, Fail> {
-    let words = command(alloc, "a.c", "b.tv")?;
-    let mut shelf = shelf_with(alloc, text, 9)?;
-    let ended = status(alloc, &mut shelf, words.as_slice()) == code;
-    Ok(ended && wrote(&shelf, object))
-}
-
-/// Whether the object is these bytes, or none where there are none.
-fn wrote(shelf: &MemoryShelf, object: &[u8]) -> bool {
-    match shelf.held("b.tv") {
-        Some(held) => held == object,
-        None => object.is_empty(),
+    for line in [
+        "@0 -o b.tv --report",
+        "@7 -o b.tv --report",
+        "@119 -o b.tv --report",
+    ] {
+        let (one_shelf, one) = sample_report(alloc, line)?;
+        let (other_shelf, other) = sample_report(alloc, line)?;
+        assert_eq!(rt; one.code, 0, "{line}");
+        assert!(rt; one.out.taken().starts_with(b"nodes "), "{line}");
+        assert!(rt; other.is(0, one.out.taken(), ""), "{line}");
+        let object = one_shelf.held("b.tv").unwrap_or(b"");
+        assert!(rt;
+            object.starts_with(b"PTV1") && holds(&other_shelf, "b.tv", object),
+            "{line}"
+        );
     }
-}
-
-/// Whether these names make no command.
-fn is_usage(alloc: Global, source: &str, object: &str) -> Result<bool, Fail> {
-    let words = command(alloc, source, object)?;
-    let mut shelf = shelf_with(alloc, SEVEN, 9)?;
-    Ok(status(alloc, &mut shelf, words.as_slice()) == 2)
-}
-
-#[test]
-fn refuses_names_that_are_none(rt: HostRuntime) -> Result<(), Fail> {
-    let alloc = rt.alloc();
-    assert!(rt; is_usage(alloc, "@a", "b.tv")?);
-    assert!(rt; is_usage(alloc, "-a.c", "b.tv")?);
-    assert!(rt; is_usage(alloc, "a.c", "-b.tv")?);
-    assert!(rt; !is_usage(alloc, "a.c", "b.tv")?);
-    Ok(())
-}
-
-#[test]
-fn takes_three_words(rt: HostRuntime) -> Result<(), Fail> {
-    let alloc = rt.alloc();
-    let source = String::from_str(alloc, "a.c")?;
-    let flag = String::from_str(alloc, "-o")?;
-    let words = vec![in alloc; source, flag]?;
-    let mut shelf = shelf_with(alloc, SEVEN, 9)?;
-    assert!(rt; status(alloc, &mut shelf, words.as_slice()) == 2);
-    Ok(())
-}
-
-#[test]
-fn reads_the_whole_language(rt: HostRuntime) -> Result<(), Fail> {
-    let alloc = rt.alloc();
-    assert!(rt; compiles(alloc, SEVEN, 0, SEVEN_OBJECT)?);
-    assert!(rt;
-        compiles(
-            alloc,
-            b"#include <stdio.h>\n/* x */ int main(){ print((07)); } // end",
-            0,
-            SEVEN_OBJECT
-        )?
-    );
-    assert!(rt;
-        compiles(
-            alloc,
-            b"int main(void){}",
-            0,
-            b"PTV1\x08\x03\x02\x00\x00\x00\x00\x01\x02\x00\x00"
-        )?
-    );
-    Ok(())
-}
-
-#[test]
-fn refuses_what_is_no_source(rt: HostRuntime) -> Result<(), Fail> {
-    let alloc = rt.alloc();
-    assert!(rt; compiles(alloc, b"int main(void){$}", 4, b"")?);
-    assert!(rt; compiles(alloc, b"int main(void){print(08);}", 4, b"")?);
-    assert!(rt; compiles(alloc, b"/* x", 4, b"")?);
-    assert!(rt; compiles(alloc, b"", 4, b"")?);
-    assert!(rt; compiles(alloc, b"int main(void){print(1)}", 4, b"")?);
-    assert!(rt; compiles(alloc, b"int main(void){x=1;}", 4, b"")?);
-    assert!(rt; compiles(alloc, b"int main(void){break;}", 4, b"")?);
-    Ok(())
-}
-
-/// A source of two scalars, more declarations, and so many statements of three nodes each.
-fn long_source(alloc: Global, more: &str, count: usize) -> Result<String, Fail> {
-    let mut text = String::from_str(alloc, "int main(void){int x;int y;")?;
-    text.push_str(more)?;
-    for _ in 0..count {
-        text.push_str("x/y;x=y;")?;
-    }
-    text.push_str("}")?;
-    Ok(text)
-}
-
-/// Whether the compiler ends with this status on such a source.
-fn long_source_ends(alloc: Global, more: &str, count: usize, code: u8) -> Result<bool, Fail> {
-    let text = long_source(alloc, more, count)?;
-    let words = command(alloc, "a.c", "b.tv")?;
-    let mut shelf = shelf_with(alloc, text.as_bytes(), 9)?;
-    Ok(status(alloc, &mut shelf, words.as_slice()) == code)
-}
-
-/// Each declaration has a node, each round has four, and the end has one.
-#[test]
-fn refuses_more_than_16384_nodes(rt: HostRuntime) -> Result<(), Fail> {
-    let alloc = rt.alloc();
-    assert!(rt; long_source_ends(alloc, "int z;", 4095, 0)?);
-    assert!(rt; long_source_ends(alloc, "int z;x=y;", 4095, 4)?);
     Ok(())
 }

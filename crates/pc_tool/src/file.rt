@@ -1,8 +1,8 @@
 //! Whole files of the shelf.
 ghost use Rattle.std.specs.Prelude.{◌≤◌, length, MatchResult, IfOk};
 ghost use Rattle.pc_outside.specs.Shelf.{ReadKeeps};
-ghost use Rattle.pc_tool.specs.Told.{HasText};
-ghost use Rattle.pc_tool.specs.models.Refusals.{RefusesFile};
+ghost use Rattle.pc_tool.specs.Files.{HasText};
+ghost use Rattle.pc_tool.specs.models.Reading.{RefusesFile};
 ghost use Rattle.pc_word.specs.MachineLimits.{most_object};
 
 use pc_outside::{Shelf, ShelfError};

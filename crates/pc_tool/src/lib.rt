@@ -1,13 +1,14 @@
 //! The top call of both programs: the compiler and the simulator.
 #![tactic(auto)]
 
-mod command;
+#[cfg(test)]
+mod bench;
 mod compile;
 #[cfg(test)]
 mod compiler_tests;
 mod file;
-mod front_end;
 mod host;
+mod laws;
 mod program;
 #[cfg(test)]
 mod program_tests;
@@ -15,8 +16,12 @@ mod refusal;
 mod simulate;
 #[cfg(test)]
 mod simulator_tests;
+mod source;
 mod stop;
+mod telling;
+mod translation;
 mod words;
 
 pub use host::run;
+pub use laws::{laws_of_the_compiler, laws_of_the_simulator};
 pub use program::{Status, Who, tool};

@@ -1,14 +1,17 @@
 //! The top call.
 ghost use Rattle.std.specs.Prelude.{◌≡◌};
+ghost use Rattle.pc_command.specs.Requests.{compile_command_of, simulate_command_of};
+ghost use Rattle.pc_command.specs.Words.{spelled};
 ghost use Rattle.pc_tool.specs.declared.program.Who.TheVariants.{Pcc, Pvm};
-ghost use Rattle.pc_tool.specs.Command.{command_of, simulation_of, spelled};
 ghost use Rattle.pc_tool.specs.Compiler.{CompilerPromise};
-ghost use Rattle.pc_tool.specs.Simulation.{outside_of};
-ghost use Rattle.pc_tool.specs.Simulator.{SimulatorPromise, IsSilentStatus};
+ghost use Rattle.pc_tool.specs.Outside.{outside_of, streamed};
+ghost use Rattle.pc_tool.specs.Simulator.{SimulatorPromise};
 
-use crate::compile::{compiler_status, run_compiler};
-use crate::simulate::{run_simulator, simulator_status};
+use crate::compile::run_compiler;
+use crate::simulate::run_simulator;
+use crate::telling::tell;
 use pc_outside::{Shelf, Sink, Source};
+use pc_report::Speaker;
 use std::alloc::Global;
 
 /// Which program is called.
@@ -30,32 +33,38 @@ pub struct Status {
 /// The whole program, over the outside that is lent. `words` are those of the command line without the
 /// program's own name.
 ///
-/// `Pcc` is called as `SRC -o OBJ`, where SRC begins with neither `-` nor `@`, and OBJ not with `-`. It reads
-/// the source at SRC and writes its object to OBJ, which may be the same name. The statuses are
+/// `Pcc` is called as `SRC -o OBJ [--ops N] [--tests N] [--mem N] [--window N] [--rows N] [--report]`. It reads
+/// the source at SRC, or makes the sample of a SRC such as `@7`, and writes its object to OBJ, which may be
+/// the same name; with `--report` it sends what it did to the output. The statuses are
 ///
-/// - 0: the object is written,
+/// - 0: the object is written, and the report sent,
 /// - 1: memory ran out; nothing was written, or SRC is a source, and OBJ may hold anything,
 /// - 2: the words are no command,
 /// - 3: SRC could not be read,
 /// - 4: SRC is longer than 1,048,576 bytes, is no program of the language, or has more than 16,384
 ///   nodes in its flow graph,
-/// - 5: OBJ could not be written, and may hold anything.
+/// - 5: OBJ could not be written, and may hold anything; or the output failed on the report; or the
+///   error output failed on the line of another status.
 ///
-/// `Pvm` is called as `OBJ`, which does not begin with `-`. It loads the object at OBJ, takes the whole input,
-/// which is decimal numbers from -2147483648 to 2147483647, with or without a sign, between spaces, tabs,
-/// carriage returns and line feeds, runs the object's code for at most 100,000,000 cycles, and sends the
-/// line of each number that is printed. The statuses are
+/// `Pvm` is called as `OBJ [--cycles N]`. It loads the object at OBJ, takes the whole input, which is decimal
+/// numbers from -2147483648 to 2147483647, with or without a sign, between spaces, tabs, carriage
+/// returns and line feeds, runs the object's code for at most so many cycles, and sends the line of
+/// each number that is printed. The statuses are
 ///
 /// - 0: the run ended,
-/// - 1: memory ran out; nothing was sent,
+/// - 1: memory ran out,
 /// - 2: the words are no command,
 /// - 3: OBJ or the input could not be read,
 /// - 4: OBJ or the input is longer than 16,777,216 bytes, OBJ holds no object that loads, or a word of the
 ///   input is no number,
-/// - 5: the output failed; a proper prefix of the text was sent,
+/// - 5: the output failed, and a proper prefix of the text was sent; or the error output failed on the
+///   line of another status,
 /// - 6: the run has not ended in so many cycles,
 /// - 7: the machine faulted,
 /// - 10, 11, 12: the run was trapped by a division by zero, an index out of bounds, the end of input.
+///
+/// Each status but 0 sends one line to the error output, which tells what was due.
+#[tactic(auto, using(crate::proofs::Promises::promises))]
 pub fn tool<H: Shelf, I: Source, O: Sink, E: Sink>(
     alloc: Global,
     who: Who,
@@ -65,18 +74,25 @@ pub fn tool<H: Shelf, I: Source, O: Sink, E: Sink>(
     out: &mut O,
     err: &mut E,
 ) -> Status
-    ensures compiler { who ≡ Pcc → CompilerPromise (command_of (spelled words.now)) (H.state shelf.old) (H.state shelf.new) result.code }
-    ensures simulator { who ≡ Pvm → SimulatorPromise (simulation_of (spelled words.now))
-        (outside_of (H.state shelf.old) (I.left input.old) (I.faults input.old) (O.taken out.old) (O.faults out.old))
-        (outside_of (H.state shelf.new) (I.left input.new) (I.faults input.new) (O.taken out.new) (O.faults out.new))
+    ensures compiler { who ≡ Pcc → CompilerPromise (compile_command_of (spelled words.now))
+        (outside_of (H.state shelf.old) (streamed (I.left input.old) (I.faults input.old)) (streamed (O.taken out.old) (O.faults out.old)) (streamed (E.taken err.old) (E.faults err.old)))
+        (outside_of (H.state shelf.new) (streamed (I.left input.new) (I.faults input.new)) (streamed (O.taken out.new) (O.faults out.new)) (streamed (E.taken err.new) (E.faults err.new)))
+        result.code }
+    ensures simulator { who ≡ Pvm → SimulatorPromise (simulate_command_of (spelled words.now))
+        (outside_of (H.state shelf.old) (streamed (I.left input.old) (I.faults input.old)) (streamed (O.taken out.old) (O.faults out.old)) (streamed (E.taken err.old) (E.faults err.old)))
+        (outside_of (H.state shelf.new) (streamed (I.left input.new) (I.faults input.new)) (streamed (O.taken out.new) (O.faults out.new)) (streamed (E.taken err.new) (E.faults err.new)))
         result.code }
     ensures input_kept { who ≡ Pcc → input.new ≡ input.old }
-    ensures out_kept { IsSilentStatus who result.code → out.new ≡ out.old }
-    ensures err_kept { err.new ≡ err.old }
 {
     let code = match who {
-        Who::Pcc => compiler_status(run_compiler(alloc, words, shelf)),
-        Who::Pvm => simulator_status(run_simulator(alloc, words, shelf, input, out)),
+        Who::Pcc => {
+            let due = run_compiler(alloc, words, shelf, out);
+            tell(alloc, Speaker::Pcc, due, err)
+        }
+        Who::Pvm => {
+            let due = run_simulator(alloc, words, shelf, input, out);
+            tell(alloc, Speaker::Pvm, due, err)
+        }
     };
     Status { code }
 }

@@ -1,18 +1,19 @@
 //! Sources that are compiled, and whose objects are run.
 
-use crate::compiler_tests::{command, shelf_with, status};
-use crate::{Who, tool};
-use pc_outside::{CallList, MemoryShelf, MemorySink, MemorySource};
+use crate::Who;
+use crate::bench::{NONE_FAILS, call, shelf_with};
 use std::alloc::Global;
 use std::test::Fail;
 
-/// A source, the input of its run, the status with which the run ends, and what it prints.
+/// A source, the input of its run, the status with which the run ends, what it prints, and the line that
+/// tells its trap.
 #[derive(Clone, Copy)]
 struct Program {
     source: &'static [u8],
     input: &'static [u8],
     code: u8,
     output: &'static [u8],
+    told: &'static str,
 }
 
 /// What C says, and where C leaves it open, what the language says: words wrap, `/` truncates, `%` has the sign
@@ -23,24 +24,28 @@ const PROGRAMS: [Program; 17] = [
         input: b"",
         code: 0,
         output: b"-2147483648\n-2147483648\n-3\n-1\n",
+        told: "",
     },
     Program {
         source: b"int main(void){int a[4];print(1);a[4]=read();}",
         input: b"",
         code: 12,
         output: b"1\n",
+        told: "pvm: trap: end of input at line 1\n",
     },
     Program {
         source: b"int main(void){int a[4];print(1);a[4]=read();}",
         input: b"9",
         code: 11,
         output: b"1\n",
+        told: "pvm: trap: out of bounds at line 1\n",
     },
     Program {
         source: b"int main(void){\nprint(1);print(5/0);\nprint(2);}",
         input: b"",
         code: 10,
         output: b"1\n",
+        told: "pvm: trap: divide by zero at line 2\n",
     },
     // A dot product.
     Program {
@@ -49,6 +54,7 @@ const PROGRAMS: [Program; 17] = [
         input: b"",
         code: 0,
         output: b"333300\n",
+        told: "",
     },
     // Each turn reads what the one before has stored.
     Program {
@@ -56,6 +62,7 @@ const PROGRAMS: [Program; 17] = [
         input: b"",
         code: 0,
         output: b"53\n",
+        told: "",
     },
     Program {
         source: b"int main(void){int a[64];int i;for(i=0;i<64;i++)a[i]=i;\
@@ -63,6 +70,7 @@ const PROGRAMS: [Program; 17] = [
         input: b"",
         code: 0,
         output: b"1\n63\n",
+        told: "",
     },
     // Only what C evaluates is evaluated, so no index is out of bounds.
     Program {
@@ -70,12 +78,14 @@ const PROGRAMS: [Program; 17] = [
         input: b"",
         code: 0,
         output: b"4\n",
+        told: "",
     },
     Program {
         source: b"int main(void){int i;int t;int x=1;int y=2;\nfor(i=0;i<5;i++){t=x;x=y;y=t;print(x);}}",
         input: b"",
         code: 0,
         output: b"2\n1\n2\n1\n2\n",
+        told: "",
     },
     Program {
         source: b"int main(void){int i;int x=1;int y=2;int t;\
@@ -83,6 +93,7 @@ const PROGRAMS: [Program; 17] = [
         input: b"",
         code: 0,
         output: b"2\n1\n1\n2\n1\n",
+        told: "",
     },
     // An `else` belongs to the nearest `if`.
     Program {
@@ -90,24 +101,28 @@ const PROGRAMS: [Program; 17] = [
         input: b"1 0",
         code: 0,
         output: b"2\n",
+        told: "",
     },
     Program {
         source: b"int main(void){int a=read();int b=read();if(a)if(b)print(1);else print(2);}",
         input: b"0 1",
         code: 0,
         output: b"",
+        told: "",
     },
     Program {
         source: b"#include <stdio.h>\n/* x */ int main(void){print(0x10);print(010);return 0;} // end",
         input: b"",
         code: 0,
         output: b"16\n8\n",
+        told: "",
     },
     Program {
         source: b"int main(void){print(read());print(read());print(read());}",
         input: b"+3 -0 007",
         code: 0,
         output: b"3\n0\n7\n",
+        told: "",
     },
     // `continue` goes to the step of a `for` and to the condition of a `do`.
     Program {
@@ -116,6 +131,7 @@ const PROGRAMS: [Program; 17] = [
         input: b"",
         code: 0,
         output: b"0\n2\n3\n6\n",
+        told: "",
     },
     // The right operand is read where it is evaluated, and not before.
     Program {
@@ -124,53 +140,66 @@ const PROGRAMS: [Program; 17] = [
         input: b"3",
         code: 0,
         output: b"1\n0\n10\n",
+        told: "",
     },
     Program {
         source: b"int main(void){int i=0;while(i<3){int j=3;while(j){j-=1;if(j==i)break;}print(j*10+i);i+=1;}}",
         input: b"",
         code: 0,
         output: b"0\n11\n22\n",
+        told: "",
     },
 ];
 
-/// The shelf that holds a source and the object that was compiled from it, and the compiler's status.
-fn compiled(alloc: Global, source: &[u8]) -> Result<(MemoryShelf, u8), Fail> {
-    let words = command(alloc, "a.c", "o.tv")?;
-    let mut shelf = shelf_with(alloc, source, 9)?;
-    let code = status(alloc, &mut shelf, words.as_slice());
-    Ok((shelf, code))
-}
-
-/// Whether the simulator ends so on the object of a shelf.
-fn runs(alloc: Global, shelf: &mut MemoryShelf, program: &Program) -> Result<bool, Fail> {
-    let word = String::from_str(alloc, "o.tv")?;
-    let words = vec![in alloc; word]?;
-    let input = Vec::from_slice(alloc, program.input)?;
-    let mut input = MemorySource::new(input, CallList::new(alloc));
-    let mut out = MemorySink::new(alloc, 256, CallList::new(alloc))?;
-    let mut err = MemorySink::new(alloc, 0, CallList::new(alloc))?;
-    let status = tool(
+/// Whether a source is compiled, and its object does what it is to.
+fn does(alloc: Global, program: &Program) -> Result<bool, Fail> {
+    let mut shelf = shelf_with(alloc, "a.c", program.source, 0)?;
+    let compiled = call(alloc, Who::Pcc, "a.c -o o.tv", &mut shelf, b"", NONE_FAILS)?;
+    let ran = call(
         alloc,
         Who::Pvm,
-        words.as_slice(),
-        shelf,
-        &mut input,
-        &mut out,
-        &mut err,
-    );
-    Ok(status.code == program.code && out.taken() == program.output)
+        "o.tv",
+        &mut shelf,
+        program.input,
+        NONE_FAILS,
+    )?;
+    Ok(compiled.is(0, b"", "") && ran.is(program.code, program.output, program.told))
 }
 
 #[test]
 fn objects_do_what_their_sources_mean(rt: HostRuntime) -> Result<(), Fail> {
     let alloc = rt.alloc();
     for (number, program) in PROGRAMS.iter().enumerate() {
-        let (mut shelf, code) = compiled(alloc, program.source)?;
-        assert_eq!(rt; code, 0, "program {number} is compiled");
-        assert!(rt;
-            runs(alloc, &mut shelf, program)?,
-            "program {number} is run"
-        );
+        assert!(rt; does(alloc, program)?, "program {number}");
     }
+    Ok(())
+}
+
+#[test]
+fn tells_the_budget_of_its_command(rt: HostRuntime) -> Result<(), Fail> {
+    let alloc = rt.alloc();
+    let mut shelf = shelf_with(alloc, "a.c", b"int main(void){while(1){}}", 0)?;
+    let compiled = call(alloc, Who::Pcc, "a.c -o o.tv", &mut shelf, b"", NONE_FAILS)?;
+    assert!(rt; compiled.is(0, b"", ""));
+    let ran = call(
+        alloc,
+        Who::Pvm,
+        "o.tv --cycles 1000",
+        &mut shelf,
+        b"",
+        NONE_FAILS,
+    )?;
+    assert!(rt; ran.is(6, b"", "pvm: budget of 1000 cycles spent\n"));
+    Ok(())
+}
+
+#[test]
+fn the_first_sample_prints_its_sum(rt: HostRuntime) -> Result<(), Fail> {
+    let alloc = rt.alloc();
+    let mut shelf = shelf_with(alloc, "a.c", b"", 0)?;
+    let compiled = call(alloc, Who::Pcc, "@0 -o o.tv", &mut shelf, b"", NONE_FAILS)?;
+    assert!(rt; compiled.is(0, b"", ""));
+    let ran = call(alloc, Who::Pvm, "o.tv", &mut shelf, b"", NONE_FAILS)?;
+    assert!(rt; ran.is(0, b"85344\n", ""));
     Ok(())
 }

@@ -1,65 +1,33 @@
-//! Why the compiler wrote no object.
+//! Why a text is not translated.
 ghost use Rattle.std.specs.Prelude.{◌≡◌};
-ghost use Rattle.pc_tool.specs.models.Refusals.{refusal_of_file, refusal_of_lex, refusal_of_parse, refusal_of_check, refusal_of_compile};
+ghost use Rattle.pc_tool.specs.models.Refusals.{refusal_of_lex, refusal_of_parse, refusal_of_check, refusal_of_compile};
 ghost use Rattle.pc_tool.specs.declared.refusal.Refusal.TheVariants.{Memory};
 
-use crate::file::FileError;
 use pc_check::CheckError;
 use pc_compile::CompileError;
 use pc_lexer::LexError;
 use pc_object::EncodeError;
 use pc_parser::ParseError;
+use pc_report::{LineFault, SourceFault};
 use std::alloc::AllocError;
 use thiserror::Error;
 
-/// Why the compiler wrote no object.
+/// Why a text is not translated.
 #[derive(Clone, Copy, Debug, PartialEq, Eq, Error)]
 pub(crate) enum Refusal {
     #[error("out of memory")]
     Memory,
-    #[error("the words are no command")]
-    Usage,
-    #[error("the source could not be read")]
-    Read,
-    /// The source is read, but not compiled.
-    #[error("the source is not compiled")]
-    Text { flaw: TextFlaw },
-    #[error("the object could not be written")]
-    Write,
+    /// The text has this fault.
+    #[error("the text is no source")]
+    Source { fault: SourceFault },
 }
 
-/// Why a source is not compiled.
-#[derive(Clone, Copy, Debug, PartialEq, Eq, Error)]
-pub(crate) enum TextFlaw {
-    /// It has more than 1,048,576 bytes.
-    #[error("the source is too long")]
-    TooLong,
-    /// It is not cut into tokens; this is its first fault.
-    #[error("the source is not cut into tokens")]
-    NoTokens { error: LexError },
-    /// The grammar reads no program in it.
-    #[error("the source is no program")]
-    NoProgram { error: ParseError },
-    /// Its names or limits have a fault; this is the first.
-    #[error("the source has a fault")]
-    Faulty { error: CheckError },
-    /// Its flow graph would have so many nodes, more than 16,384, or 4294967295 where it would have more
-    /// than that.
-    #[error("the source is too large")]
-    TooLarge { nodes: u32 },
-}
-
-impl From<FileError> for Refusal {
-    ghost from_gives = { λ error given. given ≡ refusal_of_file error };
-
-    fn from(error: FileError) -> Refusal {
-        match error {
-            FileError::Failed => Refusal::Read,
-            FileError::TooLong => Refusal::Text {
-                flaw: TextFlaw::TooLong,
-            },
-            FileError::Memory => Refusal::Memory,
-        }
+/// The refusal of a text with a fault at a line.
+fn at_line(what: LineFault, line: u32) -> Refusal
+    ensures { result ≡ Refusal.Source (SourceFault.AtLine what line) }
+{
+    Refusal::Source {
+        fault: SourceFault::AtLine { what, line },
     }
 }
 
@@ -68,10 +36,15 @@ impl From<LexError> for Refusal {
 
     fn from(error: LexError) -> Refusal {
         match error {
-            LexError::Memory => Refusal::Memory,
-            error => Refusal::Text {
-                flaw: TextFlaw::NoTokens { error },
+            LexError::BadByte { offset } => Refusal::Source {
+                fault: SourceFault::BadByte { offset },
             },
+            LexError::BadLiteral { line } => at_line(LineFault::BadLiteral, line),
+            LexError::OpenComment { line } => at_line(LineFault::OpenComment, line),
+            LexError::TooManyTokens => Refusal::Source {
+                fault: SourceFault::TooManyTokens,
+            },
+            LexError::Memory => Refusal::Memory,
         }
     }
 }
@@ -81,10 +54,9 @@ impl From<ParseError> for Refusal {
 
     fn from(error: ParseError) -> Refusal {
         match error {
+            ParseError::Syntax { line, .. } => at_line(LineFault::Syntax, line),
+            ParseError::TooNested { line, .. } => at_line(LineFault::NestedTooDeep, line),
             ParseError::Memory => Refusal::Memory,
-            error => Refusal::Text {
-                flaw: TextFlaw::NoProgram { error },
-            },
         }
     }
 }
@@ -94,10 +66,17 @@ impl From<CheckError> for Refusal {
 
     fn from(error: CheckError) -> Refusal {
         match error {
+            CheckError::Undeclared { line } => at_line(LineFault::Undeclared, line),
+            CheckError::Redeclared { line } => at_line(LineFault::DeclaredTwice, line),
+            CheckError::NotArray { line } => at_line(LineFault::NotArray, line),
+            CheckError::NotScalar { line } => at_line(LineFault::NotScalar, line),
+            CheckError::BadSize { line } => at_line(LineFault::BadSize, line),
+            CheckError::OutsideLoop { line } => at_line(LineFault::OutsideLoop, line),
+            CheckError::TooManyScalars { line } => at_line(LineFault::TooManyScalars, line),
+            CheckError::TooManyArrays { line } => at_line(LineFault::TooManyArrays, line),
+            CheckError::TooManyElements { line } => at_line(LineFault::TooManyElements, line),
+            CheckError::TooDeep { line } => at_line(LineFault::ExpressionTooDeep, line),
             CheckError::Memory => Refusal::Memory,
-            error => Refusal::Text {
-                flaw: TextFlaw::Faulty { error },
-            },
         }
     }
 }
@@ -107,8 +86,8 @@ impl From<CompileError> for Refusal {
 
     fn from(error: CompileError) -> Refusal {
         match error {
-            CompileError::TooLarge { nodes } => Refusal::Text {
-                flaw: TextFlaw::TooLarge { nodes },
+            CompileError::TooLarge { nodes } => Refusal::Source {
+                fault: SourceFault::TooLarge { number: nodes },
             },
             CompileError::Memory => Refusal::Memory,
         }
@@ -116,7 +95,7 @@ impl From<CompileError> for Refusal {
 }
 
 impl From<EncodeError> for Refusal {
-    ghost from_gives = { λ error given. given ≡ Memory };
+    ghost from_gives = { λ _ given. given ≡ Memory };
 
     fn from(error: EncodeError) -> Refusal {
         match error {
@@ -126,7 +105,7 @@ impl From<EncodeError> for Refusal {
 }
 
 impl From<AllocError> for Refusal {
-    ghost from_gives = { λ error given. given ≡ Memory };
+    ghost from_gives = { λ _ given. given ≡ Memory };
 
     fn from(_error: AllocError) -> Refusal {
         Refusal::Memory

@@ -1,9 +1,7 @@
-//! The simulator over a shelf and streams in memory.
-ghost use Rattle.std.specs.Prelude.{◌≤◌, length};
+//! The simulator: each status with its line.
 
-use crate::{Who, tool};
-use pc_outside::{CallList, MemoryShelf, MemorySink, MemorySource};
-use pc_word::{NumbersError, read_numbers};
+use crate::Who;
+use crate::bench::{Failing, NONE_FAILS, call, shelf_with};
 use std::alloc::Global;
 use std::test::Fail;
 
@@ -42,190 +40,253 @@ const END_OF_INPUT: &[u8] = b"PTV1\x08\x03\x02\x00\x00\x00\x00\x01\x03\x02\x00\x
 const PRINTS_LEAST: &[u8] = b"PTV1\x08\x03\x02\x00\x00\x00\x00\x02\
     \x24\x01\x80\x00\x00\x00\x01\x00\x00\x00\x01\x24\x01\x80\x00\x00\x00\x02\x00\x00";
 
-/// The shelf that holds an object, of whose reads this one fails, counted from 1.
-fn shelf_with(alloc: Global, object: &[u8], failing: u64) -> Result<MemoryShelf, Fail> {
-    let failing = CallList::from_slice(alloc, &[failing])?;
-    let mut shelf = MemoryShelf::new(alloc, failing);
-    shelf.put(alloc, "o.tv", object)?;
-    Ok(shelf)
-}
+const USAGE: &str = "usage: pvm OBJ [--cycles N]\n";
 
-/// The input, of whose reads this one fails.
-fn source_of(alloc: Global, input: &[u8], failing: u64) -> Result<MemorySource, Fail> {
-    let failing = CallList::from_slice(alloc, &[failing])?;
-    let bytes = Vec::from_slice(alloc, input)?;
-    Ok(MemorySource::new(bytes, failing))
-}
-
-/// An output, of whose writes this one fails.
-fn sink(alloc: Global, failing: u64) -> Result<MemorySink, Fail> {
-    let failing = CallList::from_slice(alloc, &[failing])?;
-    Ok(MemorySink::new(alloc, 64, failing)?)
-}
-
-/// The calls that fail, counted from 1: of the shelf, the input and the output.
+/// A call of the simulator on an object in `o.tv`: the input, the calls that fail, and what it leaves.
 #[derive(Clone, Copy)]
-struct Failing {
-    shelf: u64,
-    input: u64,
-    out: u64,
-}
-
-const NONE_FAILS: Failing = Failing {
-    shelf: 0,
-    input: 0,
-    out: 0,
-};
-
-/// The words of a command.
-fn words(alloc: Global, word: &str) -> Result<Vec<String>, Fail> {
-    let word = String::from_str(alloc, word)?;
-    Ok(vec![in alloc; word]?)
-}
-
-/// Whether the simulator, called with one word, ends with this status and has sent this text.
-fn ends(
-    alloc: Global,
-    word: &str,
-    object: &[u8],
-    input: &[u8],
+struct Call {
+    line: &'static str,
+    object: &'static [u8],
+    input: &'static [u8],
     failing: Failing,
     code: u8,
-    text: &[u8],
-) -> Result<bool, Fail> {
-    let words = words(alloc, word)?;
-    let mut err = sink(alloc, 0)?;
-    let mut out = sink(alloc, failing.out)?;
-    let mut input = source_of(alloc, input, failing.input)?;
-    let mut shelf = shelf_with(alloc, object, failing.shelf)?;
-    let status = tool(
-        alloc,
-        Who::Pvm,
-        words.as_slice(),
-        &mut shelf,
-        &mut input,
-        &mut out,
-        &mut err,
-    );
-    Ok(status.code == code && out.taken() == text)
+    out: &'static [u8],
+    err: &'static str,
 }
 
-/// The same where no call fails.
-fn runs(alloc: Global, object: &[u8], input: &[u8], code: u8, text: &[u8]) -> Result<bool, Fail> {
-    ends(alloc, "o.tv", object, input, NONE_FAILS, code, text)
+/// A run of `print(7)`.
+const RUN: Call = Call {
+    line: "o.tv",
+    object: SEVEN,
+    input: b"",
+    failing: NONE_FAILS,
+    code: 0,
+    out: b"7\n",
+    err: "",
+};
+
+/// A run of `print(7)` that prints nothing.
+const REFUSED: Call = Call {
+    code: 4,
+    out: b"",
+    ..RUN
+};
+
+/// Runs to each end.
+const RUNS: [Call; 9] = [
+    RUN,
+    Call {
+        line: "--cycles=3 o.tv",
+        object: ENDLESS,
+        code: 6,
+        out: b"",
+        err: "pvm: budget of 3 cycles spent\n",
+        ..RUN
+    },
+    Call {
+        object: STORES_TWICE,
+        code: 7,
+        out: b"",
+        err: "pvm: machine fault: element stored twice\n",
+        ..RUN
+    },
+    Call {
+        object: DIVIDES_BY_ZERO,
+        code: 10,
+        out: b"1\n",
+        err: "pvm: trap: divide by zero at line 2\n",
+        ..RUN
+    },
+    Call {
+        object: OUT_OF_BOUNDS,
+        code: 11,
+        out: b"",
+        err: "pvm: trap: out of bounds at line 1\n",
+        ..RUN
+    },
+    Call {
+        object: END_OF_INPUT,
+        code: 12,
+        out: b"",
+        err: "pvm: trap: end of input at line 1\n",
+        ..RUN
+    },
+    Call {
+        object: THREE_NUMBERS,
+        input: b"+3 -0 007",
+        out: b"3\n0\n7\n",
+        ..RUN
+    },
+    Call {
+        object: THREE_NUMBERS,
+        input: b"\t4\r\n-5",
+        code: 7,
+        out: b"4\n-5\n",
+        err: "pvm: machine fault: read past end\n",
+        ..RUN
+    },
+    Call {
+        input: b"-2147483648",
+        ..RUN
+    },
+];
+
+/// Refusals of the object and the input.
+const REFUSALS: [Call; 7] = [
+    Call {
+        object: b"",
+        input: b"x",
+        err: "pvm: object: truncated at offset 0\n",
+        ..REFUSED
+    },
+    Call {
+        object: b"QTV1",
+        err: "pvm: object: bad magic\n",
+        ..REFUSED
+    },
+    Call {
+        object: COPIES_TWICE,
+        err: "pvm: object: bad field at offset 20: DestTwice\n",
+        ..REFUSED
+    },
+    Call {
+        object: b"PTV1\x08\x03\x02\x00\x00\x00\x00\x01\x24\x01\x00\x00\x00\x07\x02\x00\x00\x00",
+        err: "pvm: object: trailing bytes at offset 21\n",
+        ..REFUSED
+    },
+    Call {
+        input: b"2147483648",
+        err: "pvm: input: not a number at offset 0\n",
+        ..REFUSED
+    },
+    Call {
+        input: b"5 x",
+        err: "pvm: input: not a number at offset 2\n",
+        ..REFUSED
+    },
+    Call {
+        input: b"5 a6",
+        err: "pvm: input: not a number at offset 2\n",
+        ..REFUSED
+    },
+];
+
+/// Failures of what is outside, and words that are no command.
+const FAILURES: [Call; 10] = [
+    Call {
+        line: "p.tv",
+        code: 3,
+        err: "pvm: read failed: p.tv\n",
+        ..REFUSED
+    },
+    Call {
+        failing: Failing {
+            shelf: 1,
+            ..NONE_FAILS
+        },
+        code: 3,
+        err: "pvm: read failed: o.tv\n",
+        ..REFUSED
+    },
+    Call {
+        failing: Failing {
+            input: 1,
+            ..NONE_FAILS
+        },
+        code: 3,
+        err: "pvm: read failed: input\n",
+        ..REFUSED
+    },
+    Call {
+        object: PRINTS_LEAST,
+        out: b"-2147483648\n-2147483648\n",
+        ..RUN
+    },
+    Call {
+        object: PRINTS_LEAST,
+        failing: Failing {
+            out: 2,
+            ..NONE_FAILS
+        },
+        code: 5,
+        out: b"-2147483648\n",
+        err: "pvm: write failed: output\n",
+        ..RUN
+    },
+    // What was printed stands, though the trap cannot be told.
+    Call {
+        object: DIVIDES_BY_ZERO,
+        failing: Failing {
+            err: 1,
+            ..NONE_FAILS
+        },
+        code: 5,
+        out: b"1\n",
+        ..RUN
+    },
+    Call {
+        line: "",
+        code: 2,
+        err: USAGE,
+        ..REFUSED
+    },
+    Call {
+        line: "o.tv p.tv",
+        code: 2,
+        err: USAGE,
+        ..REFUSED
+    },
+    Call {
+        line: "o.tv --cycles 0",
+        code: 2,
+        err: USAGE,
+        ..REFUSED
+    },
+    Call {
+        line: "-h",
+        code: 2,
+        err: USAGE,
+        ..REFUSED
+    },
+];
+
+/// Whether a call leaves what it is to.
+fn leaves(alloc: Global, made: &Call) -> Result<bool, Fail> {
+    let mut shelf = shelf_with(alloc, "o.tv", made.object, made.failing.shelf)?;
+    let left = call(
+        alloc,
+        Who::Pvm,
+        made.line,
+        &mut shelf,
+        made.input,
+        made.failing,
+    )?;
+    Ok(left.is(made.code, made.out, made.err))
 }
 
 #[test]
 fn runs_to_each_end(rt: HostRuntime) -> Result<(), Fail> {
     let alloc = rt.alloc();
-    assert!(rt; runs(alloc, SEVEN, b"", 0, b"7\n")?);
-    assert!(rt; runs(alloc, ENDLESS, b"", 6, b"")?);
-    assert!(rt; runs(alloc, STORES_TWICE, b"", 7, b"")?);
-    assert!(rt; runs(alloc, DIVIDES_BY_ZERO, b"", 10, b"1\n")?);
-    assert!(rt; runs(alloc, OUT_OF_BOUNDS, b"", 11, b"")?);
-    assert!(rt; runs(alloc, END_OF_INPUT, b"", 12, b"")?);
-    Ok(())
-}
-
-#[test]
-fn reads_the_numbers_of_the_input(rt: HostRuntime) -> Result<(), Fail> {
-    let alloc = rt.alloc();
-    assert!(rt; runs(alloc, THREE_NUMBERS, b"+3 -0 007", 0, b"3\n0\n7\n")?);
-    assert!(rt; runs(alloc, THREE_NUMBERS, b"\t4\r\n-5", 7, b"4\n-5\n")?);
-    assert!(rt; runs(alloc, SEVEN, b"-2147483648", 0, b"7\n")?);
-    assert!(rt; runs(alloc, SEVEN, b"2147483648", 4, b"")?);
-    assert!(rt; runs(alloc, SEVEN, b"5 x", 4, b"")?);
-    Ok(())
-}
-
-/// The offset of the first word of an input that is no number.
-fn bad_word(alloc: Global, input: &[u8]) -> Option<u32>
-    requires { length input.now ≤ 16777216 }
-{
-    match read_numbers(alloc, input) {
-        Err(NumbersError::NotNumber { offset }) => Some(offset),
-        _ => None,
+    for (number, made) in RUNS.iter().enumerate() {
+        assert!(rt; leaves(alloc, made)?, "run {number}");
     }
-}
-
-#[test]
-fn tells_the_first_bad_word(rt: HostRuntime) -> Result<(), Fail> {
-    let alloc = rt.alloc();
-    assert!(rt; bad_word(alloc, b"2147483648") == Some(0));
-    assert!(rt; bad_word(alloc, b"5 x") == Some(2));
-    assert!(rt; bad_word(alloc, b"-2147483648").is_none());
-    Ok(())
-}
-
-/// The status of the simulator with these words, over an empty shelf.
-fn usage(alloc: Global, words: &[String]) -> Result<u8, Fail> {
-    let mut err = sink(alloc, 0)?;
-    let mut out = sink(alloc, 0)?;
-    let mut input = source_of(alloc, b"", 0)?;
-    let mut shelf = MemoryShelf::new(alloc, CallList::new(alloc));
-    let status = tool(
-        alloc,
-        Who::Pvm,
-        words,
-        &mut shelf,
-        &mut input,
-        &mut out,
-        &mut err,
-    );
-    Ok(status.code)
-}
-
-#[test]
-fn takes_one_word(rt: HostRuntime) -> Result<(), Fail> {
-    let alloc = rt.alloc();
-    let one = String::from_str(alloc, "o.tv")?;
-    let other = String::from_str(alloc, "o.tv")?;
-    let words = vec![in alloc; one, other]?;
-    assert!(rt; usage(alloc, &[])? == 2);
-    assert!(rt; usage(alloc, words.as_slice())? == 2);
-    assert!(rt; usage(alloc, &words.as_slice()[..1])? == 3);
     Ok(())
 }
 
 #[test]
-fn refuses_what_is_no_object(rt: HostRuntime) -> Result<(), Fail> {
+fn tells_why_bytes_are_refused(rt: HostRuntime) -> Result<(), Fail> {
     let alloc = rt.alloc();
-    assert!(rt; runs(alloc, COPIES_TWICE, b"", 4, b"")?);
-    assert!(rt; runs(alloc, b"QTV1", b"", 4, b"")?);
-    assert!(rt; runs(alloc, b"", b"x", 4, b"")?);
+    for (number, made) in REFUSALS.iter().enumerate() {
+        assert!(rt; leaves(alloc, made)?, "refusal {number}");
+    }
     Ok(())
 }
 
 #[test]
 fn tells_what_failed(rt: HostRuntime) -> Result<(), Fail> {
     let alloc = rt.alloc();
-    let shelf = Failing {
-        shelf: 1,
-        ..NONE_FAILS
-    };
-    let input = Failing {
-        input: 1,
-        ..NONE_FAILS
-    };
-    let out = Failing {
-        out: 2,
-        ..NONE_FAILS
-    };
-    assert!(rt; ends(alloc, "o.tv", SEVEN, b"", shelf, 3, b"")?);
-    assert!(rt; ends(alloc, "o.tv", SEVEN, b"", input, 3, b"")?);
-    assert!(rt;
-        ends(
-            alloc,
-            "o.tv",
-            PRINTS_LEAST,
-            b"",
-            NONE_FAILS,
-            0,
-            b"-2147483648\n-2147483648\n"
-        )?
-    );
-    assert!(rt; ends(alloc, "o.tv", PRINTS_LEAST, b"", out, 5, b"-2147483648\n")?);
-    assert!(rt; ends(alloc, "p.tv", SEVEN, b"", NONE_FAILS, 3, b"")?);
-    assert!(rt; ends(alloc, "-o.tv", SEVEN, b"", NONE_FAILS, 2, b"")?);
+    for (number, made) in FAILURES.iter().enumerate() {
+        assert!(rt; leaves(alloc, made)?, "failure {number}");
+    }
     Ok(())
 }

@@ -1,4 +1,4 @@
-//! Why the simulator came to no end of a run.
+//! Why the simulator came to no run.
 ghost use Rattle.std.specs.Prelude.{◌≡◌};
 ghost use Rattle.pc_tool.specs.models.Refusals.{stop_of_file, stop_of_object, stop_of_take, stop_of_numbers};
 ghost use Rattle.pc_tool.specs.declared.stop.Stop.TheVariants.{Memory};
@@ -6,51 +6,26 @@ ghost use Rattle.pc_tool.specs.declared.stop.Stop.TheVariants.{Memory};
 use crate::file::FileError;
 use pc_object::ObjectError;
 use pc_outside::TakeError;
+use pc_report::{InputFault, ObjectFault};
 use pc_vm::MachineError;
 use pc_word::NumbersError;
 use thiserror::Error;
 
-/// Why the simulator came to no end of a run.
+/// Why the simulator came to no run.
 #[derive(Clone, Copy, Debug, PartialEq, Eq, Error)]
 pub(crate) enum Stop {
     #[error("out of memory")]
     Memory,
-    #[error("the words are no command")]
-    Usage,
     #[error("the object could not be read")]
     ReadObject,
     /// The object is read, but not loaded.
     #[error("the object is not loaded")]
-    Object { flaw: ObjectFlaw },
+    Object { fault: ObjectFault },
     #[error("the input could not be read")]
     ReadInput,
     /// The input is read, but gives no numbers.
     #[error("the input gives no numbers")]
-    Input { flaw: InputFlaw },
-    #[error("the output failed")]
-    Write,
-}
-
-/// Why an object is not loaded.
-#[derive(Clone, Copy, Debug, PartialEq, Eq, Error)]
-pub(crate) enum ObjectFlaw {
-    /// It has more than 16,777,216 bytes.
-    #[error("the object is too long")]
-    TooLong,
-    /// Its bytes are no object that loads; this is the first thing that is wrong with them.
-    #[error("the bytes are no object")]
-    Unread { error: ObjectError },
-}
-
-/// Why an input gives no numbers.
-#[derive(Clone, Copy, Debug, PartialEq, Eq, Error)]
-pub(crate) enum InputFlaw {
-    /// It has more than 16,777,216 bytes.
-    #[error("the input is too long")]
-    TooLong,
-    /// Its word at this offset is the first that spells no number.
-    #[error("a word of the input is no number")]
-    NotNumber { offset: u32 },
+    Input { fault: InputFault },
 }
 
 impl From<FileError> for Stop {
@@ -60,7 +35,7 @@ impl From<FileError> for Stop {
         match error {
             FileError::Failed => Stop::ReadObject,
             FileError::TooLong => Stop::Object {
-                flaw: ObjectFlaw::TooLong,
+                fault: ObjectFault::TooLong,
             },
             FileError::Memory => Stop::Memory,
         }
@@ -71,12 +46,14 @@ impl From<ObjectError> for Stop {
     ghost from_gives = { λ error given. given ≡ stop_of_object error };
 
     fn from(error: ObjectError) -> Stop {
-        match error {
-            ObjectError::Memory => Stop::Memory,
-            error => Stop::Object {
-                flaw: ObjectFlaw::Unread { error },
-            },
-        }
+        let fault = match error {
+            ObjectError::BadMagic => ObjectFault::BadMagic,
+            ObjectError::Truncated { offset } => ObjectFault::Truncated { offset },
+            ObjectError::BadField { offset, flaw } => ObjectFault::BadField { offset, flaw },
+            ObjectError::Trailing { offset } => ObjectFault::Trailing { offset },
+            ObjectError::Memory => return Stop::Memory,
+        };
+        Stop::Object { fault }
     }
 }
 
@@ -97,7 +74,7 @@ impl From<NumbersError> for Stop {
     fn from(error: NumbersError) -> Stop {
         match error {
             NumbersError::NotNumber { offset } => Stop::Input {
-                flaw: InputFlaw::NotNumber { offset },
+                fault: InputFault::NotNumber { offset },
             },
             NumbersError::Memory => Stop::Memory,
         }
@@ -105,7 +82,7 @@ impl From<NumbersError> for Stop {
 }
 
 impl From<MachineError> for Stop {
-    ghost from_gives = { λ error given. given ≡ Memory };
+    ghost from_gives = { λ _ given. given ≡ Memory };
 
     fn from(_error: MachineError) -> Stop {
         Stop::Memory

@@ -1,6 +1,7 @@
 //! The words of the command line.
 ghost use Rattle.std.specs.Prelude.{◌≡◌, None, drop};
-ghost use Rattle.pc_tool.specs.Command.{command_of, simulation_of, spelled};
+ghost use Rattle.pc_command.specs.Requests.{compile_command_of, simulate_command_of};
+ghost use Rattle.pc_command.specs.Words.{spelled};
 
 use std::alloc::{AllocError, Global};
 use std::{env, io};
@@ -29,8 +30,8 @@ fn behind_name(mut words: Vec<String>) -> Vec<String>
 
 /// No words, which are a command of neither program.
 fn no_words(alloc: Global) -> Vec<String>
-    ensures compiler { command_of (spelled result.items) ≡ None }
-    ensures simulator { simulation_of (spelled result.items) ≡ None }
+    ensures compiler { compile_command_of (spelled result.items) ≡ None }
+    ensures simulator { simulate_command_of (spelled result.items) ≡ None }
 {
     Vec::new(alloc)
 }

@@ -1,52 +1,59 @@
--- What each private answer of the compiler says of the shelf before and after it.
-use Rattle.std.specs.Prelude.{◌≡◌, ℕ, List, Option, Some, None, Result, Ok, Err, ⊤}
-use Rattle.pc_object.specs.ObjectText.{CodeWithNotes, object_text}
-use Rattle.pc_outside.specs.Shelf.{Shelved, ReadFaultOf, WriteFaultOf, ReadKeeps, OnlyFileDiffers}
-use Rattle.pc_tool.specs.Command.{CompileCommand}
-use Rattle.pc_tool.specs.Told.{HoldsText}
-use Rattle.pc_tool.specs.Source.{IsSomeSource}
-use Rattle.pc_tool.specs.Compilation.{Translates, Compiled}
-use Rattle.pc_tool.specs.Compiler.{RunsOut}
-use Rattle.pc_tool.specs.declared.refusal.Refusal.{Refusal}
-use Rattle.pc_tool.specs.declared.refusal.Refusal.TheVariants as refusal
-use Rattle.pc_tool.specs.models.Texts.{HasFlaw}
+-- What each private answer of the compiler says of the outside before and after it.
+use Rattle.std.specs.Prelude.{◌≡◌, ℕ, Bool, true, false, List, [], Option, Some, None}
+use Rattle.std.specs.Borrow.{Bor}
+use Rattle.std.specs.Io.KnownBytes.{Appends}
+use Rattle.pc_word.specs.Count.{Rose}
+use Rattle.pc_outside.specs.Shelf.{Files, Shelved, ReadFaultOf}
+use Rattle.pc_outside.specs.Stream.{AppendsPart}
+use Rattle.pc_command.specs.Requests.{CompileRequest, Origin, OfFile}
+use Rattle.pc_report.specs.declared.fault.Speaker.TheVariants.{Pcc}
+use Rattle.pc_report.specs.declared.fault.SourceFault.TheVariants.{TooLong}
+use Rattle.pc_report.specs.declared.fault.ToolFault.{ToolFault}
+use Rattle.pc_report.specs.declared.fault.ToolFault.TheVariants as fault
+use Rattle.pc_report.specs.Report.{Report}
+use Rattle.pc_tool.specs.Files.{HasSource, HoldsSource}
+use Rattle.pc_tool.specs.Outside.{Streamed}
+use Rattle.pc_tool.specs.SourceFaults.{HasFault}
+use Rattle.pc_tool.specs.declared.translation.Translation.{Translation}
+use Rattle.pc_tool.specs.models.Translating.{IsTranslation}
 
--- the bytes are the text of an object that translates the source
-pub record IsTranslation (text bytes : List ℕ) : Type 0 where
-  pub object : CodeWithNotes
-  pub translates : Translates text object
-  pub written : bytes ≡ object_text object
+-- why a source's text was not read
+pub data FailsToRead (source : Origin) (old new : Shelved) : (fault : ToolFault) → Type 0 where
+  Not_read : {name : Bor (List ℕ)} →
+      source ≡ OfFile name.now →
+      ReadFaultOf old new name.now →
+      FailsToRead source old new (fault.ReadFile Pcc name)
+  Too_long :
+      HoldsSource old.held source (λ text. HasFault text TooLong) →
+      FailsToRead source old new (fault.Source Pcc TooLong)
+  No_memory : FailsToRead source old new (fault.NoMemory Pcc)
 
--- why the object was not written
-abbrev pub RefusesToWrite : Refusal → List ℕ → Shelved → Shelved → Type 0
-RefusesToWrite refusal.Memory name old new = Unit {0}
-RefusesToWrite refusal.Write name old new = WriteFaultOf old new name
-RefusesToWrite _ name old new = ⊥
+-- the source that is asked for has a text of which this is the translation
+pub record HasTranslation (held : Option Files) (request : CompileRequest) (it : Translation) : Type 0 where
+  pub text : List ℕ
+  pub in_source : HasSource held request.source text
+  pub is : IsTranslation request.limits text it
 
--- why a refusal came, and what stands after it
-abbrev pub Refuses : Refusal → CompileCommand → Shelved → Shelved → Type 0
-Refuses refusal.Memory command old new = RunsOut command old new
-Refuses refusal.Usage command old new = ⊥
-Refuses refusal.Read command old new = ReadKeeps old new × ReadFaultOf old new command.source
-Refuses (refusal.Text flaw) command old new = ReadKeeps old new × HoldsText old.held command.source (HasFlaw flaw)
-Refuses refusal.Write command old new =
-    OnlyFileDiffers old.held new.held command.object × WriteFaultOf old new command.object × HoldsText old.held command.source IsSomeSource
+-- what is reported of a translation
+abbrev pub reported : Translation → Report
+reported it = record { nodes = it.nodes; rows = it.rows; passes = []; notes = it.notes }
 
--- the status that an answer ends with
-abbrev pub compiler_status : Result ⊤ Refusal → ℕ
-compiler_status (Ok done) = 0
-compiler_status (Err refusal.Memory) = 1
-compiler_status (Err refusal.Usage) = 2
-compiler_status (Err refusal.Read) = 3
-compiler_status (Err (refusal.Text flaw)) = 4
-compiler_status (Err refusal.Write) = 5
-
--- what an answer to a command says of the shelf
-abbrev pub AnswersCompile : Result ⊤ Refusal → CompileCommand → Shelved → Shelved → Type 0
-AnswersCompile (Ok done) command old new = Compiled command old new
-AnswersCompile (Err why) command old new = Refuses why command old new
-
--- an answer to a command, or the usage to other words
-abbrev pub AnswersCommand : Result ⊤ Refusal → Option CompileCommand → Shelved → Shelved → Type 0
-AnswersCommand answer None old new = (answer ≡ Err refusal.Usage) × (new ≡ old)
-AnswersCommand answer (Some command) old new = AnswersCompile answer command old new
+-- what is due behind the report, and what was sent of its text
+pub data ReportEnds (asked : Bool) (text : List ℕ) (old new : Streamed) : (due : Option ToolFault) → Type 0 where
+  Unasked :
+      asked ≡ false →
+      new ≡ old →
+      ReportEnds asked text old new None
+  Sent :
+      asked ≡ true →
+      Appends old.told new.told text →
+      ReportEnds asked text old new None
+  Broken_off :
+      asked ≡ true →
+      Rose old.faults new.faults →
+      AppendsPart old.told new.told text →
+      ReportEnds asked text old new (Some (fault.WriteOutput Pcc))
+  Unmade :
+      asked ≡ true →
+      new ≡ old →
+      ReportEnds asked text old new (Some (fault.NoMemory Pcc))

@@ -1,73 +1,56 @@
 -- What each private answer of the simulator says of the outside before and after it.
-use Rattle.std.specs.Prelude.{◌≡◌, ℕ, ◌<◌, ◌≤◌, ◌⊎◌, ℤ, false, List, length, Option, Some, None, IfSome, Result, Ok, Err}
-use Rattle.pc_word.specs.MachineLimits.{most_object, most_input}
-use Rattle.pc_word.specs.NumberText.{numbers_in}
+use Rattle.std.specs.Prelude.{◌≡◌, ℕ, ◌⊎◌, ℤ, false, List, Option, Some, None, IfSome}
+use Rattle.std.specs.Borrow.{Bor}
+use Rattle.std.specs.Io.KnownBytes.{Appends}
+use Rattle.pc_word.specs.Count.{Rose}
+use Rattle.pc_word.specs.NumberText.{text_of}
+use Rattle.pc_word.specs.Run.{Seen}
 use Rattle.pc_machine.specs.MachineCode.{RowCode, code_of}
 use Rattle.pc_machine.specs.MachineRun.{machine_start}
 use Rattle.pc_object.specs.ObjectText.{CodeWithNotes}
-use Rattle.pc_object.specs.Reading.{object_reading}
-use Rattle.pc_object.specs.declared.refusal.ObjectError.{ObjectError}
-use Rattle.pc_word.specs.Count.{Rose}
 use Rattle.pc_outside.specs.Shelf.{Files, Shelved, ReadFaultOf}
-use Rattle.pc_vm.specs.Standing.{Standing, here_of, end_of}
-use Rattle.pc_vm.specs.declared.event.Outcome.{Outcome}
-use Rattle.pc_tool.specs.Command.{SimulateCommand}
-use Rattle.pc_tool.specs.Told.{HoldsText}
+use Rattle.pc_outside.specs.Stream.{AppendsPart}
+use Rattle.pc_report.specs.declared.fault.Speaker.TheVariants.{Pvm}
+use Rattle.pc_report.specs.declared.fault.ObjectFault.{ObjectFault}
+use Rattle.pc_report.specs.declared.fault.InputFault.{InputFault}
+use Rattle.pc_report.specs.declared.fault.ToolFault.{ToolFault}
+use Rattle.pc_report.specs.declared.fault.ToolFault.TheVariants as fault
+use Rattle.pc_vm.specs.Standing.{Standing, here_of}
+use Rattle.pc_tool.specs.Files.{HoldsText}
 use Rattle.pc_tool.specs.Objects.{Holds, HoldsObject}
-use Rattle.pc_tool.specs.Simulation.{Streamed, Outside, SpellsInput, Ran, Broke, end_status}
+use Rattle.pc_tool.specs.Outside.{Streamed}
+use Rattle.pc_tool.specs.Simulation.{HasInputFault, HasObjectFault, SpellsInput, due_of}
 use Rattle.pc_tool.specs.declared.stop.Stop.{Stop}
 use Rattle.pc_tool.specs.declared.stop.Stop.TheVariants as stop
-use Rattle.pc_tool.specs.declared.stop.ObjectFlaw.{ObjectFlaw}
-use Rattle.pc_tool.specs.declared.stop.ObjectFlaw.TheVariants as object
-use Rattle.pc_tool.specs.declared.stop.InputFlaw.{InputFlaw}
-use Rattle.pc_tool.specs.declared.stop.InputFlaw.TheVariants as input
 
 -- ---- stops before the run
 
--- the bytes are not too many, and are read as no object: this is the first thing that is wrong with them
-pub record FailsToDecode (error : ObjectError) (bytes : List ℕ) : Type 0 where
-  pub few_bytes : length bytes ≤ most_object
-  pub first : object_reading bytes ≡ Err error
-
--- what is wrong with the bytes of an object
-abbrev pub HasObjectFlaw : ObjectFlaw → List ℕ → Type 0
-HasObjectFlaw object.TooLong bytes = most_object < length bytes
-HasObjectFlaw (object.Unread error) bytes = FailsToDecode error bytes
-
--- the bytes are not too many, and the word that begins at this offset is the first that spells no number
-pub record IsMisspelt (offset : ℕ) (bytes : List ℕ) : Type 0 where
-  pub few_bytes : length bytes ≤ most_input
-  pub first : numbers_in bytes ≡ Err offset
-
--- what is wrong with the bytes of an input
-abbrev pub HasInputFlaw : InputFlaw → List ℕ → Type 0
-HasInputFlaw input.TooLong bytes = most_input < length bytes
-HasInputFlaw (input.NotNumber offset) bytes = IsMisspelt offset bytes
-
 -- why the object was not loaded
-abbrev pub RefusesObject : Stop → List ℕ → Shelved → Shelved → Type 0
-RefusesObject stop.Memory name old new = Unit {0}
-RefusesObject stop.ReadObject name old new = ReadFaultOf old new name
-RefusesObject (stop.Object flaw) name old new = HoldsText old.held name (HasObjectFlaw flaw)
-RefusesObject _ name old new = ⊥
+pub data StopsAtObject (name : List ℕ) (old new : Shelved) : (why : Stop) → Type 0 where
+  No_memory_for_object : StopsAtObject name old new stop.Memory
+  Not_read : ReadFaultOf old new name → StopsAtObject name old new stop.ReadObject
+  Not_loaded : {what : ObjectFault} → HoldsText old.held name (λ bytes. HasObjectFault bytes what) → StopsAtObject name old new (stop.Object what)
 
 -- why the input gave no numbers
-abbrev pub RefusesInput : Stop → Streamed → Streamed → Type 0
-RefusesInput stop.Memory old new = Unit {0}
-RefusesInput stop.ReadInput old new = Rose old.faults new.faults
-RefusesInput (stop.Input flaw) old new = IfSome old.told (HasInputFlaw flaw)
-RefusesInput _ old new = ⊥
+pub data StopsAtInput (old new : Streamed) : (why : Stop) → Type 0 where
+  No_memory_for_input : StopsAtInput old new stop.Memory
+  Not_taken : Rose old.faults new.faults → StopsAtInput old new stop.ReadInput
+  Not_numbers : {what : InputFault} → IfSome old.told (λ bytes. HasInputFault bytes what) → StopsAtInput old new (stop.Input what)
 
 -- why no machine was made: no object was loaded, and the input was not touched; or one was, and the input gave no numbers
-abbrev pub StopsEarly : Stop → List ℕ → Shelved → Shelved → Streamed → Streamed → Type 0
-StopsEarly why name old new input rest =
-    (RefusesObject why name old new × (rest ≡ input)) ⊎ (HoldsObject old.held name × RefusesInput why input rest)
+abbrev pub StopsEarly : List ℕ → Shelved → Shelved → Streamed → Streamed → Stop → Type 0
+StopsEarly name old new input input_now why =
+    (StopsAtObject name old new why × (input_now ≡ input)) ⊎ (HoldsObject old.held name × StopsAtInput input input_now why)
 
--- why the simulator stopped
-abbrev pub Stops : Stop → SimulateCommand → Outside → Outside → Type 0
-Stops stop.Usage simulation old new = ⊥
-Stops stop.Write simulation old new = Broke simulation old new
-Stops why simulation old new = StopsEarly why simulation.object old.shelf new.shelf old.input new.input
+-- what is due at a stop
+pub data StopEnds (name : List ℕ) : (why : Stop) (due : ToolFault) → Type 0 where
+  Due_memory : StopEnds name stop.Memory (fault.NoMemory Pvm)
+  Due_object_read : {word : Bor (List ℕ)} → name ≡ word.now → StopEnds name stop.ReadObject (fault.ReadFile Pvm word)
+  Due_object : {what : ObjectFault} → StopEnds name (stop.Object what) (fault.Object Pvm what)
+  Due_input_read : StopEnds name stop.ReadInput fault.ReadInput
+  Due_input : {what : InputFault} → StopEnds name (stop.Input what) (fault.Input what)
+
+-- ---- the run
 
 -- the machine is at the start of this code, with the numbers of the input
 pub record IsPlaced (code : RowCode) (left : Option (List ℕ)) (machine : Standing) : Type 0 where
@@ -83,30 +66,13 @@ pub record Ready (name : List ℕ) (held : Option Files) (left : Option (List �
   pub in_file : Holds held name object
   pub placed : IsPlaced object.code left machine
 
--- ---- from answers to statuses
-
--- the status that an answer ends with
-abbrev pub simulator_status : Result Outcome Stop → ℕ
-simulator_status (Ok outcome) = end_status (end_of outcome)
-simulator_status (Err stop.Memory) = 1
-simulator_status (Err stop.Usage) = 2
-simulator_status (Err stop.ReadObject) = 3
-simulator_status (Err (stop.Object flaw)) = 4
-simulator_status (Err stop.ReadInput) = 3
-simulator_status (Err (stop.Input flaw)) = 4
-simulator_status (Err stop.Write) = 5
-
--- what an answer to a command says of the outside
-abbrev pub AnswersSimulation : Result Outcome Stop → SimulateCommand → Outside → Outside → Type 0
-AnswersSimulation (Ok outcome) simulation old new = Ran simulation old new (end_status (end_of outcome))
-AnswersSimulation (Err why) simulation old new = Stops why simulation old new
-
--- an answer to a command, or the usage to other words
-abbrev pub AnswersWords : Result Outcome Stop → Option SimulateCommand → Outside → Outside → Type 0
-AnswersWords answer None old new = (answer ≡ Err stop.Usage) × (new ≡ old)
-AnswersWords answer (Some simulation) old new = AnswersSimulation answer simulation old new
-
--- a fact that holds of each stop of the simulator but that of a failed output
-abbrev pub UnlessBroken : Stop → Type 0 → Type 0
-UnlessBroken stop.Write P = Unit {0}
-UnlessBroken _ P = P
+-- what is due behind a run of which this is seen, and what was sent of its text
+pub data RunEnds (cycles : ℕ) (seen : Seen) (old new : Streamed) : (due : Option ToolFault) → Type 0 where
+  Told_whole : {due : Option ToolFault} →
+      Appends old.told new.told (text_of seen.printed) →
+      due ≡ due_of cycles seen.end →
+      RunEnds cycles seen old new due
+  Told_part :
+      Rose old.faults new.faults →
+      AppendsPart old.told new.told (text_of seen.printed) →
+      RunEnds cycles seen old new (Some (fault.WriteOutput Pvm))

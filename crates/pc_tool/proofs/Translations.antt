@@ -1,8 +1,10 @@
 -- From a checked text to the object that translates it.
-use Rattle.std.proofs.Common.{◌≡◌, ℕ, ◌<◌, ◌≤◌, List, [], sym, ◌∙◌, ap, subst, arith}
+use Rattle.std.proofs.Common.{◌≡◌, ℕ, ◌<◌, ◌≤◌, List, sym, ◌∙◌, ap, subst, arith}
 use Rattle.std.specs.Prelude.{min}
 use Rattle.pc_word.specs.SourceLimits.{most_nodes}
-use Rattle.pc_syntax.specs.Source.{SourceProgram, ResolvedProgram}
+use Rattle.pc_word.specs.Run.{AgreeOnInputs}
+use Rattle.pc_word.specs.declared.item.Limits.{Limits}
+use Rattle.pc_syntax.specs.Source.{ResolvedProgram}
 use Rattle.pc_check.specs.Sizes.{size, resolved_size}
 use Rattle.pc_check.proofs.ResolvedSizes.{size-resolved}
 use Rattle.pc_flow.specs.FlowGraph.{FlowGraph}
@@ -10,31 +12,25 @@ use Rattle.pc_compile.specs.Compiled.{IsCompiled, IsUncompiled}
 use Rattle.pc_compile.specs.declared.error.CompileError.{CompileError}
 use Rattle.pc_compile.specs.declared.error.CompileError.TheVariants.{TooLarge, Memory}
 use Rattle.pc_machine.specs.MachineRun.{machine_run}
-use Rattle.pc_word.specs.Ranges.{AreLimits}
 use Rattle.pc_meaning.specs.SourceRun.{source_run}
 use Rattle.pc_object.specs.Numbers.{HasWords}
 use Rattle.pc_object.specs.ObjectText.{CodeWithNotes}
-use Rattle.pc_word.specs.Run.{AgreeOnInputs}
-use Rattle.pc_tool.specs.Compilation.{Translates, default_limits}
+use Rattle.pc_tool.specs.Compilation.{Translates}
+use Rattle.pc_tool.specs.SourceFaults.{Large}
 use Rattle.pc_tool.specs.models.Refusals.{refusal_of_compile}
-use Rattle.pc_tool.specs.models.Texts.{IsChecked, RefusesText}
-
--- the limits where the command gives none are limits of the machine
-pub limits_are : AreLimits default_limits
-limits_are = record { ops = (omega arith, omega arith); tests = (omega arith, omega arith); mem = (omega arith, omega arith) }
+use Rattle.pc_tool.specs.models.Translating.{IsChecked, RefusesText}
 
 -- a program has as many nodes as with numbers for names
-sized : (text : List ℕ) (checked : ResolvedProgram) (h : IsChecked text checked) → resolved_size checked ≡ size h.program
+pub sized : (text : List ℕ) (checked : ResolvedProgram) (h : IsChecked text checked) → resolved_size checked ≡ size h.program
 sized text checked h = ap resolved_size (sym h.is_resolved) ∙ size-resolved h.program
 
 -- the object of a checked text translates it
-pub translates : (text : List ℕ) (checked : ResolvedProgram) (flow : FlowGraph) (object : CodeWithNotes) → IsChecked text checked
-    → IsCompiled checked default_limits flow object → HasWords object → Translates text object
-translates text checked flow object h compiled words =
+pub translates : (limits : Limits) (text : List ℕ) (checked : ResolvedProgram) (flow : FlowGraph) (object : CodeWithNotes) (h : IsChecked text checked)
+    → IsCompiled checked limits flow object → HasWords object → Translates limits text h.program object
+translates limits text checked flow object h compiled words =
     let same = sized text checked h in
     let few = compiled.lowered.few in
     record {
-      program = h.program;
       source = record { read = h.read; faultless = h.faultless; few_nodes = omega (arith, same, few) };
       loads = record { is_object = compiled.is_object; has_words = words };
       limits = compiled.limited;
@@ -47,11 +43,5 @@ pub uncompiled : (error : CompileError) (text : List ℕ) (checked : ResolvedPro
     → IsUncompiled (resolved_size checked) error → RefusesText (refusal_of_compile error) text
 uncompiled (TooLarge nodes) text checked h why =
     let same = sized text checked h in
-    record {
-      program = h.program;
-      read = h.read;
-      faultless = h.faultless;
-      many_nodes = subst (λ (n : ℕ). most_nodes < n) same why.0;
-      told = why.1 ∙ ap (λ (n : ℕ). min n 4294967295) same;
-    }
+    Large h.read h.faultless (subst (λ (n : ℕ). most_nodes < n) same why.0) (why.1 ∙ ap (λ (n : ℕ). min n 4294967295) same)
 uncompiled Memory text checked h why = tt

@@ -1,0 +1,175 @@
+-- How the compiler ends, put together from what its steps leave.
+use Rattle.std.proofs.Common.{◌≡◌, ℕ, ◌≤◌, ◌⊎◌, inl, inr, List, true, Option, Some, None, refl, sym, ◌∙◌, ap, subst, arith}
+use Rattle.std.specs.Prelude.{IsSome}
+use Rattle.std.specs.Borrow.{Bor}
+use Rattle.std.specs.Io.KnownBytes.{Appends}
+use Rattle.pc_word.specs.Count.{Rose}
+use Rattle.pc_syntax.specs.Source.{SourceProgram}
+use Rattle.pc_object.specs.ObjectText.{CodeWithNotes, object_text}
+use Rattle.pc_outside.specs.Shelf.{Files, Shelved, ReadFaultOf, WriteFaultOf, ReadKeeps, WriteKeeps, OnlyFileDiffers, HoldsFile}
+use Rattle.pc_outside.specs.Stream.{AppendsPart}
+use Rattle.pc_command.specs.Requests.{CompileRequest}
+use Rattle.pc_report.specs.declared.fault.Speaker.TheVariants.{Pcc}
+use Rattle.pc_report.specs.declared.fault.SourceFault.{SourceFault}
+use Rattle.pc_report.specs.declared.fault.ToolFault.{ToolFault}
+use Rattle.pc_report.specs.declared.fault.ToolFault.TheVariants as fault
+use Rattle.pc_report.specs.Report.{report_lines}
+use Rattle.pc_tool.specs.Compilation.{Compiled, report_on}
+use Rattle.pc_tool.specs.Compiler.{CompilerEnds, Done, Misused, Unread, Refused, Unwritten, Unreported, Lacking, CompilerLacks, Early, Writing, Reporting, CompilerPromise}
+use Rattle.pc_tool.specs.Due.{Told}
+use Rattle.pc_tool.specs.Files.{HasSource, HoldsSource}
+use Rattle.pc_tool.specs.Outside.{Outside, Streamed}
+use Rattle.pc_tool.specs.Source.{IsSomeSource}
+use Rattle.pc_tool.specs.SourceFaults.{HasFault}
+use Rattle.pc_tool.specs.declared.translation.Translation.{Translation}
+use Rattle.pc_tool.specs.models.Compiling.{FailsToRead, Not_read, Too_long, No_memory, HasTranslation, reported, ReportEnds, Unasked, Sent, Broken_off, Unmade}
+use Rattle.pc_tool.proofs.Files.{has_holds, same_keeps}
+use Rattle.pc_tool.proofs.Streams.{sends_none, sends_part}
+
+-- ---- behind a read
+
+rose_later : (one two three : ℕ) → one ≤ two → Rose two three → Rose one three
+rose_later one two three le rose = omega (arith, le, rose)
+
+module _ (request : CompileRequest) (old mid new : Shelved) (out out_now : Streamed) (keeps : ReadKeeps old mid) where
+  keeps_behind : ReadKeeps mid new → ReadKeeps old new
+  keeps_behind later = record {
+    held = later.held ∙ keeps.held;
+    counted = omega (arith, keeps.counted, later.counted);
+    write_faults = later.write_faults ∙ keeps.write_faults;
+    write_name = later.write_name ∙ keeps.write_name;
+  }
+
+  read_fault_behind : (name : List ℕ) → ReadFaultOf mid new name → ReadFaultOf old new name
+  read_fault_behind name h = record { rose = rose_later old.read_faults mid.read_faults new.read_faults keeps.counted h.rose; named = h.named }
+
+  write_fault_behind : (name : List ℕ) → WriteFaultOf mid new name → WriteFaultOf old new name
+  write_fault_behind name h = record { rose = subst (λ (before : ℕ). Rose before new.write_faults) keeps.write_faults h.rose; named = h.named }
+
+  holds_behind : (P : List ℕ → Type 0) → HoldsSource mid.held request.source P → HoldsSource old.held request.source P
+  holds_behind P h = subst (λ (held : Option Files). HoldsSource held request.source P) keeps.held h
+
+  differs_behind : (name : List ℕ) → OnlyFileDiffers mid.held new.held name → OnlyFileDiffers old.held new.held name
+  differs_behind name h = subst (λ (held : Option Files). OnlyFileDiffers held new.held name) keeps.held h
+
+  compiled_behind : (program : SourceProgram) (object : CodeWithNotes) → Compiled request program object mid new → Compiled request program object old new
+  compiled_behind program object it = record {
+    text = it.text;
+    in_source = subst (λ (held : Option Files). HasSource held request.source it.text) keeps.held it.in_source;
+    translates = it.translates;
+    written = subst (λ (held : Option Files). HoldsFile held new.held request.object (object_text object)) keeps.held it.written;
+  }
+
+  lacks_behind : CompilerLacks mid new out out_now (Some request) → CompilerLacks old new out out_now (Some request)
+  lacks_behind (Early later same) = Early (keeps_behind later) same
+  lacks_behind (Writing source differs same) = Writing (holds_behind IsSomeSource source) (differs_behind request.object differs) same
+  lacks_behind (Reporting {program} {object} asked it sent) = Reporting asked (compiled_behind program object it) sent
+
+  -- what a command comes to behind a read, it comes to from before it
+  pub ends_behind : (due : Option ToolFault) → CompilerEnds mid new out out_now (Some request) due → CompilerEnds old new out out_now (Some request) due
+  ends_behind due (Done {program} {object} it sent) = Done (compiled_behind program object it) sent
+  ends_behind due (Unread {name} is later fault same) = Unread is (keeps_behind later) (read_fault_behind name.now fault) same
+  ends_behind due (Refused {what} later source same) = Refused (keeps_behind later) (holds_behind (λ text. HasFault text what) source) same
+  ends_behind due (Unwritten {name} is source differs fault same) =
+      Unwritten is (holds_behind IsSomeSource source) (differs_behind name.now differs) (write_fault_behind name.now fault) same
+  ends_behind due (Unreported {program} {object} asked it rose part) = Unreported asked (compiled_behind program object it) rose part
+  ends_behind due (Lacking lacks) = Lacking (lacks_behind lacks)
+
+-- ---- each step
+
+-- no source was read
+pub read_ends : (request : CompileRequest) (old new : Shelved) (out : Streamed) (why : ToolFault) → ReadKeeps old new → FailsToRead request.source old new why
+    → CompilerEnds old new out out (Some request) (Some why)
+read_ends request old new out why keeps (Not_read is fault) = Unread is keeps fault refl
+read_ends request old new out why keeps (Too_long long) = Refused keeps long refl
+read_ends request old new out why keeps No_memory = Lacking (Early keeps refl)
+
+-- nothing was touched, for want of memory
+pub memory_ends : (given : Option CompileRequest) (old : Shelved) (out : Streamed) → CompilerEnds old old out out given (Some (fault.NoMemory Pcc))
+memory_ends given old out = Lacking (Early (same_keeps old) refl)
+
+-- the words are no command
+pub usage_ends : (given : Option CompileRequest) (old : Shelved) (out : Streamed) → given ≡ None → CompilerEnds old old out out given (Some (fault.Usage Pcc))
+usage_ends given old out none = subst (λ (g : Option CompileRequest). CompilerEnds old old out out g (Some (fault.Usage Pcc))) (sym none) (Misused refl refl)
+
+-- the text has a fault
+pub text_ends : (request : CompileRequest) (old : Shelved) (out : Streamed) (text : List ℕ) (what : SourceFault) → HasSource old.held request.source text
+    → HasFault text what → CompilerEnds old old out out (Some request) (Some (fault.Source Pcc what))
+text_ends request old out text what has faulty =
+    Refused (same_keeps old) (has_holds old.held request.source text (λ text. HasFault text what) has faulty) refl
+
+module _ (request : CompileRequest) (old new : Shelved) (out out_now : Streamed) (it : Translation) (has : HasTranslation old.held request it) where
+  is_source : HoldsSource old.held request.source IsSomeSource
+  is_source = has_holds old.held request.source has.text IsSomeSource has.in_source (has.is.program, has.is.translates.source)
+
+  compiled : HoldsFile old.held new.held request.object it.bytes.items → Compiled request has.is.program has.is.object old new
+  compiled written = record {
+    text = has.text;
+    in_source = has.in_source;
+    translates = has.is.translates;
+    written = subst (λ bytes. HoldsFile old.held new.held request.object bytes) has.is.bytes written;
+  }
+
+  same_report : reported it ≡ report_on has.is.program has.is.object
+  same_report = rw (has.is.nodes, has.is.rows, has.is.notes) refl
+
+  same_lines : report_lines (reported it) ≡ report_lines (report_on has.is.program has.is.object)
+  same_lines = ap report_lines same_report
+
+  -- the object was not written
+  pub unwritten_ends : (name : Bor (List ℕ)) → request.object ≡ name.now → OnlyFileDiffers old.held new.held name.now → WriteFaultOf old new name.now
+      → CompilerEnds old new out out (Some request) (Some (fault.WriteFile Pcc name))
+  unwritten_ends name is differs failed = Unwritten is is_source differs failed refl
+
+  -- there was no memory to write it
+  pub unwritten_lacks : OnlyFileDiffers old.held new.held request.object → CompilerEnds old new out out (Some request) (Some (fault.NoMemory Pcc))
+  unwritten_lacks differs = Lacking (Writing is_source differs refl)
+
+  -- it was written
+  pub report_ends : (due : Option ToolFault) → HoldsFile old.held new.held request.object it.bytes.items
+      → ReportEnds request.report (report_lines (reported it)) out out_now due → CompilerEnds old new out out_now (Some request) due
+  report_ends due written (Unasked asked same) = Done (compiled written) (rw asked same)
+  report_ends due written (Sent asked sent) = Done (compiled written) (rw asked (subst (λ text. Appends out.told out_now.told text) same_lines sent))
+  report_ends due written (Broken_off asked rose part) =
+      Unreported asked (compiled written) rose (subst (λ text. AppendsPart out.told out_now.told text) same_lines part)
+  report_ends due written (Unmade asked same) =
+      Lacking (Reporting asked (compiled written) (sends_none out out_now (report_lines (report_on has.is.program has.is.object)) same))
+
+-- ---- no memory for a line
+
+-- where a fault is due, what stands is what may stand where memory ran out
+pub ends_lacking : (given : Option CompileRequest) (old new : Shelved) (out out_now : Streamed) (why : ToolFault)
+    → CompilerEnds old new out out_now given (Some why) → CompilerLacks old new out out_now given
+ends_lacking given old new out out_now why (Misused same quiet) = Early (subst (λ (now : Shelved). ReadKeeps old now) (sym same) (same_keeps old)) quiet
+ends_lacking given old new out out_now why (Unread is keeps failed same) = Early keeps same
+ends_lacking given old new out out_now why (Refused keeps source same) = Early keeps same
+ends_lacking given old new out out_now why (Unwritten {request} {name} is source differs failed same) =
+    Writing source (subst (λ name. OnlyFileDiffers old.held new.held name) (sym is) differs) same
+ends_lacking given old new out out_now why (Unreported {request} {program} {object} asked it rose part) =
+    Reporting asked it (sends_part out out_now (report_lines (report_on program object)) part)
+ends_lacking given old new out out_now why (Lacking lacks) = lacks
+
+-- what the compiler came to is what it promises, once it is told
+pub compiler_promise : (given : Option CompileRequest) (old new : Outside) (due : Option ToolFault) (code : ℕ)
+    → CompilerEnds old.shelf new.shelf old.out new.out given due → new.input ≡ old.input
+    → Told due old.err new.err code ⊎ (IsSome due × Told (Some (fault.NoMemory Pcc)) old.err new.err code)
+    → CompilerPromise given old new code
+compiler_promise given old new due code ends input (inl told) = record { due = due; ends = ends; told = told; input = input }
+compiler_promise given old new (Some why) code ends input (inr told) = record {
+  due = Some (fault.NoMemory Pcc);
+  ends = Lacking (ends_lacking given old.shelf new.shelf old.out new.out why ends);
+  told = told.1;
+  input = input;
+}
+compiler_promise given old new None code ends input (inr told) = absurd told.0
+
+pub ruleset compiler_endings = (
+  read_ends,
+  memory_ends,
+  usage_ends,
+  text_ends,
+  unwritten_ends,
+  unwritten_lacks,
+  report_ends,
+  ends_behind,
+)

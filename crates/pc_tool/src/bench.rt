@@ -1,0 +1,106 @@
+//! Both programs over an outside in memory.
+
+use crate::{Who, tool};
+use pc_outside::{CallList, MemoryShelf, MemorySink, MemorySource};
+use std::alloc::{AllocError, Global};
+use std::test::Fail;
+
+/// The bytes that each output of a program may take here.
+const ROOM: usize = 512;
+
+/// The calls that fail, counted from 1, and 0 for none: of the shelf, the input, the output and the error
+/// output.
+#[derive(Clone, Copy)]
+pub(crate) struct Failing {
+    pub(crate) shelf: u64,
+    pub(crate) input: u64,
+    pub(crate) out: u64,
+    pub(crate) err: u64,
+}
+
+/// No call fails.
+pub(crate) const NONE_FAILS: Failing = Failing {
+    shelf: 0,
+    input: 0,
+    out: 0,
+    err: 0,
+};
+
+/// What a call of a program left: its status, and what its two outputs took.
+#[derive(Drop)]
+pub(crate) struct Left {
+    pub(crate) code: u8,
+    pub(crate) out: MemorySink,
+    pub(crate) err: MemorySink,
+}
+
+impl Left {
+    /// Whether it is this status with these texts.
+    pub(crate) fn is(&self, code: u8, out: &[u8], err: &str) -> bool {
+        self.code == code && self.out.taken() == out && self.err.taken() == err.as_bytes()
+    }
+}
+
+/// The words of a line.
+fn words_of(alloc: Global, line: &str) -> Result<Vec<String>, AllocError> {
+    let mut words = Vec::new(alloc);
+    for word in line.split_ascii_whitespace() {
+        words.push(word.to_string(alloc)?)?;
+    }
+    Ok(words)
+}
+
+/// The one call of a list of calls that fail.
+fn only(alloc: Global, call: u64) -> Result<CallList, AllocError> {
+    CallList::from_slice(alloc, &[call])
+}
+
+/// The shelf with this file, of whose reads and writes, counted together from 1, this one fails.
+pub(crate) fn shelf_with(
+    alloc: Global,
+    name: &str,
+    text: &[u8],
+    failing: u64,
+) -> Result<MemoryShelf, Fail> {
+    let mut shelf = MemoryShelf::new(alloc, only(alloc, failing)?);
+    shelf.put(alloc, name, text)?;
+    Ok(shelf)
+}
+
+/// Whether a shelf holds exactly these bytes under a name.
+pub(crate) fn holds(shelf: &MemoryShelf, name: &str, bytes: &[u8]) -> bool {
+    match shelf.held(name) {
+        Some(held) => held == bytes,
+        None => false,
+    }
+}
+
+/// Calls a program with the words of a line.
+pub(crate) fn call(
+    alloc: Global,
+    who: Who,
+    line: &str,
+    shelf: &mut MemoryShelf,
+    input: &[u8],
+    failing: Failing,
+) -> Result<Left, Fail> {
+    let words = words_of(alloc, line)?;
+    let input = Vec::from_slice(alloc, input)?;
+    let mut input = MemorySource::new(input, only(alloc, failing.input)?);
+    let mut out = MemorySink::new(alloc, ROOM, only(alloc, failing.out)?)?;
+    let mut err = MemorySink::new(alloc, ROOM, only(alloc, failing.err)?)?;
+    let status = tool(
+        alloc,
+        who,
+        words.as_slice(),
+        shelf,
+        &mut input,
+        &mut out,
+        &mut err,
+    );
+    Ok(Left {
+        code: status.code,
+        out,
+        err,
+    })
+}

@@ -1,0 +1,53 @@
+//! From a source's text to the bytes of its object.
+ghost use Rattle.std.specs.Prelude.{◌≤◌, length, MatchResult};
+ghost use Rattle.pc_check.specs.Checks.{resolved_of};
+ghost use Rattle.pc_tool.specs.models.Translating.{IsChecked, IsTranslation, RefusesText};
+ghost use Rattle.pc_word.specs.Ranges.{AreLimits};
+ghost use Rattle.pc_word.specs.SourceLimits.{most_source};
+
+use crate::refusal::Refusal;
+use pc_check::{Checked, check};
+use pc_compile::compile;
+use pc_lexer::tokens;
+use pc_object::{NoteList, encode};
+use pc_parser::parse;
+use pc_word::Limits;
+use std::alloc::Global;
+
+/// An object's bytes, and what is reported of it: the nodes of the flow graph, the rows of the code, and the
+/// notes.
+#[derive(Debug, Drop)]
+pub(crate) struct Translation {
+    pub(crate) bytes: Vec<u8>,
+    pub(crate) nodes: u32,
+    pub(crate) rows: u32,
+    pub(crate) notes: NoteList,
+}
+
+/// The object that does what a source does.
+pub(crate) fn translate(alloc: Global, text: &[u8], limits: Limits) -> Result<Translation, Refusal>
+    requires few_bytes { length text.now ≤ most_source }
+    requires limits { AreLimits limits }
+    ensures { MatchResult result (λ it. IsTranslation limits text.now it) (λ refusal. RefusesText refusal text.now) }
+{
+    let checked = read_program(alloc, text)?;
+    let compiled = compile(alloc, &checked, limits)?;
+    let bytes = encode(alloc, &compiled.object)?;
+    Ok(Translation {
+        bytes,
+        nodes: compiled.flow.count(),
+        rows: compiled.object.code.rows.len() as u32,
+        notes: compiled.object.notes,
+    })
+}
+
+/// The program that a text is read as, with numbers for names, if none of them is faulty.
+fn read_program(alloc: Global, text: &[u8]) -> Result<Checked, Refusal>
+    requires { length text.now ≤ most_source }
+    ensures { MatchResult result (λ checked. IsChecked text.now (resolved_of checked)) (λ refusal. RefusesText refusal text.now) }
+{
+    let tokens = tokens(alloc, text)?;
+    let program = parse(alloc, &tokens)?;
+    let checked = check(alloc, &program)?;
+    Ok(checked)
+}
