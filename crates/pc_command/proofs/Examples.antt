@@ -3,12 +3,12 @@ use Rattle.std.proofs.Common.{◌≡◌, ℕ, true, false, List, [], ◌∷◌, 
 use Rattle.std.specs.Prelude.{Option, Some, None}
 use Rattle.std.specs.Fmt.{digits}
 use Rattle.clap.proofs.OnLiterals.{clap_on_literals}
-use Rattle.pc_command.specs.Arguments.{compiler, flag_in, matches_taken, simulator, word_in}
+use Rattle.pc_command.specs.Arguments.{compile_app, flag_in, matches_taken, simulate_app, word_in}
 use Rattle.pc_command.specs.Options.{number_in, ops_option, tests_option, mem_option, window_option, rows_option, cycles_option}
-use Rattle.pc_command.specs.Requests.{CompileRequest, OfFile, OfSample, Origin, behind_at, compile_command_of, compile_request_in, origin_of, simulate_command_of, simulate_request_in}
+use Rattle.pc_command.specs.Requests.{CompileRequest, OfFile, OfSample, SourcePlace, behind_at, compile_command_of, compile_request_in, source_place_of, simulate_command_of, simulate_request_in}
 
 -- what is asked of the compiler with the defaults
-abbrev plain : Origin → CompileRequest
+abbrev plain : SourcePlace → CompileRequest
 plain source = record {
   source = source;
   object = codes "y";
@@ -23,11 +23,11 @@ unfolding ops_option tests_option mem_option window_option rows_option cycles_op
 options = tt
 
 unfoldable requests : Unit {0}
-unfolding compile_command_of compile_request_in simulate_command_of simulate_request_in origin_of behind_at
+unfolding compile_command_of compile_request_in simulate_command_of simulate_request_in source_place_of behind_at
 requests = tt
 
 unfoldable commands : Unit {0}
-unfolding clap_on_literals options requests compiler simulator matches_taken flag_in word_in
+unfolding clap_on_literals options requests compile_app simulate_app matches_taken flag_in word_in
 commands = tt
 
 -- words that the compiler is asked with

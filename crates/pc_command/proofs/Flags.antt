@@ -4,8 +4,9 @@ use Rattle.std.specs.Prelude.{Option, Some, None, unwrap_or, codes, bytes_eq}
 use Rattle.std.specs.declared.str.ParseBoolError.{ParseBoolError}
 use Rattle.std.specs.Str.Parse.{ParsesBool}
 use Rattle.std.proofs.lemmas.Slice.Eq.{bytes_eq-Decides}
-use Rattle.clap.specs.Walk.{Row, Text, one_of}
+use Rattle.clap.specs.Walk.{Text, one_of}
 use Rattle.clap.specs.Matches.{ReadsOne}
+use Rattle.pc_command.specs.Matching.{Matches}
 use Rattle.pc_command.specs.Arguments.{flag_in}
 
 -- the test of a text, where what std read of it is known
@@ -20,7 +21,7 @@ text_read text None h = other (bytes_eq text (codes "true")) refl
     other false e = e
 
 -- a flag is on where std read `true`
-pub flag_in-read : (name : Text) (matches : List Row) (read : Option Bool) → (one_of name matches ≡ None → read ≡ None)
+pub flag_in-read : (name : Text) (matches : Matches) (read : Option Bool) → (one_of name matches ≡ None → read ≡ None)
     → ((text : Text) → one_of name matches ≡ Some text → ReadsOne {T = Bool} {E = ParseBoolError} ParsesBool text read)
     → flag_in name matches ≡ unwrap_or read false
 unfolding flag_in

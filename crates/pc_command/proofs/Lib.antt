@@ -7,4 +7,6 @@ pub mod Ranges
 pub mod Lines
 pub mod Commands
 pub mod InRange
+mod Values
+mod Walks
 mod Examples

@@ -3,12 +3,13 @@ use Rattle.std.proofs.Common.{◌≡◌, ◌∙◌, ◌≤◌, ◌<◌, ◌⊎�
 use Rattle.std.specs.Prelude.{Option, Some, None, Result, unwrap_or}
 use Rattle.std.specs.declared.num.ParseIntError.{ParseIntError}
 use Rattle.std.specs.Str.Parse.{ExplainsUnsignedError, HasUnsignedDigitsIfOk, ParsesUnsigned, digits_value, without_leading_plus}
-use Rattle.clap.specs.Walk.{Row, Text, one_of}
+use Rattle.clap.specs.Walk.{Text, one_of}
 use Rattle.clap.specs.Matches.{ReadsOne}
 use Rattle.clap.specs.Values.{IsUnsignedIn}
 use Rattle.clap.specs.ValueTests.{is_unsigned_in}
 use Rattle.clap.specs.declared.builder.value_parser.ValueParser.TheVariants as vp
 use Rattle.clap.proofs.ValueTestLemmas.{Accepts-accepts, accepts-Accepts}
+use Rattle.pc_command.specs.Matching.{Matches}
 use Rattle.pc_command.specs.Options.{NumberOption, number_in, number_spelled}
 
 -- how std reads a text as a number of 64 bits
@@ -29,22 +30,22 @@ number_spelled-out option text h = out (is_unsigned_in option.least option.great
     out false e = simp e refl
 
 -- what is known of what `get_one` read of an option
-pub record IsRead (option : NumberOption) (matches : List Row) (read : Option ℕ) : Type 0 where
+pub record IsRead (option : NumberOption) (matches : Matches) (read : Option ℕ) : Type 0 where
   pub none : one_of option.name matches ≡ None → read ≡ None
   pub value : (text : Text) → one_of option.name matches ≡ Some text → ReadsOne Reads64 text read
 
 -- the number of an option by the text of its value
-number_in-none : (option : NumberOption) (matches : List Row) → one_of option.name matches ≡ None → number_in option matches ≡ option.default
+number_in-none : (option : NumberOption) (matches : Matches) → one_of option.name matches ≡ None → number_in option matches ≡ option.default
 unfolding number_in
 number_in-none option matches e = rw e refl
 
-number_in-text : (option : NumberOption) (matches : List Row) (text : Text) → one_of option.name matches ≡ Some text
+number_in-text : (option : NumberOption) (matches : Matches) (text : Text) → one_of option.name matches ≡ Some text
     → number_in option matches ≡ unwrap_or (number_spelled option text) option.default
 unfolding number_in
 number_in-text option matches text e = rw e refl
 
 -- a number in the range is the option's
-pub number_in-within : (option : NumberOption) (matches : List Row) (number : ℕ) → IsRead option matches (Some number)
+pub number_in-within : (option : NumberOption) (matches : Matches) (number : ℕ) → IsRead option matches (Some number)
     → option.least ≤ number → number ≤ option.greatest → number_in option matches ≡ number
 number_in-within option matches number read low high = within (one_of option.name matches) refl
   where
@@ -61,7 +62,7 @@ number_in-within option matches number read low high = within (one_of option.nam
     within (Some text) e = number_in-text option matches text e ∙ ap (λ (o : Option ℕ). unwrap_or o option.default) (spelled text (read.value text e))
 
 -- a number outside of the range is not
-pub number_in-outside : (option : NumberOption) (matches : List Row) (number : ℕ) → IsRead option matches (Some number)
+pub number_in-outside : (option : NumberOption) (matches : Matches) (number : ℕ) → IsRead option matches (Some number)
     → (number < option.least) ⊎ (option.greatest < number) → number_in option matches ≡ option.default
 number_in-outside option matches number read outside = by (one_of option.name matches) refl
   where
@@ -77,7 +78,7 @@ number_in-outside option matches number read outside = by (one_of option.name ma
         (number_spelled-out option text (λ h. bad (digits_value 10 (without_leading_plus text)) (read.value text e).0.1 h.2 h.3))
 
 -- nor is a text that spells no number
-pub number_in-unread : (option : NumberOption) (matches : List Row) → IsRead option matches None → number_in option matches ≡ option.default
+pub number_in-unread : (option : NumberOption) (matches : Matches) → IsRead option matches None → number_in option matches ≡ option.default
 number_in-unread option matches read = by (one_of option.name matches) refl
   where
     by : (o : Option Text) → one_of option.name matches ≡ o → number_in option matches ≡ option.default
@@ -86,7 +87,7 @@ number_in-unread option matches read = by (one_of option.name matches) refl
         (number_spelled-out option text (λ h. (read.value text e).1.0 (h.0, h.1)))
 
 -- the number of an option lies in its range, where its default does
-pub number_in-between : (option : NumberOption) (matches : List Row) → option.least ≤ option.default → option.default ≤ option.greatest
+pub number_in-between : (option : NumberOption) (matches : Matches) → option.least ≤ option.default → option.default ≤ option.greatest
     → (option.least ≤ number_in option matches) × (number_in option matches ≤ option.greatest)
 number_in-between option matches low high = by (one_of option.name matches) refl
   where

@@ -8,12 +8,12 @@ use Rattle.clap.specs.declared.builder.arg.Arg.{Arg}
 use Rattle.clap.specs.declared.builder.command.Command.{Command}
 use Rattle.clap.specs.declared.builder.command.Command.TheViews.{out-Command}
 use Rattle.clap.proofs.OnLiterals.{clap_on_literals}
-use Rattle.pc_command.specs.Arguments.{compiler, program, simulator}
+use Rattle.pc_command.specs.Arguments.{compile_app, app_with, simulate_app}
 use Rattle.pc_command.specs.Options.{ops_option, tests_option, mem_option, window_option, rows_option, cycles_option}
 
 -- a command whose words begin behind the program's name
 pub nameless : (old new : Command) (name : Text) → out-Command new ≡ record (out-Command old) { no_binary_name = true }
-    → app_of old ≡ new_app name → app_of new ≡ program name []
+    → app_of old ≡ new_app name → app_of new ≡ app_with name []
 nameless old new name e named = ap app_of_fields e ∙ ap (on_top (λ s. record s { no_binary_name = true })) named
 
 -- one more argument
@@ -22,10 +22,10 @@ pub added : (old : Command) (arg : Arg) (new : Command) (app : App) (rule : Rule
 added old arg new app rule adds local is rule_is = adds.shape local ∙ ap₂ with_rule is rule_is
 
 -- `clap` says exactly which words the programs take
-pub compiler_is_simple : is_simple_and_free compiler ≡ true
-unfolding compiler ops_option tests_option mem_option window_option rows_option clap_on_literals
-compiler_is_simple = refl
+pub compile_app_is_simple : is_simple_and_free compile_app ≡ true
+unfolding compile_app ops_option tests_option mem_option window_option rows_option clap_on_literals
+compile_app_is_simple = refl
 
-pub simulator_is_simple : is_simple_and_free simulator ≡ true
-unfolding simulator cycles_option clap_on_literals
-simulator_is_simple = refl
+pub simulate_app_is_simple : is_simple_and_free simulate_app ≡ true
+unfolding simulate_app cycles_option clap_on_literals
+simulate_app_is_simple = refl

@@ -1,16 +1,16 @@
 -- What holds of every command, said of the definitions alone.
 use Rattle.std.specs.Prelude.{◌≡◌, ◌≢◌, ℕ, ◌^◌, ◌<◌, List, ◌∷◌, Some}
 use Rattle.pc_word.specs.Ranges.{AreCycles, IsExtent, AreLimits}
-use Rattle.pc_command.specs.Requests.{CompileRequest, OfFile, OfSample, Origin, SimulateRequest, compile_command_of, simulate_command_of}
+use Rattle.pc_command.specs.Requests.{CompileRequest, OfFile, OfSample, SourcePlace, SimulateRequest, compile_command_of, simulate_command_of}
 
 -- a file's name does not begin with `@` (64), and the number of a sample fits 32 bits
-abbrev pub IsOrigin : Origin → Type 0
-IsOrigin (OfFile path) = (rest : List ℕ) → path ≢ 64 ∷ rest
-IsOrigin (OfSample number) = number < 2 ^ 32
+abbrev pub IsSourcePlace : SourcePlace → Type 0
+IsSourcePlace (OfFile path) = (rest : List ℕ) → path ≢ 64 ∷ rest
+IsSourcePlace (OfSample number) = number < 2 ^ 32
 
 -- what words ask of the compiler lies in the ranges of its options
 pub record IsInRange (request : CompileRequest) : Type 0 where
-  pub source : IsOrigin request.source
+  pub source : IsSourcePlace request.source
   pub limits : AreLimits request.limits
   pub extent : IsExtent request.extent
 
