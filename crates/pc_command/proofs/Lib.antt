@@ -7,6 +7,9 @@ pub mod Ranges
 pub mod Lines
 pub mod Commands
 pub mod InRange
-mod Values
-mod Walks
+pub mod Values
+pub mod Walks
+pub mod Defaults
+pub mod Whole
+pub mod PlainWords
 mod Examples

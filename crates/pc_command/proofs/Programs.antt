@@ -1,5 +1,6 @@
 -- The programs' arguments, as `clap` keeps them.
 use Rattle.std.proofs.Common.{◌≡◌, ◌∙◌, [], ap, ap₂, refl, true, false}
+use Rattle.std.specs.Fmt.{digits}
 use Rattle.clap.specs.Built.{AddsArg}
 use Rattle.clap.specs.Faults.{is_simple_and_free}
 use Rattle.clap.specs.Simple.{App, app_of, app_of_fields, new_app, on_top, with_rule}
@@ -21,11 +22,16 @@ pub added : (old : Command) (arg : Arg) (new : Command) (app : App) (rule : Rule
     → app_of old ≡ app → rule_of arg ≡ rule → app_of new ≡ with_rule app rule
 added old arg new app rule adds local is rule_is = adds.shape local ∙ ap₂ with_rule is rule_is
 
+-- what is opened to compute the programs' arguments
+unfoldable pub argument_tables : Unit {0}
+unfolding compile_app simulate_app ops_option tests_option mem_option window_option rows_option cycles_option digits
+argument_tables = tt
+
 -- `clap` says exactly which words the programs take
 pub compile_app_is_simple : is_simple_and_free compile_app ≡ true
-unfolding compile_app ops_option tests_option mem_option window_option rows_option clap_on_literals
+unfolding argument_tables clap_on_literals
 compile_app_is_simple = refl
 
 pub simulate_app_is_simple : is_simple_and_free simulate_app ≡ true
-unfolding simulate_app cycles_option clap_on_literals
+unfolding argument_tables clap_on_literals
 simulate_app_is_simple = refl

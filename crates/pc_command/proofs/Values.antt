@@ -7,17 +7,9 @@ use Rattle.std.specs.Str.{chars}
 use Rattle.std.proofs.lemmas.Slice.Eq.{bytes_eq-Decides}
 use Rattle.std.proofs.lemmas.List.{length-append}
 use Rattle.clap.specs.Facts.{unwrap_or_range}
-use Rattle.clap.specs.Faults.{action_fault, bundle_fault, bundle_step_fault, flag_word_fault, flags_fault, level_fault, long_fault, option_fault, other_fault}
-use Rattle.clap.specs.Faults.{positional_fault, settle_fault, short_fault, step_fault, turn_fault, use_fault, values_fault, walk_fault, word_fault, check_fault}
-use Rattle.clap.specs.Kinds.{Kinds, or_else, range_kinds, values_kinds}
-use Rattle.clap.specs.Lexer.{long_of, short_of}
-use Rattle.clap.specs.Simple.{Shape}
-use Rattle.clap.specs.Walk.{Held, Names, Outcome, Row, Rule, Step, Text, Waiting, Walk, action_of, after_flag, after_step, arg_by_id, arg_by_index, arg_by_long}
-use Rattle.clap.specs.Walk.{arg_by_short, at_row, bundle, bundle_met, bundle_step, default_rows, done, finished, flag_met, has_row, idle, is_pending, long_met, long_or_other}
-use Rattle.clap.specs.Walk.{more_values, most_values, next, nothing_held, option, option_met, option_word, plain, plain_word, positional, positional_held, reacted, reading_by}
-use Rattle.clap.specs.Walk.{refused, settled, settled_rows, short_met, short_or_plain, subcommand, subcommand_met, subcommand_or_other, takes_several, takes_values}
-use Rattle.clap.specs.Walk.{to_positional, trailing, used, used_as, value, values_or_missing, waits, walk, walk_from, walked, walked_from, with_default, with_values}
-use Rattle.clap.specs.Walk.{without, word_met, attached_value}
+use Rattle.clap.specs.Faults.{action_fault, use_fault, values_fault}
+use Rattle.clap.specs.Kinds.{Kinds, or_else, range_kinds, value_kinds, values_kinds}
+use Rattle.clap.specs.Walk.{Row, Rule, Text, action_of, arg_by_id, at_row, more_values, most_values, reading_by, used, used_as, values_or_missing, with_values, without}
 use Rattle.clap.specs.declared.builder.action.ArgAction.{ArgAction}
 use Rattle.clap.specs.declared.builder.action.ArgAction.TheVariants as action
 use Rattle.clap.specs.declared.builder.value_parser.ValueParser.{ValueParser}
@@ -49,7 +41,7 @@ values_both : (ignore_case : Bool) (parser : ValueParser) (vs ws : List Text) �
     → values_kinds ignore_case parser (vs ++ ws) ≡ []
 values_both ignore_case parser [] ws h k = k
 values_both ignore_case parser (v ∷ vs) ws h k =
-    let parts = no_faults _ _ h in
+    let parts = no_faults (value_kinds ignore_case parser v) (values_kinds ignore_case parser vs) h in
     rw parts.0 (values_both ignore_case parser vs ws parts.1 k)
 
 -- what holds of each row holds of each row after one is changed, if it holds of what that one becomes and of what stands for a missing one
@@ -72,11 +64,17 @@ is_plain_action action.SetTrue = true
 is_plain_action action.Help = true
 is_plain_action _ = false
 
+-- an argument whose uses have a row
+abbrev pub has_uses : ArgAction → Bool
+has_uses action.Set = true
+has_uses action.SetTrue = true
+has_uses _ = false
+
 -- an argument that is the first of its name, has a value wherever it is used, and takes its own defaults
 pub record IsPlainRule (rules : List Rule) (argument : Rule) : Type 0 where
   pub first : arg_by_id rules argument.id ≡ Some argument
   pub plain : is_plain_action (action_of argument) ≡ true
-  pub valued : (nat_lt 0 (unwrap_or_range argument.range).start_inclusive || nat_lt 0 (length argument.missing)) ≡ true
+  pub valued : has_uses (action_of argument) ≡ true → (nat_lt 0 (unwrap_or_range argument.range).start_inclusive || nat_lt 0 (length argument.missing)) ≡ true
   pub defaults : values_fault argument argument.defaults ≡ []
 
 -- a row of an argument: it has a value, the argument's parser took its values, and they are read as that parser says
@@ -91,7 +89,7 @@ Holds rules row = (argument : Rule) → arg_by_id rules row.id ≡ Some argument
 
 module _ (rules : List Rule) where
   -- so it is after values that its parser took are put to an argument
-  with_values-hold : (a : Rule) (source : ValueSource) (values : List Text) (rows : List Row) → arg_by_id rules a.id ≡ Some a → 0 < length values
+  pub with_values-hold : (a : Rule) (source : ValueSource) (values : List Text) (rows : List Row) → arg_by_id rules a.id ≡ Some a → 0 < length values
       → values_fault a values ≡ [] → AllByRecursion (Holds rules) rows → AllByRecursion (Holds rules) (with_values a.id (reading_by a) source values rows)
   with_values-hold a source values rows first some passed all = at_row-all (Holds rules) a.id (more_values source values) _ rows all changed (new, tt)
     where
@@ -123,10 +121,10 @@ module _ (rules : List Rule) where
 
   -- a use without a fault
   used_as-holds : (kind : ArgAction) (again : Bool) (a : Rule) (values : List Text) (rows : List Row) → is_plain_action kind ≡ true → arg_by_id rules a.id ≡ Some a
-      → 0 < length values → action_fault kind again a values rows ≡ [] → AllByRecursion (Holds rules) rows
+      → (has_uses kind ≡ true → 0 < length values) → action_fault kind again a values rows ≡ [] → AllByRecursion (Holds rules) rows
       → AllByRecursion (Holds rules) (used_as kind a.id (reading_by a) values rows)
-  used_as-holds action.Set again a values rows is first some fault all = set-holds a values rows first some (no_faults _ _ fault).1 all
-  used_as-holds action.SetTrue again a values rows is first some fault all = set-holds a values rows first some (no_faults _ _ fault).1 all
+  used_as-holds action.Set again a values rows is first some fault all = set-holds a values rows first (some refl) (no_faults _ _ fault).1 all
+  used_as-holds action.SetTrue again a values rows is first some fault all = set-holds a values rows first (some refl) (no_faults _ _ fault).1 all
   used_as-holds action.Help again a values rows is first some fault all = absurd (cc)
   used_as-holds _ again a values rows is first some fault all = absurd (cc)
 
@@ -140,8 +138,8 @@ module _ (rules : List Rule) where
       by true h = absurd (let bad = rw h at range in cc)
       by false h = less_of 0 (length a.missing) (rw h at valued)
 
-  used-holds : (again : Bool) (a : Rule) (values : List Text) (rows : List Row) → IsPlainRule rules a → use_fault again a values rows ≡ []
+  pub used-holds : (again : Bool) (a : Rule) (values : List Text) (rows : List Row) → IsPlainRule rules a → use_fault again a values rows ≡ []
       → AllByRecursion (Holds rules) rows → AllByRecursion (Holds rules) (used a values rows)
-  used-holds again a values rows plain fault all =
+  used-holds again a values rows is fault all =
       let parts = no_faults _ _ fault in
-      used_as-holds (action_of a) again a (values_or_missing a values) rows plain.plain plain.first (given a values plain.valued parts.0) parts.1 all
+      used_as-holds (action_of a) again a (values_or_missing a values) rows is.plain is.first (λ has. given a values (is.valued has) parts.0) parts.1 all
