@@ -1,13 +1,13 @@
 -- After the defaults of `clap` are put in, each argument that has some has a row, and each row is one of its argument.
-use Rattle.std.proofs.Common.{◌≡◌, ◌<◌, ◌||◌, ℕ, zero, suc, Bool, cond, true, false, List, [], ◌∷◌, length, refl, subst, fold, arith}
-use Rattle.std.specs.Prelude.{Option, Some, None, find, nat_lt, slice_get, bytes_eq}
+use Rattle.std.proofs.Common.{◌≡◌, ◌||◌, Bool, cond, true, false, List, [], ◌∷◌, length, refl, fold, arith}
+use Rattle.std.specs.Prelude.{Option, Some, None, find, nat_lt, bytes_eq}
 use Rattle.std.specs.List.{AllByRecursion, list_any}
 use Rattle.std.specs.Option.{IsSome, option_map_or}
 use Rattle.std.proofs.lemmas.Slice.Eq.{bytes_eq-Decides}
 use Rattle.clap.specs.Facts.{explicit_source}
 use Rattle.clap.specs.Faults.{values_fault}
 use Rattle.clap.specs.Takes.{is_given}
-use Rattle.clap.specs.Walk.{Row, Rule, Text, arg_by_id, at_row, default_rows, has_row, more_values, reading_by, with_default, with_values}
+use Rattle.clap.specs.Walk.{Row, Rule, Text, arg_by_id, default_rows, has_row, reading_by, with_default, with_values}
 use Rattle.clap.specs.declared.builder.value_parser.Reading.{Reading}
 use Rattle.clap.specs.declared.parser.matches.ValueSource.{ValueSource}
 use Rattle.clap.specs.declared.parser.matches.ValueSource.TheVariants.{DefaultValue}

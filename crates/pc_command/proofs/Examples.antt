@@ -1,11 +1,10 @@
 -- Words that are a command or none, as the definitions compute them.
-use Rattle.std.proofs.Common.{◌≡◌, ℕ, true, false, List, [], ◌∷◌, refl, codes}
+use Rattle.std.proofs.Common.{◌≡◌, ℕ, true, List, [], ◌∷◌, refl, codes}
 use Rattle.std.specs.Prelude.{Option, Some, None}
-use Rattle.std.specs.Fmt.{digits}
 use Rattle.clap.proofs.OnLiterals.{clap_on_literals}
-use Rattle.pc_command.specs.Arguments.{compile_app, flag_in, matches_taken, simulate_app, word_in}
+use Rattle.pc_command.specs.Arguments.{flag_in, matches_taken, word_in}
 use Rattle.pc_command.specs.Laws.{plain_request}
-use Rattle.pc_command.specs.Options.{number_in, ops_option, tests_option, mem_option, window_option, rows_option, cycles_option}
+use Rattle.pc_command.specs.Options.{number_in}
 use Rattle.pc_command.specs.Requests.{CompileRequest, OfFile, OfSample, SourcePlace, behind_at, compile_command_of, compile_request_in, source_place_of, simulate_command_of, simulate_request_in}
 use Rattle.pc_command.proofs.Programs.{argument_tables}
 

@@ -1,5 +1,5 @@
 -- A flag, as std reads it of the matches.
-use Rattle.std.proofs.Common.{◌≡◌, Bool, true, false, List, refl}
+use Rattle.std.proofs.Common.{◌≡◌, Bool, true, false, refl}
 use Rattle.std.specs.Prelude.{Option, Some, None, unwrap_or, codes, bytes_eq}
 use Rattle.std.specs.declared.str.ParseBoolError.{ParseBoolError}
 use Rattle.std.specs.Str.Parse.{ParsesBool}

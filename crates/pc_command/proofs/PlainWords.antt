@@ -1,18 +1,17 @@
 -- What plain words ask: the walk of `clap` over them, word by word.
-use Rattle.std.proofs.Common.{◌≡◌, ◌≢◌, ◌==◌, ◌∙◌, ℕ, Bool, cond, true, false, List, [], ◌∷◌, refl, ap, eqb-true}
-use Rattle.std.specs.Prelude.{Option, Some, None, codes, bytes_eq}
-use Rattle.std.specs.Fmt.{digits}
+use Rattle.std.proofs.Common.{◌≡◌, ◌==◌, ℕ, Bool, true, false, List, [], ◌∷◌, refl, ap, eqb-true}
+use Rattle.std.specs.Prelude.{Some, None, codes, bytes_eq}
 use Rattle.clap.specs.Faults.{defaults_fault, fault_of, step_fault, turn_fault, walk_fault, word_fault}
 use Rattle.clap.specs.Lexer.{long_of, short_of}
-use Rattle.clap.specs.Simple.{Shape, built, matches_of}
-use Rattle.clap.specs.Walk.{Held, Rule, Text, Waiting, Walk, after_step, arg_by_index, idle, nothing_held, option, plain_word, positional, walk_from, walked, word_met}
+use Rattle.clap.specs.Simple.{Shape, built}
+use Rattle.clap.specs.Walk.{Held, Rule, Text, Waiting, Walk, after_step, idle, nothing_held, option, plain_word, positional, walk_from, walked, word_met}
 use Rattle.clap.specs.declared.builder.value_parser.Reading.TheVariants.{AsWritten}
 use Rattle.clap.specs.declared.parser.matches.ValueSource.TheVariants.{CommandLine}
 use Rattle.clap.proofs.OnLiterals.{clap_on_literals}
 use Rattle.pc_command.specs.Arguments.{compile_app, flag_in, matches_taken, simulate_app, word_in}
-use Rattle.pc_command.specs.Laws.{IsPlainWord, NoWordsAreNoCommand, PlainWordSimulates, PlainWordsCompile, plain_request}
-use Rattle.pc_command.specs.Options.{cycles_option, mem_option, number_in, ops_option, rows_option, tests_option, window_option}
-use Rattle.pc_command.specs.Requests.{CompileRequest, SourcePlace, compile_command_of, compile_request_in, simulate_command_of, simulate_request_in, source_place_of}
+use Rattle.pc_command.specs.Laws.{IsPlainWord, NoWordsAreNoCommand, PlainWordSimulates, PlainWordsCompile}
+use Rattle.pc_command.specs.Options.{number_in}
+use Rattle.pc_command.specs.Requests.{compile_command_of, compile_request_in, simulate_command_of, simulate_request_in}
 use Rattle.pc_command.proofs.Programs.{argument_tables}
 
 -- ---- a plain word is neither a flag nor an option
@@ -127,8 +126,13 @@ compile-walk_fault : (source object : Text) → IsPlainWord source → IsPlainWo
     → walk_fault (built compile_app).top [] (walk_from nothing_held) (source ∷ (codes "-o" ∷ (object ∷ []))) ≡ []
 unfolding argument_tables walk_fault
 compile-walk_fault source object is also =
-    rw (plain_word-turn (built compile_app).top nothing_held idle 1 source is, source-walked source is, letter-turn source, letter-walked source,
-    plain_word-turn (built compile_app).top (taking_object source []) (option (codes "OBJ")) 2 object also) refl
+    rw (
+      plain_word-turn (built compile_app).top nothing_held idle 1 source is,
+      source-walked source is,
+      letter-turn source,
+      letter-walked source,
+      plain_word-turn (built compile_app).top (taking_object source []) (option (codes "OBJ")) 2 object also,
+    ) refl
 
 compile-fault : (source object : Text) → IsPlainWord source → IsPlainWord object → fault_of compile_app (source ∷ (codes "-o" ∷ (object ∷ []))) ≡ []
 unfolding argument_tables defaults_fault

@@ -1,5 +1,5 @@
 -- The numbers of the options lie in their ranges.
-use Rattle.std.proofs.Common.{◌≡◌, ◌≤◌, ℕ, lit≤, List}
+use Rattle.std.proofs.Common.{◌≡◌, ◌≤◌, ℕ, lit≤}
 use Rattle.pc_command.specs.Matching.{Matches}
 use Rattle.pc_command.specs.Options.{NumberOption, number_in, ops_option, tests_option, mem_option, window_option, rows_option, cycles_option}
 use Rattle.pc_word.specs.Ranges.{AreCycles, IsExtent, AreLimits, IsBetween}

@@ -1,9 +1,7 @@
 -- Where `clap` finds no fault, each row of its matches has a value, which the parser of the row's argument took.
-use Rattle.std.proofs.Common.{◌≡◌, ◌<◌, ◌||◌, ℕ, zero, suc, Bool, cond, true, false, List, [], ◌∷◌, ◌++◌, length, refl, sym, ap, subst, arith, fold}
-use Rattle.std.specs.Prelude.{Option, Some, None, IfSome, find, is_some, nat_lt, slice_get, bytes_eq, unwrap_or}
+use Rattle.std.proofs.Common.{◌≡◌, ◌<◌, ◌||◌, Bool, cond, true, false, List, [], ◌∷◌, ◌++◌, length, refl, subst, arith}
+use Rattle.std.specs.Prelude.{Some, None, find, nat_lt, bytes_eq}
 use Rattle.std.specs.List.{AllByRecursion}
-use Rattle.std.specs.Option.{option_map_or}
-use Rattle.std.specs.Str.{chars}
 use Rattle.std.proofs.lemmas.Slice.Eq.{bytes_eq-Decides}
 use Rattle.std.proofs.lemmas.List.{length-append}
 use Rattle.clap.specs.Facts.{unwrap_or_range}
@@ -14,7 +12,7 @@ use Rattle.clap.specs.declared.builder.action.ArgAction.{ArgAction}
 use Rattle.clap.specs.declared.builder.action.ArgAction.TheVariants as action
 use Rattle.clap.specs.declared.builder.value_parser.ValueParser.{ValueParser}
 use Rattle.clap.specs.declared.parser.matches.ValueSource.{ValueSource}
-use Rattle.clap.specs.declared.parser.matches.ValueSource.TheVariants.{CommandLine, DefaultValue}
+use Rattle.clap.specs.declared.parser.matches.ValueSource.TheVariants.{CommandLine}
 use Rattle.pc_word.proofs.Lists.{all_both}
 use Rattle.pc_word.proofs.Truth.{less_of}
 
@@ -104,13 +102,16 @@ module _ (rules : List Rule) where
           subst (λ (x : Rule). IsRowOf x (record { id = a.id; values = values; count = None; source = Some source; reading = reading_by a })) (same b is) held
 
       changed : (row : Row) → bytes_eq row.id a.id ≡ true → Holds rules row → AllByRecursion (Holds rules) (more_values source values row)
-      changed row named holds = ((λ b is.
-          let id : row.id ≡ a.id = (bytes_eq-Decides row.id a.id).0 named in
-          let at : arg_by_id rules a.id ≡ Some b = subst (λ (t : Text). arg_by_id rules t ≡ Some b) id is in
-          let old = holds b is in
-          let took : values_fault b values ≡ [] = subst (λ (x : Rule). values_fault x values ≡ []) (same b at) passed in
-          let valued : 0 < length (row.values ++ values) = simp length-append (omega (arith, old.valued)) in
-          record { valued = valued; passed = values_both _ _ row.values values old.passed took; reading = old.reading }), tt)
+      changed row named holds = (
+        (λ b is.
+            let id : row.id ≡ a.id = (bytes_eq-Decides row.id a.id).0 named in
+            let at : arg_by_id rules a.id ≡ Some b = subst (λ (t : Text). arg_by_id rules t ≡ Some b) id is in
+            let old = holds b is in
+            let took : values_fault b values ≡ [] = subst (λ (x : Rule). values_fault x values ≡ []) (same b at) passed in
+            let valued : 0 < length (row.values ++ values) = simp length-append (omega (arith, old.valued)) in
+            record { valued = valued; passed = values_both _ _ row.values values old.passed took; reading = old.reading }),
+        tt,
+      )
 
   -- a use that begins with what was there taken out
   set-holds : (a : Rule) (values : List Text) (rows : List Row) → arg_by_id rules a.id ≡ Some a → 0 < length values → values_fault a values ≡ []

@@ -1,5 +1,5 @@
 -- The walk of `clap` over the words keeps the rows of its matches those of their arguments, as long as there is no fault.
-use Rattle.std.proofs.Common.{◌≡◌, ◌&&◌, ℕ, zero, suc, Bool, cond, true, false, not, List, [], ◌∷◌, ◌++◌, length, refl, fold}
+use Rattle.std.proofs.Common.{◌≡◌, ◌&&◌, ℕ, zero, suc, Bool, cond, true, false, List, [], ◌∷◌, length, refl, fold}
 use Rattle.std.specs.Prelude.{Option, Some, None, IfSome, find, is_some, slice_get, bytes_eq}
 use Rattle.std.specs.List.{AllByRecursion}
 use Rattle.std.specs.Option.{option_map_or}
@@ -10,9 +10,9 @@ use Rattle.clap.specs.declared.error.kind.ErrorKind.TheVariants as kind
 use Rattle.clap.specs.Kinds.{Kinds, or_else}
 use Rattle.clap.specs.Lexer.{long_of, short_of}
 use Rattle.clap.specs.Simple.{Shape}
-use Rattle.clap.specs.Walk.{Held, Names, Outcome, Rule, Step, Text, Waiting, Walk, after_flag, after_step, arg_by_id, arg_by_index, arg_by_long, arg_by_short, bundle}
-use Rattle.clap.specs.Walk.{bundle_met, bundle_step, done, flag_met, idle, is_pending, long_met, long_or_other, next, option, option_met, option_word, plain, plain_word}
-use Rattle.clap.specs.Walk.{positional, positional_held, reacted, refused, settled, settled_rows, short_met, short_or_plain, subcommand, subcommand_met, subcommand_or_other}
+use Rattle.clap.specs.Walk.{Held, Names, Outcome, Rule, Step, Text, Waiting, Walk, after_flag, after_step, arg_by_id, arg_by_index, arg_by_long, arg_by_short}
+use Rattle.clap.specs.Walk.{bundle_met, bundle_step, done, flag_met, is_pending, long_met, long_or_other, next, option, option_met, option_word, plain, plain_word}
+use Rattle.clap.specs.Walk.{positional_held, reacted, settled, settled_rows, short_met, short_or_plain, subcommand, subcommand_met, subcommand_or_other}
 use Rattle.clap.specs.Walk.{takes_several, takes_values, to_positional, trailing, value, waits, walked, walked_from, word_met, attached_value}
 use Rattle.pc_command.proofs.Values.{Holds, IsPlainRule, found_has, no_faults, used-holds}
 

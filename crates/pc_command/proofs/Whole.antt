@@ -1,27 +1,24 @@
 -- The matches that `clap` gives of words that it takes lack nothing.
-use Rattle.std.proofs.Common.{◌≡◌, ◌<◌, ◌&&◌, ◌||◌, ℕ, zero, suc, Bool, cond, true, false, not, List, [], ◌∷◌, length, refl, ap, subst, fold, arith}
-use Rattle.std.specs.Prelude.{Option, Some, None, codes, find, nat_lt, option_and_then, option_map, slice_get, bytes_eq}
-use Rattle.std.specs.Fmt.{digits}
-use Rattle.std.specs.List.{AllByRecursion, list_any}
+use Rattle.std.proofs.Common.{◌≡◌, ◌<◌, Bool, true, false, not, List, [], ◌∷◌, length, refl, subst, arith}
+use Rattle.std.specs.Prelude.{Option, Some, None, nat_lt, option_and_then, option_map, slice_get}
+use Rattle.std.specs.List.{AllByRecursion}
 use Rattle.std.specs.Option.{IsSome}
 use Rattle.clap.specs.Faults.{check_fault, fault_of, level_fault, values_fault}
 use Rattle.clap.specs.Kinds.{Kinds, check_kinds, value_kinds}
 use Rattle.clap.specs.Simple.{App, Shape, argument_words, built, matches_of, names_of}
-use Rattle.clap.specs.Takes.{is_given}
 use Rattle.clap.specs.Values.{read_as}
-use Rattle.clap.specs.ValueTests.{accepts, is_unsigned_in}
-use Rattle.clap.specs.Walk.{Names, Row, Rule, Text, arg_by_id, finished, first_of, has_row, nothing_held, one_of, row_text, settled, walk, walk_from}
+use Rattle.clap.specs.ValueTests.{is_unsigned_in}
+use Rattle.clap.specs.Walk.{Names, Rule, Text, finished, first_of, has_row, nothing_held, one_of, settled, walk, walk_from}
 use Rattle.clap.specs.declared.builder.value_parser.Reading.{Reading}
 use Rattle.clap.specs.declared.builder.value_parser.Reading.TheVariants.{AsWritten}
-use Rattle.clap.specs.declared.builder.value_parser.ValueParser.{ValueParser}
 use Rattle.clap.specs.declared.builder.value_parser.ValueParser.TheVariants as vp
 use Rattle.clap.proofs.OnLiterals.{clap_on_literals}
-use Rattle.pc_word.proofs.Truth.{not_true, or_false}
+use Rattle.pc_word.proofs.Truth.{or_false}
 use Rattle.pc_command.specs.Matching.{Matches}
 use Rattle.pc_command.specs.Arguments.{compile_app, matches_taken, simulate_app}
-use Rattle.pc_command.specs.Laws.{AreCompileMatches, AreSimulateMatches, CompileMatchesAreWhole, SimulateMatchesAreWhole}
+use Rattle.pc_command.specs.Laws.{CompileMatchesAreWhole, SimulateMatchesAreWhole}
 use Rattle.pc_command.specs.Options.{NumberOption, cycles_option, mem_option, number_found, number_spelled, ops_option, rows_option, tests_option, window_option}
-use Rattle.pc_command.proofs.Values.{Holds, IsPlainRule, IsRowOf, no_faults}
+use Rattle.pc_command.proofs.Values.{Holds, IsPlainRule, no_faults}
 use Rattle.pc_command.proofs.Walks.{settled_at_end, walk-holds}
 use Rattle.pc_command.proofs.Defaults.{HasRow, defaults-hold, defaults_are_there, row_given, row_there}
 use Rattle.pc_command.proofs.Programs.{argument_tables}
@@ -136,24 +133,44 @@ compile_rules_are_plain : AllByRecursion (IsPlainRule compile_rules) compile_rul
 unfolding argument_tables clap_on_literals
 compile_rules_are_plain = (
   record { first = refl; plain = refl; valued = λ used. refl; defaults = refl },
-  (record { first = refl; plain = refl; valued = λ used. refl; defaults = refl },
-  (record { first = refl; plain = refl; valued = λ used. refl; defaults = refl },
-  (record { first = refl; plain = refl; valued = λ used. refl; defaults = refl },
-  (record { first = refl; plain = refl; valued = λ used. refl; defaults = refl },
-  (record { first = refl; plain = refl; valued = λ used. refl; defaults = refl },
-  (record { first = refl; plain = refl; valued = λ used. refl; defaults = refl },
-  (record { first = refl; plain = refl; valued = λ used. refl; defaults = refl },
-  (record { first = refl; plain = refl; valued = λ used. used; defaults = refl },
-  tt)))))))),
+  (
+    record { first = refl; plain = refl; valued = λ used. refl; defaults = refl },
+    (
+      record { first = refl; plain = refl; valued = λ used. refl; defaults = refl },
+      (
+        record { first = refl; plain = refl; valued = λ used. refl; defaults = refl },
+        (
+          record { first = refl; plain = refl; valued = λ used. refl; defaults = refl },
+          (
+            record { first = refl; plain = refl; valued = λ used. refl; defaults = refl },
+            (
+              record { first = refl; plain = refl; valued = λ used. refl; defaults = refl },
+              (
+                record { first = refl; plain = refl; valued = λ used. refl; defaults = refl },
+                (
+                  record { first = refl; plain = refl; valued = λ used. used; defaults = refl },
+                  tt,
+                ),
+              ),
+            ),
+          ),
+        ),
+      ),
+    ),
+  ),
 )
 
 simulate_rules_are_plain : AllByRecursion (IsPlainRule simulate_rules) simulate_rules
 unfolding argument_tables clap_on_literals
 simulate_rules_are_plain = (
   record { first = refl; plain = refl; valued = λ used. refl; defaults = refl },
-  (record { first = refl; plain = refl; valued = λ used. refl; defaults = refl },
-  (record { first = refl; plain = refl; valued = λ used. used; defaults = refl },
-  tt)),
+  (
+    record { first = refl; plain = refl; valued = λ used. refl; defaults = refl },
+    (
+      record { first = refl; plain = refl; valued = λ used. used; defaults = refl },
+      tt,
+    ),
+  ),
 )
 
 pub compile_matches-whole : CompileMatchesAreWhole

@@ -1,5 +1,5 @@
 -- The options that take a number, as a table: the name of each, its range and its default.
-use Rattle.std.specs.Prelude.{ℕ, List, Option, Some, None, codes, if◌then◌else◌, option_and_then, unwrap_or}
+use Rattle.std.specs.Prelude.{ℕ, Option, Some, None, codes, if◌then◌else◌, option_and_then, unwrap_or}
 use Rattle.std.specs.Str.Parse.{digits_value, without_leading_plus}
 use Rattle.clap.specs.Walk.{Text, one_of}
 use Rattle.clap.specs.ValueTests.{is_unsigned_in}
