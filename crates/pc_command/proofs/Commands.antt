@@ -11,7 +11,7 @@ use Rattle.pc_command.specs.declared.error.CommandError.{CommandError}
 use Rattle.pc_command.specs.declared.error.CommandError.TheVariants.{NoCommand, Memory}
 
 -- a value that is there
-there : {X : Type 0} (o : Option X) (x : X) → ok_or o NoCommand ≡ Ok x → o ≡ Some x
+pub there : {X : Type 0} (o : Option X) (x : X) → ok_or o NoCommand ≡ Ok x → o ≡ Some x
 there None x e = cc
 there (Some y) x e = cc
 

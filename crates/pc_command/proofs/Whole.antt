@@ -1,24 +1,26 @@
 -- The matches that `clap` gives of words that it takes lack nothing.
-use Rattle.std.proofs.Common.{◌≡◌, ◌<◌, Bool, true, false, not, List, [], ◌∷◌, length, refl, subst, arith}
-use Rattle.std.specs.Prelude.{Option, Some, None, nat_lt, option_and_then, option_map, slice_get}
+use Rattle.std.proofs.Common.{◌≡◌, ◌<◌, ◌||◌, Bool, true, false, not, List, [], ◌∷◌, length, refl, subst, arith}
+use Rattle.std.specs.Prelude.{Option, Some, None, bytes_eq, codes, nat_lt, option_and_then, option_map, slice_get}
 use Rattle.std.specs.List.{AllByRecursion}
 use Rattle.std.specs.Option.{IsSome}
+use Rattle.clap.specs.Facts.{unwrap_or_range}
 use Rattle.clap.specs.Faults.{check_fault, fault_of, level_fault, values_fault}
 use Rattle.clap.specs.Kinds.{Kinds, check_kinds, value_kinds}
 use Rattle.clap.specs.Simple.{App, Shape, argument_words, built, matches_of, names_of}
+use Rattle.clap.specs.Takes.{is_given}
 use Rattle.clap.specs.Values.{read_as}
 use Rattle.clap.specs.ValueTests.{is_unsigned_in}
-use Rattle.clap.specs.Walk.{Names, Rule, Text, finished, first_of, has_row, nothing_held, one_of, settled, walk, walk_from}
+use Rattle.clap.specs.Walk.{Names, Rule, Text, action_of, arg_by_id, finished, first_of, has_row, nothing_held, settled, walk, walk_from}
 use Rattle.clap.specs.declared.builder.value_parser.Reading.{Reading}
 use Rattle.clap.specs.declared.builder.value_parser.Reading.TheVariants.{AsWritten}
 use Rattle.clap.specs.declared.builder.value_parser.ValueParser.TheVariants as vp
 use Rattle.clap.proofs.OnLiterals.{clap_on_literals}
 use Rattle.pc_word.proofs.Truth.{or_false}
 use Rattle.pc_command.specs.Matching.{Matches}
-use Rattle.pc_command.specs.Arguments.{compile_app, matches_taken, simulate_app}
+use Rattle.pc_command.specs.Arguments.{compile_app, flag_found, flag_spelled, matches_taken, simulate_app}
 use Rattle.pc_command.specs.Laws.{CompileMatchesAreWhole, SimulateMatchesAreWhole}
 use Rattle.pc_command.specs.Options.{NumberOption, cycles_option, mem_option, number_found, number_spelled, ops_option, rows_option, tests_option, window_option}
-use Rattle.pc_command.proofs.Values.{Holds, IsPlainRule, no_faults}
+use Rattle.pc_command.proofs.Values.{Holds, IsPlainRule, is_plain_action, no_faults}
 use Rattle.pc_command.proofs.Walks.{settled_at_end, walk-holds}
 use Rattle.pc_command.proofs.Defaults.{HasRow, defaults-hold, defaults_are_there, row_given, row_there}
 use Rattle.pc_command.proofs.Programs.{argument_tables}
@@ -37,10 +39,6 @@ some_mapped f (Some x) some = refl
 -- the word of an argument that has a row
 word_there : (a : Rule) (rows : Matches) → HasRow a rows → IsSome (first_of a.id rows)
 word_there a rows has = rw has.found (begins has.row.values has.holds.valued)
-
--- the text of one
-text_there : (a : Rule) (rows : Matches) → HasRow a rows → IsSome (one_of a.id rows)
-text_there a rows has = rw has.found (some_mapped (read_as has.row.reading) (slice_get has.row.values 0) (begins has.row.values has.holds.valued))
 
 -- an option whose parser took the values of a row has a number there
 number_of_values : (line : NumberOption) (a : Rule) (values : List Text) (how : Reading) → a.parser ≡ Some (vp.Unsigned line.least line.greatest)
@@ -61,6 +59,28 @@ number_there : (line : NumberOption) (a : Rule) (rows : Matches) → a.id ≡ li
     → IsSome (number_found line rows)
 number_there line a rows named parser has =
     rw (← named, has.found) (number_of_values line a has.row.values has.row.reading parser has.holds.valued has.holds.passed written)
+  where
+    written : has.row.reading ≡ AsWritten
+    written = rw (has.holds.reading, parser) refl
+
+-- a flag whose parser took the values of a row has a state there
+flag_of_values : (a : Rule) (values : List Text) (how : Reading) → a.parser ≡ Some vp.Bool → 0 < length values → values_fault a values ≡ [] → how ≡ AsWritten
+    → IsSome (option_and_then flag_spelled (option_map (read_as how) (slice_get values 0)))
+flag_of_values a [] how parser some passed written = absurd (omega arith)
+flag_of_values a (v ∷ vs) how parser some passed written =
+    rw written (by (bytes_eq v (codes "true")) (bytes_eq v (codes "false")) refl refl)
+  where
+    took : value_kinds a.ignore_case vp.Bool v ≡ []
+    took = (no_faults _ _ (rw parser at passed)).0
+
+    by : (b c : Bool) → bytes_eq v (codes "true") ≡ b → bytes_eq v (codes "false") ≡ c → IsSome (flag_spelled v)
+    by true c is other = rw is refl
+    by false true is other = rw (is, other) refl
+    by false false is other = absurd (let bad = rw (is, other) at took in cc)
+
+flag_there : (a : Rule) (rows : Matches) → a.parser ≡ Some vp.Bool → HasRow a rows → IsSome (flag_found a.id rows)
+flag_there a rows parser has =
+    rw has.found (flag_of_values a has.row.values has.row.reading parser has.holds.valued has.holds.passed written)
   where
     written : has.row.reading ≡ AsWritten
     written = rw (has.holds.reading, parser) refl
@@ -129,49 +149,49 @@ compile_rules = (built compile_app).top.rules
 abbrev simulate_rules : List Rule
 simulate_rules = (built simulate_app).top.rules
 
+-- an argument that may be used, and one that asks for help
+used_rule : (rules : List Rule) (a : Rule) → arg_by_id rules a.id ≡ Some a → is_plain_action (action_of a) ≡ true
+    → (nat_lt 0 (unwrap_or_range a.range).start_inclusive || nat_lt 0 (length a.missing)) ≡ true → values_fault a a.defaults ≡ [] → IsPlainRule rules a
+used_rule rules a first plain valued defaults = record { first = first; plain = plain; valued = λ used. valued; defaults = defaults }
+
+also : {A B : Type 0} → A → B → A × B
+also a b = (a, b)
+
 compile_rules_are_plain : AllByRecursion (IsPlainRule compile_rules) compile_rules
 unfolding argument_tables clap_on_literals
-compile_rules_are_plain = (
-  record { first = refl; plain = refl; valued = λ used. refl; defaults = refl },
-  (
-    record { first = refl; plain = refl; valued = λ used. refl; defaults = refl },
-    (
-      record { first = refl; plain = refl; valued = λ used. refl; defaults = refl },
-      (
-        record { first = refl; plain = refl; valued = λ used. refl; defaults = refl },
-        (
-          record { first = refl; plain = refl; valued = λ used. refl; defaults = refl },
-          (
-            record { first = refl; plain = refl; valued = λ used. refl; defaults = refl },
-            (
-              record { first = refl; plain = refl; valued = λ used. refl; defaults = refl },
-              (
-                record { first = refl; plain = refl; valued = λ used. refl; defaults = refl },
-                (
-                  record { first = refl; plain = refl; valued = λ used. used; defaults = refl },
-                  tt,
-                ),
-              ),
-            ),
-          ),
-        ),
-      ),
-    ),
-  ),
-)
+compile_rules_are_plain =
+    also (used_rule _ _ refl refl refl refl)
+    (also (used_rule _ _ refl refl refl refl)
+    (also (used_rule _ _ refl refl refl refl)
+    (also (used_rule _ _ refl refl refl refl)
+    (also (used_rule _ _ refl refl refl refl)
+    (also (used_rule _ _ refl refl refl refl)
+    (also (used_rule _ _ refl refl refl refl)
+    (also (used_rule _ _ refl refl refl refl)
+    (also (record { first = refl; plain = refl; valued = λ used. used; defaults = refl })
+    tt))))))))
 
 simulate_rules_are_plain : AllByRecursion (IsPlainRule simulate_rules) simulate_rules
 unfolding argument_tables clap_on_literals
-simulate_rules_are_plain = (
-  record { first = refl; plain = refl; valued = λ used. refl; defaults = refl },
-  (
-    record { first = refl; plain = refl; valued = λ used. refl; defaults = refl },
-    (
-      record { first = refl; plain = refl; valued = λ used. used; defaults = refl },
-      tt,
-    ),
-  ),
-)
+simulate_rules_are_plain =
+    also (used_rule _ _ refl refl refl refl)
+    (also (used_rule _ _ refl refl refl refl)
+    (also (record { first = refl; plain = refl; valued = λ used. used; defaults = refl })
+    tt))
+
+module _ (rules : List Rule) (matches : Matches) (hold : AllByRecursion (Holds rules) matches) where
+  -- a word that is given
+  word_of : (a : Rule) → IsPlainRule rules a → is_given a.id matches ≡ true → IsSome (first_of a.id matches)
+  word_of a is given = word_there a matches (row_given rules a matches is.first hold given)
+
+  -- the number of an option, which has a default
+  number_of : (line : NumberOption) (a : Rule) → IsPlainRule rules a → a.id ≡ line.name → a.parser ≡ Some (vp.Unsigned line.least line.greatest)
+      → has_row a.id matches ≡ true → IsSome (number_found line matches)
+  number_of line a is named parser has = number_there line a matches named parser (row_there rules a matches is.first hold has)
+
+  -- the state of a flag, which has one
+  flag_of : (a : Rule) → IsPlainRule rules a → a.parser ≡ Some vp.Bool → has_row a.id matches ≡ true → IsSome (flag_found a.id matches)
+  flag_of a is parser has = flag_there a matches parser (row_there rules a matches is.first hold has)
 
 pub compile_matches-whole : CompileMatchesAreWhole
 unfolding argument_tables
@@ -180,14 +200,14 @@ compile_matches-whole words matches e =
     let plain = compile_rules_are_plain in
     let lacking = or_false _ _ (asks_for_none _ _ _ are.checked) in
     record {
-      source = word_there _ matches (row_given compile_rules _ matches plain.0.first are.hold (not_lacking _ lacking.0));
-      object = word_there _ matches (row_given compile_rules _ matches plain.1.0.first are.hold (not_lacking _ (or_false _ _ lacking.1).0));
-      ops = number_there ops_option _ matches refl refl (row_there compile_rules _ matches plain.1.1.0.first are.hold (are.defaults.1.1.0 refl));
-      tests = number_there tests_option _ matches refl refl (row_there compile_rules _ matches plain.1.1.1.0.first are.hold (are.defaults.1.1.1.0 refl));
-      mem = number_there mem_option _ matches refl refl (row_there compile_rules _ matches plain.1.1.1.1.0.first are.hold (are.defaults.1.1.1.1.0 refl));
-      window = number_there window_option _ matches refl refl (row_there compile_rules _ matches plain.1.1.1.1.1.0.first are.hold (are.defaults.1.1.1.1.1.0 refl));
-      rows = number_there rows_option _ matches refl refl (row_there compile_rules _ matches plain.1.1.1.1.1.1.0.first are.hold (are.defaults.1.1.1.1.1.1.0 refl));
-      report = text_there _ matches (row_there compile_rules _ matches plain.1.1.1.1.1.1.1.0.first are.hold (are.defaults.1.1.1.1.1.1.1.0 refl));
+      source = word_of compile_rules matches are.hold _ plain.0 (not_lacking _ lacking.0);
+      object = word_of compile_rules matches are.hold _ plain.1.0 (not_lacking _ (or_false _ _ lacking.1).0);
+      ops = number_of compile_rules matches are.hold ops_option _ plain.1.1.0 refl refl (are.defaults.1.1.0 refl);
+      tests = number_of compile_rules matches are.hold tests_option _ plain.1.1.1.0 refl refl (are.defaults.1.1.1.0 refl);
+      mem = number_of compile_rules matches are.hold mem_option _ plain.1.1.1.1.0 refl refl (are.defaults.1.1.1.1.0 refl);
+      window = number_of compile_rules matches are.hold window_option _ plain.1.1.1.1.1.0 refl refl (are.defaults.1.1.1.1.1.0 refl);
+      rows = number_of compile_rules matches are.hold rows_option _ plain.1.1.1.1.1.1.0 refl refl (are.defaults.1.1.1.1.1.1.0 refl);
+      report = flag_of compile_rules matches are.hold _ plain.1.1.1.1.1.1.1.0 refl (are.defaults.1.1.1.1.1.1.1.0 refl);
     }
 
 pub simulate_matches-whole : SimulateMatchesAreWhole
@@ -197,6 +217,6 @@ simulate_matches-whole words matches e =
     let plain = simulate_rules_are_plain in
     let lacking = or_false _ _ (asks_for_none _ _ _ are.checked) in
     record {
-      object = word_there _ matches (row_given simulate_rules _ matches plain.0.first are.hold (not_lacking _ lacking.0));
-      cycles = number_there cycles_option _ matches refl refl (row_there simulate_rules _ matches plain.1.0.first are.hold (are.defaults.1.0 refl));
+      object = word_of simulate_rules matches are.hold _ plain.0 (not_lacking _ lacking.0);
+      cycles = number_of simulate_rules matches are.hold cycles_option _ plain.1.0 refl refl (are.defaults.1.0 refl);
     }

@@ -1,6 +1,5 @@
 -- The arguments of both programs, as `clap` takes them, and the matches that `clap` gives of words.
-use Rattle.std.specs.Prelude.{ℕ, Bool, true, false, List, [], ◌∷◌, Option, Some, None, codes, decimal, bytes_eq, unwrap_or}
-use Rattle.std.specs.Option.{option_map_or}
+use Rattle.std.specs.Prelude.{ℕ, Bool, true, false, List, [], ◌∷◌, Option, Some, None, codes, decimal, bytes_eq, if◌then◌else◌, option_and_then, unwrap_or}
 use Rattle.clap.specs.Walk.{Rule, Text, first_of, one_of}
 use Rattle.clap.specs.Simple.{App, matches_of, new_rule, new_shape}
 use Rattle.clap.specs.Faults.{fault_of}
@@ -68,6 +67,14 @@ matches_taken app words = unless_faulty (fault_of app words) (matches_of app wor
 unfoldable pub word_in : Text → Matches → Text
 word_in name matches = unwrap_or (first_of name matches) []
 
--- a flag is on
+-- what the value of a flag says
+abbrev pub flag_spelled : Text → Option Bool
+flag_spelled text = if bytes_eq text (codes "true") then Some true else if bytes_eq text (codes "false") then Some false else None
+
+-- whether a flag is on, where the matches say it
+abbrev pub flag_found : Text → Matches → Option Bool
+flag_found name matches = option_and_then flag_spelled (one_of name matches)
+
+-- whether a flag is on; all that `clap` gives says it
 unfoldable pub flag_in : Text → Matches → Bool
-flag_in name matches = option_map_or (λ text. bytes_eq text (codes "true")) (one_of name matches) false
+flag_in name matches = unwrap_or (flag_found name matches) false

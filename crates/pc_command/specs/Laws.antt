@@ -1,10 +1,10 @@
 -- What holds of every command, said of the definitions alone.
 use Rattle.std.specs.Prelude.{◌≡◌, ◌≢◌, ℕ, ◌^◌, ◌<◌, List, [], ◌∷◌, Some, None, codes, false}
 use Rattle.std.specs.Option.{IsSome}
-use Rattle.clap.specs.Walk.{first_of, one_of}
+use Rattle.clap.specs.Walk.{first_of}
 use Rattle.pc_word.specs.Ranges.{AreCycles, IsExtent, AreLimits}
 use Rattle.pc_command.specs.Matching.{Matches}
-use Rattle.pc_command.specs.Arguments.{compile_app, matches_taken, simulate_app}
+use Rattle.pc_command.specs.Arguments.{compile_app, flag_found, matches_taken, simulate_app}
 use Rattle.pc_command.specs.Options.{cycles_option, mem_option, number_found, ops_option, rows_option, tests_option, window_option}
 use Rattle.pc_command.specs.Requests.{CompileRequest, OfFile, OfSample, SourcePlace, SimulateRequest, compile_command_of, simulate_command_of, source_place_of}
 
@@ -31,7 +31,7 @@ SimulateCommandsAreInRange = (words : List (List ℕ)) (request : SimulateReques
 
 -- ---- the matches of a command
 
--- all that is read of the compiler's matches is there: both words, a number of each option that the option takes, and the flag
+-- all that is read of the compiler's matches is there: both words, a number of each option that the option takes, and the flag's state
 pub record AreCompileMatches (matches : Matches) : Type 0 where
   pub source : IsSome (first_of (codes "SRC") matches)
   pub object : IsSome (first_of (codes "OBJ") matches)
@@ -40,7 +40,7 @@ pub record AreCompileMatches (matches : Matches) : Type 0 where
   pub mem : IsSome (number_found mem_option matches)
   pub window : IsSome (number_found window_option matches)
   pub rows : IsSome (number_found rows_option matches)
-  pub report : IsSome (one_of (codes "report") matches)
+  pub report : IsSome (flag_found (codes "report") matches)
 
 -- so is all that is read of the simulator's
 pub record AreSimulateMatches (matches : Matches) : Type 0 where

@@ -1,13 +1,14 @@
 //! The arguments of both programs, as `clap` takes them.
 ghost use Rattle.std.specs.Prelude.{◌≡◌, true, false, codes, IfOk, IfErr, ok_or};
-ghost use Rattle.clap.specs.Walk.{rule_of};
+ghost use Rattle.std.specs.Option.{IsSome};
+ghost use Rattle.clap.specs.Walk.{first_of, rule_of};
 ghost use Rattle.clap.specs.Simple.{app_of};
 ghost use Rattle.clap.specs.Faults.{is_simple_and_free};
 ghost use Rattle.clap.specs.Values.{kind_of};
 ghost use Rattle.clap.specs.declared.error.kind.ErrorKind.TheVariants.{OutOfMemory};
 ghost use Rattle.pc_word.specs.Exact.{IsExact};
 ghost use Rattle.pc_command.specs.Matching.{matches_in};
-ghost use Rattle.pc_command.specs.Arguments.{compile_app, flag_argument, flag_in, letter_argument, matches_taken, simulate_app, word_argument, word_in};
+ghost use Rattle.pc_command.specs.Arguments.{compile_app, flag_argument, flag_found, flag_in, letter_argument, matches_taken, simulate_app, word_argument, word_in};
 ghost use Rattle.pc_command.specs.Requests.{command_cause};
 ghost use Rattle.pc_command.specs.Words.{spelled};
 
@@ -82,16 +83,18 @@ pub(crate) fn matches_of<'a>(
     Ok(command.try_get_matches_from(words)?)
 }
 
-/// The word that an argument has in the matches; one that may not be left out has one.
+/// The word that an argument has in the matches.
 pub(crate) fn word_in<'a>(matches: &ArgMatches<'a>, name: &str) -> &'a str
+    requires { IsSome (first_of name.now (matches_in matches.now)) }
     ensures { result.now ≡ word_in name.now (matches_in matches.now) }
 {
-    matches.get_str(name).unwrap_or("")
+    matches.get_str(name).unwrap()
 }
 
 /// Whether a flag is on.
 pub(crate) fn flag_in(matches: &ArgMatches<'_>, name: &str) -> bool
+    requires { IsSome (flag_found name.now (matches_in matches.now)) }
     ensures { result ≡ flag_in name.now (matches_in matches.now) }
 {
-    matches.get_one::<bool>(name).unwrap_or(false)
+    matches.get_flag(name)
 }

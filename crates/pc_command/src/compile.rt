@@ -3,6 +3,7 @@ ghost use Rattle.std.specs.Prelude.{◌≡◌, IfOk, IfSome, ok_or, option_map};
 ghost use Rattle.pc_word.specs.Exact.{IsExact};
 ghost use Rattle.pc_word.specs.Ranges.{IsExtent, AreLimits};
 ghost use Rattle.pc_command.specs.Matching.{matches_in};
+ghost use Rattle.pc_command.specs.Laws.{AreCompileMatches};
 ghost use Rattle.pc_command.specs.Requests.{command_cause, compile_command_of, compile_request, compile_request_in, extent_in, limits_in};
 ghost use Rattle.pc_command.specs.Words.{spelled};
 
@@ -48,6 +49,7 @@ pub fn compile_command<'a>(
 /// What the matches ask, where SRC names a source.
 #[tactic(auto, unfolding(crate::specs::Requests::compile_request_in))]
 fn command_in<'a>(matches: &ArgMatches<'a>) -> Option<CompileCommand<'a>>
+    requires { AreCompileMatches (matches_in matches.now) }
     ensures value { option_map compile_request result ≡ compile_request_in (matches_in matches.now) }
     ensures limits { IfSome result (λ command. AreLimits command.limits) }
     ensures extent { IfSome result (λ command. IsExtent command.extent) }
@@ -64,6 +66,7 @@ fn command_in<'a>(matches: &ArgMatches<'a>) -> Option<CompileCommand<'a>>
 
 /// The limits of a row that the matches ask for.
 fn limits_in(matches: &ArgMatches<'_>) -> Limits
+    requires { AreCompileMatches (matches_in matches.now) }
     ensures value { result ≡ limits_in (matches_in matches.now) }
     ensures range { AreLimits result }
 {
@@ -76,6 +79,7 @@ fn limits_in(matches: &ArgMatches<'_>) -> Limits
 
 /// The extent of a window and of its schedule that the matches ask for.
 fn extent_in(matches: &ArgMatches<'_>) -> Extent
+    requires { AreCompileMatches (matches_in matches.now) }
     ensures value { result ≡ extent_in (matches_in matches.now) }
     ensures range { IsExtent result }
 {

@@ -1,9 +1,10 @@
 //! The options that take a number, as a table.
 ghost use Rattle.std.specs.Prelude.{◌≡◌, ◌≤◌, decimal, false};
+ghost use Rattle.std.specs.Option.{IsSome};
 ghost use Rattle.clap.specs.Walk.{rule_of};
 ghost use Rattle.pc_command.specs.Matching.{matches_in};
 ghost use Rattle.pc_command.specs.Arguments.{number_argument};
-ghost use Rattle.pc_command.specs.Options.{number_in, number_option};
+ghost use Rattle.pc_command.specs.Options.{number_found, number_in, number_option};
 ghost use Rattle.pc_command.specs.Options.{ops_option, tests_option, mem_option, window_option, rows_option, cycles_option};
 
 use clap::builder::ValueParser;
@@ -52,14 +53,12 @@ impl<'a> OptionLine<'a> {
             .default_value(self.default_text)
     }
 
-    /// The option's number in the matches, or its default where they have none that it takes.
+    /// The option's number in the matches.
     pub(crate) fn number_in(self, matches: &ArgMatches<'_>) -> u64
+        requires { IsSome (number_found (option_of self) (matches_in matches.now)) }
         ensures { result ≡ number_in (option_of self.entry) (matches_in matches.now) }
     {
-        match matches.get_one::<u64>(self.name) {
-            Some(number) if self.least <= number && number <= self.greatest => number,
-            _ => self.default,
-        }
+        matches.get_one(self.name).unwrap()
     }
 }
 

@@ -3,6 +3,7 @@ ghost use Rattle.std.specs.Prelude.{◌≡◌, IfOk, ok_or};
 ghost use Rattle.pc_word.specs.Exact.{IsExact};
 ghost use Rattle.pc_word.specs.Ranges.{AreCycles};
 ghost use Rattle.pc_command.specs.Matching.{matches_in};
+ghost use Rattle.pc_command.specs.Laws.{AreSimulateMatches};
 ghost use Rattle.pc_command.specs.Requests.{command_cause, simulate_command_of, simulate_request, simulate_request_in};
 ghost use Rattle.pc_command.specs.Words.{spelled};
 
@@ -39,6 +40,7 @@ pub fn simulate_command<'a>(
 /// What the matches ask.
 #[tactic(auto, unfolding(crate::specs::Requests::simulate_request_in))]
 fn command_in<'a>(matches: &ArgMatches<'a>) -> SimulateCommand<'a>
+    requires { AreSimulateMatches (matches_in matches.now) }
     ensures { simulate_request result ≡ simulate_request_in (matches_in matches.now) }
 {
     SimulateCommand {

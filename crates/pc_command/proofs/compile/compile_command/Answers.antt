@@ -5,12 +5,18 @@ use Rattle.clap.specs.Faults.{is_simple_and_free}
 use Rattle.pc_command.specs.Matching.{matches_in}
 use Rattle.pc_command.specs.Requests.{compile_request}
 use Rattle.pc_command.specs.Words.{spelled}
-use Rattle.pc_command.proofs.Commands.{compile-refused, compile-taken, exact_in}
+use Rattle.pc_command.proofs.Commands.{compile-refused, compile-taken, exact_in, there}
+use Rattle.pc_command.proofs.Whole.{compile_matches-whole}
 use Rattle.pc_command.proofs.Programs.{compile_app_is_simple}
 use Rattle.pc_command.proofs.compile.compile_command.Goals as goal
 
 pub matches_of-requires : goal.matches_of-requires
 matches_of-requires c = ap is_simple_and_free c.in_ok-compile_app.ensures.app ∙ compile_app_is_simple
+
+pub command_in-requires : goal.command_in-requires
+command_in-requires c =
+    let taken = rw c.in_ok-compile_app.ensures.app at c.in_ok-matches.ensures in
+    compile_matches-whole (spelled c.args.words.now) (matches_in c.in_ok-matches.matches) (there _ _ taken)
 
 pub returns-in_err-matches-clause-exact : goal.returns-in_err-matches-clause-exact
 returns-in_err-matches-clause-exact c =

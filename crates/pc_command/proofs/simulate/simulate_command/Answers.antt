@@ -6,7 +6,8 @@ use Rattle.clap.specs.Faults.{is_simple_and_free}
 use Rattle.pc_command.specs.Matching.{matches_in}
 use Rattle.pc_command.specs.Requests.{SimulateRequest, simulate_request}
 use Rattle.pc_command.specs.Words.{spelled}
-use Rattle.pc_command.proofs.Commands.{simulate-refused, simulate-taken}
+use Rattle.pc_command.proofs.Commands.{simulate-refused, simulate-taken, there}
+use Rattle.pc_command.proofs.Whole.{simulate_matches-whole}
 use Rattle.pc_command.specs.declared.error.CommandError.TheVariants.{NoCommand}
 use Rattle.pc_command.proofs.InRange.{simulate_command_of-range}
 use Rattle.pc_command.proofs.Programs.{simulate_app_is_simple}
@@ -14,6 +15,11 @@ use Rattle.pc_command.proofs.simulate.simulate_command.Goals as goal
 
 pub matches_of-requires : goal.matches_of-requires
 matches_of-requires c = ap is_simple_and_free c.in_ok-simulate_app.ensures.app ∙ simulate_app_is_simple
+
+pub command_in-requires : goal.command_in-requires
+command_in-requires c =
+    let taken = rw c.in_ok-simulate_app.ensures.app at c.in_ok-matches.ensures in
+    simulate_matches-whole (spelled c.args.words.now) (matches_in c.in_ok-matches.matches) (there _ _ taken)
 
 pub returns-in_err-matches-clause-exact : goal.returns-in_err-matches-clause-exact
 returns-in_err-matches-clause-exact c =
