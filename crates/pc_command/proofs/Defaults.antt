@@ -1,4 +1,4 @@
--- After the defaults of `clap` are put in, each argument that has some has a row, and each row is one of its argument.
+-- After the defaults of `clap` are put in, each argument that has some has a row among the matches, and each row is one of its argument.
 use Rattle.std.proofs.Common.{◌≡◌, ◌||◌, Bool, cond, true, false, List, [], ◌∷◌, length, refl, fold, arith}
 use Rattle.std.specs.Prelude.{Option, Some, None, find, nat_lt, bytes_eq}
 use Rattle.std.specs.List.{AllByRecursion, list_any}
@@ -44,6 +44,7 @@ default_rows-kept : (a : Rule) (values : List Text) (name : Text) (rows : List R
 default_rows-kept a [] name rows h = h
 default_rows-kept a (v ∷ vs) name rows h = has_row-kept a.id (reading_by a) DefaultValue (v ∷ vs) name rows h
 
+-- the default of one argument does
 with_default-kept : (a : Rule) (name : Text) (rows : List Row) → has_row name rows ≡ true → has_row name (with_default rows a) ≡ true
 with_default-kept a name rows h = by (has_row a.id rows)
   where
@@ -51,6 +52,7 @@ with_default-kept a name rows h = by (has_row a.id rows)
     by true = h
     by false = default_rows-kept a a.defaults name rows h
 
+-- so do those of all
 all_defaults-kept : (rules : List Rule) (name : Text) (rows : List Row) → has_row name rows ≡ true → has_row name (fold with_default rows rules) ≡ true
 all_defaults-kept [] name rows h = h
 all_defaults-kept (a ∷ rules) name rows h = all_defaults-kept rules name (with_default rows a) (with_default-kept a name rows h)
@@ -61,6 +63,7 @@ default_rows-new : (a : Rule) (values : List Text) (rows : List Row) → nat_lt 
 default_rows-new a [] rows some = absurd (cc)
 default_rows-new a (v ∷ vs) rows some = has_row-new a.id (reading_by a) DefaultValue (v ∷ vs) rows
 
+-- so it has after its own
 with_default-new : (a : Rule) (rows : List Row) → nat_lt 0 (length a.defaults) ≡ true → has_row a.id (with_default rows a) ≡ true
 with_default-new a rows some = by (has_row a.id rows) refl
   where
@@ -79,11 +82,13 @@ defaults_are_there (a ∷ rules) rows = (
 
 -- ---- what the rows hold
 
+-- defaults that the argument's parser takes
 default_rows-hold : (rules : List Rule) (a : Rule) (values : List Text) (rows : List Row) → arg_by_id rules a.id ≡ Some a → values_fault a values ≡ []
     → AllByRecursion (Holds rules) rows → AllByRecursion (Holds rules) (default_rows a.id (reading_by a) values rows)
 default_rows-hold rules a [] rows first passed all = all
 default_rows-hold rules a (v ∷ vs) rows first passed all = with_values-hold rules a DefaultValue (v ∷ vs) rows first (omega arith) passed all
 
+-- those of one argument
 with_default-holds : (rules : List Rule) (a : Rule) (rows : List Row) → IsPlainRule rules a → AllByRecursion (Holds rules) rows
     → AllByRecursion (Holds rules) (with_default rows a)
 with_default-holds rules a rows is all = by (has_row a.id rows)

@@ -24,14 +24,17 @@ first_byte x rest is = by (x == 45) refl
     by true e = absurd (is rest (ap (λ (n : ℕ). n ∷ rest) (eqb-true x 45 e)))
     by false e = e
 
+-- so it is not `--name`
 no_long : (word : Text) → IsPlainWord word → long_of word ≡ None
 no_long [] is = refl
 no_long (x ∷ rest) is = rw (first_byte x rest is) refl
 
+-- not `-abc`
 no_short : (word : Text) → IsPlainWord word → short_of word ≡ None
 no_short [] is = refl
 no_short (x ∷ rest) is = rw (first_byte x rest is) refl
 
+-- and not `--`
 no_dashes : (word : Text) → IsPlainWord word → bytes_eq word (45 ∷ 45 ∷ []) ≡ false
 no_dashes [] is = refl
 no_dashes (x ∷ rest) is = rw (first_byte x rest is) refl
@@ -73,19 +76,23 @@ plain_word-turn shape held waiting place word is =
 abbrev object_held : Text → Held
 object_held object = record { rows = []; pending = Some (codes "OBJ", object ∷ []); skip = 0 }
 
+-- the walk over OBJ
 simulate-walked : (object : Text) → IsPlainWord object
     → walked (built simulate_app).top.rules [] (walk_from nothing_held) object ≡ at_place (object_held object) idle 2
 unfolding argument_tables
 simulate-walked object is = plain_word-walked (built simulate_app).top.rules nothing_held idle 1 object is
 
+-- finds no fault
 simulate-walk_fault : (object : Text) → IsPlainWord object → walk_fault (built simulate_app).top [] (walk_from nothing_held) (object ∷ []) ≡ []
 unfolding argument_tables walk_fault
 simulate-walk_fault object is = rw (plain_word-turn (built simulate_app).top nothing_held idle 1 object is) refl
 
+-- and there is none behind it
 simulate-fault : (object : Text) → IsPlainWord object → fault_of simulate_app (object ∷ []) ≡ []
 unfolding argument_tables defaults_fault
 simulate-fault object is = rw (simulate-walk_fault object is, simulate-walked object is) refl
 
+-- one plain word is a command of the simulator
 pub plain_word-simulates : PlainWordSimulates
 unfolding simulate_command_of simulate_request_in matches_taken word_in number_in argument_tables
 plain_word-simulates object is = rw (simulate-fault object is, simulate-walked object is) refl
@@ -103,25 +110,30 @@ taking_object source given = record {
   skip = 0;
 }
 
+-- the walk over SRC
 source-walked : (source : Text) → IsPlainWord source
     → walked (built compile_app).top.rules [] (walk_from nothing_held) source ≡ at_place (source_held source) idle 2
 unfolding argument_tables
 source-walked source is = plain_word-walked (built compile_app).top.rules nothing_held idle 1 source is
 
+-- over `-o`
 letter-walked : (source : Text)
     → walked (built compile_app).top.rules [] (at_place (source_held source) idle 2) (codes "-o") ≡ at_place (taking_object source []) (option (codes "OBJ")) 2
 unfolding argument_tables clap_on_literals
 letter-walked source = refl
 
+-- and over OBJ
 object-walked : (source object : Text) → IsPlainWord object
     → walked (built compile_app).top.rules [] (at_place (taking_object source []) (option (codes "OBJ")) 2) object ≡ at_place (taking_object source (object ∷ [])) idle 2
 unfolding argument_tables
 object-walked source object is = plain_word-walked (built compile_app).top.rules (taking_object source []) (option (codes "OBJ")) 2 object is
 
+-- the letter is no fault
 letter-turn : (source : Text) → turn_fault (built compile_app).top [] (at_place (source_held source) idle 2) (codes "-o") ≡ []
 unfolding argument_tables clap_on_literals
 letter-turn source = refl
 
+-- nor is any of the words
 compile-walk_fault : (source object : Text) → IsPlainWord source → IsPlainWord object
     → walk_fault (built compile_app).top [] (walk_from nothing_held) (source ∷ (codes "-o" ∷ (object ∷ []))) ≡ []
 unfolding argument_tables walk_fault
@@ -134,11 +146,13 @@ compile-walk_fault source object is also =
       plain_word-turn (built compile_app).top (taking_object source []) (option (codes "OBJ")) 2 object also,
     ) refl
 
+-- and there is none behind them
 compile-fault : (source object : Text) → IsPlainWord source → IsPlainWord object → fault_of compile_app (source ∷ (codes "-o" ∷ (object ∷ []))) ≡ []
 unfolding argument_tables defaults_fault
 compile-fault source object is also =
     rw (compile-walk_fault source object is also, source-walked source is, letter-walked source, object-walked source object also) refl
 
+-- plain words with `-o` between them are one of the compiler
 pub plain_words-compile : PlainWordsCompile
 unfolding compile_command_of compile_request_in matches_taken word_in flag_in number_in argument_tables
 plain_words-compile source object place is also named =
@@ -146,6 +160,7 @@ plain_words-compile source object place is also named =
 
 -- ---- no words
 
+-- are no command
 pub no_words-command : NoWordsAreNoCommand
 unfolding compile_command_of simulate_command_of matches_taken argument_tables clap_on_literals
 no_words-command = (refl, refl)

@@ -1,4 +1,4 @@
--- Where `clap` finds no fault, each row of its matches has a value, which the parser of the row's argument took.
+-- Where `clap` finds no fault, each row of its matches has a value, which the parser of the row's argument took. A row is what was found for an argument.
 use Rattle.std.proofs.Common.{◌≡◌, ◌<◌, ◌||◌, Bool, cond, true, false, List, [], ◌∷◌, ◌++◌, length, refl, subst, arith}
 use Rattle.std.specs.Prelude.{Some, None, find, nat_lt, bytes_eq}
 use Rattle.std.specs.List.{AllByRecursion}
@@ -139,6 +139,7 @@ module _ (rules : List Rule) where
       by true h = absurd (let bad = rw h at range in cc)
       by false h = less_of 0 (length a.missing) (rw h at valued)
 
+  -- so it is after any use without a fault
   pub used-holds : (again : Bool) (a : Rule) (values : List Text) (rows : List Row) → IsPlainRule rules a → use_fault again a values rows ≡ []
       → AllByRecursion (Holds rules) rows → AllByRecursion (Holds rules) (used a values rows)
   used-holds again a values rows is fault all =

@@ -1,4 +1,4 @@
--- The walk of `clap` over the words keeps the rows of its matches those of their arguments, as long as there is no fault.
+-- The walk of `clap` over the words keeps each row that it holds one of the row's argument, as long as there is no fault. A row is one of the matches.
 use Rattle.std.proofs.Common.{◌≡◌, ◌&&◌, ℕ, zero, suc, Bool, cond, true, false, List, [], ◌∷◌, length, refl, fold}
 use Rattle.std.specs.Prelude.{Option, Some, None, IfSome, find, is_some, slice_get, bytes_eq}
 use Rattle.std.specs.List.{AllByRecursion}
@@ -28,6 +28,7 @@ module _ (shape : Shape) (names : Names) (plain_rules : AllByRecursion (IsPlainR
 
   -- ---- one use of an argument
 
+  -- what is held of the argument whose values are being read is used
   settled_rows-hold : (pending : Option (Text × List Text)) (held : Held)
       → option_map_or (λ p. option_map_or (λ a. use_fault shape.args_override_self a p.1 held.rows) (arg_by_id shape.rules p.0) []) pending [] ≡ []
       → Sound held → AllByRecursion (Holds shape.rules) (settled_rows shape.rules pending held.rows)
@@ -40,20 +41,24 @@ module _ (shape : Shape) (names : Names) (plain_rules : AllByRecursion (IsPlainR
           rw e (used-holds shape.rules shape.args_override_self a p.1 held.rows
           (found_has (IsPlainRule shape.rules) (λ a. bytes_eq a.id p.0) shape.rules a plain_rules e).0 (rw e at fault) all)
 
+  -- so it is used
   settled-holds : (held : Held) → settle_fault shape.rules shape.args_override_self held ≡ [] → Sound held → Sound (settled shape.rules held)
   settled-holds held fault all = settled_rows-hold held.pending held fault all
 
+  -- and then another one is
   reacted-holds : (a : Rule) (values : List Text) (held : Held) → IsPlainRule shape.rules a → react_fault shape.rules shape.args_override_self a values held ≡ []
       → Sound held → Sound (reacted shape.rules a values held)
   reacted-holds a values held is fault all =
       let parts = no_faults _ _ fault in
       used-holds shape.rules shape.args_override_self a values (settled shape.rules held).rows is parts.1 (settled-holds held parts.0 all)
 
+  -- an option is used with the value attached to it, or waits for one
   option_met-holds : (a : Rule) (given : Option Text) (held : Held) → IsPlainRule shape.rules a → option_fault shape.rules shape.args_override_self a given held ≡ []
       → Sound held → Sound (option_met shape.rules a given held).0
   option_met-holds a (Some v) held is fault all = reacted-holds a (v ∷ []) held is fault all
   option_met-holds a None held is fault all = settled-holds held fault all
 
+  -- a flag is used
   flag_met-holds : (a : Rule) (given : Option Text) (held : Held) → IsPlainRule shape.rules a
       → (given ≡ None → react_fault shape.rules shape.args_override_self a [] held ≡ []) → Sound held → Sound (flag_met shape.rules a given held).0
   flag_met-holds a (Some v) held is fault all = all
@@ -61,6 +66,7 @@ module _ (shape : Shape) (names : Names) (plain_rules : AllByRecursion (IsPlainR
 
   -- ---- flags and options
 
+  -- `--name` and `--name=value`
   long_met-holds : (found : Option Rule) (given : Option Text) (held : Held) → IfSome found (IsPlainRule shape.rules)
       → long_fault shape.rules shape.args_override_self found given held ≡ [] → Sound held → Sound (long_met shape.rules found given held).0
   long_met-holds None given held is fault all = all
@@ -87,6 +93,7 @@ module _ (shape : Shape) (names : Names) (plain_rules : AllByRecursion (IsPlainR
           let parts = no_faults _ _ e in
           go_on (reacted shape.rules a [] held) parts.1 (reacted-holds a [] held is parts.0 all)
 
+  -- one character of `-abc`, where what follows keeps the rows too
   bundle_step-holds : (x : Option ℕ) (flags : Text) (skip : ℕ) (so_far : Outcome) (held : Held) (fault_of_rest : Text → ℕ → Held → Kinds)
       (rest_met : Text → ℕ → Outcome → Held → Held × Outcome)
       → ((f : Text) (k : ℕ) (o : Outcome) (h : Held) → fault_of_rest f k h ≡ [] → Sound h → Sound (rest_met f k o h).0)
@@ -97,6 +104,7 @@ module _ (shape : Shape) (names : Names) (plain_rules : AllByRecursion (IsPlainR
       short_met-holds (arg_by_short shape.rules x) _ held _ _ (plain_found _ (arg_by_short shape.rules x) refl) (λ h. go_on _ 0 done h) fault all
   bundle_step-holds (Some x) flags (suc skip) so_far held fault_of_rest rest_met go_on fault all = go_on _ skip so_far held fault all
 
+  -- all of them
   bundle_met-holds : (k : ℕ) (flags : Text) (skip : ℕ) (so_far : Outcome) (held : Held) → flags_fault shape.rules shape.args_override_self k flags skip held ≡ []
       → Sound held → Sound (bundle_met shape.rules k flags skip so_far held).0
   unfolding flags_fault bundle_met
@@ -107,19 +115,23 @@ module _ (shape : Shape) (names : Names) (plain_rules : AllByRecursion (IsPlainR
 
   -- ---- a word
 
+  -- a value that an option waits for is held, and not used yet
   option_word-holds : (found : Option Rule) (id word : Text) (held : Held) → Sound held → Sound (option_word found id word held).0
   option_word-holds None id word held all = all
   option_word-holds (Some a) id word held all = all
 
+  -- a word that is no flag
   plain_word-holds : (waiting : Waiting) (word : Text) (held : Held) → Sound held → Sound (plain_word shape.rules waiting word held).0
   plain_word-holds (option id) word held all = option_word-holds (arg_by_id shape.rules id) id word held all
   plain_word-holds _ word held all = all
 
+  -- what a flag word comes to
   after_flag-holds : (waiting : Waiting) (word : Text) (held : Held) (outcome : Outcome) → Sound held → Sound (after_flag shape.rules waiting word held outcome).0
   after_flag-holds waiting word held done all = all
   after_flag-holds waiting word held (waits id) all = all
   after_flag-holds waiting word held _ all = plain_word-holds waiting word held all
 
+  -- a word that is not `--name`
   short_or_plain-holds : (waiting : Waiting) (word : Text) (flags : Option Text) (held : Held)
       → option_map_or (λ flags. bundle_fault shape.rules shape.args_override_self flags held) flags [] ≡ [] → Sound held
       → Sound (short_or_plain shape.rules waiting word flags held).0
@@ -127,12 +139,14 @@ module _ (shape : Shape) (names : Names) (plain_rules : AllByRecursion (IsPlainR
   short_or_plain-holds waiting word (Some flags) held fault all =
       after_flag-holds waiting word _ _ (bundle_met-holds (length flags) flags held.skip plain (record held { skip = 0 }) fault all)
 
+  -- a word that is not `--`
   long_or_other-holds : (waiting : Waiting) (word : Text) (named : Option (Text × Option Text)) (held : Held)
       → flag_word_fault shape.rules shape.args_override_self named word held ≡ [] → Sound held → Sound (long_or_other shape.rules waiting word named held).0
   long_or_other-holds waiting word None held fault all = short_or_plain-holds waiting word (short_of word) held fault all
   long_or_other-holds waiting word (Some p) held fault all =
       after_flag-holds waiting word _ _ (long_met-holds (arg_by_long shape.rules p.0) p.1 held (plain_found _ (arg_by_long shape.rules p.0) refl) fault all)
 
+  -- a word that names no subcommand
   subcommand_or_other-holds : (met : Option Text) (waiting : Waiting) (place : ℕ) (word : Text) (held : Held) → other_fault shape met word held ≡ []
       → Sound held → Sound (subcommand_or_other shape.rules met waiting place word held).0
   subcommand_or_other-holds (Some name) waiting place word held fault all = all
@@ -143,6 +157,7 @@ module _ (shape : Shape) (names : Names) (plain_rules : AllByRecursion (IsPlainR
       by true e = all
       by false e = long_or_other-holds waiting word (long_of word) held e all
 
+  -- any word
   word_met-holds : (is_trailing : Bool) (waiting : Waiting) (place : ℕ) (word : Text) (held : Held) → word_fault shape names is_trailing waiting word held ≡ []
       → Sound held → Sound (word_met shape.rules names is_trailing waiting place word held).0
   word_met-holds true waiting place word held fault all = all
@@ -150,6 +165,7 @@ module _ (shape : Shape) (names : Names) (plain_rules : AllByRecursion (IsPlainR
 
   -- ---- the walk
 
+  -- a word goes to a positional argument
   positional_held-holds : (a : Rule) (word : Text) (held : Held) → positional_fault shape.rules shape.args_override_self a held ≡ [] → Sound held
       → Sound (positional_held shape.rules a word held)
   positional_held-holds a word held fault all = by (is_pending a held.pending && takes_several a) fault
@@ -159,12 +175,14 @@ module _ (shape : Shape) (names : Names) (plain_rules : AllByRecursion (IsPlainR
       by true e = all
       by false e = settled-holds held e all
 
+  -- or to none
   to_positional-holds : (found : Option Rule) (word : Text) (walk : Walk) (held : Held)
       → option_map_or (λ a. positional_fault shape.rules shape.args_override_self a held) found (stray_fault shape) ≡ [] → Sound held
       → Sound (to_positional shape.rules found word walk held).held
   to_positional-holds None word walk held fault all = all
   to_positional-holds (Some a) word walk held fault all = positional_held-holds a word held fault all
 
+  -- the walk goes on behind a word
   after_step-holds : (word : Text) (walk : Walk) (held : Held) (step : Step) → step_fault shape walk.position held step ≡ [] → Sound held
       → Sound (after_step shape.rules word walk held step).held
   after_step-holds word walk held (next waiting) fault all = all
@@ -172,6 +190,7 @@ module _ (shape : Shape) (names : Names) (plain_rules : AllByRecursion (IsPlainR
   after_step-holds word walk held (subcommand name) fault all = all
   after_step-holds word walk held value fault all = to_positional-holds (arg_by_index shape.rules walk.position) word walk held fault all
 
+  -- where no subcommand was met, and where one was
   walked_from-holds : (stopped : Option (Text × List Text)) (walk : Walk) (word : Text)
       → cond (is_some stopped) [] (or_else (word_fault shape names walk.is_trailing walk.waiting word walk.held)
       (step_fault shape walk.position (word_met shape.rules names walk.is_trailing walk.waiting walk.position word walk.held).0
@@ -182,6 +201,7 @@ module _ (shape : Shape) (names : Names) (plain_rules : AllByRecursion (IsPlainR
       let parts = no_faults _ _ fault in
       after_step-holds word walk _ _ parts.1 (word_met-holds walk.is_trailing walk.waiting walk.position word walk.held parts.0 all)
 
+  -- so it does at each word
   walked-holds : (walk : Walk) (word : Text) → turn_fault shape names walk word ≡ [] → Sound walk.held → Sound (walked shape.rules names walk word).held
   unfolding walked
   walked-holds walk word fault all = walked_from-holds walk.stopped walk word fault all

@@ -32,6 +32,7 @@ begins : {X : Type 0} (xs : List X) → 0 < length xs → IsSome (slice_get xs 0
 begins [] some = absurd (omega arith)
 begins (x ∷ xs) some = refl
 
+-- what is there is there after a change
 some_mapped : {X Y : Type 0} (f : X → Y) (o : Option X) → IsSome o → IsSome (option_map f o)
 some_mapped f None some = absurd (cc)
 some_mapped f (Some x) some = refl
@@ -55,6 +56,7 @@ number_of_values line a (v ∷ vs) how parser some passed written =
     by true e = rw e refl
     by false e = absurd (let bad = rw e at took in cc)
 
+-- so an option has one whose argument has a row
 number_there : (line : NumberOption) (a : Rule) (rows : Matches) → a.id ≡ line.name → a.parser ≡ Some (vp.Unsigned line.least line.greatest) → HasRow a rows
     → IsSome (number_found line rows)
 number_there line a rows named parser has =
@@ -78,6 +80,7 @@ flag_of_values a (v ∷ vs) how parser some passed written =
     by false true is other = rw (is, other) refl
     by false false is other = absurd (let bad = rw (is, other) at took in cc)
 
+-- so a flag has one that has a row
 flag_there : (a : Rule) (rows : Matches) → a.parser ≡ Some vp.Bool → HasRow a rows → IsSome (flag_found a.id rows)
 flag_there a rows parser has =
     rw has.found (flag_of_values a has.row.values has.row.reading parser has.holds.valued has.holds.passed written)
@@ -122,6 +125,7 @@ given_matches app words matches e = by (fault_of app words) refl
     by [] none = (none, (let is : Some (matches_of app words) ≡ Some matches = rw none at e in cc))
     by (kind ∷ kinds) some = absurd (let bad : None ≡ Some matches = rw some at e in cc)
 
+-- so the matches that are given are filled
 matches_are_filled : (app : App) (words : List Text) (matches : Matches) → AllByRecursion (IsPlainRule (built app).top.rules) (built app).top.rules
     → matches_taken app words ≡ Some matches → AreFilled (built app).top matches
 matches_are_filled app words matches are e =
@@ -143,20 +147,23 @@ not_lacking false e = absurd (cc)
 
 -- ---- the two programs
 
+-- the arguments of each, as `clap` builds them
 abbrev compile_rules : List Rule
 compile_rules = (built compile_app).top.rules
 
 abbrev simulate_rules : List Rule
 simulate_rules = (built simulate_app).top.rules
 
--- an argument that may be used, and one that asks for help
+-- an argument that may be used
 used_rule : (rules : List Rule) (a : Rule) → arg_by_id rules a.id ≡ Some a → is_plain_action (action_of a) ≡ true
     → (nat_lt 0 (unwrap_or_range a.range).start_inclusive || nat_lt 0 (length a.missing)) ≡ true → values_fault a a.defaults ≡ [] → IsPlainRule rules a
 used_rule rules a first plain valued defaults = record { first = first; plain = plain; valued = λ used. valued; defaults = defaults }
 
+-- and more
 also : {A B : Type 0} → A → B → A × B
 also a b = (a, b)
 
+-- each argument of the compiler is plain; the last one asks for help
 compile_rules_are_plain : AllByRecursion (IsPlainRule compile_rules) compile_rules
 unfolding argument_tables clap_on_literals
 compile_rules_are_plain =
@@ -171,6 +178,7 @@ compile_rules_are_plain =
     (also (record { first = refl; plain = refl; valued = λ used. used; defaults = refl })
     tt))))))))
 
+-- and each of the simulator
 simulate_rules_are_plain : AllByRecursion (IsPlainRule simulate_rules) simulate_rules
 unfolding argument_tables clap_on_literals
 simulate_rules_are_plain =
@@ -193,6 +201,7 @@ module _ (rules : List Rule) (matches : Matches) (hold : AllByRecursion (Holds r
   flag_of : (a : Rule) → IsPlainRule rules a → a.parser ≡ Some vp.Bool → has_row a.id matches ≡ true → IsSome (flag_found a.id matches)
   flag_of a is parser has = flag_there a matches parser (row_there rules a matches is.first hold has)
 
+-- nothing that is read of the compiler's matches is missing
 pub compile_matches-whole : CompileMatchesAreWhole
 unfolding argument_tables
 compile_matches-whole words matches e =
@@ -210,6 +219,7 @@ compile_matches-whole words matches e =
       report = flag_of compile_rules matches are.hold _ plain.1.1.1.1.1.1.1.0 refl (are.defaults.1.1.1.1.1.1.1.0 refl);
     }
 
+-- nor of the simulator's
 pub simulate_matches-whole : SimulateMatchesAreWhole
 unfolding argument_tables
 simulate_matches-whole words matches e =
