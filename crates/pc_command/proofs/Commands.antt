@@ -1,16 +1,17 @@
 -- What the matches make of the words, as a command or none.
 use Rattle.std.proofs.Common.{◌≡◌, List, refl}
 use Rattle.std.specs.Prelude.{Option, Some, None, Ok, ok_or, option_and_then, option_map}
-use Rattle.clap.specs.Walk.{Row, Text}
+use Rattle.clap.specs.Walk.{Text}
 use Rattle.pc_word.specs.Exact.{IsExact, IsRefusal}
-use Rattle.pc_command.specs.Arguments.{compiler, matches_taken, simulator}
+use Rattle.pc_command.specs.Matching.{Matches}
+use Rattle.pc_command.specs.Arguments.{compile_app, matches_taken, simulate_app}
 use Rattle.pc_command.specs.Requests.{command_cause, compile_command_of, compile_request_in}
 use Rattle.pc_command.specs.Requests.{simulate_command_of, simulate_request_in}
 use Rattle.pc_command.specs.declared.error.CommandError.{CommandError}
 use Rattle.pc_command.specs.declared.error.CommandError.TheVariants.{NoCommand, Memory}
 
 -- a value that is there
-there : {X : Type 0} (o : Option X) (x : X) → ok_or o NoCommand ≡ Ok x → o ≡ Some x
+pub there : {X : Type 0} (o : Option X) (x : X) → ok_or o NoCommand ≡ Ok x → o ≡ Some x
 there None x e = cc
 there (Some y) x e = cc
 
@@ -34,24 +35,24 @@ exact_in view None asked h = rw (← h) refl
 exact_in view (Some x) asked h = rw (← h) refl
 
 -- words of which `clap` gives the compiler no matches are no command
-pub compile-refused : (error : CommandError) (words : List Text) → IsRefusal (command_cause error) (ok_or (matches_taken compiler words) NoCommand)
+pub compile-refused : (error : CommandError) (words : List Text) → IsRefusal (command_cause error) (ok_or (matches_taken compile_app words) NoCommand)
     → IsRefusal (command_cause error) (ok_or (compile_command_of words) NoCommand)
 unfolding compile_command_of
-compile-refused error words h = refused_on error (matches_taken compiler words) compile_request_in h
+compile-refused error words h = refused_on error (matches_taken compile_app words) compile_request_in h
 
 -- other words are a command where the matches ask for something
-pub compile-taken : (words : List Text) (matches : List Row) → ok_or (matches_taken compiler words) NoCommand ≡ Ok matches
+pub compile-taken : (words : List Text) (matches : Matches) → ok_or (matches_taken compile_app words) NoCommand ≡ Ok matches
     → compile_command_of words ≡ compile_request_in matches
 unfolding compile_command_of
 compile-taken words matches taken = rw (there _ matches taken) refl
 
 -- so of the simulator
-pub simulate-refused : (error : CommandError) (words : List Text) → IsRefusal (command_cause error) (ok_or (matches_taken simulator words) NoCommand)
+pub simulate-refused : (error : CommandError) (words : List Text) → IsRefusal (command_cause error) (ok_or (matches_taken simulate_app words) NoCommand)
     → IsRefusal (command_cause error) (ok_or (simulate_command_of words) NoCommand)
 unfolding simulate_command_of
-simulate-refused error words h = refused_as error (matches_taken simulator words) simulate_request_in h
+simulate-refused error words h = refused_as error (matches_taken simulate_app words) simulate_request_in h
 
-pub simulate-taken : (words : List Text) (matches : List Row) → ok_or (matches_taken simulator words) NoCommand ≡ Ok matches
+pub simulate-taken : (words : List Text) (matches : Matches) → ok_or (matches_taken simulate_app words) NoCommand ≡ Ok matches
     → simulate_command_of words ≡ Some (simulate_request_in matches)
 unfolding simulate_command_of
 simulate-taken words matches taken = rw (there _ matches taken) refl

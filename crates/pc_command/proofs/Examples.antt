@@ -1,33 +1,24 @@
 -- Words that are a command or none, as the definitions compute them.
-use Rattle.std.proofs.Common.{◌≡◌, ℕ, true, false, List, [], ◌∷◌, refl, codes}
+use Rattle.std.proofs.Common.{◌≡◌, ℕ, true, List, [], ◌∷◌, refl, codes}
 use Rattle.std.specs.Prelude.{Option, Some, None}
-use Rattle.std.specs.Fmt.{digits}
 use Rattle.clap.proofs.OnLiterals.{clap_on_literals}
-use Rattle.pc_command.specs.Arguments.{compiler, flag_in, matches_taken, simulator, word_in}
-use Rattle.pc_command.specs.Options.{number_in, ops_option, tests_option, mem_option, window_option, rows_option, cycles_option}
-use Rattle.pc_command.specs.Requests.{CompileRequest, OfFile, OfSample, Origin, behind_at, compile_command_of, compile_request_in, origin_of, simulate_command_of, simulate_request_in}
+use Rattle.pc_command.specs.Arguments.{flag_in, matches_taken, word_in}
+use Rattle.pc_command.specs.Laws.{plain_request}
+use Rattle.pc_command.specs.Options.{number_in}
+use Rattle.pc_command.specs.Requests.{CompileRequest, OfFile, OfSample, SourcePlace, behind_at, compile_command_of, compile_request_in, source_place_of, simulate_command_of, simulate_request_in}
+use Rattle.pc_command.proofs.Programs.{argument_tables}
 
 -- what is asked of the compiler with the defaults
-abbrev plain : Origin → CompileRequest
-plain source = record {
-  source = source;
-  object = codes "y";
-  limits = record { ops = 8; tests = 3; mem = 2 };
-  extent = record { window = 4; rows = 256 };
-  report = false;
-}
+abbrev plain : SourcePlace → CompileRequest
+plain source = plain_request source (codes "y")
 
 -- what is opened to compute them
-unfoldable options : Unit {0}
-unfolding ops_option tests_option mem_option window_option rows_option cycles_option digits number_in
-options = tt
-
 unfoldable requests : Unit {0}
-unfolding compile_command_of compile_request_in simulate_command_of simulate_request_in origin_of behind_at
+unfolding compile_command_of compile_request_in simulate_command_of simulate_request_in source_place_of behind_at
 requests = tt
 
 unfoldable commands : Unit {0}
-unfolding clap_on_literals options requests compiler simulator matches_taken flag_in word_in
+unfolding clap_on_literals argument_tables requests matches_taken flag_in word_in number_in
 commands = tt
 
 -- words that the compiler is asked with

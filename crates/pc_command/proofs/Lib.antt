@@ -7,4 +7,9 @@ pub mod Ranges
 pub mod Lines
 pub mod Commands
 pub mod InRange
+pub mod Values
+pub mod Walks
+pub mod Defaults
+pub mod Whole
+pub mod PlainWords
 mod Examples

@@ -1,5 +1,6 @@
 -- The programs' arguments, as `clap` keeps them.
 use Rattle.std.proofs.Common.{◌≡◌, ◌∙◌, [], ap, ap₂, refl, true, false}
+use Rattle.std.specs.Fmt.{digits}
 use Rattle.clap.specs.Built.{AddsArg}
 use Rattle.clap.specs.Faults.{is_simple_and_free}
 use Rattle.clap.specs.Simple.{App, app_of, app_of_fields, new_app, on_top, with_rule}
@@ -8,12 +9,12 @@ use Rattle.clap.specs.declared.builder.arg.Arg.{Arg}
 use Rattle.clap.specs.declared.builder.command.Command.{Command}
 use Rattle.clap.specs.declared.builder.command.Command.TheViews.{out-Command}
 use Rattle.clap.proofs.OnLiterals.{clap_on_literals}
-use Rattle.pc_command.specs.Arguments.{compiler, program, simulator}
+use Rattle.pc_command.specs.Arguments.{compile_app, app_with, simulate_app}
 use Rattle.pc_command.specs.Options.{ops_option, tests_option, mem_option, window_option, rows_option, cycles_option}
 
 -- a command whose words begin behind the program's name
 pub nameless : (old new : Command) (name : Text) → out-Command new ≡ record (out-Command old) { no_binary_name = true }
-    → app_of old ≡ new_app name → app_of new ≡ program name []
+    → app_of old ≡ new_app name → app_of new ≡ app_with name []
 nameless old new name e named = ap app_of_fields e ∙ ap (on_top (λ s. record s { no_binary_name = true })) named
 
 -- one more argument
@@ -21,11 +22,16 @@ pub added : (old : Command) (arg : Arg) (new : Command) (app : App) (rule : Rule
     → app_of old ≡ app → rule_of arg ≡ rule → app_of new ≡ with_rule app rule
 added old arg new app rule adds local is rule_is = adds.shape local ∙ ap₂ with_rule is rule_is
 
--- `clap` says exactly which words the programs take
-pub compiler_is_simple : is_simple_and_free compiler ≡ true
-unfolding compiler ops_option tests_option mem_option window_option rows_option clap_on_literals
-compiler_is_simple = refl
+-- what is opened to compute the programs' arguments
+unfoldable pub argument_tables : Unit {0}
+unfolding compile_app simulate_app ops_option tests_option mem_option window_option rows_option cycles_option digits
+argument_tables = tt
 
-pub simulator_is_simple : is_simple_and_free simulator ≡ true
-unfolding simulator cycles_option clap_on_literals
-simulator_is_simple = refl
+-- `clap` says exactly which words the programs take
+pub compile_app_is_simple : is_simple_and_free compile_app ≡ true
+unfolding argument_tables clap_on_literals
+compile_app_is_simple = refl
+
+pub simulate_app_is_simple : is_simple_and_free simulate_app ≡ true
+unfolding argument_tables clap_on_literals
+simulate_app_is_simple = refl

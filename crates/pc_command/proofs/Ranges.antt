@@ -1,43 +1,43 @@
 -- The numbers of the options lie in their ranges.
-use Rattle.std.proofs.Common.{◌≡◌, ◌≤◌, ℕ, lit≤, List}
-use Rattle.clap.specs.Walk.{Row}
+use Rattle.std.proofs.Common.{◌≡◌, ◌≤◌, ℕ, lit≤}
+use Rattle.pc_command.specs.Matching.{Matches}
 use Rattle.pc_command.specs.Options.{NumberOption, number_in, ops_option, tests_option, mem_option, window_option, rows_option, cycles_option}
 use Rattle.pc_word.specs.Ranges.{AreCycles, IsExtent, AreLimits, IsBetween}
 use Rattle.pc_command.specs.Requests.{extent_in, limits_in}
 use Rattle.pc_command.proofs.Numbers.{number_in-between}
 
-pub ops-between : (matches : List Row) → IsBetween 1 32 (number_in ops_option matches)
+pub ops-between : (matches : Matches) → IsBetween 1 32 (number_in ops_option matches)
 unfolding ops_option
 ops-between matches = number_in-between ops_option matches (lit≤ tt) (lit≤ tt)
 
-pub tests-between : (matches : List Row) → IsBetween 1 7 (number_in tests_option matches)
+pub tests-between : (matches : Matches) → IsBetween 1 7 (number_in tests_option matches)
 unfolding tests_option
 tests-between matches = number_in-between tests_option matches (lit≤ tt) (lit≤ tt)
 
-pub mem-between : (matches : List Row) → IsBetween 1 32 (number_in mem_option matches)
+pub mem-between : (matches : Matches) → IsBetween 1 32 (number_in mem_option matches)
 unfolding mem_option
 mem-between matches = number_in-between mem_option matches (lit≤ tt) (lit≤ tt)
 
-pub window-between : (matches : List Row) → IsBetween 1 8 (number_in window_option matches)
+pub window-between : (matches : Matches) → IsBetween 1 8 (number_in window_option matches)
 unfolding window_option
 window-between matches = number_in-between window_option matches (lit≤ tt) (lit≤ tt)
 
-pub rows-between : (matches : List Row) → IsBetween 1 512 (number_in rows_option matches)
+pub rows-between : (matches : Matches) → IsBetween 1 512 (number_in rows_option matches)
 unfolding rows_option
 rows-between matches = number_in-between rows_option matches (lit≤ tt) (lit≤ tt)
 
-pub cycles-between : (matches : List Row) → AreCycles (number_in cycles_option matches)
+pub cycles-between : (matches : Matches) → AreCycles (number_in cycles_option matches)
 unfolding cycles_option
 cycles-between matches = number_in-between cycles_option matches (lit≤ tt) (lit≤ tt)
 
 -- the number of a line of the code's table is at most what the number of the option is
-pub number-most : (line option : NumberOption) (matches : List Row) (number most : ℕ) → line ≡ option → number ≡ number_in line matches
+pub number-most : (line option : NumberOption) (matches : Matches) (number most : ℕ) → line ≡ option → number ≡ number_in line matches
     → number_in option matches ≤ most → number ≤ most
 number-most line option matches number most is read h = rw (read, is) h
 
 -- so do the limits and the extent that matches ask for
-pub limits_in-range : (matches : List Row) → AreLimits (limits_in matches)
+pub limits_in-range : (matches : Matches) → AreLimits (limits_in matches)
 limits_in-range matches = record { ops = ops-between matches; tests = tests-between matches; mem = mem-between matches }
 
-pub extent_in-range : (matches : List Row) → IsExtent (extent_in matches)
+pub extent_in-range : (matches : Matches) → IsExtent (extent_in matches)
 extent_in-range matches = record { window = window-between matches; rows = rows-between matches }

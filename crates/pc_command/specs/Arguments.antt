@@ -1,12 +1,12 @@
 -- The arguments of both programs, as `clap` takes them, and the matches that `clap` gives of words.
-use Rattle.std.specs.Prelude.{ℕ, Bool, true, false, List, [], ◌∷◌, Option, Some, None, codes, decimal, bytes_eq, unwrap_or}
-use Rattle.std.specs.Option.{option_map_or}
-use Rattle.clap.specs.Walk.{Row, Rule, Text, first_of, one_of}
+use Rattle.std.specs.Prelude.{ℕ, Bool, true, false, List, [], ◌∷◌, Option, Some, None, codes, decimal, bytes_eq, if◌then◌else◌, option_and_then, unwrap_or}
+use Rattle.clap.specs.Walk.{Rule, Text, first_of, one_of}
 use Rattle.clap.specs.Simple.{App, matches_of, new_rule, new_shape}
 use Rattle.clap.specs.Faults.{fault_of}
 use Rattle.clap.specs.Kinds.{Kinds}
 use Rattle.clap.specs.declared.builder.action.ArgAction.TheVariants.{Set, SetTrue}
 use Rattle.clap.specs.declared.builder.value_parser.ValueParser.TheVariants as vp
+use Rattle.pc_command.specs.Matching.{Matches}
 use Rattle.pc_command.specs.Options.{NumberOption, ops_option, tests_option, mem_option, window_option, rows_option, cycles_option}
 
 -- `NAME`: a word at its place, which may not be left out
@@ -31,12 +31,12 @@ abbrev pub flag_argument : Text → Rule
 flag_argument name = record (new_rule name) { long = Some name; action = Some SetTrue }
 
 -- a program of this name with these arguments, whose words begin behind its name
-abbrev pub program : Text → List Rule → App
-program name arguments = record { top = record (new_shape name) { rules = arguments; no_binary_name = true }; subs = [] }
+abbrev pub app_with : Text → List Rule → App
+app_with name arguments = record { top = record (new_shape name) { rules = arguments; no_binary_name = true }; subs = [] }
 
 -- `pcc SRC -o OBJ [--ops N] [--tests N] [--mem N] [--window N] [--rows N] [--report]`; 111 is `o`
-unfoldable pub compiler : App
-compiler = program (codes "pcc") (
+unfoldable pub compile_app : App
+compile_app = app_with (codes "pcc") (
     word_argument (codes "SRC")
     ∷ (letter_argument 111 (codes "OBJ")
     ∷ (number_argument ops_option
@@ -48,25 +48,33 @@ compiler = program (codes "pcc") (
     ∷ []))))))))
 
 -- `pvm OBJ [--cycles N]`
-unfoldable pub simulator : App
-simulator = program (codes "pvm") (
+unfoldable pub simulate_app : App
+simulate_app = app_with (codes "pvm") (
     word_argument (codes "OBJ")
     ∷ (number_argument cycles_option
     ∷ []))
 
 -- matches, unless there is a fault
-abbrev pub unless_faulty : Kinds → List Row → Option (List Row)
+abbrev pub unless_faulty : Kinds → Matches → Option Matches
 unless_faulty [] matches = Some matches
 unless_faulty (fault ∷ faults) matches = None
 
 -- the matches that `clap` gives of the words, where it finds no fault with them; a request for help is a fault
-unfoldable pub matches_taken : App → List Text → Option (List Row)
+unfoldable pub matches_taken : App → List Text → Option Matches
 matches_taken app words = unless_faulty (fault_of app words) (matches_of app words)
 
 -- the word that an argument has in the matches; one that may not be left out has one in all that `clap` gives
-unfoldable pub word_in : Text → List Row → Text
+unfoldable pub word_in : Text → Matches → Text
 word_in name matches = unwrap_or (first_of name matches) []
 
--- a flag is on
-unfoldable pub flag_in : Text → List Row → Bool
-flag_in name matches = option_map_or (λ text. bytes_eq text (codes "true")) (one_of name matches) false
+-- what the value of a flag says
+abbrev pub flag_spelled : Text → Option Bool
+flag_spelled text = if bytes_eq text (codes "true") then Some true else if bytes_eq text (codes "false") then Some false else None
+
+-- whether a flag is on, where the matches say it
+abbrev pub flag_found : Text → Matches → Option Bool
+flag_found name matches = option_and_then flag_spelled (one_of name matches)
+
+-- whether a flag is on; all that `clap` gives says it
+unfoldable pub flag_in : Text → Matches → Bool
+flag_in name matches = unwrap_or (flag_found name matches) false

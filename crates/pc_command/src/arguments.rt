@@ -1,13 +1,14 @@
 //! The arguments of both programs, as `clap` takes them.
 ghost use Rattle.std.specs.Prelude.{◌≡◌, true, false, codes, IfOk, IfErr, ok_or};
-ghost use Rattle.clap.specs.Walk.{rows_of, rule_of};
+ghost use Rattle.std.specs.Option.{IsSome};
+ghost use Rattle.clap.specs.Walk.{first_of, rule_of};
 ghost use Rattle.clap.specs.Simple.{app_of};
-ghost use Rattle.clap.specs.Matches.{found_of};
 ghost use Rattle.clap.specs.Faults.{is_simple_and_free};
 ghost use Rattle.clap.specs.Values.{kind_of};
 ghost use Rattle.clap.specs.declared.error.kind.ErrorKind.TheVariants.{OutOfMemory};
 ghost use Rattle.pc_word.specs.Exact.{IsExact};
-ghost use Rattle.pc_command.specs.Arguments.{compiler, flag_argument, flag_in, letter_argument, matches_taken, simulator, word_argument, word_in};
+ghost use Rattle.pc_command.specs.Matching.{matches_in};
+ghost use Rattle.pc_command.specs.Arguments.{compile_app, flag_argument, flag_found, flag_in, letter_argument, matches_taken, simulate_app, word_argument, word_in};
 ghost use Rattle.pc_command.specs.Requests.{command_cause};
 ghost use Rattle.pc_command.specs.Words.{spelled};
 
@@ -41,8 +42,8 @@ fn flag_argument<'a>(alloc: Global, name: &'a str) -> Arg<'a>
 }
 
 /// `pcc SRC -o OBJ [--ops N] [--tests N] [--mem N] [--window N] [--rows N] [--report]`.
-pub(crate) fn compiler<'a>(alloc: Global) -> Result<Command<'a>, clap::Error>
-    ensures app { IfOk result (λ command. app_of command ≡ compiler) }
+pub(crate) fn compile_app<'a>(alloc: Global) -> Result<Command<'a>, clap::Error>
+    ensures app { IfOk result (λ command. app_of command ≡ compile_app) }
     ensures memory { IfErr result (λ error. kind_of error ≡ OutOfMemory) }
 {
     let command = Command::new(alloc, "pcc")
@@ -59,8 +60,8 @@ pub(crate) fn compiler<'a>(alloc: Global) -> Result<Command<'a>, clap::Error>
 }
 
 /// `pvm OBJ [--cycles N]`.
-pub(crate) fn simulator<'a>(alloc: Global) -> Result<Command<'a>, clap::Error>
-    ensures app { IfOk result (λ command. app_of command ≡ simulator) }
+pub(crate) fn simulate_app<'a>(alloc: Global) -> Result<Command<'a>, clap::Error>
+    ensures app { IfOk result (λ command. app_of command ≡ simulate_app) }
     ensures memory { IfErr result (λ error. kind_of error ≡ OutOfMemory) }
 {
     let command = Command::new(alloc, "pvm")
@@ -76,22 +77,24 @@ pub(crate) fn matches_of<'a>(
     words: &'a [String],
 ) -> Result<ArgMatches<'a>, CommandError>
     requires { is_simple_and_free (app_of command) ≡ true }
-    ensures { IsExact (λ matches. rows_of (found_of matches)) command_cause result
+    ensures { IsExact (λ matches. matches_in matches) command_cause result
         (ok_or (matches_taken (app_of command.entry) (spelled words.entry.now)) CommandError.NoCommand) }
 {
     Ok(command.try_get_matches_from(words)?)
 }
 
-/// The word that an argument has in the matches; one that may not be left out has one.
+/// The word that an argument has in the matches.
 pub(crate) fn word_in<'a>(matches: &ArgMatches<'a>, name: &str) -> &'a str
-    ensures { result.now ≡ word_in name.now (rows_of (found_of matches.now)) }
+    requires { IsSome (first_of name.now (matches_in matches.now)) }
+    ensures { result.now ≡ word_in name.now (matches_in matches.now) }
 {
-    matches.get_str(name).unwrap_or("")
+    matches.get_str(name).unwrap()
 }
 
 /// Whether a flag is on.
 pub(crate) fn flag_in(matches: &ArgMatches<'_>, name: &str) -> bool
-    ensures { result ≡ flag_in name.now (rows_of (found_of matches.now)) }
+    requires { IsSome (flag_found name.now (matches_in matches.now)) }
+    ensures { result ≡ flag_in name.now (matches_in matches.now) }
 {
-    matches.get_one::<bool>(name).unwrap_or(false)
+    matches.get_flag(name)
 }

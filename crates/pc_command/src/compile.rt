@@ -1,13 +1,13 @@
 //! What the words ask of the compiler.
 ghost use Rattle.std.specs.Prelude.{◌≡◌, IfOk, IfSome, ok_or, option_map};
-ghost use Rattle.clap.specs.Walk.{rows_of};
-ghost use Rattle.clap.specs.Matches.{found_of};
 ghost use Rattle.pc_word.specs.Exact.{IsExact};
 ghost use Rattle.pc_word.specs.Ranges.{IsExtent, AreLimits};
+ghost use Rattle.pc_command.specs.Matching.{matches_in};
+ghost use Rattle.pc_command.specs.Laws.{AreCompileMatches};
 ghost use Rattle.pc_command.specs.Requests.{command_cause, compile_command_of, compile_request, compile_request_in, extent_in, limits_in};
 ghost use Rattle.pc_command.specs.Words.{spelled};
 
-use crate::arguments::{compiler, flag_in, matches_of, word_in};
+use crate::arguments::{compile_app, flag_in, matches_of, word_in};
 use crate::number_option::OptionLine;
 use crate::source::source_named;
 use crate::{CommandError, SourceName};
@@ -42,14 +42,15 @@ pub fn compile_command<'a>(
     ensures limits { IfOk result (λ command. AreLimits command.limits) }
     ensures extent { IfOk result (λ command. IsExtent command.extent) }
 {
-    let matches = matches_of(compiler(alloc)?, words)?;
+    let matches = matches_of(compile_app(alloc)?, words)?;
     command_in(&matches).ok_or(CommandError::NoCommand)
 }
 
 /// What the matches ask, where SRC names a source.
 #[tactic(auto, unfolding(crate::specs::Requests::compile_request_in))]
 fn command_in<'a>(matches: &ArgMatches<'a>) -> Option<CompileCommand<'a>>
-    ensures value { option_map compile_request result ≡ compile_request_in (rows_of (found_of matches.now)) }
+    requires { AreCompileMatches (matches_in matches.now) }
+    ensures value { option_map compile_request result ≡ compile_request_in (matches_in matches.now) }
     ensures limits { IfSome result (λ command. AreLimits command.limits) }
     ensures extent { IfSome result (λ command. IsExtent command.extent) }
 {
@@ -65,7 +66,8 @@ fn command_in<'a>(matches: &ArgMatches<'a>) -> Option<CompileCommand<'a>>
 
 /// The limits of a row that the matches ask for.
 fn limits_in(matches: &ArgMatches<'_>) -> Limits
-    ensures value { result ≡ limits_in (rows_of (found_of matches.now)) }
+    requires { AreCompileMatches (matches_in matches.now) }
+    ensures value { result ≡ limits_in (matches_in matches.now) }
     ensures range { AreLimits result }
 {
     Limits {
@@ -77,7 +79,8 @@ fn limits_in(matches: &ArgMatches<'_>) -> Limits
 
 /// The extent of a window and of its schedule that the matches ask for.
 fn extent_in(matches: &ArgMatches<'_>) -> Extent
-    ensures value { result ≡ extent_in (rows_of (found_of matches.now)) }
+    requires { AreCompileMatches (matches_in matches.now) }
+    ensures value { result ≡ extent_in (matches_in matches.now) }
     ensures range { IsExtent result }
 {
     Extent {

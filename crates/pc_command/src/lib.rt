@@ -11,7 +11,7 @@ mod source;
 
 pub use compile::{CompileCommand, compile_command};
 pub use error::CommandError;
-pub use laws::laws_of_ranges;
+pub use laws::{laws_of_matches, laws_of_plain_words, laws_of_ranges};
 pub use simulate::{SimulateCommand, simulate_command};
 pub use source::SourceName;
 

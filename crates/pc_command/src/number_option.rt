@@ -1,13 +1,15 @@
 //! The options that take a number, as a table.
 ghost use Rattle.std.specs.Prelude.{◌≡◌, ◌≤◌, decimal, false};
-ghost use Rattle.clap.specs.Walk.{rows_of, rule_of};
-ghost use Rattle.clap.specs.Matches.{found_of};
+ghost use Rattle.std.specs.Option.{IsSome};
+ghost use Rattle.clap.specs.Walk.{rule_of};
+ghost use Rattle.pc_command.specs.Matching.{matches_in};
 ghost use Rattle.pc_command.specs.Arguments.{number_argument};
-ghost use Rattle.pc_command.specs.Options.{number_in, number_option};
+ghost use Rattle.pc_command.specs.Options.{number_found, number_in, number_option};
 ghost use Rattle.pc_command.specs.Options.{ops_option, tests_option, mem_option, window_option, rows_option, cycles_option};
 
 use clap::builder::ValueParser;
 use clap::{Arg, ArgAction, ArgMatches};
+use pc_word::{MOST_CYCLES, MOST_MEM, MOST_OPS, MOST_ROWS, MOST_TESTS, MOST_WINDOW};
 use std::alloc::Global;
 
 /// An option `--NAME N`: the numbers that it takes, and the number that it has where the words leave
@@ -51,14 +53,12 @@ impl<'a> OptionLine<'a> {
             .default_value(self.default_text)
     }
 
-    /// The option's number in the matches, or its default where they have none that it takes.
+    /// The option's number in the matches.
     pub(crate) fn number_in(self, matches: &ArgMatches<'_>) -> u64
-        ensures { result ≡ number_in (option_of self.entry) (rows_of (found_of matches.now)) }
+        requires { IsSome (number_found (option_of self) (matches_in matches.now)) }
+        ensures { result ≡ number_in (option_of self.entry) (matches_in matches.now) }
     {
-        match matches.get_one::<u64>(self.name) {
-            Some(number) if self.least <= number && number <= self.greatest => number,
-            _ => self.default,
-        }
+        matches.get_one(self.name).unwrap()
     }
 }
 
@@ -70,41 +70,41 @@ impl<'a> OptionLine<'a> {
     pub(crate) fn ops() -> Self
         ensures { option_of result ≡ ops_option }
     {
-        OptionLine::new("ops", 1, 32, 8, "8")
+        OptionLine::new("ops", 1, u64::from(MOST_OPS), 8, "8")
     }
 
     /// How many tests a row may have.
     pub(crate) fn tests() -> Self
         ensures { option_of result ≡ tests_option }
     {
-        OptionLine::new("tests", 1, 7, 3, "3")
+        OptionLine::new("tests", 1, u64::from(MOST_TESTS), 3, "3")
     }
 
     /// How many loads and stores together a row may have.
     pub(crate) fn mem() -> Self
         ensures { option_of result ≡ mem_option }
     {
-        OptionLine::new("mem", 1, 32, 2, "2")
+        OptionLine::new("mem", 1, u64::from(MOST_MEM), 2, "2")
     }
 
     /// How many turns of a loop a window may hold.
     pub(crate) fn window() -> Self
         ensures { option_of result ≡ window_option }
     {
-        OptionLine::new("window", 1, 8, 4, "4")
+        OptionLine::new("window", 1, u64::from(MOST_WINDOW), 4, "4")
     }
 
     /// How many rows the schedule of a window may have.
     pub(crate) fn rows() -> Self
         ensures { option_of result ≡ rows_option }
     {
-        OptionLine::new("rows", 1, 512, 256, "256")
+        OptionLine::new("rows", 1, u64::from(MOST_ROWS), 256, "256")
     }
 
     /// How many cycles a run may take.
     pub(crate) fn cycles() -> Self
         ensures { option_of result ≡ cycles_option }
     {
-        OptionLine::new("cycles", 1, 1_000_000_000_000, 100_000_000, "100000000")
+        OptionLine::new("cycles", 1, MOST_CYCLES, 100_000_000, "100000000")
     }
 }

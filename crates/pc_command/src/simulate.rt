@@ -1,14 +1,14 @@
 //! What the words ask of the simulator.
 ghost use Rattle.std.specs.Prelude.{◌≡◌, IfOk, ok_or};
-ghost use Rattle.clap.specs.Walk.{rows_of};
-ghost use Rattle.clap.specs.Matches.{found_of};
 ghost use Rattle.pc_word.specs.Exact.{IsExact};
 ghost use Rattle.pc_word.specs.Ranges.{AreCycles};
+ghost use Rattle.pc_command.specs.Matching.{matches_in};
+ghost use Rattle.pc_command.specs.Laws.{AreSimulateMatches};
 ghost use Rattle.pc_command.specs.Requests.{command_cause, simulate_command_of, simulate_request, simulate_request_in};
 ghost use Rattle.pc_command.specs.Words.{spelled};
 
 use crate::CommandError;
-use crate::arguments::{matches_of, simulator, word_in};
+use crate::arguments::{matches_of, simulate_app, word_in};
 use crate::number_option::OptionLine;
 use clap::ArgMatches;
 use std::alloc::Global;
@@ -33,14 +33,15 @@ pub fn simulate_command<'a>(
         (ok_or (simulate_command_of (spelled words.entry.now)) CommandError.NoCommand) }
     ensures cycles { IfOk result (λ command. AreCycles command.cycles) }
 {
-    let matches = matches_of(simulator(alloc)?, words)?;
+    let matches = matches_of(simulate_app(alloc)?, words)?;
     Ok(command_in(&matches))
 }
 
 /// What the matches ask.
 #[tactic(auto, unfolding(crate::specs::Requests::simulate_request_in))]
 fn command_in<'a>(matches: &ArgMatches<'a>) -> SimulateCommand<'a>
-    ensures { simulate_request result ≡ simulate_request_in (rows_of (found_of matches.now)) }
+    requires { AreSimulateMatches (matches_in matches.now) }
+    ensures { simulate_request result ≡ simulate_request_in (matches_in matches.now) }
 {
     SimulateCommand {
         object: word_in(matches, "OBJ"),

@@ -1,6 +1,6 @@
 //! What a word for SRC names.
 ghost use Rattle.std.specs.Prelude.{◌≡◌, option_map};
-ghost use Rattle.pc_command.specs.Requests.{behind_at, origin_named, origin_of, sample_number_of};
+ghost use Rattle.pc_command.specs.Requests.{behind_at, source_place, source_place_of, sample_number_of};
 
 /// Where a source comes from.
 #[derive(Clone, Copy, Debug, PartialEq, Eq)]
@@ -13,9 +13,9 @@ pub enum SourceName<'a> {
 
 /// What a word names: behind a `@` the number of a sample, in decimal digits alone, and with any
 /// other first character a file.
-#[tactic(auto, unfolding(crate::specs::Requests::origin_of))]
+#[tactic(auto, unfolding(crate::specs::Requests::source_place_of))]
 pub(crate) fn source_named<'a>(word: &'a str) -> Option<SourceName<'a>>
-    ensures { option_map origin_named result ≡ origin_of word.entry.now }
+    ensures { option_map source_place result ≡ source_place_of word.entry.now }
 {
     match behind_at(word) {
         Some(digits) => Some(SourceName::Sample(sample_number(digits)?)),

@@ -8,7 +8,7 @@ use Rattle.std.specs.Cmp.Lexicographic.{nat_list_cmp_total}
 use Rattle.std.proofs.lemmas.Map.Text.{is_eq-slice_cmp}
 use Rattle.std.proofs.lemmas.Slice.Eq.{bytes_eq-Decides}
 use Rattle.pc_outside.specs.Shelf.{Files, Shelved, ReadKeeps, OnlyFileDiffers, HoldsFile}
-use Rattle.pc_command.specs.Requests.{Origin, OfFile, OfSample}
+use Rattle.pc_command.specs.Requests.{SourcePlace, OfFile, OfSample}
 use Rattle.pc_sample.specs.SampleText.{sample_text}
 use Rattle.pc_tool.specs.CompilerLaws.{IsTold}
 use Rattle.pc_tool.specs.Files.{HasText, HoldsText, HasSource, HoldsSource}
@@ -38,7 +38,7 @@ holds None name text P h p = tt
 holds (Some files) name text P h p = (text, h, p)
 
 -- of the text that a source has, P holds
-pub has_holds : (held : Option Files) (source : Origin) (text : List ℕ) (P : List ℕ → Type 0) → HasSource held source text → P text → HoldsSource held source P
+pub has_holds : (held : Option Files) (source : SourcePlace) (text : List ℕ) (P : List ℕ → Type 0) → HasSource held source text → P text → HoldsSource held source P
 has_holds held (OfFile name) text P h p = holds held name text P h p
 has_holds held (OfSample number) text P h p = subst P h p
 
@@ -87,16 +87,16 @@ written_differs (Some before) new name bytes h = (insert before name bytes, h, �
 -- ---- sources
 
 -- P holds of a source's text, and so does Q
-pub source_map : (held : Option Files) (source : Origin) (P Q : List ℕ → Type 0) → ((text : List ℕ) → P text → Q text) → HoldsSource held source P → HoldsSource held source Q
+pub source_map : (held : Option Files) (source : SourcePlace) (P Q : List ℕ → Type 0) → ((text : List ℕ) → P text → Q text) → HoldsSource held source P → HoldsSource held source Q
 source_map held (OfFile name) P Q f h = held_map held name P Q f h
 source_map held (OfSample number) P Q f h = f (sample_text number) h
 
 -- what is held of a source whose text is told
-pub source_told : (held : Option Files) (source : Origin) (text : List ℕ) (P : List ℕ → Type 0) → IsTold held source text → HoldsSource held source P → P text
+pub source_told : (held : Option Files) (source : SourcePlace) (text : List ℕ) (P : List ℕ → Type 0) → IsTold held source text → HoldsSource held source P → P text
 source_told held (OfFile name) text P (files, is, here) h = told held files name text P is here h
 source_told held (OfSample number) text P is h = subst P (sym is) h
 
 -- the text of a source that is told is that which it has
-pub text_told : (held : Option Files) (source : Origin) (text other : List ℕ) → IsTold held source text → HasSource held source other → other ≡ text
+pub text_told : (held : Option Files) (source : SourcePlace) (text other : List ℕ) → IsTold held source text → HasSource held source other → other ≡ text
 text_told held (OfFile name) text other (files, is, here) h = told_text held files name text other is here h
 text_told held (OfSample number) text other is h = h ∙ sym is

@@ -6,7 +6,7 @@ use Rattle.pc_word.specs.Count.{Rose}
 use Rattle.pc_syntax.specs.Source.{SourceProgram}
 use Rattle.pc_object.specs.ObjectText.{CodeWithNotes}
 use Rattle.pc_outside.specs.Shelf.{Files, ReadFaultOf, WriteFaultOf, ReadKeeps, OnlyFileDiffers}
-use Rattle.pc_command.specs.Requests.{CompileRequest, Origin, OfFile, OfSample}
+use Rattle.pc_command.specs.Requests.{CompileRequest, SourcePlace, OfFile, OfSample}
 use Rattle.pc_sample.specs.SampleText.{sample_text}
 use Rattle.pc_tool.specs.Compilation.{Compiled, Reports, report_on}
 use Rattle.pc_tool.specs.Compiler.{CompilerLacks, CompilerPromise}
@@ -43,7 +43,7 @@ KeepsOthers None old new = new.shelf.held ≡ old.shelf.held
 KeepsOthers (Some request) old new = OnlyFileDiffers old.shelf.held new.shelf.held request.object
 
 -- the shelf tells its files, and the source has this text
-abbrev pub IsTold : Option Files → Origin → List ℕ → Type 0
+abbrev pub IsTold : Option Files → SourcePlace → List ℕ → Type 0
 IsTold held (OfFile name) text = (files : Files) × (held ≡ Some files) × (get files name ≡ Some text)
 IsTold held (OfSample number) text = text ≡ sample_text number
 

@@ -3,7 +3,7 @@
 use Rattle.std.specs.Prelude.{◌≡◌, ℕ, List, Option, Some, IfSome}
 use Rattle.std.specs.FinMap.{get}
 use Rattle.pc_outside.specs.Shelf.{Files}
-use Rattle.pc_command.specs.Requests.{Origin, OfFile, OfSample}
+use Rattle.pc_command.specs.Requests.{SourcePlace, OfFile, OfSample}
 use Rattle.pc_sample.specs.SampleText.{sample_text}
 
 -- the named file has this text
@@ -15,11 +15,11 @@ abbrev pub HoldsText : Option Files → List ℕ → (List ℕ → Type 0) → T
 HoldsText held name P = IfSome held (λ files. (text : List ℕ) × (get files name ≡ Some text) × P text)
 
 -- the source has this text: the named file does, or it is the text of the sample
-abbrev pub HasSource : Option Files → Origin → List ℕ → Type 0
+abbrev pub HasSource : Option Files → SourcePlace → List ℕ → Type 0
 HasSource held (OfFile name) text = HasText held name text
 HasSource held (OfSample number) text = text ≡ sample_text number
 
 -- there is such a source, with a text of which P holds
-abbrev pub HoldsSource : Option Files → Origin → (List ℕ → Type 0) → Type 0
+abbrev pub HoldsSource : Option Files → SourcePlace → (List ℕ → Type 0) → Type 0
 HoldsSource held (OfFile name) P = HoldsText held name P
 HoldsSource held (OfSample number) P = P (sample_text number)

@@ -1,6 +1,6 @@
 //! The compiler: from the words of its command to the object on the shelf and the report.
 ghost use Rattle.std.specs.Prelude.{◌≡◌, ◌≤◌, length, Some};
-ghost use Rattle.pc_command.specs.Requests.{compile_command_of, compile_request, origin_named};
+ghost use Rattle.pc_command.specs.Requests.{compile_command_of, compile_request, source_place};
 ghost use Rattle.pc_command.specs.Words.{spelled};
 ghost use Rattle.pc_tool.specs.Compiler.{CompilerEnds};
 ghost use Rattle.pc_tool.specs.Files.{HasSource};
@@ -61,7 +61,7 @@ fn compile_text<'a, H: Shelf, O: Sink>(
 ) -> Option<ToolFault<'a>>
     requires few_bytes { length text.now ≤ most_source }
     requires limits { AreLimits command.limits }
-    requires source { HasSource (H.state shelf.old).held (origin_named command.source) text.now }
+    requires source { HasSource (H.state shelf.old).held (source_place command.source) text.now }
     ensures { CompilerEnds (H.state shelf.old) (H.state shelf.new) (streamed (O.taken out.old) (O.faults out.old))
         (streamed (O.taken out.new) (O.faults out.new)) (Some (compile_request command)) result }
 {

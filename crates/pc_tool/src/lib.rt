@@ -13,6 +13,8 @@ mod program;
 #[cfg(test)]
 mod program_tests;
 mod refusal;
+#[cfg(test)]
+mod sample_tests;
 mod simulate;
 #[cfg(test)]
 mod simulator_tests;

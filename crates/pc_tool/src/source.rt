@@ -1,6 +1,6 @@
 //! The text of a source: that of a file, or of a sample.
 ghost use Rattle.std.specs.Prelude.{◌≤◌, length, IfOk, MatchResult};
-ghost use Rattle.pc_command.specs.Requests.{origin_named};
+ghost use Rattle.pc_command.specs.Requests.{source_place};
 ghost use Rattle.pc_outside.specs.Shelf.{ReadKeeps};
 ghost use Rattle.pc_tool.specs.Files.{HasSource};
 ghost use Rattle.pc_tool.specs.models.Compiling.{FailsToRead};
@@ -23,8 +23,8 @@ pub(crate) fn read_source<'a, H: Shelf>(
     ensures keeps { ReadKeeps (H.state shelf.old) (H.state shelf.new) }
     ensures few { IfOk result (λ text. length text.items ≤ most_source) }
     ensures text { MatchResult result
-        (λ text. HasSource (H.state shelf.old).held (origin_named source) text.items)
-        (λ fault. FailsToRead (origin_named source) (H.state shelf.old) (H.state shelf.new) fault) }
+        (λ text. HasSource (H.state shelf.old).held (source_place source) text.items)
+        (λ fault. FailsToRead (source_place source) (H.state shelf.old) (H.state shelf.new) fault) }
 {
     match source {
         SourceName::File(name) => read_file(alloc, name, shelf),

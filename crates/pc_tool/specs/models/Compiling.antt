@@ -5,7 +5,7 @@ use Rattle.std.specs.Io.KnownBytes.{Appends}
 use Rattle.pc_word.specs.Count.{Rose}
 use Rattle.pc_outside.specs.Shelf.{Files, Shelved, ReadFaultOf}
 use Rattle.pc_outside.specs.Stream.{AppendsPart}
-use Rattle.pc_command.specs.Requests.{CompileRequest, Origin, OfFile}
+use Rattle.pc_command.specs.Requests.{CompileRequest, SourcePlace, OfFile}
 use Rattle.pc_report.specs.declared.fault.Speaker.TheVariants.{Pcc}
 use Rattle.pc_report.specs.declared.fault.SourceFault.TheVariants.{TooLong}
 use Rattle.pc_report.specs.declared.fault.ToolFault.{ToolFault}
@@ -18,7 +18,7 @@ use Rattle.pc_tool.specs.declared.translation.Translation.{Translation}
 use Rattle.pc_tool.specs.models.Translating.{IsTranslation}
 
 -- why a source's text was not read
-pub data FailsToRead (source : Origin) (old new : Shelved) : (fault : ToolFault) → Type 0 where
+pub data FailsToRead (source : SourcePlace) (old new : Shelved) : (fault : ToolFault) → Type 0 where
   Not_read : {name : Bor (List ℕ)} →
       source ≡ OfFile name.now →
       ReadFaultOf old new name.now →

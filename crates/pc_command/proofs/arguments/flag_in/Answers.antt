@@ -1,13 +1,13 @@
 -- The flag that is read is the one of the definition.
-use Rattle.std.proofs.Common.{◌∙◌, sym}
+use Rattle.std.proofs.Common.{◌∙◌}
 use Rattle.clap.specs.Matches.{found_of}
-use Rattle.clap.specs.Walk.{rows_of}
 use Rattle.clap.proofs.WalkLemmas.{one_text-rows}
+use Rattle.pc_command.specs.Matching.{matches_in}
 use Rattle.pc_command.proofs.Flags.{flag_in-read}
 use Rattle.pc_command.proofs.arguments.flag_in.Goals as goal
 
 pub returns : goal.returns
 returns c =
     let is : _ = one_text-rows (found_of c.args.matches.now) c.args.name.now in
-    c.unwrap_or.ensures
-    ∙ sym (flag_in-read c.args.name.now (rows_of (found_of c.args.matches.now)) c.get_one.result (λ e. c.get_one.ensures.none (is ∙ e)) (λ text e. c.get_one.ensures.value text (is ∙ e)))
+    flag_in-read c.args.name.now (matches_in c.args.matches.now) c.get_flag.result c.requires
+    (λ e. c.get_flag.ensures.value (is ∙ e)) (λ e. c.get_flag.ensures.other (is ∙ e))

@@ -1,7 +1,6 @@
 -- Each number is in its range, so it fits its type.
 use Rattle.std.proofs.Common.{◌≤◌, arith}
-use Rattle.clap.specs.Matches.{found_of}
-use Rattle.clap.specs.Walk.{rows_of}
+use Rattle.pc_command.specs.Matching.{matches_in}
 use Rattle.pc_command.proofs.Ranges.{extent_in-range, number-most, rows-between, window-between}
 use Rattle.pc_command.proofs.compile.extent_in.Goals as goal
 
@@ -17,4 +16,4 @@ overflow_cast-result-2 c =
 
 pub returns-clause-range : goal.returns-clause-range
 returns-clause-range c =
-    rw (c.number_in.ensures, c.window.ensures, c.number_in-2.ensures, c.rows.ensures) (extent_in-range (rows_of (found_of c.args.matches.now)))
+    rw (c.number_in.ensures, c.window.ensures, c.number_in-2.ensures, c.rows.ensures) (extent_in-range (matches_in c.args.matches.now))

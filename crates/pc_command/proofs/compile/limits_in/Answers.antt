@@ -1,7 +1,6 @@
 -- Each number is in its range, so it fits a byte.
 use Rattle.std.proofs.Common.{◌≤◌, arith}
-use Rattle.clap.specs.Matches.{found_of}
-use Rattle.clap.specs.Walk.{rows_of}
+use Rattle.pc_command.specs.Matching.{matches_in}
 use Rattle.pc_command.proofs.Ranges.{limits_in-range, mem-between, number-most, ops-between, tests-between}
 use Rattle.pc_command.proofs.compile.limits_in.Goals as goal
 
@@ -23,4 +22,4 @@ overflow_cast-result-3 c =
 pub returns-clause-range : goal.returns-clause-range
 returns-clause-range c =
     rw (c.number_in.ensures, c.ops.ensures, c.number_in-2.ensures, c.tests.ensures, c.number_in-3.ensures, c.mem.ensures)
-    (limits_in-range (rows_of (found_of c.args.matches.now)))
+    (limits_in-range (matches_in c.args.matches.now))

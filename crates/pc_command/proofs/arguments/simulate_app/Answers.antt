@@ -1,11 +1,11 @@
 -- The arguments are added in their order.
 use Rattle.std.proofs.Common.{◌∙◌, ap, codes}
-use Rattle.pc_command.specs.Arguments.{number_argument, simulator}
+use Rattle.pc_command.specs.Arguments.{number_argument, simulate_app}
 use Rattle.pc_command.proofs.Programs.{added, nameless}
-use Rattle.pc_command.proofs.arguments.simulator.Goals as goal
+use Rattle.pc_command.proofs.arguments.simulate_app.Goals as goal
 
 pub returns-clause-app : goal.returns-clause-app
-unfolding simulator
+unfolding simulate_app
 returns-clause-app c =
     added _ _ _ _ _ c.in_ok-command.ensures c.argument.ensures.local
     (added _ _ _ _ _ c.in_ok-arg.ensures c.word_argument.ensures.local

@@ -1,11 +1,11 @@
 -- The arguments are added in their order.
 use Rattle.std.proofs.Common.{◌∙◌, ap, codes}
-use Rattle.pc_command.specs.Arguments.{compiler, number_argument}
+use Rattle.pc_command.specs.Arguments.{compile_app, number_argument}
 use Rattle.pc_command.proofs.Programs.{added, nameless}
-use Rattle.pc_command.proofs.arguments.compiler.Goals as goal
+use Rattle.pc_command.proofs.arguments.compile_app.Goals as goal
 
 pub returns-clause-app : goal.returns-clause-app
-unfolding compiler
+unfolding compile_app
 returns-clause-app c =
     added _ _ _ _ _ c.in_ok-command.ensures c.flag_argument.ensures.local
     (added _ _ _ _ _ c.in_ok-arg-7.ensures c.argument-5.ensures.local

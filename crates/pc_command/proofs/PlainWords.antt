@@ -1,0 +1,166 @@
+-- What plain words ask: the walk of `clap` over them, word by word.
+use Rattle.std.proofs.Common.{◌≡◌, ◌==◌, ℕ, Bool, true, false, List, [], ◌∷◌, refl, ap, eqb-true}
+use Rattle.std.specs.Prelude.{Some, None, codes, bytes_eq}
+use Rattle.clap.specs.Faults.{defaults_fault, fault_of, step_fault, turn_fault, walk_fault, word_fault}
+use Rattle.clap.specs.Lexer.{long_of, short_of}
+use Rattle.clap.specs.Simple.{Shape, built}
+use Rattle.clap.specs.Walk.{Held, Rule, Text, Waiting, Walk, after_step, idle, nothing_held, option, plain_word, positional, walk_from, walked, word_met}
+use Rattle.clap.specs.declared.builder.value_parser.Reading.TheVariants.{AsWritten}
+use Rattle.clap.specs.declared.parser.matches.ValueSource.TheVariants.{CommandLine}
+use Rattle.clap.proofs.OnLiterals.{clap_on_literals}
+use Rattle.pc_command.specs.Arguments.{compile_app, flag_in, matches_taken, simulate_app, word_in}
+use Rattle.pc_command.specs.Laws.{IsPlainWord, NoWordsAreNoCommand, PlainWordSimulates, PlainWordsCompile}
+use Rattle.pc_command.specs.Options.{number_in}
+use Rattle.pc_command.specs.Requests.{compile_command_of, compile_request_in, simulate_command_of, simulate_request_in}
+use Rattle.pc_command.proofs.Programs.{argument_tables}
+
+-- ---- a plain word is neither a flag nor an option
+
+-- a word that begins with no hyphen begins otherwise, or is empty
+first_byte : (x : ℕ) (rest : Text) → IsPlainWord (x ∷ rest) → (x == 45) ≡ false
+first_byte x rest is = by (x == 45) refl
+  where
+    by : (b : Bool) → (x == 45) ≡ b → (x == 45) ≡ false
+    by true e = absurd (is rest (ap (λ (n : ℕ). n ∷ rest) (eqb-true x 45 e)))
+    by false e = e
+
+-- so it is not `--name`
+no_long : (word : Text) → IsPlainWord word → long_of word ≡ None
+no_long [] is = refl
+no_long (x ∷ rest) is = rw (first_byte x rest is) refl
+
+-- not `-abc`
+no_short : (word : Text) → IsPlainWord word → short_of word ≡ None
+no_short [] is = refl
+no_short (x ∷ rest) is = rw (first_byte x rest is) refl
+
+-- and not `--`
+no_dashes : (word : Text) → IsPlainWord word → bytes_eq word (45 ∷ 45 ∷ []) ≡ false
+no_dashes [] is = refl
+no_dashes (x ∷ rest) is = rw (first_byte x rest is) refl
+
+-- where there is no subcommand it is a plain word
+plain_word-met : (rules : List Rule) (waiting : Waiting) (place : ℕ) (word : Text) (held : Held) → IsPlainWord word
+    → word_met rules [] false waiting place word held ≡ plain_word rules waiting word held
+plain_word-met rules idle place word held is = rw (no_dashes word is, no_long word is, no_short word is) refl
+plain_word-met rules (option id) place word held is = rw (no_dashes word is, no_long word is, no_short word is) refl
+plain_word-met rules positional place word held is = rw (no_dashes word is, no_long word is, no_short word is) refl
+
+-- a walk that stands at a place, with no subcommand and no `--` behind it
+abbrev at_place : Held → Waiting → ℕ → Walk
+at_place held waiting place = record { held = held; waiting = waiting; position = place; is_trailing = false; stopped = None }
+
+-- the step over a plain word
+plain_word-walked : (rules : List Rule) (held : Held) (waiting : Waiting) (place : ℕ) (word : Text) → IsPlainWord word
+    → walked rules [] (at_place held waiting place) word
+    ≡ after_step rules word (at_place held waiting place) (plain_word rules waiting word held).0 (plain_word rules waiting word held).1
+unfolding walked
+plain_word-walked rules held waiting place word is = rw (plain_word-met rules waiting place word held is) refl
+
+-- finds no fault with the word
+plain_word-fault : (shape : Shape) (held : Held) (waiting : Waiting) (word : Text) → IsPlainWord word → word_fault shape [] false waiting word held ≡ []
+plain_word-fault shape held idle word is = rw (no_dashes word is, no_long word is, no_short word is) refl
+plain_word-fault shape held (option id) word is = rw (no_dashes word is, no_long word is, no_short word is) refl
+plain_word-fault shape held positional word is = rw (no_dashes word is, no_long word is, no_short word is) refl
+
+-- so there is only the argument's fault that takes it
+plain_word-turn : (shape : Shape) (held : Held) (waiting : Waiting) (place : ℕ) (word : Text) → IsPlainWord word
+    → turn_fault shape [] (at_place held waiting place) word
+    ≡ step_fault shape place (plain_word shape.rules waiting word held).0 (plain_word shape.rules waiting word held).1
+plain_word-turn shape held waiting place word is =
+    rw (plain_word-met shape.rules waiting place word held is, plain_word-fault shape held waiting word is) refl
+
+-- ---- the simulator's word
+
+-- what is held behind OBJ
+abbrev object_held : Text → Held
+object_held object = record { rows = []; pending = Some (codes "OBJ", object ∷ []); skip = 0 }
+
+-- the walk over OBJ
+simulate-walked : (object : Text) → IsPlainWord object
+    → walked (built simulate_app).top.rules [] (walk_from nothing_held) object ≡ at_place (object_held object) idle 2
+unfolding argument_tables
+simulate-walked object is = plain_word-walked (built simulate_app).top.rules nothing_held idle 1 object is
+
+-- finds no fault
+simulate-walk_fault : (object : Text) → IsPlainWord object → walk_fault (built simulate_app).top [] (walk_from nothing_held) (object ∷ []) ≡ []
+unfolding argument_tables walk_fault
+simulate-walk_fault object is = rw (plain_word-turn (built simulate_app).top nothing_held idle 1 object is) refl
+
+-- and there is none behind it
+simulate-fault : (object : Text) → IsPlainWord object → fault_of simulate_app (object ∷ []) ≡ []
+unfolding argument_tables defaults_fault
+simulate-fault object is = rw (simulate-walk_fault object is, simulate-walked object is) refl
+
+-- one plain word is a command of the simulator
+pub plain_word-simulates : PlainWordSimulates
+unfolding simulate_command_of simulate_request_in matches_taken word_in number_in argument_tables
+plain_word-simulates object is = rw (simulate-fault object is, simulate-walked object is) refl
+
+-- ---- the compiler's words
+
+-- what is held behind SRC, behind `-o`, and behind OBJ
+abbrev source_held : Text → Held
+source_held source = record { rows = []; pending = Some (codes "SRC", source ∷ []); skip = 0 }
+
+abbrev taking_object : Text → List Text → Held
+taking_object source given = record {
+  rows = record { id = codes "SRC"; values = source ∷ []; count = None; source = Some CommandLine; reading = AsWritten } ∷ [];
+  pending = Some (codes "OBJ", given);
+  skip = 0;
+}
+
+-- the walk over SRC
+source-walked : (source : Text) → IsPlainWord source
+    → walked (built compile_app).top.rules [] (walk_from nothing_held) source ≡ at_place (source_held source) idle 2
+unfolding argument_tables
+source-walked source is = plain_word-walked (built compile_app).top.rules nothing_held idle 1 source is
+
+-- over `-o`
+letter-walked : (source : Text)
+    → walked (built compile_app).top.rules [] (at_place (source_held source) idle 2) (codes "-o") ≡ at_place (taking_object source []) (option (codes "OBJ")) 2
+unfolding argument_tables clap_on_literals
+letter-walked source = refl
+
+-- and over OBJ
+object-walked : (source object : Text) → IsPlainWord object
+    → walked (built compile_app).top.rules [] (at_place (taking_object source []) (option (codes "OBJ")) 2) object ≡ at_place (taking_object source (object ∷ [])) idle 2
+unfolding argument_tables
+object-walked source object is = plain_word-walked (built compile_app).top.rules (taking_object source []) (option (codes "OBJ")) 2 object is
+
+-- the letter is no fault
+letter-turn : (source : Text) → turn_fault (built compile_app).top [] (at_place (source_held source) idle 2) (codes "-o") ≡ []
+unfolding argument_tables clap_on_literals
+letter-turn source = refl
+
+-- nor is any of the words
+compile-walk_fault : (source object : Text) → IsPlainWord source → IsPlainWord object
+    → walk_fault (built compile_app).top [] (walk_from nothing_held) (source ∷ (codes "-o" ∷ (object ∷ []))) ≡ []
+unfolding argument_tables walk_fault
+compile-walk_fault source object is also =
+    rw (
+      plain_word-turn (built compile_app).top nothing_held idle 1 source is,
+      source-walked source is,
+      letter-turn source,
+      letter-walked source,
+      plain_word-turn (built compile_app).top (taking_object source []) (option (codes "OBJ")) 2 object also,
+    ) refl
+
+-- and there is none behind them
+compile-fault : (source object : Text) → IsPlainWord source → IsPlainWord object → fault_of compile_app (source ∷ (codes "-o" ∷ (object ∷ []))) ≡ []
+unfolding argument_tables defaults_fault
+compile-fault source object is also =
+    rw (compile-walk_fault source object is also, source-walked source is, letter-walked source, object-walked source object also) refl
+
+-- plain words with `-o` between them are one of the compiler
+pub plain_words-compile : PlainWordsCompile
+unfolding compile_command_of compile_request_in matches_taken word_in flag_in number_in argument_tables
+plain_words-compile source object place is also named =
+    rw (compile-fault source object is also, source-walked source is, letter-walked source, object-walked source object also, named) refl
+
+-- ---- no words
+
+-- are no command
+pub no_words-command : NoWordsAreNoCommand
+unfolding compile_command_of simulate_command_of matches_taken argument_tables clap_on_literals
+no_words-command = (refl, refl)

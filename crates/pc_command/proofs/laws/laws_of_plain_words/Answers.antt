@@ -1,0 +1,12 @@
+-- The laws are lemmas.
+use Rattle.pc_command.proofs.PlainWords.{no_words-command, plain_word-simulates, plain_words-compile}
+use Rattle.pc_command.proofs.laws.laws_of_plain_words.Goals as goal
+
+pub returns-clause-compiler : goal.returns-clause-compiler
+returns-clause-compiler c = plain_words-compile
+
+pub returns-clause-simulator : goal.returns-clause-simulator
+returns-clause-simulator c = plain_word-simulates
+
+pub returns-clause-no_words : goal.returns-clause-no_words
+returns-clause-no_words c = no_words-command
