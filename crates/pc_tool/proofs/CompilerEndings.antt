@@ -1,5 +1,5 @@
 -- How the compiler ends, put together from what its steps leave.
-use Rattle.std.proofs.Common.{◌≡◌, ℕ, ◌≤◌, ◌⊎◌, inl, inr, List, true, Option, Some, None, refl, sym, ◌∙◌, ap, subst, arith}
+use Rattle.std.proofs.Common.{◌≡◌, ℕ, ◌<◌, ◌≤◌, ◌⊎◌, inl, inr, List, length, Bool, true, false, Option, Some, None, refl, sym, ◌∙◌, ap, subst, arith}
 use Rattle.std.specs.Prelude.{IsSome}
 use Rattle.std.specs.Borrow.{Bor}
 use Rattle.std.specs.Io.KnownBytes.{Appends}
@@ -8,22 +8,24 @@ use Rattle.pc_syntax.specs.Source.{SourceProgram}
 use Rattle.pc_object.specs.ObjectText.{CodeWithNotes, object_text}
 use Rattle.pc_outside.specs.Shelf.{Files, Shelved, ReadFaultOf, WriteFaultOf, ReadKeeps, WriteKeeps, OnlyFileDiffers, HoldsFile}
 use Rattle.pc_outside.specs.Stream.{AppendsPart}
-use Rattle.pc_command.specs.Requests.{CompileRequest}
+use Rattle.pc_word.specs.SourceLimits.{most_source}
+use Rattle.pc_command.specs.Requests.{CompileRequest, SourcePlace, OfFile}
 use Rattle.pc_report.specs.declared.fault.Speaker.TheVariants.{Pcc}
 use Rattle.pc_report.specs.declared.fault.SourceFault.{SourceFault}
+use Rattle.pc_report.specs.declared.fault.SourceFault.TheVariants.{TooLong}
 use Rattle.pc_report.specs.declared.fault.ToolFault.{ToolFault}
 use Rattle.pc_report.specs.declared.fault.ToolFault.TheVariants as fault
 use Rattle.pc_report.specs.Report.{report_lines}
 use Rattle.pc_tool.specs.Compilation.{Compiled, report_on}
 use Rattle.pc_tool.specs.Compiler.{CompilerEnds, Done, Misused, Unread, Refused, Unwritten, Unreported, Lacking, CompilerLacks, Early, Writing, Reporting, CompilerPromise}
 use Rattle.pc_tool.specs.Due.{Told}
-use Rattle.pc_tool.specs.Files.{HasSource, HoldsSource}
+use Rattle.pc_tool.specs.Files.{HasSource, HoldsSource, HoldsText}
 use Rattle.pc_tool.specs.Outside.{Outside, Streamed}
 use Rattle.pc_tool.specs.Source.{IsSomeSource}
-use Rattle.pc_tool.specs.SourceFaults.{HasFault}
+use Rattle.pc_tool.specs.SourceFaults.{HasFault, Long}
 use Rattle.pc_tool.specs.declared.translation.Translation.{Translation}
 use Rattle.pc_tool.specs.models.Compiling.{FailsToRead, Not_read, Too_long, No_memory, HasTranslation, reported, ReportEnds, Unasked, Sent, Broken_off, Unmade}
-use Rattle.pc_tool.proofs.Files.{has_holds, same_keeps}
+use Rattle.pc_tool.proofs.Files.{has_holds, held_map, same_keeps}
 use Rattle.pc_tool.proofs.Streams.{sends_none, sends_part}
 
 -- ---- behind a read
@@ -135,6 +137,36 @@ module _ (request : CompileRequest) (old new : Shelved) (out out_now : Streamed)
   report_ends due written (Unmade asked same) =
       Lacking (Reporting asked (compiled written) (sends_none out out_now (report_lines (report_on has.is.program has.is.object)) same))
 
+-- ---- what is due behind a read and behind a report
+
+pub not_read : (name : Bor (List ℕ)) (old new : Shelved) → ReadFaultOf old new name.now → FailsToRead (OfFile name.now) old new (fault.ReadFile Pcc name)
+not_read name old new failed = Not_read refl failed
+
+pub too_long : (name : List ℕ) (old new : Shelved) → HoldsText old.held name (λ text. most_source < length text)
+    → FailsToRead (OfFile name) old new (fault.Source Pcc TooLong)
+too_long name old new long =
+    Too_long (held_map old.held name (λ text. most_source < length text) (λ text. HasFault text TooLong) (λ text big. Long big) long)
+
+pub no_memory : (source : SourcePlace) (old new : Shelved) → FailsToRead source old new (fault.NoMemory Pcc)
+no_memory source old new = No_memory
+
+pub ruleset reads_due = (not_read, too_long, no_memory)
+
+module _ (text : List ℕ) (old new : Streamed) where
+  pub report_unasked : (asked : Bool) → asked ≡ false → ReportEnds asked text old old None
+  report_unasked asked off = Unasked off refl
+
+  pub report_sent : Appends old.told new.told text → ReportEnds true text old new None
+  report_sent sent = Sent refl sent
+
+  pub report_broken_off : Rose old.faults new.faults → AppendsPart old.told new.told text → ReportEnds true text old new (Some (fault.WriteOutput Pcc))
+  report_broken_off rose part = Broken_off refl rose part
+
+  pub report_unmade : (asked : Bool) → asked ≡ true → ReportEnds asked text old old (Some (fault.NoMemory Pcc))
+  report_unmade asked on = Unmade on refl
+
+pub ruleset reports_due = (report_unasked, report_sent, report_broken_off, report_unmade)
+
 -- ---- no memory for a line
 
 -- where a fault is due, what stands is what may stand where memory ran out
@@ -161,7 +193,7 @@ compiler_promise given old new (Some why) code ends input (inr told) = record {
   told = told.1;
   input = input;
 }
-compiler_promise given old new None code ends input (inr told) = absurd told.0
+compiler_promise given old new None code ends input (inr told) = let none = told.0 in absurd cc
 
 pub ruleset compiler_endings = (
   read_ends,

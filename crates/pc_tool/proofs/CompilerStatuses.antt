@@ -101,7 +101,7 @@ module _ (old new : Outside) where
   unasked_lacking request (Reporting asked it sent) off = absurd cc
 
   unasked_of : (request : CompileRequest) (due : Option ToolFault) → Ends (Some request) due → request.report ≡ false → new.out ≡ old.out
-  unasked_of request due (Done {request} {program} {object} it sent) off = subst (λ asked. Reports asked (report_on program object) old.out new.out) off sent
+  unasked_of request due (Done {program} {object} it sent) off = subst (λ asked. Reports asked (report_on program object) old.out new.out) off sent
   unasked_of request due (Unread is keeps failed same) off = same
   unasked_of request due (Refused keeps source same) off = same
   unasked_of request due (Unwritten is source differs failed same) off = same
@@ -135,13 +135,13 @@ module _ (old new : Outside) where
   strict_of : (request : CompileRequest) (text : List ℕ) (due : Option ToolFault) → Ends (Some request) due
       → IsTold old.shelf.held request.source text → IsNoSource text
       → (due_status due ≡ 4) ⊎ (due_status due ≡ 1) ⊎ ((due_status due ≡ 3) × HasReadFault old new request)
-  strict_of request text due (Done {request} {program} {object} it sent) told none =
+  strict_of request text due (Done {program} {object} it sent) told none =
       let source = compiled_source request text program object told it in absurd (none source.0 source.1)
   strict_of request text due (Unread {name} is keeps failed same) told none = inr (inr (refl, record { name = name.now; file = is; fault = failed }))
   strict_of request text due (Refused keeps faulty same) told none = inl refl
   strict_of request text due (Unwritten is held differs failed same) told none =
       let source = source_told old.shelf.held request.source text IsSomeSource told held in absurd (none source.0 source.1)
-  strict_of request text due (Unreported {request} {program} {object} asked it rose part) told none =
+  strict_of request text due (Unreported {program} {object} asked it rose part) told none =
       let source = compiled_source request text program object told it in absurd (none source.0 source.1)
   strict_of request text due (Lacking lacks) told none = inr (inl refl)
 

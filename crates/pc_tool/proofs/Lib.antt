@@ -10,3 +10,4 @@ pub mod Sources
 pub mod Statuses
 pub mod Streams
 pub mod Translations
+pub mod NoCommands

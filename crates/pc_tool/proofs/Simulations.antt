@@ -1,5 +1,5 @@
--- What was taken from the input, and what is left of it.
-use Rattle.std.proofs.Common.{◌≡◌, ℕ, ◌+◌, ◌<◌, ◌≤◌, List, [], length, take, Option, Some, None, sym, ◌∙◌, subst, arith, length-take, zero-le}
+-- Why an object was not loaded; what was taken from the input, and what is left of it.
+use Rattle.std.proofs.Common.{◌≡◌, ℕ, ◌+◌, ◌<◌, ◌≤◌, List, [], length, take, Option, Some, None, refl, sym, ◌∙◌, subst, arith, length-take, zero-le}
 use Rattle.std.proofs.lemmas.List.{take-append-drop}
 use Rattle.std.specs.Prelude.{ℤ, IfSome, Ok, Err, min}
 use Rattle.std.specs.Io.KnownBytes.{Consumes}
@@ -7,11 +7,50 @@ use Rattle.pc_word.specs.declared.number_text.NumbersError.{NumbersError}
 use Rattle.pc_word.specs.declared.number_text.NumbersError.TheVariants as numbers_error
 use Rattle.pc_word.specs.NumberText.{numbers_in, IsNumbersRefusal}
 use Rattle.pc_outside.specs.Stream.{TakesFirst, LosesFront}
-use Rattle.pc_word.specs.MachineLimits.{most_input}
-use Rattle.pc_tool.specs.Simulation.{Streamed, SpellsInput}
-use Rattle.pc_tool.specs.models.Refusals.{stop_of_numbers}
-use Rattle.pc_tool.specs.models.Simulating.{IsMisspelt, RefusesInput}
-use Rattle.pc_tool.proofs.Files.{whole_of, longer_of}
+use Rattle.pc_word.specs.MachineLimits.{most_input, most_object}
+use Rattle.pc_tool.specs.declared.stop.Stop.TheVariants as stop
+use Rattle.pc_word.specs.Exact.{IsRefusal}
+use Rattle.pc_object.specs.Cause.{object_cause}
+use Rattle.pc_object.specs.Reading.{object_reading}
+use Rattle.pc_object.specs.declared.refusal.ObjectError.{ObjectError}
+use Rattle.pc_object.specs.declared.refusal.ObjectError.TheVariants as error
+use Rattle.pc_outside.specs.Shelf.{Shelved}
+use Rattle.pc_report.specs.declared.fault.ObjectFault.{ObjectFault}
+use Rattle.pc_report.specs.declared.fault.ObjectFault.TheVariants as object_fault
+use Rattle.pc_report.specs.declared.fault.InputFault.TheVariants as input_fault
+use Rattle.pc_tool.specs.Files.{HasText}
+use Rattle.pc_tool.specs.Outside.{Streamed}
+use Rattle.pc_tool.specs.Simulation.{HasInputFault, Long_input, Misspelt_input, HasObjectFault, Long_object, Unread_object, SpellsInput, told_of_object}
+use Rattle.pc_tool.specs.declared.file.FileError.{FileError}
+use Rattle.pc_tool.specs.declared.file.FileError.TheVariants as file
+use Rattle.pc_tool.specs.models.Reading.{RefusesFile}
+use Rattle.pc_tool.specs.models.Refusals.{stop_of_file, stop_of_numbers, stop_of_object}
+use Rattle.pc_tool.specs.models.Simulating.{StopsAtInput, StopsAtObject}
+use Rattle.pc_tool.proofs.Files.{held_map, holds, whole_of, longer_of}
+
+-- ---- the object
+
+-- a file that was not read
+pub file_stops : (error : FileError) (name : List ℕ) (old new : Shelved) → RefusesFile error name most_object old new → StopsAtObject name old new (stop_of_file error)
+file_stops file.Memory name old new h = tt
+file_stops file.Failed name old new h = h
+file_stops file.TooLong name old new h =
+    held_map old.held name (λ text. most_object < length text) (λ text. HasObjectFault text object_fault.TooLong) (λ text big. Long_object big) h
+
+module _ (name : List ℕ) (old new : Shelved) (bytes : List ℕ) (has : HasText old.held name bytes) (few : length bytes ≤ most_object) where
+  flawed : (why : ObjectError) (what : ObjectFault) → object_reading bytes ≡ Err why → told_of_object why ≡ Some what
+      → StopsAtObject name old new (stop.Object what)
+  flawed why what first is = holds old.held name bytes (λ bytes. HasObjectFault bytes what) has (Unread_object few first is)
+
+  -- bytes that are no object
+  pub object_stops : (why : ObjectError) → IsRefusal (object_cause why) (object_reading bytes) → StopsAtObject name old new (stop_of_object why)
+  object_stops error.BadMagic first = flawed error.BadMagic object_fault.BadMagic first refl
+  object_stops (error.Truncated offset) first = flawed (error.Truncated offset) (object_fault.Truncated offset) first refl
+  object_stops (error.BadField offset flaw) first = flawed (error.BadField offset flaw) (object_fault.BadField offset flaw) first refl
+  object_stops (error.Trailing offset) first = flawed (error.Trailing offset) (object_fault.Trailing offset) first refl
+  object_stops error.Memory first = tt
+
+-- ---- the input
 
 given_of : (left : Option (List ℕ)) (bytes : List ℕ) → IfSome left (λ all. bytes ≡ take (most_input + 1) all) → length bytes ≤ most_input
     → IfSome left (λ all. all ≡ bytes)
@@ -29,20 +68,20 @@ gives left bytes numbers first few e = record {
 
 -- more was taken than there may be
 pub long_input : (left : Option (List ℕ)) (bytes : List ℕ) → IfSome left (λ all. bytes ≡ take (most_input + 1) all) → most_input < length bytes
-    → IfSome left (λ all. most_input < length all)
+    → IfSome left (λ all. HasInputFault all input_fault.TooLong)
 long_input None bytes first big = tt
-long_input (Some all) bytes first big = longer_of most_input all bytes (sym first) big
+long_input (Some all) bytes first big = Long_input (longer_of most_input all bytes (sym first) big)
 
 misspelt_of : (left : Option (List ℕ)) (bytes : List ℕ) (offset : ℕ) → IfSome left (λ all. bytes ≡ take (most_input + 1) all) → length bytes ≤ most_input
-    → numbers_in bytes ≡ Err offset → IfSome left (IsMisspelt offset)
+    → numbers_in bytes ≡ Err offset → IfSome left (λ all. HasInputFault all (input_fault.NotNumber offset))
 misspelt_of None bytes offset first few e = tt
 misspelt_of (Some all) bytes offset first few e =
     let whole : all ≡ bytes = given_of (Some all) bytes first few in
-    subst (IsMisspelt offset) (sym whole) (record { few_bytes = few; first = e })
+    subst (λ bytes. HasInputFault bytes (input_fault.NotNumber offset)) (sym whole) (Misspelt_input few e)
 
 -- what was taken spells no numbers
 pub refused_numbers : (error : NumbersError) (bytes : List ℕ) (old new : Streamed) → IfSome old.told (λ all. bytes ≡ take (most_input + 1) all) → length bytes ≤ most_input
-    → IsNumbersRefusal bytes error → RefusesInput (stop_of_numbers error) old new
+    → IsNumbersRefusal bytes error → StopsAtInput old new (stop_of_numbers error)
 refused_numbers (numbers_error.NotNumber offset) bytes old new first few h = misspelt_of old.told bytes offset first few h
 refused_numbers numbers_error.Memory bytes old new first few h = tt
 

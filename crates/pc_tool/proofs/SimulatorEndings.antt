@@ -1,28 +1,34 @@
 -- How the simulator ends, put together from what its steps leave.
-use Rattle.std.proofs.Common.{◌≡◌, ℕ, ◌+◌, ◌⊎◌, inl, inr, List, Option, Some, None, refl, sym, subst}
+use Rattle.std.proofs.Common.{◌≡◌, ℕ, ◌+◌, ◌⊎◌, inl, inr, List, Option, Some, None, refl, sym, ◌∙◌, ap, subst}
 use Rattle.std.specs.Prelude.{ℤ, IsSome}
+use Rattle.std.specs.Borrow.{Bor}
+use Rattle.std.specs.Io.KnownBytes.{Appends}
+use Rattle.pc_word.specs.declared.item.End.{End}
+use Rattle.pc_word.specs.Count.{Rose}
 use Rattle.pc_word.specs.NumberText.{text_of}
 use Rattle.pc_word.specs.Run.{Seen, run_from}
 use Rattle.pc_machine.specs.MachineCode.{code_of}
 use Rattle.pc_machine.specs.MachineRun.{machine_run, machine_step}
 use Rattle.pc_object.specs.ObjectText.{CodeWithNotes}
 use Rattle.pc_outside.specs.Shelf.{Shelved, ReadFaultOf, ReadKeeps}
-use Rattle.pc_outside.specs.Stream.{LosesFront}
+use Rattle.pc_outside.specs.Stream.{AppendsPart, LosesFront}
 use Rattle.pc_word.specs.MachineLimits.{most_input}
 use Rattle.pc_command.specs.Requests.{SimulateRequest}
 use Rattle.pc_report.specs.declared.fault.Speaker.TheVariants.{Pvm}
+use Rattle.pc_report.specs.declared.fault.ObjectFault.{ObjectFault}
+use Rattle.pc_report.specs.declared.fault.InputFault.{InputFault}
 use Rattle.pc_report.specs.declared.fault.ToolFault.{ToolFault}
 use Rattle.pc_report.specs.declared.fault.ToolFault.TheVariants as fault
 use Rattle.pc_vm.specs.Standing.{Standing, here_of}
 use Rattle.pc_tool.specs.Due.{Told}
 use Rattle.pc_tool.specs.Objects.{HoldsObject}
 use Rattle.pc_tool.specs.Outside.{Outside, Streamed}
-use Rattle.pc_tool.specs.Simulation.{Loaded, seen_of}
+use Rattle.pc_tool.specs.Simulation.{Loaded, due_of, seen_of}
 use Rattle.pc_tool.specs.Simulator.{SimulatorEnds, Ran, Misused, Unread, Refused, Untaken, Misspelt, Broke, Lacking}
 use Rattle.pc_tool.specs.Simulator.{SimulatorLacks, Untouched, Loading, Telling, SimulatorPromise}
 use Rattle.pc_tool.specs.declared.stop.Stop.{Stop}
 use Rattle.pc_tool.specs.declared.stop.Stop.TheVariants as stop
-use Rattle.pc_tool.specs.models.Simulating.{StopsAtObject, No_memory_for_object, Not_read, Not_loaded, StopsAtInput, No_memory_for_input, Not_taken, Not_numbers}
+use Rattle.pc_tool.specs.models.Simulating.{StopsAtObject, StopsAtInput}
 use Rattle.pc_tool.specs.models.Simulating.{StopsEarly, StopEnds, Due_memory, Due_object_read, Due_object, Due_input_read, Due_input, Ready, RunEnds, Told_whole, Told_part}
 use Rattle.pc_tool.proofs.Streams.{sends_all, sends_part}
 
@@ -42,17 +48,20 @@ module _ (request : SimulateRequest) (old new : Shelved) (input input_now out : 
   -- no object was loaded
   object_ends : (why : Stop) (due : ToolFault) → StopsAtObject request.object old new why → input_now ≡ input → StopEnds request.object why due
       → SimulatorEnds old new input input_now out out (Some request) (Some due)
-  object_ends why due No_memory_for_object same Due_memory = Lacking (Untouched same refl)
-  object_ends why due (Not_read failed) same (Due_object_read {word} is) =
-      Unread is (subst (λ name. ReadFaultOf old new name) is failed) same refl
-  object_ends why due (Not_loaded {what} faulty) same Due_object = Refused faulty same refl
+  object_ends stop.Memory due h same Due_memory = Lacking (Untouched same refl)
+  object_ends stop.ReadObject due h same (Due_object_read {word} is) = Unread is (subst (λ name. ReadFaultOf old new name) is h) same refl
+  object_ends (stop.Object what) due h same Due_object = Refused h same refl
+  object_ends stop.ReadInput due h same ends = absurd h
+  object_ends (stop.Input what) due h same ends = absurd h
 
   -- an object was, and the input gave no numbers
   input_ends : (why : Stop) (due : ToolFault) → HoldsObject old.held request.object → StopsAtInput input input_now why → StopEnds request.object why due
       → SimulatorEnds old new input input_now out out (Some request) (Some due)
-  input_ends why due object No_memory_for_input Due_memory = Lacking (Loading object refl)
-  input_ends why due object (Not_taken failed) Due_input_read = Untaken object failed refl
-  input_ends why due object (Not_numbers {what} faulty) Due_input = Misspelt object faulty refl
+  input_ends stop.Memory due object h Due_memory = Lacking (Loading object refl)
+  input_ends stop.ReadInput due object h Due_input_read = Untaken object h refl
+  input_ends (stop.Input what) due object h Due_input = Misspelt object h refl
+  input_ends stop.ReadObject due object h ends = absurd h
+  input_ends (stop.Object what) due object h ends = absurd h
 
   -- there was no run
   pub stop_ends : (why : Stop) (due : ToolFault) → StopsEarly request.object old new input input_now why → StopEnds request.object why due
@@ -79,6 +88,35 @@ module _ (request : SimulateRequest) (old new : Shelved) (input input_now out ou
   run_ends due ready ends =
       seen_ends due ready.object ready.placed.numbers (record { in_file = ready.in_file; in_input = ready.placed.in_input })
       (subst (λ (seen : Seen). RunEnds request.cycles seen out out_now due) (same_seen ready) ends)
+
+-- ---- what is due at a stop and behind a run
+
+pub due_memory : (name : List ℕ) → StopEnds name stop.Memory (fault.NoMemory Pvm)
+due_memory name = Due_memory
+
+pub due_object_read : (name : Bor (List ℕ)) → StopEnds name.now stop.ReadObject (fault.ReadFile Pvm name)
+due_object_read name = Due_object_read refl
+
+pub due_object : (name : List ℕ) (what : ObjectFault) → StopEnds name (stop.Object what) (fault.Object Pvm what)
+due_object name what = Due_object
+
+pub due_input_read : (name : List ℕ) → StopEnds name stop.ReadInput fault.ReadInput
+due_input_read name = Due_input_read
+
+pub due_input : (name : List ℕ) (what : InputFault) → StopEnds name (stop.Input what) (fault.Input what)
+due_input name what = Due_input
+
+pub ruleset stops_due = (due_memory, due_object_read, due_object, due_input_read, due_input)
+
+pub run_whole : (cycles : ℕ) (seen : Seen) (old new : Streamed) (due : Option ToolFault) (end : Option End) → Appends old.told new.told (text_of seen.printed)
+    → due ≡ due_of cycles end → end ≡ seen.end → RunEnds cycles seen old new due
+run_whole cycles seen old new due end sent is same = Told_whole sent (is ∙ ap (due_of cycles) same)
+
+pub run_part : (cycles : ℕ) (seen : Seen) (old new : Streamed) → Rose old.faults new.faults → AppendsPart old.told new.told (text_of seen.printed)
+    → RunEnds cycles seen old new (Some (fault.WriteOutput Pvm))
+run_part cycles seen old new rose part = Told_part rose part
+
+pub ruleset runs_due = (run_whole, run_part)
 
 -- ---- no memory for a line
 

@@ -243,17 +243,17 @@ module _ (old new : Outside) where
       → Ends (Some request) due
       → ((due_status due ≡ end_status (seen_of request object numbers).end) × SendsRun old new request object numbers)
       ⊎ (due_status due ≡ 1) ⊎ ((due_status due ≡ 3) × FailsToTake old new request) ⊎ ((due_status due ≡ 5) × BreaksOff old new request object numbers)
-  complete_of request object numbers due t (Ran {request} {loaded} {given} l sent is) =
+  complete_of request object numbers due t (Ran {loaded} {given} l sent is) =
       inl (of_told (λ o ns. (due_status due ≡ end_status (seen_of request o ns).end) × SendsRun old new request o ns) request object numbers t loaded given l
       (ap due_status is ∙ due_is_end request.cycles (seen_of request loaded given).end, sent))
-  complete_of request object numbers due t (Unread {request} {name} is failed quiet silent) =
+  complete_of request object numbers due t (Unread {name} is failed quiet silent) =
       inr (inr (inl (refl, inl (subst (λ name. ReadFaultOf old.shelf new.shelf name) (sym is) failed, quiet))))
-  complete_of request object numbers due t (Refused {request} {what} faulty quiet silent) =
+  complete_of request object numbers due t (Refused {what} faulty quiet silent) =
       absurd (faulty_object t.text what (file_told request t.text (λ bytes. HasObjectFault bytes what) t.file faulty) object t.is)
   complete_of request object numbers due t (Untaken held failed silent) = inr (inr (inl (refl, inr (held, failed))))
-  complete_of request object numbers due t (Misspelt {request} {what} held faulty silent) =
+  complete_of request object numbers due t (Misspelt {what} held faulty silent) =
       absurd (faulty_input t.left what (told_input old.input.told t.left (λ bytes. HasInputFault bytes what) t.rest faulty) numbers t.input)
-  complete_of request object numbers due t (Broke {request} {loaded} {given} l rose part) =
+  complete_of request object numbers due t (Broke {loaded} {given} l rose part) =
       inr (inr (inr (refl, of_told (λ o ns. BreaksOff old new request o ns) request object numbers t loaded given l (record { fault = rose; part = part }))))
   complete_of request object numbers due t (Lacking lacks) = inr (inl refl)
 
@@ -272,13 +272,13 @@ module _ (old new : Outside) where
 
   strict_object : (request : SimulateRequest) (text : List ℕ) (due : Option ToolFault) → IsToldObject old request text → IsNoObject text → Ends (Some request) due
       → (due_status due ≡ 4) ⊎ (due_status due ≡ 1) ⊎ ((due_status due ≡ 3) × ReadFaultOf old.shelf new.shelf request.object)
-  strict_object request text due file none (Ran {request} {object} loaded sent is) = absurd (no_object request text object file none loaded.in_file)
-  strict_object request text due file none (Unread {request} {name} is failed quiet silent) =
+  strict_object request text due file none (Ran {object} loaded sent is) = absurd (no_object request text object file none loaded.in_file)
+  strict_object request text due file none (Unread {name} is failed quiet silent) =
       inr (inr (refl, subst (λ name. ReadFaultOf old.shelf new.shelf name) (sym is) failed))
   strict_object request text due file none (Refused faulty quiet silent) = inl refl
-  strict_object request text due file none (Untaken {request} held failed silent) = absurd (no_held_object request text file none held)
-  strict_object request text due file none (Misspelt {request} held faulty silent) = absurd (no_held_object request text file none held)
-  strict_object request text due file none (Broke {request} {object} loaded rose part) = absurd (no_object request text object file none loaded.in_file)
+  strict_object request text due file none (Untaken held failed silent) = absurd (no_held_object request text file none held)
+  strict_object request text due file none (Misspelt held faulty silent) = absurd (no_held_object request text file none held)
+  strict_object request text due file none (Broke {object} loaded rose part) = absurd (no_object request text object file none loaded.in_file)
   strict_object request text due file none (Lacking lacks) = inr (inl refl)
 
   -- an input that is none gave no numbers
@@ -288,13 +288,13 @@ module _ (old new : Outside) where
   strict_input : (request : SimulateRequest) (text left : List ℕ) (object : CodeWithNotes) (due : Option ToolFault) → IsToldObject old request text
       → IsTextOf text object → old.input.told ≡ Some left → IsNoInput left → Ends (Some request) due
       → (due_status due ≡ 4) ⊎ (due_status due ≡ 1) ⊎ ((due_status due ≡ 3) × FailsToTake old new request)
-  strict_input request text left object due file is rest none (Ran {request} {loaded} {numbers} l sent e) = absurd (no_numbers left numbers rest none l.in_input)
-  strict_input request text left object due file is rest none (Unread {request} {name} e failed quiet silent) =
+  strict_input request text left object due file is rest none (Ran {loaded} {numbers} l sent e) = absurd (no_numbers left numbers rest none l.in_input)
+  strict_input request text left object due file is rest none (Unread {name} e failed quiet silent) =
       inr (inr (refl, inl (subst (λ name. ReadFaultOf old.shelf new.shelf name) (sym e) failed, quiet)))
   strict_input request text left object due file is rest none (Refused faulty quiet silent) = inl refl
   strict_input request text left object due file is rest none (Untaken held failed silent) = inr (inr (refl, inr (held, failed)))
   strict_input request text left object due file is rest none (Misspelt held faulty silent) = inl refl
-  strict_input request text left object due file is rest none (Broke {request} {loaded} {numbers} l rose part) = absurd (no_numbers left numbers rest none l.in_input)
+  strict_input request text left object due file is rest none (Broke {loaded} {numbers} l rose part) = absurd (no_numbers left numbers rest none l.in_input)
   strict_input request text left object due file is rest none (Lacking lacks) = inr (inl refl)
 
   -- ---- of the status itself, which is that of what was due, or 5 for a fault of the error output

@@ -8,7 +8,7 @@ use Rattle.pc_tool.specs.Outside.{Streamed, SendsFront}
 -- nothing was sent
 sends_nothing : (told : Option (List ℕ)) → Appends told told []
 sends_nothing None = tt
-sends_nothing (Some bytes) = ap Some (sym (append-nil bytes))
+sends_nothing (Some bytes) = sym (append-nil bytes)
 
 pub sends_none : (old new : Streamed) (text : List ℕ) → new ≡ old → SendsFront old new text
 sends_none old new text same = record {

@@ -1,5 +1,5 @@
 -- From a checked text to the object that translates it.
-use Rattle.std.proofs.Common.{◌≡◌, ℕ, ◌<◌, ◌≤◌, List, sym, ◌∙◌, ap, subst, arith}
+use Rattle.std.proofs.Common.{◌≡◌, ℕ, ◌<◌, ◌≤◌, List, length, sym, ◌∙◌, ap, subst, arith}
 use Rattle.std.specs.Prelude.{min}
 use Rattle.pc_word.specs.SourceLimits.{most_nodes}
 use Rattle.pc_word.specs.Run.{AgreeOnInputs}
@@ -14,11 +14,12 @@ use Rattle.pc_compile.specs.declared.error.CompileError.TheVariants.{TooLarge, M
 use Rattle.pc_machine.specs.MachineRun.{machine_run}
 use Rattle.pc_meaning.specs.SourceRun.{source_run}
 use Rattle.pc_object.specs.Numbers.{HasWords}
-use Rattle.pc_object.specs.ObjectText.{CodeWithNotes}
+use Rattle.pc_object.specs.ObjectText.{CodeWithNotes, object_text}
+use Rattle.pc_tool.specs.declared.translation.Translation.{Translation}
 use Rattle.pc_tool.specs.Compilation.{Translates}
 use Rattle.pc_tool.specs.SourceFaults.{Large}
 use Rattle.pc_tool.specs.models.Refusals.{refusal_of_compile}
-use Rattle.pc_tool.specs.models.Translating.{IsChecked, RefusesText}
+use Rattle.pc_tool.specs.models.Translating.{IsChecked, IsTranslation, RefusesText}
 
 -- a program has as many nodes as with numbers for names
 pub sized : (text : List ℕ) (checked : ResolvedProgram) (h : IsChecked text checked) → resolved_size checked ≡ size h.program
@@ -33,10 +34,24 @@ translates limits text checked flow object h compiled words =
     record {
       source = record { read = h.read; faultless = h.faultless; few_nodes = omega (arith, same, few) };
       loads = record { is_object = compiled.is_object; has_words = words };
-      limits = compiled.limited;
+      limited = compiled.limited;
       bare = compiled.bare;
       same = subst (λ (program : ResolvedProgram). AgreeOnInputs (source_run program) (machine_run object.code)) (sym h.is_resolved) compiled.agree;
     }
+
+-- so does what is made of it: its bytes, and what is reported of it
+pub is_translation : (limits : Limits) (text : List ℕ) (checked : ResolvedProgram) (flow : FlowGraph) (object : CodeWithNotes) (it : Translation) → IsChecked text checked
+    → IsCompiled checked limits flow object → HasWords object → it.bytes.items ≡ object_text object → it.nodes ≡ length flow.nodes
+    → it.rows ≡ length object.code.rows → it.notes ≡ object.notes → IsTranslation limits text it
+is_translation limits text checked flow object it h compiled words bytes nodes rows notes = record {
+  program = h.program;
+  object = object;
+  translates = translates limits text checked flow object h compiled words;
+  bytes = bytes;
+  nodes = nodes ∙ compiled.lowered.counted ∙ sized text checked h;
+  rows = rows;
+  notes = notes;
+}
 
 -- a checked text without an object is too large
 pub uncompiled : (error : CompileError) (text : List ℕ) (checked : ResolvedProgram) → IsChecked text checked

@@ -19,7 +19,7 @@ use Rattle.pc_tool.specs.Source.{IsSource}
 pub record Translates (limits : Limits) (text : List ℕ) (program : SourceProgram) (object : CodeWithNotes) : Type 0 where
   pub source : IsSource text program
   pub loads : Loads object
-  pub limits : object.code.limits ≡ limits
+  pub limited : object.code.limits ≡ limits
   pub bare : object.notes ≡ []
   pub same : Same program object.code
 

@@ -1,10 +1,13 @@
 //! The compiler: from the words of its command to the object on the shelf and the report.
-ghost use Rattle.std.specs.Prelude.{◌≡◌, ◌≤◌, length, Some};
+ghost use Rattle.std.specs.Prelude.{◌≡◌, ◌≤◌, length, true, Some};
 ghost use Rattle.pc_command.specs.Requests.{compile_command_of, compile_request, source_place};
 ghost use Rattle.pc_command.specs.Words.{spelled};
 ghost use Rattle.pc_tool.specs.Compiler.{CompilerEnds};
 ghost use Rattle.pc_tool.specs.Files.{HasSource};
 ghost use Rattle.pc_tool.specs.Outside.{streamed};
+ghost use Rattle.std.specs.List.{AllByRecursion};
+ghost use Rattle.pc_object.specs.ObjectText.{IsChoice};
+ghost use Rattle.pc_report.specs.Report.{report_lines};
 ghost use Rattle.pc_tool.specs.models.Compiling.{HasTranslation, ReportEnds, reported};
 ghost use Rattle.pc_word.specs.Ranges.{AreLimits};
 ghost use Rattle.pc_word.specs.SourceLimits.{most_source};
@@ -18,6 +21,7 @@ use pc_report::{ReportError, ReportFacts, Speaker, ToolFault, report_text};
 use std::alloc::Global;
 
 /// Compiles as the words say, and gives what is due then.
+#[tactic(auto, using(crate::proofs::CompilerEndings::compiler_endings))]
 pub(crate) fn run_compiler<'a, H: Shelf, O: Sink>(
     alloc: Global,
     words: &'a [String],
@@ -35,6 +39,7 @@ pub(crate) fn run_compiler<'a, H: Shelf, O: Sink>(
 }
 
 /// Compiles the source that the command names.
+#[tactic(auto, using(crate::proofs::CompilerEndings::compiler_endings))]
 fn compile_source<'a, H: Shelf, O: Sink>(
     alloc: Global,
     command: CompileCommand<'a>,
@@ -43,7 +48,7 @@ fn compile_source<'a, H: Shelf, O: Sink>(
 ) -> Option<ToolFault<'a>>
     requires { AreLimits command.limits }
     ensures { CompilerEnds (H.state shelf.old) (H.state shelf.new) (streamed (O.taken out.old) (O.faults out.old))
-        (streamed (O.taken out.new) (O.faults out.new)) (Some (compile_request command)) result }
+        (streamed (O.taken out.new) (O.faults out.new)) (Some (compile_request command.entry)) result }
 {
     match read_source(alloc, command.source, shelf) {
         Ok(text) => compile_text(alloc, text.as_slice(), command, shelf, out),
@@ -52,6 +57,7 @@ fn compile_source<'a, H: Shelf, O: Sink>(
 }
 
 /// Compiles the source's text.
+#[tactic(auto, using(crate::proofs::CompilerEndings::compiler_endings))]
 fn compile_text<'a, H: Shelf, O: Sink>(
     alloc: Global,
     text: &[u8],
@@ -63,7 +69,7 @@ fn compile_text<'a, H: Shelf, O: Sink>(
     requires limits { AreLimits command.limits }
     requires source { HasSource (H.state shelf.old).held (source_place command.source) text.now }
     ensures { CompilerEnds (H.state shelf.old) (H.state shelf.new) (streamed (O.taken out.old) (O.faults out.old))
-        (streamed (O.taken out.new) (O.faults out.new)) (Some (compile_request command)) result }
+        (streamed (O.taken out.new) (O.faults out.new)) (Some (compile_request command.entry)) result }
 {
     match translate(alloc, text, command.limits) {
         Ok(translation) => write_object(alloc, &translation, command, shelf, out),
@@ -76,6 +82,7 @@ fn compile_text<'a, H: Shelf, O: Sink>(
 }
 
 /// Writes the object, and sends the report where it is asked for.
+#[tactic(auto, using(crate::proofs::CompilerEndings::compiler_endings))]
 fn write_object<'a, H: Shelf, O: Sink>(
     alloc: Global,
     translation: &Translation,
@@ -85,7 +92,7 @@ fn write_object<'a, H: Shelf, O: Sink>(
 ) -> Option<ToolFault<'a>>
     requires { HasTranslation (H.state shelf.old).held (compile_request command) translation.now }
     ensures { CompilerEnds (H.state shelf.old) (H.state shelf.new) (streamed (O.taken out.old) (O.faults out.old))
-        (streamed (O.taken out.new) (O.faults out.new)) (Some (compile_request command)) result }
+        (streamed (O.taken out.new) (O.faults out.new)) (Some (compile_request command.entry)) result }
 {
     match shelf.write_file(alloc, command.object, translation.bytes.as_slice()) {
         Ok(()) => report(alloc, translation, command.report, out),
@@ -98,6 +105,7 @@ fn write_object<'a, H: Shelf, O: Sink>(
 }
 
 /// Sends the report where it is asked for.
+#[tactic(auto, using(crate::proofs::CompilerEndings::reports_due))]
 fn report<'a, O: Sink>(
     alloc: Global,
     translation: &Translation,
@@ -124,6 +132,7 @@ fn report<'a, O: Sink>(
 }
 
 /// Sends the text of a report.
+#[tactic(auto, using(crate::proofs::CompilerEndings::reports_due))]
 fn send_report<'a, O: Sink>(text: &[u8], out: &mut O) -> Option<ToolFault<'a>>
     ensures { ReportEnds true text.now
         (streamed (O.taken out.old) (O.faults out.old)) (streamed (O.taken out.new) (O.faults out.new)) result }

@@ -1,10 +1,10 @@
 //! The simulator: from the words of its command to the end of a run.
-ghost use Rattle.std.specs.Prelude.{◌≡◌, ◌+◌, Some, MatchResult};
+ghost use Rattle.std.specs.Prelude.{◌≡◌, ◌+◌, false, Some, MatchResult};
 ghost use Rattle.pc_command.specs.Requests.{simulate_command_of, simulate_request};
 ghost use Rattle.pc_command.specs.Words.{spelled};
 ghost use Rattle.pc_object.specs.ObjectText.{object_of};
 ghost use Rattle.pc_machine.specs.MachineCode.{code_of};
-ghost use Rattle.pc_machine.specs.MachineRun.{machine_start};
+ghost use Rattle.pc_machine.specs.MachineRun.{machine_step};
 ghost use Rattle.pc_machine.specs.WellFormed.{WellFormed};
 ghost use Rattle.pc_outside.specs.Shelf.{ReadKeeps};
 ghost use Rattle.pc_outside.specs.Stream.{LosesFront};
@@ -15,6 +15,7 @@ ghost use Rattle.pc_tool.specs.Simulator.{SimulatorEnds};
 ghost use Rattle.pc_tool.specs.models.Simulating.{IsPlaced, Ready, RunEnds, StopEnds, StopsAtInput, StopsAtObject, StopsEarly};
 ghost use Rattle.pc_vm.specs.Standing.{end_of, here_of};
 ghost use Rattle.pc_word.specs.MachineLimits.{most_input};
+ghost use Rattle.pc_word.specs.Run.{run_from};
 
 use crate::file::read_whole;
 use crate::stop::Stop;
@@ -28,6 +29,7 @@ use pc_word::{End, MOST_INPUT, MOST_OBJECT, WordList, read_numbers};
 use std::alloc::Global;
 
 /// Simulates as the words say, and gives what is due then.
+#[tactic(auto, using(crate::proofs::SimulatorEndings::simulator_endings))]
 pub(crate) fn run_simulator<'a, H: Shelf, I: Source, O: Sink>(
     alloc: Global,
     words: &'a [String],
@@ -49,6 +51,7 @@ pub(crate) fn run_simulator<'a, H: Shelf, I: Source, O: Sink>(
 }
 
 /// Loads the object, takes the input, and runs the code for the cycles that it may take.
+#[tactic(auto, using(crate::proofs::SimulatorEndings::simulator_endings))]
 fn simulate<'a, H: Shelf, I: Source, O: Sink>(
     alloc: Global,
     command: SimulateCommand<'a>,
@@ -58,7 +61,7 @@ fn simulate<'a, H: Shelf, I: Source, O: Sink>(
 ) -> Option<ToolFault<'a>>
     ensures ends { SimulatorEnds (H.state shelf.old) (H.state shelf.new) (streamed (I.left input.old) (I.faults input.old))
         (streamed (I.left input.new) (I.faults input.new)) (streamed (O.taken out.old) (O.faults out.old))
-        (streamed (O.taken out.new) (O.faults out.new)) (Some (simulate_request command)) result }
+        (streamed (O.taken out.new) (O.faults out.new)) (Some (simulate_request command.entry)) result }
     ensures shelf { ReadKeeps (H.state shelf.old) (H.state shelf.new) }
     ensures lost { LosesFront (I.left input.old) (I.left input.new) (most_input + 1) }
 {
@@ -69,6 +72,7 @@ fn simulate<'a, H: Shelf, I: Source, O: Sink>(
 }
 
 /// Runs a machine for the cycles that it may take, and gives what is due then.
+#[tactic(auto, using(crate::proofs::SimulatorEndings::runs_due))]
 fn run_machine<'a, O: Sink>(
     machine: &mut Machine,
     cycles: u64,
@@ -101,6 +105,7 @@ fn due_of<'a>(cycles: u64, outcome: Outcome) -> Option<ToolFault<'a>>
 }
 
 /// What is due where there is no run.
+#[tactic(auto, using(crate::proofs::SimulatorEndings::stops_due))]
 fn fault_at<'a>(stop: Stop, object: &'a str) -> ToolFault<'a>
     ensures { StopEnds object.entry.now stop result }
 {

@@ -1,7 +1,10 @@
 //! The text of a source: that of a file, or of a sample.
-ghost use Rattle.std.specs.Prelude.{◌≤◌, length, IfOk, MatchResult};
-ghost use Rattle.pc_command.specs.Requests.{source_place};
+ghost use Rattle.std.specs.Prelude.{◌≡◌, ◌≤◌, length, IfOk, MatchResult};
+ghost use Rattle.pc_command.specs.Requests.{OfFile, source_place};
 ghost use Rattle.pc_outside.specs.Shelf.{ReadKeeps};
+ghost use Rattle.pc_report.specs.declared.fault.Speaker.TheVariants.{Pcc};
+ghost use Rattle.pc_report.specs.declared.fault.ToolFault.TheVariants.{NoMemory};
+ghost use Rattle.pc_sample.specs.SampleText.{sample_text};
 ghost use Rattle.pc_tool.specs.Files.{HasSource};
 ghost use Rattle.pc_tool.specs.models.Compiling.{FailsToRead};
 ghost use Rattle.pc_word.specs.SourceLimits.{most_source};
@@ -15,6 +18,7 @@ use pc_word::MOST_SOURCE;
 use std::alloc::Global;
 
 /// The text of a source, or what is to be told where there is none.
+#[tactic(auto, using(crate::proofs::CompilerEndings::reads_due))]
 pub(crate) fn read_source<'a, H: Shelf>(
     alloc: Global,
     source: SourceName<'a>,
@@ -23,8 +27,8 @@ pub(crate) fn read_source<'a, H: Shelf>(
     ensures keeps { ReadKeeps (H.state shelf.old) (H.state shelf.new) }
     ensures few { IfOk result (λ text. length text.items ≤ most_source) }
     ensures text { MatchResult result
-        (λ text. HasSource (H.state shelf.old).held (source_place source) text.items)
-        (λ fault. FailsToRead (source_place source) (H.state shelf.old) (H.state shelf.new) fault) }
+        (λ text. HasSource (H.state shelf.old).held (source_place source.entry) text.items)
+        (λ fault. FailsToRead (source_place source.entry) (H.state shelf.old) (H.state shelf.new) fault) }
 {
     match source {
         SourceName::File(name) => read_file(alloc, name, shelf),
@@ -33,6 +37,7 @@ pub(crate) fn read_source<'a, H: Shelf>(
 }
 
 /// The text of a source that is a file.
+#[tactic(auto, using(crate::proofs::CompilerEndings::reads_due))]
 fn read_file<'a, H: Shelf>(
     alloc: Global,
     name: &'a str,

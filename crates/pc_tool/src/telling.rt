@@ -12,8 +12,8 @@ use std::alloc::Global;
 /// Tells what is due: sends its line, and gives the status that the program ends with. Where there is no
 /// memory for the line, it tells this.
 pub(crate) fn tell<E: Sink>(alloc: Global, who: Speaker, due: Option<ToolFault>, err: &mut E) -> u8
-    ensures { Told due (streamed (E.taken err.old) (E.faults err.old)) (streamed (E.taken err.new) (E.faults err.new)) result
-        ⊎ (IsSome due × Told (Some (NoMemory who)) (streamed (E.taken err.old) (E.faults err.old)) (streamed (E.taken err.new) (E.faults err.new)) result) }
+    ensures { Told due.entry (streamed (E.taken err.old) (E.faults err.old)) (streamed (E.taken err.new) (E.faults err.new)) result
+        ⊎ (IsSome due.entry × Told (Some (NoMemory who)) (streamed (E.taken err.old) (E.faults err.old)) (streamed (E.taken err.new) (E.faults err.new)) result) }
 {
     match due {
         Some(fault) => tell_fault(alloc, who, fault, err),
@@ -23,7 +23,7 @@ pub(crate) fn tell<E: Sink>(alloc: Global, who: Speaker, due: Option<ToolFault>,
 
 /// Tells a fault, or that there is no memory for its line.
 fn tell_fault<E: Sink>(alloc: Global, who: Speaker, fault: ToolFault, err: &mut E) -> u8
-    ensures { Told (Some fault) (streamed (E.taken err.old) (E.faults err.old)) (streamed (E.taken err.new) (E.faults err.new)) result
+    ensures { Told (Some fault.entry) (streamed (E.taken err.old) (E.faults err.old)) (streamed (E.taken err.new) (E.faults err.new)) result
         ⊎ Told (Some (NoMemory who)) (streamed (E.taken err.old) (E.faults err.old)) (streamed (E.taken err.new) (E.faults err.new)) result }
 {
     match fault_text(alloc, &fault) {
@@ -44,7 +44,7 @@ fn send_line<E: Sink>(line: &[u8], status: u8, err: &mut E) -> u8
 
 /// The status that tells a fault.
 fn status_of(fault: ToolFault) -> u8
-    ensures { result ≡ fault_status fault }
+    ensures { result ≡ fault_status fault.entry }
 {
     match fault {
         ToolFault::NoMemory { .. } => 1,

@@ -7,9 +7,9 @@ ghost use Rattle.pc_word.specs.SourceLimits.{most_source};
 
 use crate::refusal::Refusal;
 use pc_check::{Checked, check};
-use pc_compile::compile;
+use pc_compile::{Compiled, compile};
 use pc_lexer::tokens;
-use pc_object::{NoteList, encode};
+use pc_object::{NoteList, Object, encode};
 use pc_parser::parse;
 use pc_word::Limits;
 use std::alloc::Global;
@@ -31,13 +31,14 @@ pub(crate) fn translate(alloc: Global, text: &[u8], limits: Limits) -> Result<Tr
     ensures { MatchResult result (λ it. IsTranslation limits text.now it) (λ refusal. RefusesText refusal text.now) }
 {
     let checked = read_program(alloc, text)?;
-    let compiled = compile(alloc, &checked, limits)?;
-    let bytes = encode(alloc, &compiled.object)?;
+    let Compiled { flow, object } = compile(alloc, &checked, limits)?;
+    let bytes = encode(alloc, &object)?;
+    let Object { code, notes } = object;
     Ok(Translation {
         bytes,
-        nodes: compiled.flow.count(),
-        rows: compiled.object.code.rows.len() as u32,
-        notes: compiled.object.notes,
+        nodes: flow.count(),
+        rows: code.rows.len() as u32,
+        notes,
     })
 }
 

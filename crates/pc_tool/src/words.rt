@@ -29,7 +29,7 @@ fn behind_name(mut words: Vec<String>) -> Vec<String>
 }
 
 /// No words, which are a command of neither program.
-#[tactic(auto, using(pc_command::proofs::PlainWords::no_words_command))]
+#[tactic(auto, using(crate::proofs::NoCommands::no_commands))]
 fn no_words(alloc: Global) -> Vec<String>
     ensures compiler { compile_command_of (spelled result.items) ≡ None }
     ensures simulator { simulate_command_of (spelled result.items) ≡ None }

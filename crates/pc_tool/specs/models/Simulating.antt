@@ -26,16 +26,18 @@ use Rattle.pc_tool.specs.declared.stop.Stop.TheVariants as stop
 -- ---- stops before the run
 
 -- why the object was not loaded
-pub data StopsAtObject (name : List ℕ) (old new : Shelved) : (why : Stop) → Type 0 where
-  No_memory_for_object : StopsAtObject name old new stop.Memory
-  Not_read : ReadFaultOf old new name → StopsAtObject name old new stop.ReadObject
-  Not_loaded : {what : ObjectFault} → HoldsText old.held name (λ bytes. HasObjectFault bytes what) → StopsAtObject name old new (stop.Object what)
+abbrev pub StopsAtObject : List ℕ → Shelved → Shelved → Stop → Type 0
+StopsAtObject name old new stop.Memory = Unit {0}
+StopsAtObject name old new stop.ReadObject = ReadFaultOf old new name
+StopsAtObject name old new (stop.Object what) = HoldsText old.held name (λ bytes. HasObjectFault bytes what)
+StopsAtObject name old new _ = ⊥
 
 -- why the input gave no numbers
-pub data StopsAtInput (old new : Streamed) : (why : Stop) → Type 0 where
-  No_memory_for_input : StopsAtInput old new stop.Memory
-  Not_taken : Rose old.faults new.faults → StopsAtInput old new stop.ReadInput
-  Not_numbers : {what : InputFault} → IfSome old.told (λ bytes. HasInputFault bytes what) → StopsAtInput old new (stop.Input what)
+abbrev pub StopsAtInput : Streamed → Streamed → Stop → Type 0
+StopsAtInput old new stop.Memory = Unit {0}
+StopsAtInput old new stop.ReadInput = Rose old.faults new.faults
+StopsAtInput old new (stop.Input what) = IfSome old.told (λ bytes. HasInputFault bytes what)
+StopsAtInput old new _ = ⊥
 
 -- why no machine was made: no object was loaded, and the input was not touched; or one was, and the input gave no numbers
 abbrev pub StopsEarly : List ℕ → Shelved → Shelved → Streamed → Streamed → Stop → Type 0

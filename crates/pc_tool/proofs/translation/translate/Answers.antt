@@ -1,28 +1,22 @@
 -- What each step leaves, put together.
 use Rattle.std.proofs.lemmas.Result.{err_from_is_err_and}
-use Rattle.std.proofs.Common.{◌∙◌, sym}
+use Rattle.std.proofs.Common.{◌∙◌, refl, sym}
+use Rattle.std.proofs.lemmas.List.{length-map}
 use Rattle.pc_check.specs.Checks.{resolved_of}
+use Rattle.pc_machine.specs.MachineCode.{row_of}
 use Rattle.pc_object.specs.ObjectText.{object_of}
-use Rattle.pc_tool.proofs.Translations.{sized, translates, uncompiled}
+use Rattle.pc_tool.proofs.Translations.{is_translation, uncompiled}
 use Rattle.pc_tool.proofs.translation.translate.Goals as goal
 
-pub returns-in_err-compiled : goal.returns-in_err-compiled
-returns-in_err-compiled c =
-    let p = err_from_is_err_and c.from_residual-in_err-compiled.result c.from_residual-in_err-compiled.ensures.1 in
-    rw (p.1, p.2) (uncompiled c.in_err-compiled.field-0.0 c.args.text.now (resolved_of c.in_ok-checked.checked) c.in_ok-checked.ensures
-    c.in_err-compiled.ensures.uncompiled)
+pub returns-in_err-flow : goal.returns-in_err-flow
+returns-in_err-flow c =
+    let p = err_from_is_err_and c.from_residual-in_err-flow.result c.from_residual-in_err-flow.ensures.1 in
+    rw (p.1, p.2) (uncompiled c.in_err-flow.field-0.0 c.args.text.now (resolved_of c.in_ok-checked.checked) c.in_ok-checked.ensures
+    c.in_err-flow.ensures.uncompiled)
 
 pub returns : goal.returns
 returns c =
-    let flow = c.in_ok-compiled.compiled.flow in
-    let object = object_of c.in_ok-compiled.compiled.object in
-    let compiled = c.in_ok-compiled.ensures.compiled in
-    record {
-      program = c.in_ok-checked.ensures.program;
-      object = object;
-      translates = translates c.args.limits c.args.text.now (resolved_of c.in_ok-checked.checked) flow object c.in_ok-checked.ensures compiled c.in_ok-bytes.ensures.words;
-      bytes = c.in_ok-bytes.ensures.text;
-      nodes = c.count.ensures.number ∙ compiled.lowered.counted ∙ sized c.args.text.now (resolved_of c.in_ok-checked.checked) c.in_ok-checked.ensures;
-      rows = refl;
-      notes = refl;
-    }
+    let made = c.in_ok-flow.field-0 in
+    is_translation c.args.limits c.args.text.now (resolved_of c.in_ok-checked.checked) made.flow (object_of made.object) _ c.in_ok-checked.ensures
+    c.in_ok-flow.ensures.compiled c.in_ok-bytes.ensures.words c.in_ok-bytes.ensures.text c.count.ensures.number
+    (c.len.ensures ∙ sym (length-map made.object.code.rows.items row_of)) refl
