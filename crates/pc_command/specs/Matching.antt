@@ -1,4 +1,4 @@
--- The matches that `clap` gives of words, and what is read of them.
+-- The matches that `clap` gives of words.
 use Rattle.std.specs.Prelude.{List}
 use Rattle.clap.specs.Walk.{Row, rows_of}
 use Rattle.clap.specs.Matches.{found_of}

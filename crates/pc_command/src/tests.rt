@@ -4,7 +4,7 @@ use std::alloc::{AllocError, Global};
 use std::test::Fail;
 
 // What words give, in the order of `--ops`, `--tests`, `--mem`, `--window`, `--rows`.
-static NUMBERS: [(&str, [u16; 5]); 15] = [
+static NUMBERS: [(&str, [u16; 5]); 18] = [
     ("x.c -o y", [8, 3, 2, 4, 256]),
     ("x.c -o y --ops 1", [1, 3, 2, 4, 256]),
     ("x.c -o y --ops 32", [32, 3, 2, 4, 256]),
@@ -17,6 +17,9 @@ static NUMBERS: [(&str, [u16; 5]); 15] = [
     ("-o y x.c --rows 1", [8, 3, 2, 4, 1]),
     ("-o y x.c --rows 512", [8, 3, 2, 4, 512]),
     ("x.c -oy --ops=5", [5, 3, 2, 4, 256]),
+    ("x.c -o=y --ops=5", [5, 3, 2, 4, 256]),
+    ("-o y -- x.c", [8, 3, 2, 4, 256]),
+    ("--ops 5 -o y -- x.c", [5, 3, 2, 4, 256]),
     ("x.c -o y --ops +9", [9, 3, 2, 4, 256]),
     ("x.c -o y --ops 007", [7, 3, 2, 4, 256]),
     (
@@ -26,7 +29,7 @@ static NUMBERS: [(&str, [u16; 5]); 15] = [
 ];
 
 // Words that the compiler refuses.
-static NO_COMPILE: [&str; 27] = [
+static NO_COMPILE: [&str; 29] = [
     "",
     "x.c",
     "-o y",
@@ -47,6 +50,8 @@ static NO_COMPILE: [&str; 27] = [
     "x.c -o y --report --report",
     "x.c -o y --report=yes",
     "x.c -o y --fast",
+    "x.c -o y --op 5",
+    "x.c -o y -- --ops 5",
     "x.c -o y --help",
     "x.c -o y -h",
     "x.c -o y --version",
@@ -136,6 +141,12 @@ fn compiler_takes_sources_and_flags(rt: HostRuntime) -> Result<(), Fail> {
         ..plain
     };
     assert!(rt; compiles_as(rt.alloc(), "@7 -o y", Ok(sample))?);
+    assert!(rt; compiles_as(rt.alloc(), "@007 -o y", Ok(sample))?);
+    let hyphen = CompileCommand {
+        source: SourceName::File("-x.c"),
+        ..plain
+    };
+    assert!(rt; compiles_as(rt.alloc(), "-o y -- -x.c", Ok(hyphen))?);
     let last = CompileCommand {
         source: SourceName::Sample(4_294_967_295),
         ..plain

@@ -12,6 +12,7 @@ use std::test::Fail;
 const SAMPLES: u32 = 120;
 
 /// Whether the sample of a number has a flow graph. A fault of an earlier step is the error.
+#[tactic(auto, using(crate::proofs::Sources::few_tokens))]
 fn has_graph(alloc: Global, number: u32) -> Result<bool, Fail> {
     let text = sample(alloc, number)?;
     let tokens = tokens(alloc, text.as_slice())?;
