@@ -6,7 +6,7 @@ use Rattle.std.specs.Io.KnownBytes.{Appends}
 use Rattle.pc_word.specs.Count.{Rose}
 use Rattle.pc_syntax.specs.Source.{SourceProgram}
 use Rattle.pc_object.specs.ObjectText.{CodeWithNotes, object_text}
-use Rattle.pc_outside.specs.Shelf.{Files, Shelved, ReadFaultOf, WriteFaultOf, ReadKeeps, WriteKeeps, OnlyFileDiffers, HoldsFile}
+use Rattle.pc_outside.specs.Shelf.{Files, Shelved, ReadFaultOf, WriteFaultOf, ReadKeeps, OnlyFileDiffers, HoldsFile}
 use Rattle.pc_outside.specs.Stream.{AppendsPart}
 use Rattle.pc_word.specs.SourceLimits.{most_source}
 use Rattle.pc_command.specs.Requests.{CompileRequest, SourcePlace, OfFile}

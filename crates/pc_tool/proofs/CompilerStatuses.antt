@@ -1,5 +1,5 @@
 -- What follows from the compiler's promise.
-use Rattle.std.proofs.Common.{◌≡◌, ℕ, ◌≤◌, ◌⊎◌, inl, inr, List, true, false, Option, Some, None, refl, sym, ◌∙◌, ap, subst, arith}
+use Rattle.std.proofs.Common.{◌≡◌, ℕ, ◌≤◌, ◌⊎◌, inl, inr, List, false, Option, Some, None, refl, sym, ap, subst, arith}
 use Rattle.std.specs.Option.{IsSomeAnd}
 use Rattle.pc_syntax.specs.Source.{SourceProgram}
 use Rattle.pc_object.specs.ObjectText.{CodeWithNotes}

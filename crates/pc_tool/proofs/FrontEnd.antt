@@ -19,7 +19,7 @@ use Rattle.pc_check.specs.Faults.{faults}
 use Rattle.pc_check.specs.Resolution.{resolved}
 use Rattle.pc_check.proofs.ExactLaws.{refused-first}
 use Rattle.pc_tool.specs.Source.{IsRead}
-use Rattle.pc_tool.specs.SourceFaults.{HasFault, Uncut, Unread, Nested, Faulty}
+use Rattle.pc_tool.specs.SourceFaults.{Uncut, Unread, Nested, Faulty}
 use Rattle.pc_tool.specs.models.Refusals.{refusal_of_lex, refusal_of_parse, refusal_of_check}
 use Rattle.pc_tool.specs.models.Translating.{RefusesText}
 

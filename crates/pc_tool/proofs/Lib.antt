@@ -2,7 +2,6 @@ pub mod CompilerEndings
 pub mod CompilerStatuses
 pub mod Files
 pub mod FrontEnd
-pub mod Promises
 pub mod Simulations
 pub mod SimulatorEndings
 pub mod SimulatorStatuses

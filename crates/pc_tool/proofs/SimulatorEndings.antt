@@ -8,7 +8,7 @@ use Rattle.pc_word.specs.Count.{Rose}
 use Rattle.pc_word.specs.NumberText.{text_of}
 use Rattle.pc_word.specs.Run.{Seen, run_from}
 use Rattle.pc_machine.specs.MachineCode.{code_of}
-use Rattle.pc_machine.specs.MachineRun.{machine_run, machine_step}
+use Rattle.pc_machine.specs.MachineRun.{machine_step}
 use Rattle.pc_object.specs.ObjectText.{CodeWithNotes}
 use Rattle.pc_outside.specs.Shelf.{Shelved, ReadFaultOf, ReadKeeps}
 use Rattle.pc_outside.specs.Stream.{AppendsPart, LosesFront}

@@ -1,5 +1,5 @@
 -- What follows from the simulator's promise.
-use Rattle.std.proofs.Common.{◌≡◌, ℕ, ◌+◌, ◌<◌, ◌≤◌, ◌⊎◌, inl, inr, List, length, Option, Some, None, refl, sym, ◌∙◌, ap, subst, arith}
+use Rattle.std.proofs.Common.{◌≡◌, ℕ, ◌≤◌, ◌⊎◌, inl, inr, List, length, Option, Some, None, refl, sym, ◌∙◌, ap, subst, arith}
 use Rattle.std.specs.Prelude.{ℤ, Result, Ok, Err, IfSome}
 use Rattle.std.specs.FinMap.{get}
 use Rattle.std.specs.Option.{IsSomeAnd}
@@ -12,7 +12,7 @@ use Rattle.pc_word.specs.NumberText.{numbers_in}
 use Rattle.pc_object.specs.ObjectText.{CodeWithNotes, object_text}
 use Rattle.pc_object.specs.Reading.{object_reading}
 use Rattle.pc_object.proofs.ReadingLaws.{one_object, reads_text}
-use Rattle.pc_outside.specs.Shelf.{Files, Shelved, ReadFaultOf}
+use Rattle.pc_outside.specs.Shelf.{Files, ReadFaultOf}
 use Rattle.pc_command.specs.Requests.{SimulateRequest}
 use Rattle.pc_report.specs.declared.fault.ObjectFault.{ObjectFault}
 use Rattle.pc_report.specs.declared.fault.InputFault.{InputFault}
@@ -243,9 +243,9 @@ module _ (old new : Outside) where
       → Ends (Some request) due
       → ((due_status due ≡ end_status (seen_of request object numbers).end) × SendsRun old new request object numbers)
       ⊎ (due_status due ≡ 1) ⊎ ((due_status due ≡ 3) × FailsToTake old new request) ⊎ ((due_status due ≡ 5) × BreaksOff old new request object numbers)
-  complete_of request object numbers due t (Ran {loaded} {given} l sent is) =
-      inl (of_told (λ o ns. (due_status due ≡ end_status (seen_of request o ns).end) × SendsRun old new request o ns) request object numbers t loaded given l
-      (ap due_status is ∙ due_is_end request.cycles (seen_of request loaded given).end, sent))
+  complete_of request told_object told_numbers due t (Ran {object} {numbers} loaded sent is) =
+      inl (of_told (λ o ns. (due_status due ≡ end_status (seen_of request o ns).end) × SendsRun old new request o ns) request told_object told_numbers t object numbers loaded
+      (ap due_status is ∙ due_is_end request.cycles (seen_of request object numbers).end, sent))
   complete_of request object numbers due t (Unread {name} is failed quiet silent) =
       inr (inr (inl (refl, inl (subst (λ name. ReadFaultOf old.shelf new.shelf name) (sym is) failed, quiet))))
   complete_of request object numbers due t (Refused {what} faulty quiet silent) =
@@ -253,8 +253,9 @@ module _ (old new : Outside) where
   complete_of request object numbers due t (Untaken held failed silent) = inr (inr (inl (refl, inr (held, failed))))
   complete_of request object numbers due t (Misspelt {what} held faulty silent) =
       absurd (faulty_input t.left what (told_input old.input.told t.left (λ bytes. HasInputFault bytes what) t.rest faulty) numbers t.input)
-  complete_of request object numbers due t (Broke {loaded} {given} l rose part) =
-      inr (inr (inr (refl, of_told (λ o ns. BreaksOff old new request o ns) request object numbers t loaded given l (record { fault = rose; part = part }))))
+  complete_of request told_object told_numbers due t (Broke {object} {numbers} loaded rose part) =
+      let breaks : BreaksOff old new request object numbers = record { fault = rose; part = part } in
+      inr (inr (inr (refl, of_told (λ o ns. BreaksOff old new request o ns) request told_object told_numbers t object numbers loaded breaks)))
   complete_of request object numbers due t (Lacking lacks) = inr (inl refl)
 
   -- ---- a file that is no object, an input that is none
@@ -288,13 +289,13 @@ module _ (old new : Outside) where
   strict_input : (request : SimulateRequest) (text left : List ℕ) (object : CodeWithNotes) (due : Option ToolFault) → IsToldObject old request text
       → IsTextOf text object → old.input.told ≡ Some left → IsNoInput left → Ends (Some request) due
       → (due_status due ≡ 4) ⊎ (due_status due ≡ 1) ⊎ ((due_status due ≡ 3) × FailsToTake old new request)
-  strict_input request text left object due file is rest none (Ran {loaded} {numbers} l sent e) = absurd (no_numbers left numbers rest none l.in_input)
+  strict_input request text left object due file is rest none (Ran {numbers} loaded sent e) = absurd (no_numbers left numbers rest none loaded.in_input)
   strict_input request text left object due file is rest none (Unread {name} e failed quiet silent) =
       inr (inr (refl, inl (subst (λ name. ReadFaultOf old.shelf new.shelf name) (sym e) failed, quiet)))
   strict_input request text left object due file is rest none (Refused faulty quiet silent) = inl refl
   strict_input request text left object due file is rest none (Untaken held failed silent) = inr (inr (refl, inr (held, failed)))
   strict_input request text left object due file is rest none (Misspelt held faulty silent) = inl refl
-  strict_input request text left object due file is rest none (Broke {loaded} {numbers} l rose part) = absurd (no_numbers left numbers rest none l.in_input)
+  strict_input request text left object due file is rest none (Broke {numbers} loaded rose part) = absurd (no_numbers left numbers rest none loaded.in_input)
   strict_input request text left object due file is rest none (Lacking lacks) = inr (inl refl)
 
   -- ---- of the status itself, which is that of what was due, or 5 for a fault of the error output

@@ -1,8 +1,8 @@
 -- A text is one program at most, and which texts are no source.
-use Rattle.std.proofs.Common.{◌≡◌, ℕ, suc, ◌+◌, ◌<◌, ◌≤◌, ◌⊎◌, inl, inr, List, [], ◌∷◌, length, Option, Some, None}
+use Rattle.std.proofs.Common.{◌≡◌, ℕ, ◌+◌, ◌<◌, ◌≤◌, List, [], ◌∷◌, length, Option, Some, None}
 use Rattle.std.proofs.Common.{refl, sym, ◌∙◌, ap, subst, cond, Bool, true, false, arith}
 use Rattle.std.proofs.lemmas.Bool.Decides.{nat_tests}
-use Rattle.std.specs.Prelude.{ℤ, Result, Ok, Err, nat_lt, slice_get}
+use Rattle.std.specs.Prelude.{Result, Ok, Err, nat_lt, slice_get}
 use Rattle.pc_word.specs.SourceLimits.{most_source, most_tokens, most_height, most_nodes}
 use Rattle.pc_lexer.specs.declared.token.Token.{Token}
 use Rattle.pc_lexer.specs.declared.token.TokenKind.{TokenKind}
@@ -11,10 +11,8 @@ use Rattle.pc_lexer.specs.declared.error.LexError.{LexError}
 use Rattle.pc_lexer.specs.declared.error.LexError.TheVariants as lex
 use Rattle.pc_lexer.specs.Cut.{Cut, Done, Next, Stuck, line_behind, pieces_of}
 use Rattle.pc_lexer.specs.Tokens.{kind_of, names_after, token_before, read, lexed}
-use Rattle.pc_syntax.specs.Source.{SourceList, No_more, More, appended, SourceProgram}
-use Rattle.pc_parser.specs.Statements.{ReadsDeclarators, ReadsDeclaration, ReadsItems, ReadsProgram}
+use Rattle.pc_syntax.specs.Source.{SourceProgram}
 use Rattle.pc_parser.specs.Parse.{IsReadWithin}
-use Rattle.pc_parser.proofs.Onward.{inside, declarator-onward, statement-onward}
 use Rattle.pc_parser.proofs.Top.{one-program}
 use Rattle.pc_check.specs.declared.error.CheckError.{CheckError}
 use Rattle.pc_check.specs.Faults.{faults}

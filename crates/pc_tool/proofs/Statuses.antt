@@ -1,5 +1,5 @@
 -- The status by which something that was due is told.
-use Rattle.std.proofs.Common.{◌≡◌, ℕ, ◌⊎◌, inl, inr, Option, Some, None, refl}
+use Rattle.std.proofs.Common.{◌≡◌, ℕ, ◌⊎◌, inl, inr, Option, Some, None}
 use Rattle.pc_word.specs.Count.{Rose}
 use Rattle.pc_report.specs.declared.fault.ToolFault.{ToolFault}
 use Rattle.pc_tool.specs.Due.{Told, fault_status}

@@ -1,5 +1,5 @@
 -- From a checked text to the object that translates it.
-use Rattle.std.proofs.Common.{◌≡◌, ℕ, ◌<◌, ◌≤◌, List, length, sym, ◌∙◌, ap, subst, arith}
+use Rattle.std.proofs.Common.{◌≡◌, ℕ, ◌<◌, List, length, sym, ◌∙◌, ap, subst, arith}
 use Rattle.std.specs.Prelude.{min}
 use Rattle.pc_word.specs.SourceLimits.{most_nodes}
 use Rattle.pc_word.specs.Run.{AgreeOnInputs}

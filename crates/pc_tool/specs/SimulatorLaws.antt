@@ -14,7 +14,7 @@ use Rattle.pc_command.specs.Requests.{SimulateRequest}
 use Rattle.pc_tool.specs.Due.{trap_status}
 use Rattle.pc_tool.specs.Files.{HoldsText}
 use Rattle.pc_tool.specs.Objects.{IsTextOf, IsNoObject, HoldsObject}
-use Rattle.pc_tool.specs.Outside.{Outside, Streamed}
+use Rattle.pc_tool.specs.Outside.{Outside}
 use Rattle.pc_tool.specs.CompilerLaws.{HasErrorFault}
 use Rattle.pc_tool.specs.Simulation.{IsInputOf, IsNoInput, Loaded, seen_of}
 use Rattle.pc_tool.specs.Simulator.{SimulatorLacks, SimulatorPromise}

@@ -4,13 +4,11 @@ ghost use Rattle.pc_tool.specs.CompilerLaws.{CompilerPromisesSay};
 ghost use Rattle.pc_tool.specs.SimulatorLaws.{SimulatorPromisesSay};
 
 /// What the compiler's promise says for each status; a source is compiled, and another text is refused.
-#[tactic(auto, using(crate::proofs::CompilerStatuses::statuses_of))]
 pub fn laws_of_the_compiler()
     ensures { CompilerPromisesSay }
 {}
 
 /// What the simulator's promise says for each status; an object is run on its input, and other bytes are refused.
-#[tactic(auto, using(crate::proofs::SimulatorStatuses::statuses_of))]
 pub fn laws_of_the_simulator()
     ensures { SimulatorPromisesSay }
 {}

@@ -64,7 +64,6 @@ pub struct Status {
 /// - 10, 11, 12: the run was trapped by a division by zero, an index out of bounds, the end of input.
 ///
 /// Each status but 0 sends one line to the error output, which tells what was due.
-#[tactic(auto, using(crate::proofs::Promises::promises))]
 pub fn tool<H: Shelf, I: Source, O: Sink, E: Sink>(
     alloc: Global,
     who: Who,

@@ -1,5 +1,5 @@
 -- What the refusals of a step are to the programs. Want of memory stays want of memory.
-use Rattle.std.specs.Prelude.{ℕ, Option, Some, None}
+use Rattle.std.specs.Prelude.{Option, Some, None}
 use Rattle.pc_lexer.specs.declared.error.LexError.{LexError}
 use Rattle.pc_parser.specs.declared.unit.ParseError.{ParseError}
 use Rattle.pc_parser.specs.declared.unit.ParseError.TheVariants as parse

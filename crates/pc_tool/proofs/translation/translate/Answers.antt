@@ -19,4 +19,4 @@ returns c =
     let made = c.in_ok-flow.field-0 in
     is_translation c.args.limits c.args.text.now (resolved_of c.in_ok-checked.checked) made.flow (object_of made.object) _ c.in_ok-checked.ensures
     c.in_ok-flow.ensures.compiled c.in_ok-bytes.ensures.words c.in_ok-bytes.ensures.text c.count.ensures.number
-    (c.len.ensures ∙ sym (length-map made.object.code.rows.items row_of)) refl
+    (c.len.ensures ∙ sym (length-map made.object.code.rows row_of)) refl
