@@ -42,6 +42,7 @@ lays_placed draft at node inside keeps can =
         forward = omega arith;
         as_many = set_length draft.graph.nodes at node;
         as_many_loops = refl;
+        same_loops = refl;
         arrays = refl;
         nodes_kept = λ i h. get_set_other draft.graph.nodes at i node (other_place at i h);
         ranks_kept = λ i h. index_set_other draft.graph.ranks at i (draft.ranked + 1) (other_place at i h);
@@ -84,6 +85,7 @@ module _ (a b c : Draft) (from mid to : ℕ) (later : Fills a b mid to) (earlier
         forward = omega (arith, f, g);
         as_many = earlier.as_many ∙ later.as_many;
         as_many_loops = earlier.as_many_loops ∙ later.as_many_loops;
+        same_loops = earlier.same_loops ∙ later.same_loops;
         arrays = earlier.arrays ∙ later.arrays;
         nodes_kept = λ i h. earlier.nodes_kept i (outside_earlier from mid to i f h) ∙ later.nodes_kept i (outside_later from mid to i g h f);
         ranks_kept = λ i h. earlier.ranks_kept i (outside_earlier from mid to i f h) ∙ later.ranks_kept i (outside_later from mid to i g h f);

@@ -10,14 +10,14 @@ use Rattle.pc_word.specs.SourceLimits.{most_scalars}
 use Rattle.pc_word.proofs.Truth.{less_of}
 use Rattle.pc_check.specs.Sizes.{expression_size}
 use Rattle.pc_flow.specs.declared.node.FlowNode.{FlowNode}
-use Rattle.pc_flow.specs.declared.node.FlowNode.TheVariants.{Op, Test}
+use Rattle.pc_flow.specs.declared.node.FlowNode.TheVariants.{Test}
 use Rattle.pc_flow.specs.FlowGraph.{IsVariable, ItemFits}
-use Rattle.pc_lower.specs.Lowers.{held, Does, Tests, Gives}
+use Rattle.pc_lower.specs.Lowers.{held, Gives}
 use Rattle.pc_lower.specs.declared.spot.Spot.{Spot}
 use Rattle.pc_lower.specs.models.Drafts.{Draft, IsPlaced}
 use Rattle.pc_lower.specs.models.Fills.{Fills, Lays, HasRoom}
 use Rattle.pc_lower.specs.models.LowersExpression.{IsReady, IsHeld, MayLower, LaysExpression}
-use Rattle.pc_lower.specs.models.LowersStatement.{LaysTurn, IsSpot}
+use Rattle.pc_lower.specs.models.LowersStatement.{ConditionNodes, LaysTurn, IsSpot}
 use Rattle.pc_lower.proofs.Fills.{fills_both, lays_both, lays_as, room_left, placed_still}
 use Rattle.pc_lower.proofs.Lowered.{operator_some}
 
@@ -70,6 +70,7 @@ lays_nothing d to P f = record {
     forward = omega arith;
     as_many = refl;
     as_many_loops = refl;
+    same_loops = refl;
     arrays = refl;
     nodes_kept = λ i h. refl;
     ranks_kept = λ i h. refl;
@@ -101,18 +102,11 @@ value_alone {x = x} ready value h = record {
 }
 
 -- a condition and its test
-pub lays_condition : {a b c : Draft} {start m to y z : ℕ} (x : SourceExpression)
+pub lays_condition : {a b c : Draft} {start m to : ℕ} (x : SourceExpression) (y z : ℕ)
     → Lays a b 1 m to (λ nodes lengths. slice_get nodes m ≡ Some (Test (held x 0) y z None)) → LaysExpression x 0 start m m b c
-    → Lays a c (expression_size x + 1) start to (λ nodes lengths. (n : ℕ) × Gives nodes lengths x 0 start n × Tests nodes lengths n (held x 0) y z)
-lays_condition {start = start} {m = m} {y = y} {z = z} x test value =
-    lays_as _ (λ nodes lengths. (n : ℕ) × Gives nodes lengths x 0 start n × Tests nodes lengths n (held x 0) y z) (lays_both test value) refl (λ nodes h. (m, h.1, h.0))
-
--- a value and its print
-pub lays_print : {a b c : Draft} {start m to q : ℕ} (x : SourceExpression)
-    → Lays a b 1 m to (λ nodes lengths. slice_get nodes m ≡ Some (Op (Print (held x 0)) q)) → LaysExpression x 0 start m m b c
-    → Lays a c (expression_size x + 1) start to (λ nodes lengths. (n : ℕ) × Gives nodes lengths x 0 start n × Does nodes lengths n (Print (held x 0)) q)
-lays_print {start = start} {m = m} {q = q} x print value =
-    lays_as _ (λ nodes lengths. (n : ℕ) × Gives nodes lengths x 0 start n × Does nodes lengths n (Print (held x 0)) q) (lays_both print value) refl (λ nodes h. (m, h.1, h.0))
+    → Lays a c (expression_size x + 1) start to (ConditionNodes x y z start)
+lays_condition {start = start} {m = m} x y z test value =
+    lays_as _ (ConditionNodes x y z start) (lays_both test value) refl (λ nodes h. record { is = (m, h.1, h.0) })
 
 -- the condition of a loop and its test
 pub lays_turn : {a b c : Draft} {start m to at : ℕ} {P : List FlowNode → List ℕ → Type 0} (x : SourceExpression) → at + 1 ≡ to
@@ -170,11 +164,6 @@ room_behind {a} {b} {size} {to} {from} {mid} {inside} k room fills e fits =
 
 -- ---- spots of parts
 
--- what holds of a number that there is or none
-pub if_some : (o : Option ℕ) {P Q : ℕ → Type 0} → ((x : ℕ) → P x → Q x) → IfSome o P → IfSome o Q
-if_some None f h = tt
-if_some (Some x) f h = f x h
-
 -- the spot of a part that is placed before another one, and leads on to it
 pub spot_before : {d d1 : Draft} {size loops k start entry : ℕ} {spot : Spot} {P : List FlowNode → List ℕ → Type 0} (rest few done ends : ℕ)
     → IsSpot d size loops spot → Lays d d1 k start spot.end P → IsPlaced d1.graph entry → rest + k ≤ size → few + done ≤ loops → ends + done ≡ spot.loops_end
@@ -192,27 +181,6 @@ spot_before {d} {d1} {size} {loops} {k} {start} {entry} {spot} rest few done end
       returns = placed_still l is.returns;
       loops_there = omega (arith, there, as_many, e);
       numbers = omega (arith, numbers, below, e);
-      outer = if_some spot.inside (λ x h. omega (arith, h, numbers, e)) is.outer;
-    }
-
--- the spot of a part in a loop
-pub spot_in : {d d1 : Draft} {size loops k from to : ℕ} {spot : Spot} {P : List FlowNode → List ℕ → Type 0} (own rest few : ℕ) (part : Spot)
-    → IsSpot d size loops spot → Lays d d1 k from to P → HasRoom d1 rest part.end spot.inside → IsPlaced d1.graph part.next → IsPlaced d1.graph part.break_to
-    → IsPlaced d1.graph part.continue_to → IsPlaced d1.graph part.return_to → part.inside ≡ Some own → part.loops_end ≤ spot.loops_end → own + few < part.loops_end
-    → IsSpot d1 rest few part
-spot_in {d} {d1} {spot = spot} own rest few part is l room follows breaks continues returns within le numbers =
-    let there = is.loops_there in
-    let as_many = l.fills.as_many_loops in
-    record {
-      arrays = rw l.fills.arrays is.arrays;
-      room = room_in part.inside (subst (λ (o : Option ℕ). IfSome o (λ loop. loop < length d1.graph.loops)) (sym within) (omega (arith, there, as_many, le, numbers))) room;
-      next = follows;
-      breaks = breaks;
-      continues = continues;
-      returns = returns;
-      loops_there = omega (arith, there, as_many, le);
-      numbers = omega (arith, numbers);
-      outer = subst (λ (o : Option ℕ). IfSome o (λ loop. loop + few < part.loops_end)) (sym within) numbers;
     }
 
 -- the place of a loop's condition
