@@ -7,9 +7,10 @@ ghost use Rattle.pc_lower.specs.models.LowersExpression.{MayLower, LaysExpressio
 
 use crate::draft::Draft;
 use crate::element::{Element, lay_load};
-use crate::parts::{Operation, held, lay_guard, lay_item, lay_operation, lay_test, prefix_item};
+use crate::parts::{
+    Operation, held, lay_guard, lay_item, lay_operation, lay_test, next_temporary, prefix_item,
+};
 use crate::site::Site;
-use pc_check::hold;
 use pc_syntax::{Expr, UnaryOp};
 use pc_word::{Item, OpCode, Operand, TrapKind};
 
@@ -37,7 +38,7 @@ fn lower_element(draft: &mut Draft, array: u32, at: u32, index: &Expr, site: Sit
         line: at,
         index: held(index, site.temporary),
     };
-    let within = site.temporary + hold(index);
+    let within = next_temporary(index, site.temporary);
     let loaded = lay_load(draft, element, within, site);
     lower_expression(draft, index, site.leading_to(loaded))
 }
@@ -65,7 +66,7 @@ fn lower_binary(
     requires may { MayLower draft.now (Combined operation.op operation.line (expression_of left.now) (expression_of right.now)) site.temporary site.end site.next site.inside }
     ensures { LaysExpression (Combined operation.op operation.line (expression_of left.now) (expression_of right.now)) site.temporary result site.end site.next draft.old draft.new }
 {
-    let above = site.temporary + hold(left);
+    let above = next_temporary(left, site.temporary);
     let first = held(left, site.temporary);
     let second = held(right, above);
     let last = lay_operation(draft, operation, first, second, site);

@@ -1,7 +1,8 @@
 //! Nodes that are placed at a site, and the small parts of constructs.
-ghost use Rattle.std.specs.Prelude.{◌≡◌, ◌<◌, ◌≤◌, Some, None, length, slice_get};
+ghost use Rattle.std.specs.Prelude.{◌≡◌, ◌+◌, ◌<◌, ◌≤◌, Some, None, length, slice_get};
 ghost use Rattle.pc_word.specs.SourceLimits.{most_temporaries};
 ghost use Rattle.pc_syntax.specs.Erasure.{expression_of};
+ghost use Rattle.pc_check.specs.Needs.{hold};
 ghost use Rattle.pc_check.specs.Sizes.{operator_size};
 ghost use Rattle.pc_meaning.specs.Lowered.{binary_code};
 ghost use Rattle.pc_flow.specs.declared.node.FlowNode.TheVariants.{Op, Test};
@@ -13,6 +14,7 @@ ghost use Rattle.pc_lower.specs.models.LowersExpression.{Guards};
 
 use crate::draft::Draft;
 use crate::site::Site;
+use pc_check::hold;
 use pc_flow::FlowNode;
 use pc_syntax::{BinaryOp, Expr, UnaryOp};
 use pc_word::{Item, OpCode, Operand, TrapKind};
@@ -72,6 +74,14 @@ pub(crate) fn held(expression: &Expr, t: u32) -> Operand
         Expr::Binary { .. } | Expr::Both { .. } | Expr::Either { .. } => Operand::Name(64 + t),
         Expr::Choose { .. } => Operand::Name(64 + t),
     }
+}
+
+/// The first temporary above those that hold the value of an expression, which begin at one.
+pub(crate) fn next_temporary(expression: &Expr, t: u32) -> u32
+    requires { t ≤ most_temporaries }
+    ensures { result ≡ t + hold (expression_of expression.now) }
+{
+    t + hold(expression)
 }
 
 /// The item for a unary operator.

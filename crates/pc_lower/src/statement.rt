@@ -148,14 +148,7 @@ fn lower_round(
         ..spot
     };
     let after = lower_optional(draft, step, inner);
-    let within = Spot {
-        end: after.start,
-        next: after.entry,
-        break_to: out,
-        continue_to: after.entry,
-        ..spot
-    };
-    lower_statement(draft, body, within)
+    lower_statement(draft, body, spot.round(out, after))
 }
 
 /// The turns of a `for`: the condition, its test, the body and the step, which leads back to the

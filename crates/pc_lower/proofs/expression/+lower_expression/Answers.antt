@@ -39,7 +39,7 @@ pub lower_element-lay_load-loaded-requires-clause-array_there : goal.lower_eleme
 lower_element-lay_load-loaded-requires-clause-array_there t c = element_array c.requires.may
 
 pub lower_element-lay_load-loaded-requires-clause-within_there : goal.lower_element-lay_load-loaded-requires-clause-within_there
-lower_element-lay_load-loaded-requires-clause-within_there t c = rw c.hold.ensures (element_temporary c.requires.may)
+lower_element-lay_load-loaded-requires-clause-within_there t c = rw c.next_temporary-within.ensures (element_temporary c.requires.may)
 
 pub lower_element-lay_load-loaded-requires-clause-result_there : goal.lower_element-lay_load-loaded-requires-clause-result_there
 lower_element-lay_load-loaded-requires-clause-result_there t c = element_first c.requires.may
@@ -52,14 +52,14 @@ lower_element-lower_expression-requires t c = (omega (arith, c.decreases), rw c.
 
 pub lower_element-returns : goal.lower_element-returns
 lower_element-returns t c line =
-    let load = rw (c.hold.ensures, c.held.ensures) at c.lay_load-loaded.ensures in
+    let load = rw (c.next_temporary-within.ensures, c.held.ensures) at c.lay_load-loaded.ensures in
     let index = rw c.leading_to.ensures at c.lower_expression.ensures in
     lays_element c.args.array line c.args.at (expression_of c.args.index.now) c.args.site.temporary c.args.site.next load index
 
 -- ---- a binary operator
 
 pub lower_binary-held-second-requires : goal.lower_binary-held-second-requires
-lower_binary-held-second-requires t c = rw c.hold.ensures (binary_above c.requires.may)
+lower_binary-held-second-requires t c = rw c.next_temporary-above.ensures (binary_above c.requires.may)
 
 pub lower_binary-lay_operation-last-requires-clause-room : goal.lower_binary-lay_operation-last-requires-clause-room
 lower_binary-lay_operation-last-requires-clause-room t c = binary_room c.requires.may
@@ -71,10 +71,10 @@ pub lower_binary-lay_operation-last-requires-clause-left : goal.lower_binary-lay
 lower_binary-lay_operation-last-requires-clause-left t c = rw c.held-first.ensures (binary_left_value c.requires.may)
 
 pub lower_binary-lay_operation-last-requires-clause-right : goal.lower_binary-lay_operation-last-requires-clause-right
-lower_binary-lay_operation-last-requires-clause-right t c = rw (c.held-second.ensures, c.hold.ensures) (binary_right_value c.requires.may)
+lower_binary-lay_operation-last-requires-clause-right t c = rw (c.held-second.ensures, c.next_temporary-above.ensures) (binary_right_value c.requires.may)
 
 pub lower_binary-lower_expression-middle-requires : goal.lower_binary-lower_expression-middle-requires
-lower_binary-lower_expression-middle-requires t c = (omega (arith, c.decreases), rw (c.above.ensures, c.leading_to.ensures, c.hold.ensures) (binary_right c.requires.may c.lay_operation-last.ensures))
+lower_binary-lower_expression-middle-requires t c = (omega (arith, c.decreases), rw (c.above.ensures, c.leading_to.ensures, c.next_temporary-above.ensures) (binary_right c.requires.may c.lay_operation-last.ensures))
 
 pub lower_binary-lower_expression-requires : goal.lower_binary-lower_expression-requires
 lower_binary-lower_expression-requires t c =
@@ -83,8 +83,8 @@ lower_binary-lower_expression-requires t c =
 
 pub lower_binary-returns : goal.lower_binary-returns
 lower_binary-returns t c =
-    let operation = rw (c.held-first.ensures, c.held-second.ensures, c.hold.ensures) at c.lay_operation-last.ensures in
-    let right = rw (c.above.ensures, c.leading_to.ensures, c.hold.ensures) at c.lower_expression-middle.ensures in
+    let operation = rw (c.held-first.ensures, c.held-second.ensures, c.next_temporary-above.ensures) at c.lay_operation-last.ensures in
+    let right = rw (c.above.ensures, c.leading_to.ensures, c.next_temporary-above.ensures) at c.lower_expression-middle.ensures in
     let left = rw c.leading_to-2.ensures at c.lower_expression.ensures in
     lays_binary c.args.operation.op c.args.operation.line (expression_of c.args.left.now) (expression_of c.args.right.now) c.args.site.temporary c.args.site.next operation right left
 

@@ -92,7 +92,9 @@ lower_do-returns-clause-laid t c =
     rw c.close_loop.ensures (lays_do _ _ _ _ _ _ _ turn c.lower_statement-laid.ensures.laid (omega (arith, room)) c.requires.spot.room.there)
 
 pub lower_round-returns-clause-laid : goal.lower_round-returns-clause-laid
-lower_round-returns-clause-laid t c = lays_body_and_step _ _ _ _ _ _ _ c.lower_optional-after.ensures.laid c.lower_statement.ensures.laid
+lower_round-returns-clause-laid t c =
+    let body = rw c.round.ensures at c.lower_statement.ensures.laid in
+    lays_body_and_step _ _ _ _ _ _ _ c.lower_optional-after.ensures.laid body
 
 pub lower_turns-returns : goal.lower_turns-returns
 lower_turns-returns t c =
