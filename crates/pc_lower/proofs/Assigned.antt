@@ -27,18 +27,6 @@ held_value {arrays} {e} {t} h = value_fits e t (length arrays) h.slots h.tempora
 pub store_fits : (array arrays : ℕ) (index value : Operand) → array < arrays → IsVariable index → IsVariable value → ItemFits arrays (Store array index value)
 store_fits array arrays index value there h k = record { reads = (h, (k, tt)); writes = tt; array = there }
 
--- a part that is lowered before nodes that were placed: it leads on to the first of them
-pub ready_part : {d d1 : Draft} {x : SourceExpression} {size to q k m u : ℕ} {inside : Option ℕ} {P : List FlowNode → List ℕ → Type 0}
-    → IsReady d size to q inside → Lays d d1 k m to P → IsHeld d.graph.arrays x u → expression_size x + k ≤ size → 1 ≤ k → MayLower d1 x u m m inside
-ready_part {x = x} ready l kept fits some = record {
-  arrays = rw l.fills.arrays ready.arrays;
-  slots = rw l.fills.arrays kept.slots;
-  temporaries = kept.temporaries;
-  room = room_left (expression_size x) ready.room l fits;
-  leads = placed_first ready.room l some;
-  contiguous = λ none. refl;
-}
-
 -- a scalar that is changed
 pub lays_compound : {a b c d : Draft} {m n j to : ℕ} (scalar line at q : ℕ) (op : BinaryOp) (v : SourceExpression) → scalar < most_scalars
     → Lays a b 1 j to (λ nodes lengths. slice_get nodes j ≡ Some (Op (Copy scalar (Name 64)) q))

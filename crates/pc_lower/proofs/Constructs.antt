@@ -42,63 +42,11 @@ held_of {arrays} x is =
     let few = le_of (need x) most_temporaries both.0 in
     record { slots = both.1; temporaries = omega (arith, few) }
 
--- ---- spots
-
--- a smaller part at the same spot
-pub spot_part : {d : Draft} {size loops : ℕ} {spot : Spot} (rest few : ℕ) → IsSpot d size loops spot → rest ≤ size → few ≤ loops → IsSpot d rest few spot
-spot_part rest few is fits numbers =
-    let below = is.numbers in
-    record {
-      arrays = is.arrays;
-      room = less_room rest fits is.room;
-      next = is.next;
-      breaks = is.breaks;
-      continues = is.continues;
-      returns = is.returns;
-      loops_there = is.loops_there;
-      numbers = omega (arith, below, numbers);
-    }
-
--- a part at a spot of its own, once others were placed
-pub spot_later : {d d1 : Draft} {size loops k from to : ℕ} {spot : Spot} {P : List FlowNode → List ℕ → Type 0} (rest few : ℕ) (part : Spot)
-    → IsSpot d size loops spot → Lays d d1 k from to P → HasRoom d1 rest part.end part.inside → IsPlaced d1.graph part.next → IsPlaced d1.graph part.break_to
-    → IsPlaced d1.graph part.continue_to → IsPlaced d1.graph part.return_to → part.loops_end ≤ spot.loops_end → few ≤ part.loops_end → IsSpot d1 rest few part
-spot_later rest few part is l room follows breaks continues returns le numbers =
-    let there = is.loops_there in
-    let as_many = l.fills.as_many_loops in
-    record {
-      arrays = rw l.fills.arrays is.arrays;
-      room = room;
-      next = follows;
-      breaks = breaks;
-      continues = continues;
-      returns = returns;
-      loops_there = omega (arith, there, as_many, le);
-      numbers = numbers;
-    }
-
--- arrays stay
-pub held_still : {d d1 : Draft} {k from to : ℕ} {P : List FlowNode → List ℕ → Type 0} {x : SourceExpression} → Lays d d1 k from to P → IsHeld d.graph.arrays x 0 → IsHeld d1.graph.arrays x 0
-held_still l h = rw l.fills.arrays h
-
 -- an assignment has a node
 pub target_some : (index : Option SourceExpression) (op : Option BinaryOp) → 1 ≤ target_size index op
 target_some None op = omega arith
 target_some (Some index) None = omega arith
 target_some (Some index) (Some op) = omega arith
-
--- soundness speaks of the number of arrays alone
-pub sound_still : {d d1 : Draft} {k from to : ℕ} {P : List FlowNode → List ℕ → Type 0} (s : SourceStatement) → Lays d d1 k from to P
-    → is_sound most_scalars (length d.graph.arrays) true s ≡ true → is_sound most_scalars (length d1.graph.arrays) true s ≡ true
-sound_still s l h = rw l.fills.arrays h
-
-pub branch_sound_still : {d d1 : Draft} {k from to : ℕ} {P : List FlowNode → List ℕ → Type 0} (o : OptionalStatement) → Lays d d1 k from to P
-    → branch_is_sound most_scalars (length d.graph.arrays) true o ≡ true → branch_is_sound most_scalars (length d1.graph.arrays) true o ≡ true
-branch_sound_still o l h = rw l.fills.arrays h
-
-pub list_sound_still : {d d1 : Draft} {k from to : ℕ} {P : List FlowNode → List ℕ → Type 0} (items : SourceList) → Lays d d1 k from to P
-    → list_is_sound most_scalars (length d.graph.arrays) true items ≡ true → list_is_sound most_scalars (length d1.graph.arrays) true items ≡ true
-list_sound_still items l h = rw l.fills.arrays h
 
 -- ---- the nodes of the parts implement the whole
 

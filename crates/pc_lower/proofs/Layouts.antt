@@ -1,5 +1,5 @@
 -- The small parts of constructs, of the nodes that were placed for them.
-use Rattle.std.proofs.Common.{◌≡◌, ℕ, ◌<◌, ◌⊎◌, inl, inr, Bool, true, Some, refl, sym, ap, subst}
+use Rattle.std.proofs.Common.{◌≡◌, ℕ, ◌<◌, Bool, true, Some, refl, sym, subst}
 use Rattle.std.specs.Prelude.{ℤ, pos, slice_get, slice_index}
 use Rattle.pc_word.specs.declared.item.Item.{Item}
 use Rattle.pc_word.specs.declared.item.Item.TheVariants.{Bin, Load}
@@ -44,20 +44,20 @@ lays_load {p = p} {m = m} array line within dest q index load bounds =
     lays_as 4 (λ nodes lengths. (n : ℕ) × Bounds nodes lengths array line within index p n × Does nodes lengths n (Load dest array index) q)
     (lays_both load bounds) refl (λ nodes h. (m, h.1, h.0))
 
--- an operator with a divisor has its test
-has_divisor : (op : BinaryOp) → (op ≡ Div) ⊎ (op ≡ Rem) → (divides op ≡ true) × (3 ≡ operator_size op)
-has_divisor op (inl e) = (ap divides e, ap operator_size (sym e))
-has_divisor op (inr e) = (ap divides e, ap operator_size (sym e))
+-- an operator with a divisor has its test and a trap besides
+has_divisor : (op : BinaryOp) → divides op ≡ true → 3 ≡ operator_size op
+has_divisor Div e = refl
+has_divisor Rem e = refl
+has_divisor _ e = absurd (cc)
 
--- and one with a divisor, behind the test of it
+-- an operator with a divisor, behind the test of it
 pub lays_division : (a b c : Draft) (op : BinaryOp) (line dest p m q to : ℕ) (left right : Operand) (item : Item)
     → Lays a b 1 m to (λ nodes lengths. slice_get nodes m ≡ Some (Op item q))
     → Lays b c 2 p m (λ nodes lengths. Guards nodes right DivideByZero line p m)
-    → item ≡ binary_item op dest left right → (op ≡ Div) ⊎ (op ≡ Rem)
+    → item ≡ binary_item op dest left right → divides op ≡ true
     → Lays a c (operator_size op) p to (λ nodes lengths. Combines nodes lengths op line dest left right p q)
 lays_division a b c op line dest p m q to left right item l g e division =
-    let has = has_divisor op division in
     let known = subst (λ (i : Item). Lays a b 1 m to (λ nodes lengths. slice_get nodes m ≡ Some (Op i q))) e l in
-    lays_as (operator_size op) _ (lays_both known g) has.1
-    (λ nodes h. subst (λ (x : Bool). Operates nodes a.graph.arrays x line right (binary_item op dest left right) p q) (sym has.0)
+    lays_as (operator_size op) _ (lays_both known g) (has_divisor op division)
+    (λ nodes h. subst (λ (x : Bool). Operates nodes a.graph.arrays x line right (binary_item op dest left right) p q) (sym division)
     (m, h.1.0, h.1.1, h.1.2, h.0))

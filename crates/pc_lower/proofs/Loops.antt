@@ -64,13 +64,6 @@ module _ (a c : Draft) (from to at : ℕ) (node : FlowNode) (own : ℕ) (header 
     ranked = fills.ranked;
   }
 
--- what was placed stays so
-pub placed_closed : (c : Draft) (i at : ℕ) (node : FlowNode) (own : ℕ) (header : ℕ) → IsPlaced c.graph i → IsPlaced (closed at node own header c).graph i
-placed_closed c i at node own header h = record {
-  there = subst (λ (n : ℕ). i < n) (sym (set_length c.graph.nodes at node)) h.there;
-  ranked = h.ranked;
-}
-
 -- a part of a closed loop that does not hold the test is as it was
 pub keeps_closed : (c : Draft) (from to lo hi : ℕ) (final : List FlowNode) (at : ℕ) (node : FlowNode) (own : ℕ) (header : ℕ)
     → Keeps (closed at node own header c) from to final → from ≤ lo → hi ≤ to → IsOutside lo hi at → Keeps c lo hi final
@@ -140,8 +133,3 @@ lays_round_before {a} {b} {c} {start} {from} {at} {k} {P} x node own header turn
         let s = l.size_is in
         keeps_closed c _ _ start at final at node own header h (omega (arith, s)) (omega arith) (inr (omega arith)) i lo hi
         ∙ l.fills.nodes_kept i (inr lo)
-
--- the same of a condition alone, as a part that was placed
-pub turn_laid : {a b : Draft} {x : SourceExpression} {start at : ℕ} → LaysTurn a b x start at
-    → Lays a b (expression_size x + 1) start (at + 1) (λ nodes lengths. Unit {0})
-turn_laid turn = let e = turn.size_is in record { size_is = omega (arith, e); fills = turn.fills; gives = λ final h. tt }

@@ -131,10 +131,6 @@ copy_fits dest arrays a h k = record { reads = (k, tt); writes = h; array = tt }
 pub truth_fits : (dest arrays : ℕ) (a : Operand) → dest < 96 → IsVariable a → ItemFits arrays (Bin codes.Unequal dest a (Lit (pos 0)))
 truth_fits dest arrays a h k = record { reads = (k, (tt, tt)); writes = h; array = tt }
 
--- a load
-pub load_fits : (dest arrays array : ℕ) (a : Operand) → dest < 96 → array < arrays → IsVariable a → ItemFits arrays (Load dest array a)
-load_fits dest arrays array a h there k = record { reads = (k, tt); writes = h; array = there }
-
 -- the value of a part that was measured
 pub value_fits : (x : SourceExpression) (u arrays : ℕ) → has_slots most_scalars arrays x ≡ true → u + need x ≤ most_temporaries → IsVariable (held x u)
 value_fits x u arrays slots h = let n = hold_needed x in held_fits x u arrays slots (omega (arith, n, h))

@@ -62,10 +62,6 @@ remaining x = (state_at_end x).turns
 abbrev pub Paid : (w c n : ℕ) → Completion → List Kind → Type 0
 Paid w c n x ks = n ≤ remaining x + cost w (length ks) + c
 
--- an outcome in which all turns are left
-pay_nothing : (w c n : ℕ) (s : SourceState) (ks : List Kind) → n ≡ s.turns → Paid w c n (GoesOn s) ks
-pay_nothing w c n s ks e = omega (arith, e)
-
 -- a value, and what is done with it
 do_with-paid : (w c n : ℕ) (x : Evaluated) (ks : List Kind) (next : ℤ → SourceState → List Kind) (kont : ℤ → SourceState → Completion)
     → (state_given x).turns ≡ n → ((v : ℤ) (s : SourceState) → s.turns ≡ n → Paid w c n (kont v s) (next v s)) → Paid w c n (do_with x kont) (traced ks x next)

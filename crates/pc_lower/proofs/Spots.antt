@@ -125,43 +125,6 @@ lays_turn {a} {b} {c} {start} {m} {to} {at} {P} x e test value =
 pub print_fits : (arrays : ℕ) (value : Operand) → IsVariable value → ItemFits arrays (Print value)
 print_fits arrays value h = record { reads = (h, tt); writes = tt; array = tt }
 
--- ---- room
-
--- room before a number, where what is behind it is left for later
-pub room_before : {d : Draft} {size to : ℕ} {inside : Option ℕ} (k mid : ℕ) → mid ≤ to → k + to ≤ size + mid → HasRoom d size to inside → HasRoom d k mid inside
-room_before {d} {size} {to} {inside} k mid le fits room =
-    let w = room.within in
-    let there = room.there in
-    let r = room.ranks in
-    record {
-      within = omega (arith, w, fits);
-      there = omega (arith, le, there);
-      unranked = λ i lo hi. room.unranked i (omega (arith, lo, le)) (omega (arith, hi, fits));
-      ranks = omega (arith, r, fits, le);
-      loop_there = room.loop_there;
-    }
-
--- room in another loop
-pub room_in : {d : Draft} {size to : ℕ} {inside : Option ℕ} (other : Option ℕ) → IfSome other (λ loop. loop < length d.graph.loops)
-    → HasRoom d size to inside → HasRoom d size to other
-room_in other there room = record { within = room.within; there = room.there; unranked = room.unranked; ranks = room.ranks; loop_there = there }
-
--- room that is left behind a part
-pub room_behind : {a b : Draft} {size to from mid : ℕ} {inside : Option ℕ} (k : ℕ) → HasRoom a size to inside → Fills a b from mid → k + mid ≡ to → to ≤ size + from
-    → HasRoom b k to inside
-room_behind {a} {b} {size} {to} {from} {mid} {inside} k room fills e fits =
-    let there = room.there in
-    let r = room.ranks in
-    let s = fills.ranked in
-    let n = fills.as_many in
-    record {
-      within = omega (arith, e);
-      there = omega (arith, there, n);
-      unranked = λ i lo hi. fills.ranks_kept i (inr (omega (arith, e, hi))) ∙ room.unranked i lo (omega (arith, hi, e, fits));
-      ranks = omega (arith, r, s, e, fits);
-      loop_there = subst (λ (x : ℕ). IfSome inside (λ loop. loop < x)) (sym fills.as_many_loops) room.loop_there;
-    }
-
 -- ---- spots of parts
 
 -- the spot of a part that is placed before another one, and leads on to it
@@ -181,15 +144,4 @@ spot_before {d} {d1} {size} {loops} {k} {start} {entry} {spot} rest few done end
       returns = placed_still l is.returns;
       loops_there = omega (arith, there, as_many, e);
       numbers = omega (arith, numbers, below, e);
-    }
-
--- the place of a loop's condition
-pub turn_ready : {d : Draft} {size loops : ℕ} {spot : Spot} (n own mid : ℕ) → IsSpot d size loops spot → mid ≤ spot.end → n + spot.end ≤ size + mid
-    → own < spot.loops_end → IsReady d n mid spot.next (Some own)
-turn_ready {d} n own mid is le fits numbers =
-    let there = is.loops_there in
-    record {
-      arrays = is.arrays;
-      room = room_in (Some own) (omega (arith, there, numbers)) (room_before n mid le fits is.room);
-      leads = is.next;
     }

@@ -4,6 +4,7 @@ ghost use Rattle.pc_word.specs.SourceLimits.{most_temporaries};
 ghost use Rattle.pc_syntax.specs.Erasure.{expression_of};
 ghost use Rattle.pc_check.specs.Needs.{hold};
 ghost use Rattle.pc_check.specs.Sizes.{operator_size};
+ghost use Rattle.pc_meaning.specs.Expression.{divides};
 ghost use Rattle.pc_meaning.specs.Lowered.{binary_code};
 ghost use Rattle.pc_flow.specs.declared.node.FlowNode.TheVariants.{Op, Test};
 ghost use Rattle.pc_flow.specs.FlowGraph.{IsVariable, ItemFits};
@@ -169,6 +170,16 @@ pub(crate) struct Operation {
     pub line: u32,
 }
 
+/// Whether the right operand of an operator is a divisor.
+fn divides(op: BinaryOp) -> bool
+    ensures { result ≡ divides op }
+{
+    match op {
+        BinaryOp::Div | BinaryOp::Rem => true,
+        _ => false,
+    }
+}
+
 /// A binary operator on two values, behind a test of the divisor where there is one.
 pub(crate) fn lay_operation(
     draft: &mut Draft,
@@ -191,11 +202,9 @@ pub(crate) fn lay_operation(
         next: site.next,
     };
     let at = lay(draft, node, site);
-    match operation.op {
-        BinaryOp::Div | BinaryOp::Rem => {
-            let kind = TrapKind::DivideByZero;
-            lay_guard(draft, right, kind, operation.line, site.leading_to(at))
-        }
-        _ => at,
+    if !divides(operation.op) {
+        return at;
     }
+    let kind = TrapKind::DivideByZero;
+    lay_guard(draft, right, kind, operation.line, site.leading_to(at))
 }

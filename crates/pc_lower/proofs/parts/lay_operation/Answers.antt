@@ -1,4 +1,4 @@
-use Rattle.std.proofs.Common.{arith}
+use Rattle.std.proofs.Common.{sym, ◌∙◌, arith}
 use Rattle.pc_lower.proofs.Layouts.{binary_fits, lays_division}
 use Rattle.pc_lower.proofs.parts.lay_operation.Goals as goal
 
@@ -10,8 +10,8 @@ lay-at-requires-clause-fits c =
       leads = c.requires.leads;
     })
 
-pub returns-in-Div : goal.returns-in-Div
-returns-in-Div c =
+pub returns : goal.returns
+returns c =
     let guarded = rw c.leading_to.ensures at c.lay_guard.ensures in
     lays_division c.args.draft.now _ _ c.args.operation.op c.args.operation.line _ _ _ _ _ c.args.left c.args.right _ c.lay-at.ensures guarded
-    c.binary_item-item.ensures c.in-Div.is
+    c.binary_item-item.ensures (sym c.divides.ensures ∙ c.if-not-divides.false)
