@@ -16,7 +16,7 @@ mod statement;
 pub use checked::Checked;
 pub use error::CheckError;
 pub use laws::laws_of_resolved_programs;
-pub use measure::{need, size};
+pub use measure::{branch_size, hold, need, size, statement_size};
 pub use program::check;
 
 #[cfg(test)]

@@ -7,7 +7,7 @@ use pc_syntax::{BinaryOp, Expr, Program, Stmt, StmtList};
 
 /// How many temporaries hold a value while others are computed: none for a number or a scalar.
 #[tactic(auto, using(pc_syntax::proofs::ErasureLaws::expression_forms))]
-fn hold(expression: &Expr) -> u32
+pub fn hold(expression: &Expr) -> u32
     ensures { result ≡ hold (expression_of expression.now) }
 {
     match expression {
@@ -126,10 +126,10 @@ fn target_size(index: &Option<Expr>, op: &Option<BinaryOp>) -> u32
     }
 }
 
-/// The nodes of a statement, or 4294967295 where there are more.
+/// How many nodes of a flow graph a statement has, or 4294967295 where it has more.
 #[cycle(statement_size)]
 #[tactic(auto, using(pc_syntax::proofs::ErasureLaws::statement_forms), unfolding(crate::specs::Sizes::statement_size))]
-fn statement_size(statement: &Stmt) -> u32
+pub fn statement_size(statement: &Stmt) -> u32
     ensures { result ≡ min (statement_size (statement_of statement.now)) 4294967295 }
 {
     match statement {
@@ -172,7 +172,7 @@ fn statement_size(statement: &Stmt) -> u32
 /// The same of a statement that may be left out.
 #[cycle(statement_size)]
 #[tactic(auto, using(pc_syntax::proofs::ErasureLaws::statement_forms), unfolding(crate::specs::Sizes::statement_size))]
-fn branch_size(statement: &Option<Box<Stmt>>) -> u32
+pub fn branch_size(statement: &Option<Box<Stmt>>) -> u32
     ensures { result ≡ min (branch_size (optional_of statement.now)) 4294967295 }
 {
     match statement {

@@ -12,7 +12,7 @@ use Rattle.pc_check.specs.Sizes.{expression_size, operator_size}
 use Rattle.pc_flow.specs.declared.node.FlowNode.{FlowNode}
 use Rattle.pc_flow.specs.declared.node.FlowNode.TheVariants.{Op}
 use Rattle.pc_flow.specs.FlowGraph.{IsVariable, ItemFits}
-use Rattle.pc_lower.specs.Lowers.{temporary, held, Bounds, Combines, Puts, Assigns}
+use Rattle.pc_lower.specs.Lowers.{temporary, held, Gives, Bounds, Combines, Does, Puts, Assigns}
 use Rattle.pc_lower.specs.models.Drafts.{Draft}
 use Rattle.pc_lower.specs.models.Fills.{Lays}
 use Rattle.pc_lower.specs.models.LowersExpression.{IsReady, IsHeld, MayLower, LaysExpression}
@@ -26,18 +26,6 @@ held_value {arrays} {e} {t} h = value_fits e t (length arrays) h.slots h.tempora
 -- a store fits
 pub store_fits : (array arrays : ℕ) (index value : Operand) → array < arrays → IsVariable index → IsVariable value → ItemFits arrays (Store array index value)
 store_fits array arrays index value there h k = record { reads = (h, (k, tt)); writes = tt; array = there }
-
--- a part that is lowered before nodes that were placed: it leads on to the first of them
-pub ready_part : {d d1 : Draft} {x : SourceExpression} {size to q k m u : ℕ} {inside : Option ℕ} {P : List FlowNode → List ℕ → Type 0}
-    → IsReady d size to q inside → Lays d d1 k m to P → IsHeld d.graph.arrays x u → expression_size x + k ≤ size → 1 ≤ k → MayLower d1 x u m m inside
-ready_part {x = x} ready l kept fits some = record {
-  arrays = rw l.fills.arrays ready.arrays;
-  slots = rw l.fills.arrays kept.slots;
-  temporaries = kept.temporaries;
-  room = room_left (expression_size x) ready.room l fits;
-  leads = placed_first ready.room l some;
-  contiguous = λ none. refl;
-}
 
 -- a scalar that is changed
 pub lays_compound : {a b c d : Draft} {m n j to : ℕ} (scalar line at q : ℕ) (op : BinaryOp) (v : SourceExpression) → scalar < most_scalars
@@ -59,16 +47,27 @@ lays_store {p = p} {m = m} {n = n} {o = o} array line bracket at q i v store bou
     lays_as _ (λ nodes lengths. Assigns nodes lengths array line (Some i) bracket None at v p q)
     (lays_both (lays_both (lays_both store bounds) value) index) (omega arith) (λ nodes h. (m, n, o, h.1, h.0.1, h.0.0.1, h.0.0.0))
 
+-- what is done with the old value of an element
+pub lays_change : {a b c d : Draft} {o r v to : ℕ} (array at q t : ℕ) (op : BinaryOp) (index : Operand) (x : SourceExpression)
+    → Lays a b 1 v to (λ nodes lengths. slice_get nodes v ≡ Some (Op (Store array index (Name (64 + t))) q))
+    → Lays b c (operator_size op) r v (λ nodes lengths. Combines nodes lengths op at (temporary t) (Name (64 + t)) (held x (t + 1)) r v)
+    → LaysExpression x (t + 1) o r r c d
+    → Lays a d (expression_size x + operator_size op + 1) o to (λ nodes lengths. (m n : ℕ) × Gives nodes lengths x (t + 1) o m
+    × Combines nodes lengths op at (temporary t) (Name (temporary t)) (held x (t + 1)) m n × Does nodes lengths n (Store array index (Name (temporary t))) q)
+lays_change {o = o} {r = r} {v = v} array at q t op index x store operation value =
+    lays_as _ (λ nodes lengths. (m n : ℕ) × Gives nodes lengths x (t + 1) o m
+    × Combines nodes lengths op at (temporary t) (Name (temporary t)) (held x (t + 1)) m n × Does nodes lengths n (Store array index (Name (temporary t))) q)
+    (lays_both (lays_both store operation) value) (omega arith) (λ nodes h. (r, v, h.1, h.0.1, h.0.0))
+
 -- an element that is changed
-pub lays_update : {a b c d e f g : Draft} {p m n o r v to : ℕ} (array line bracket at q : ℕ) (op : BinaryOp) (i x : SourceExpression)
-    → Lays a b 1 v to (λ nodes lengths. slice_get nodes v ≡ Some (Op (Store array (held i 0) (Name (64 + hold i))) q))
-    → Lays b c (operator_size op) r v (λ nodes lengths. Combines nodes lengths op at (temporary (hold i)) (Name (64 + hold i)) (held x (hold i + 1)) r v)
-    → LaysExpression x (hold i + 1) o r r c d
-    → Lays d e 1 n o (λ nodes lengths. slice_get nodes n ≡ Some (Op (Load (64 + hold i) array (held i 0)) o))
-    → Lays e f 3 m n (λ nodes lengths. Bounds nodes lengths array bracket (temporary (hold i)) (held i 0) m n)
-    → LaysExpression i 0 p m m f g
-    → Lays a g (expression_size i + expression_size x + (operator_size op + 5)) p to (λ nodes lengths. Assigns nodes lengths array line (Some i) bracket (Some op) at x p q)
-lays_update {p = p} {m = m} {n = n} {o = o} {r = r} {v = v} array line bracket at q op i x store operation value load bounds index =
-    lays_as _ (λ nodes lengths. Assigns nodes lengths array line (Some i) bracket (Some op) at x p q)
-    (lays_both (lays_both (lays_both (lays_both (lays_both store operation) value) load) bounds) index) (omega arith)
-    (λ nodes h. (m, n, o, r, v, h.1, h.0.1, h.0.0.1, h.0.0.0.1, h.0.0.0.0.1, h.0.0.0.0.0))
+pub lays_update : {a b c d : Draft} {p m o to : ℕ} (array line bracket at q : ℕ) (op : BinaryOp) (i x : SourceExpression)
+    → Lays a b (expression_size x + operator_size op + 1) o to (λ nodes lengths. (r v : ℕ) × Gives nodes lengths x (hold i + 1) o r
+    × Combines nodes lengths op at (temporary (hold i)) (Name (temporary (hold i))) (held x (hold i + 1)) r v
+    × Does nodes lengths v (Store array (held i 0) (Name (temporary (hold i)))) q)
+    → Lays b c 4 m o (λ nodes lengths. (n : ℕ) × Bounds nodes lengths array bracket (temporary (hold i)) (held i 0) m n
+    × Does nodes lengths n (Load (temporary (hold i)) array (held i 0)) o)
+    → LaysExpression i 0 p m m c d
+    → Lays a d (expression_size i + expression_size x + (operator_size op + 5)) p to (λ nodes lengths. Assigns nodes lengths array line (Some i) bracket (Some op) at x p q)
+lays_update {p = p} {m = m} {o = o} array line bracket at q op i x change load index =
+    lays_as _ (λ nodes lengths. Assigns nodes lengths array line (Some i) bracket (Some op) at x p q) (lays_both (lays_both change load) index) (omega arith)
+    (λ nodes h. (m, h.0.1.0, o, h.0.0.0, h.0.0.1, h.1, h.0.1.1, h.0.1.2, h.0.0.2, h.0.0.3, h.0.0.4))

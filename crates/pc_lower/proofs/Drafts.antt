@@ -10,7 +10,8 @@ use Rattle.pc_word.proofs.Lists.{set_at, set_length, index_set_same, index_set_o
 use Rattle.pc_flow.specs.declared.node.FlowNode.{FlowNode}
 use Rattle.pc_flow.specs.declared.node.FlowNode.TheVariants.{Op, Test, Stop, Trap}
 use Rattle.pc_flow.specs.FlowGraph.{FlowGraph, IsTarget, Descends, NodeFits}
-use Rattle.pc_lower.specs.models.Drafts.{Draft, IsDraft, IsPlaced, LeadsToPlaced, MayPlace, CanPlace, graph_with, draft_with, CanAim, aimed, CanMark, marked, MayBegin, first_draft}
+use Rattle.pc_lower.proofs.LoopMarks.{header_length, header_outer}
+use Rattle.pc_lower.specs.models.Drafts.{Draft, IsDraft, IsPlaced, LeadsToPlaced, MayPlace, CanPlace, graph_with, draft_with, CanAim, aimed, headed, MayBegin, first_draft}
 
 -- two numbers are the same or not
 decide_same : (i j : ℕ) → (i ≡ j) ⊎ (i ≢ j)
@@ -179,42 +180,41 @@ module _ (draft : Draft) (at : ℕ) (on : Operand) (on_yes on_no turn : ℕ) (ke
     few = keeps.few;
   }
 
--- ---- the mark of a loop
+-- ---- the header of a loop
 
-module _ (draft : Draft) (number : ℕ) (mark : LoopMark) (keeps : IsDraft draft) (can : CanMark draft number mark) where
-  abbrev graph_marked : FlowGraph
-  graph_marked = (marked number mark draft).graph
+module _ (draft : Draft) (number header : ℕ) (keeps : IsDraft draft) where
+  abbrev graph_headed : FlowGraph
+  graph_headed = (headed number header draft).graph
 
   -- as many loops
-  turn-marked : (turn : ℕ) → turn < length draft.graph.loops → turn < length graph_marked.loops
-  turn-marked turn h = subst (λ (n : ℕ). turn < n) (sym (set_length draft.graph.loops number mark)) h
+  turn-headed : (turn : ℕ) → turn < length draft.graph.loops → turn < length graph_headed.loops
+  turn-headed turn h = subst (λ (n : ℕ). turn < n) (sym (header_length draft.graph.loops number header)) h
 
-  leads-marked : (one : FlowNode) → LeadsToPlaced draft.graph one → LeadsToPlaced graph_marked one
-  leads-marked (Op item to) h = record { there = h.there; ranked = h.ranked }
-  leads-marked (Test test one other None) h =
+  leads-headed : (one : FlowNode) → LeadsToPlaced draft.graph one → LeadsToPlaced graph_headed one
+  leads-headed (Op item to) h = record { there = h.there; ranked = h.ranked }
+  leads-headed (Test test one other None) h =
       (record { there = h.0.there; ranked = h.0.ranked }, record { there = h.1.there; ranked = h.1.ranked })
-  leads-marked (Test test one other (Some loop)) h = (h.0, h.1, turn-marked loop h.2)
-  leads-marked Stop h = tt
-  leads-marked (Trap kind line) h = tt
+  leads-headed (Test test one other (Some loop)) h = (h.0, h.1, turn-headed loop h.2)
+  leads-headed Stop h = tt
+  leads-headed (Trap kind line) h = tt
 
-  fits-marked : (from : ℕ) (one : FlowNode) → NodeFits draft.graph from one → NodeFits graph_marked from one
-  fits-marked from (Op item to) f = (f.0, record { target = f.1.target; lower = f.1.lower })
-  fits-marked from (Test test one other None) f =
+  fits-headed : (from : ℕ) (one : FlowNode) → NodeFits draft.graph from one → NodeFits graph_headed from one
+  fits-headed from (Op item to) f = (f.0, record { target = f.1.target; lower = f.1.lower })
+  fits-headed from (Test test one other None) f =
       (f.0, (record { target = f.1.0.target; lower = f.1.0.lower }, record { target = f.1.1.target; lower = f.1.1.lower }))
-  fits-marked from (Test test one other (Some loop)) f = (f.0, (f.1.0, f.1.1, turn-marked loop f.1.2))
-  fits-marked from Stop f = tt
-  fits-marked from (Trap kind line) f = tt
+  fits-headed from (Test test one other (Some loop)) f = (f.0, (f.1.0, f.1.1, turn-headed loop f.1.2))
+  fits-headed from Stop f = tt
+  fits-headed from (Trap kind line) f = tt
 
   -- a loop's outer loop has a smaller number
-  outer-marked : (loop : ℕ) (one : LoopMark) → slice_get graph_marked.loops loop ≡ Some one → IfSome one.outer (λ outer. outer < loop)
-  outer-marked loop one e = elim (set_at draft.graph.loops number loop mark one e) [
-    | inl h ↦ subst (λ (n : ℕ). IfSome one.outer (λ outer. outer < n)) (sym h.0) (subst (λ (m : LoopMark). IfSome m.outer (λ outer. outer < number)) (sym h.1) can.outer)
-    | inr h ↦ keeps.flow.outer_first loop one h.1
-  ]
+  outer-headed : (loop : ℕ) (one : LoopMark) → slice_get graph_headed.loops loop ≡ Some one → IfSome one.outer (λ outer. outer < loop)
+  outer-headed loop one e =
+      let old = header_outer draft.graph.loops number header loop one e in
+      subst (λ (o : Option ℕ). IfSome o (λ outer. outer < loop)) old.2 (keeps.flow.outer_first loop old.0 old.1)
 
   -- the draft stays one
-  pub mark_keeps : IsDraft (marked number mark draft)
-  mark_keeps = record {
+  pub header_keeps : IsDraft (headed number header draft)
+  header_keeps = record {
     flow = record {
       some_nodes = keeps.flow.some_nodes;
       few_nodes = keeps.flow.few_nodes;
@@ -222,11 +222,11 @@ module _ (draft : Draft) (number : ℕ) (mark : LoopMark) (keeps : IsDraft draft
       all_placed = keeps.flow.all_placed;
       begins = keeps.flow.begins;
       few_arrays = keeps.flow.few_arrays;
-      loops_there = λ node loop e. turn-marked loop (keeps.flow.loops_there node loop e);
-      outer_first = outer-marked;
-      nodes_fit = λ from one e. fits-marked from one (keeps.flow.nodes_fit from one e);
+      loops_there = λ node loop e. turn-headed loop (keeps.flow.loops_there node loop e);
+      outer_first = outer-headed;
+      nodes_fit = λ from one e. fits-headed from one (keeps.flow.nodes_fit from one e);
     };
-    leads = λ from one e. leads-marked one (keeps.leads from one e);
+    leads = λ from one e. leads-headed one (keeps.leads from one e);
     below = keeps.below;
     few = keeps.few;
   }

@@ -279,7 +279,8 @@ module _ (nodes : List FlowNode) (lengths : List ℕ) where
       (here nodes h.node g.0 _ a.at g.5) a.value
       (with_value-comes (eval lengths right s1) (trace lengths right s1) (λ b. passes (Binary_node codes.Unequal)) truth
       out1 (standing g.1 h.state) (held right t) w t t g.3 q h.state f.state (gives-comes right t g.1 g.3 g.6 s1 out1 (standing g.1 h.state) refl a.stands)
-      (λ y s2 out2 k b. truth-arrives (held right t) t q y s2 out2 k f.state (here nodes k.node g.3 _ b.at g.7) b.value b.stands (Keeps-trans t t f.state h.state k.state (omega arith) a.keeps b.keeps)))
+      (λ y s2 out2 k b. truth-arrives (held right t) t q y s2 out2 k f.state (here nodes k.node g.3 _ b.at g.7) b.value b.stands
+      (Keeps-trans t t f.state h.state k.state (omega arith) a.keeps b.keeps)))
       (copy-arrives (Lit (pos 0)) t q (pos 0) s1 out1 (standing g.2 h.state) f.state g.8 refl a.stands a.keeps))
   gives-comes (Disjunction left right) t p q g s out f at stands =
       let w = Name (temporary t) in
@@ -292,7 +293,8 @@ module _ (nodes : List FlowNode) (lengths : List ℕ) where
       (copy-arrives (Lit (pos 1)) t q (pos 1) s1 out1 (standing g.1 h.state) f.state g.6 refl a.stands a.keeps)
       (with_value-comes (eval lengths right s1) (trace lengths right s1) (λ b. passes (Binary_node codes.Unequal)) truth
       out1 (standing g.2 h.state) (held right t) w t t g.3 q h.state f.state (gives-comes right t g.2 g.3 g.7 s1 out1 (standing g.2 h.state) refl a.stands)
-      (λ y s2 out2 k b. truth-arrives (held right t) t q y s2 out2 k f.state (here nodes k.node g.3 _ b.at g.8) b.value b.stands (Keeps-trans t t f.state h.state k.state (omega arith) a.keeps b.keeps))))
+      (λ y s2 out2 k b. truth-arrives (held right t) t q y s2 out2 k f.state (here nodes k.node g.3 _ b.at g.8) b.value b.stands
+      (Keeps-trans t t f.state h.state k.state (omega arith) a.keeps b.keeps))))
   gives-comes (Conditional test one other) t p q g s out f at stands =
       let w = Name (temporary t) in
       let first = λ (t : SourceState). traced (trace lengths one t) (eval lengths one t) (λ b. passes Copy_node) in
@@ -303,7 +305,9 @@ module _ (nodes : List FlowNode) (lengths : List ℕ) where
       (here nodes h.node g.0 _ a.at g.6) a.value
       (last-comes (eval lengths one s1) (trace lengths one s1) Copy_node out1 (standing g.1 h.state) (held one t) w t t g.3 q h.state f.state
       (gives-comes one t g.1 g.3 g.7 s1 out1 (standing g.1 h.state) refl a.stands)
-      (λ y s2 out2 k b. copy-arrives (held one t) t q y s2 out2 k f.state (here nodes k.node g.3 _ b.at g.8) b.value b.stands (Keeps-trans t t f.state h.state k.state (omega arith) a.keeps b.keeps)))
+      (λ y s2 out2 k b. copy-arrives (held one t) t q y s2 out2 k f.state (here nodes k.node g.3 _ b.at g.8) b.value b.stands
+      (Keeps-trans t t f.state h.state k.state (omega arith) a.keeps b.keeps)))
       (last-comes (eval lengths other s1) (trace lengths other s1) Copy_node out1 (standing g.2 h.state) (held other t) w t t g.4 q h.state f.state
       (gives-comes other t g.2 g.4 g.9 s1 out1 (standing g.2 h.state) refl a.stands)
-      (λ y s2 out2 k b. copy-arrives (held other t) t q y s2 out2 k f.state (here nodes k.node g.4 _ b.at g.10) b.value b.stands (Keeps-trans t t f.state h.state k.state (omega arith) a.keeps b.keeps))))
+      (λ y s2 out2 k b. copy-arrives (held other t) t q y s2 out2 k f.state (here nodes k.node g.4 _ b.at g.10) b.value b.stands
+      (Keeps-trans t t f.state h.state k.state (omega arith) a.keeps b.keeps))))

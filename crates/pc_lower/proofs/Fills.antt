@@ -23,36 +23,6 @@ get_set_other (y ∷ xs) zero (suc j) x h = refl
 get_set_other (y ∷ xs) (suc i) zero x h = refl
 get_set_other (y ∷ xs) (suc i) (suc j) x h = get_set_other xs i j x (λ e. h (ap suc e))
 
--- ---- one node
-
--- a number outside of one place is another
-other_place : (at i : ℕ) → IsOutside at (at + 1) i → at ≢ i
-other_place at i (inl h) e = omega (arith, h, e)
-other_place at i (inr h) e = omega (arith, h, e)
-
--- placing one node
-pub lays_placed : (draft : Draft) (at : ℕ) (node : FlowNode) (inside : Option ℕ) → IsDraft draft → CanPlace draft at node inside
-    → Lays draft (draft_with at node inside draft) 1 at (at + 1) (λ nodes lengths. slice_get nodes at ≡ Some node)
-lays_placed draft at node inside keeps can =
-    let in_ranks : at < length draft.graph.ranks = subst (λ (n : ℕ). at < n) (sym keeps.flow.all_ranked) can.at_open.there in
-    let ranked = index_set_same draft.graph.ranks at (draft.ranked + 1) in_ranks in
-    record {
-      size_is = refl;
-      fills = record {
-        forward = omega arith;
-        as_many = set_length draft.graph.nodes at node;
-        as_many_loops = refl;
-        arrays = refl;
-        nodes_kept = λ i h. get_set_other draft.graph.nodes at i node (other_place at i h);
-        ranks_kept = λ i h. index_set_other draft.graph.ranks at i (draft.ranked + 1) (other_place at i h);
-        filled = λ i lo hi.
-            let same : at ≡ i = omega (arith, lo, hi) in
-            subst (λ (n : ℕ). 1 ≤ slice_index (slice_set draft.graph.ranks at (draft.ranked + 1)) n) same (omega (arith, ranked));
-        ranked = omega arith;
-      };
-      gives = λ final h. h at (omega arith) (omega arith) ∙ get_set_same draft.graph.nodes at node can.at_open.there;
-    }
-
 -- ---- one part after the other
 
 -- a number outside of two adjoining parts is outside of each
@@ -84,6 +54,7 @@ module _ (a b c : Draft) (from mid to : ℕ) (later : Fills a b mid to) (earlier
         forward = omega (arith, f, g);
         as_many = earlier.as_many ∙ later.as_many;
         as_many_loops = earlier.as_many_loops ∙ later.as_many_loops;
+        same_loops = earlier.same_loops ∙ later.same_loops;
         arrays = earlier.arrays ∙ later.arrays;
         nodes_kept = λ i h. earlier.nodes_kept i (outside_earlier from mid to i f h) ∙ later.nodes_kept i (outside_later from mid to i g h f);
         ranks_kept = λ i h. earlier.ranks_kept i (outside_earlier from mid to i f h) ∙ later.ranks_kept i (outside_later from mid to i g h f);

@@ -1,18 +1,19 @@
 -- The small parts of constructs, of the nodes that were placed for them.
-use Rattle.std.proofs.Common.{◌≡◌, ℕ, ◌⊎◌, inl, inr, Bool, true, Some, refl, sym, ap, subst}
+use Rattle.std.proofs.Common.{◌≡◌, ℕ, ◌<◌, Bool, true, Some, refl, sym, subst}
 use Rattle.std.specs.Prelude.{ℤ, pos, slice_get, slice_index}
 use Rattle.pc_word.specs.declared.item.Item.{Item}
-use Rattle.pc_word.specs.declared.item.Item.TheVariants.{Bin}
+use Rattle.pc_word.specs.declared.item.Item.TheVariants.{Bin, Load}
 use Rattle.pc_word.specs.declared.item.Operand.{Operand}
 use Rattle.pc_word.specs.declared.item.Operand.TheVariants.{Name, Lit}
 use Rattle.pc_word.specs.declared.item.OpCode.TheVariants as codes
 use Rattle.pc_word.specs.declared.item.TrapKind.TheVariants.{DivideByZero, OutOfBounds}
 use Rattle.pc_syntax.specs.declared.operator.BinaryOp.{BinaryOp}
-use Rattle.pc_syntax.specs.declared.operator.BinaryOp.TheVariants.{Div, Rem}
+use Rattle.pc_syntax.specs.declared.operator.BinaryOp.TheVariants.{Div, Rem, Greater, GreaterEq}
 use Rattle.pc_check.specs.Sizes.{operator_size}
 use Rattle.pc_meaning.specs.Expression.{divides}
 use Rattle.pc_flow.specs.declared.node.FlowNode.TheVariants.{Op}
-use Rattle.pc_lower.specs.Lowers.{binary_item, Operates, Bounds, Combines}
+use Rattle.pc_flow.specs.FlowGraph.{IsVariable, ItemFits}
+use Rattle.pc_lower.specs.Lowers.{binary_item, Operates, Bounds, Combines, Does}
 use Rattle.pc_lower.specs.models.Drafts.{Draft}
 use Rattle.pc_lower.specs.models.Fills.{Lays}
 use Rattle.pc_lower.specs.models.LowersExpression.{Guards}
@@ -28,20 +29,35 @@ lays_bounds a b c array line dest p g q to index length l m e =
     let known = subst (λ (z : ℤ). Lays b c 1 p g (λ nodes lengths. slice_get nodes p ≡ Some (Op (Bin codes.Below dest index (Lit z)) g))) e m in
     lays_as 3 _ (lays_both l known) refl (λ nodes h. (g, h.0.0, h.1, h.0.1, h.0.2))
 
--- an operator with a divisor has its test
-has_divisor : (op : BinaryOp) → (op ≡ Div) ⊎ (op ≡ Rem) → (divides op ≡ true) × (3 ≡ operator_size op)
-has_divisor op (inl e) = (ap divides e, ap operator_size (sym e))
-has_divisor op (inr e) = (ap divides e, ap operator_size (sym e))
+-- the item for a binary operator fits
+pub binary_fits : (op : BinaryOp) (dest arrays : ℕ) (a b : Operand) → dest < 96 → IsVariable a → IsVariable b → ItemFits arrays (binary_item op dest a b)
+binary_fits Greater dest arrays a b h k j = record { reads = (j, (k, tt)); writes = h; array = tt }
+binary_fits GreaterEq dest arrays a b h k j = record { reads = (j, (k, tt)); writes = h; array = tt }
+binary_fits _ dest arrays a b h k j = record { reads = (k, (j, tt)); writes = h; array = tt }
 
--- and one with a divisor, behind the test of it
+-- a load behind a bound test
+pub lays_load : {a b c : Draft} {p m to : ℕ} (array line within dest q : ℕ) (index : Operand)
+    → Lays a b 1 m to (λ nodes lengths. slice_get nodes m ≡ Some (Op (Load dest array index) q))
+    → Lays b c 3 p m (λ nodes lengths. Bounds nodes lengths array line within index p m)
+    → Lays a c 4 p to (λ nodes lengths. (n : ℕ) × Bounds nodes lengths array line within index p n × Does nodes lengths n (Load dest array index) q)
+lays_load {p = p} {m = m} array line within dest q index load bounds =
+    lays_as 4 (λ nodes lengths. (n : ℕ) × Bounds nodes lengths array line within index p n × Does nodes lengths n (Load dest array index) q)
+    (lays_both load bounds) refl (λ nodes h. (m, h.1, h.0))
+
+-- an operator with a divisor has its test and a trap besides
+has_divisor : (op : BinaryOp) → divides op ≡ true → 3 ≡ operator_size op
+has_divisor Div e = refl
+has_divisor Rem e = refl
+has_divisor _ e = absurd (cc)
+
+-- an operator with a divisor, behind the test of it
 pub lays_division : (a b c : Draft) (op : BinaryOp) (line dest p m q to : ℕ) (left right : Operand) (item : Item)
     → Lays a b 1 m to (λ nodes lengths. slice_get nodes m ≡ Some (Op item q))
     → Lays b c 2 p m (λ nodes lengths. Guards nodes right DivideByZero line p m)
-    → item ≡ binary_item op dest left right → (op ≡ Div) ⊎ (op ≡ Rem)
+    → item ≡ binary_item op dest left right → divides op ≡ true
     → Lays a c (operator_size op) p to (λ nodes lengths. Combines nodes lengths op line dest left right p q)
 lays_division a b c op line dest p m q to left right item l g e division =
-    let has = has_divisor op division in
     let known = subst (λ (i : Item). Lays a b 1 m to (λ nodes lengths. slice_get nodes m ≡ Some (Op i q))) e l in
-    lays_as (operator_size op) _ (lays_both known g) has.1
-    (λ nodes h. subst (λ (x : Bool). Operates nodes a.graph.arrays x line right (binary_item op dest left right) p q) (sym has.0)
+    lays_as (operator_size op) _ (lays_both known g) (has_divisor op division)
+    (λ nodes h. subst (λ (x : Bool). Operates nodes a.graph.arrays x line right (binary_item op dest left right) p q) (sym division)
     (m, h.1.0, h.1.1, h.1.2, h.0))

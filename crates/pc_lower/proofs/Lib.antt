@@ -1,3 +1,4 @@
+pub mod LoopMarks
 pub mod Drafts
 pub mod Fills
 pub mod Layouts

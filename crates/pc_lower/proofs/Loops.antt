@@ -1,7 +1,6 @@
 -- Loops that are lowered part by part: the test is placed first, then the condition, and what is behind the test last.
 use Rattle.std.proofs.Common.{◌≡◌, ◌≢◌, ℕ, ◌+◌, ◌<◌, ◌≤◌, ◌⊎◌, inl, inr, List, length, Some, sym, ◌∙◌, subst, arith}
 use Rattle.std.specs.Prelude.{slice_get, slice_index}
-use Rattle.pc_word.specs.declared.loop_mark.LoopMark.{LoopMark}
 use Rattle.pc_word.proofs.Lists.{set_length}
 use Rattle.pc_word.proofs.Truth.{decide_le}
 use Rattle.pc_syntax.specs.Source.{SourceExpression}
@@ -11,6 +10,7 @@ use Rattle.pc_lower.specs.Lowers.{Gives}
 use Rattle.pc_lower.specs.models.Drafts.{Draft, IsPlaced}
 use Rattle.pc_lower.specs.models.Fills.{Fills, Keeps, Lays, IsOutside}
 use Rattle.pc_lower.specs.models.LowersStatement.{LaysTurn, closed}
+use Rattle.pc_lower.proofs.LoopMarks.{loops_with_header, header_length}
 use Rattle.pc_lower.proofs.Fills.{fills_both, get_set_same, get_set_other}
 
 -- two adjoining parts are one, where the second is placed behind the first
@@ -37,6 +37,7 @@ module _ (a b c : Draft) (from mid to : ℕ) (front : Fills a b from mid) (back 
         forward = omega (arith, f, g);
         as_many = back.as_many ∙ front.as_many;
         as_many_loops = back.as_many_loops ∙ front.as_many_loops;
+        same_loops = back.same_loops ∙ front.same_loops;
         arrays = back.arrays ∙ front.arrays;
         nodes_kept = λ i h. back.nodes_kept i (outside-back i h) ∙ front.nodes_kept i (outside-front i h);
         ranks_kept = λ i h. back.ranks_kept i (outside-back i h) ∙ front.ranks_kept i (outside-front i h);
@@ -45,16 +46,17 @@ module _ (a b c : Draft) (from mid to : ℕ) (front : Fills a b from mid) (back 
       }
 
 -- the test of a loop that was placed may be aimed
-module _ (a c : Draft) (from to at : ℕ) (node : FlowNode) (own : ℕ) (mark : LoopMark) (fills : Fills a c from to) (lo : from ≤ at) (hi : at < to) where
+module _ (a c : Draft) (from to at : ℕ) (node : FlowNode) (own : ℕ) (header : ℕ) (fills : Fills a c from to) (lo : from ≤ at) (hi : at < to) where
   elsewhere : (i : ℕ) → IsOutside from to i → at ≢ i
   elsewhere i (inl h) e = omega (arith, h, e, lo)
   elsewhere i (inr h) e = omega (arith, h, e, hi)
 
-  pub fills_closed : Fills a (closed at node own mark c) from to
+  pub fills_closed : Fills a (closed at node own header c) from to
   fills_closed = record {
     forward = fills.forward;
     as_many = set_length c.graph.nodes at node ∙ fills.as_many;
-    as_many_loops = set_length c.graph.loops own mark ∙ fills.as_many_loops;
+    as_many_loops = header_length c.graph.loops own header ∙ fills.as_many_loops;
+    same_loops = loops_with_header c.graph.loops own header ∙ fills.same_loops;
     arrays = fills.arrays;
     nodes_kept = λ i h. get_set_other c.graph.nodes at i node (elsewhere i h) ∙ fills.nodes_kept i h;
     ranks_kept = fills.ranks_kept;
@@ -62,17 +64,10 @@ module _ (a c : Draft) (from to at : ℕ) (node : FlowNode) (own : ℕ) (mark : 
     ranked = fills.ranked;
   }
 
--- what was placed stays so
-pub placed_closed : (c : Draft) (i at : ℕ) (node : FlowNode) (own : ℕ) (mark : LoopMark) → IsPlaced c.graph i → IsPlaced (closed at node own mark c).graph i
-placed_closed c i at node own mark h = record {
-  there = subst (λ (n : ℕ). i < n) (sym (set_length c.graph.nodes at node)) h.there;
-  ranked = h.ranked;
-}
-
 -- a part of a closed loop that does not hold the test is as it was
-pub keeps_closed : (c : Draft) (from to lo hi : ℕ) (final : List FlowNode) (at : ℕ) (node : FlowNode) (own : ℕ) (mark : LoopMark)
-    → Keeps (closed at node own mark c) from to final → from ≤ lo → hi ≤ to → IsOutside lo hi at → Keeps c lo hi final
-keeps_closed c from to lo hi final at node own mark h le ge out i above below =
+pub keeps_closed : (c : Draft) (from to lo hi : ℕ) (final : List FlowNode) (at : ℕ) (node : FlowNode) (own : ℕ) (header : ℕ)
+    → Keeps (closed at node own header c) from to final → from ≤ lo → hi ≤ to → IsOutside lo hi at → Keeps c lo hi final
+keeps_closed c from to lo hi final at node own header h le ge out i above below =
     h i (omega (arith, le, above)) (omega (arith, ge, below)) ∙ get_set_other c.graph.nodes at i node (other out)
   where
     other : IsOutside lo hi at → at ≢ i
@@ -80,16 +75,16 @@ keeps_closed c from to lo hi final at node own mark h le ge out i above below =
     other (inr k) e = omega (arith, k, e, below)
 
 -- the test itself is there
-pub test_closed : (c : Draft) (from to : ℕ) (final : List FlowNode) (at : ℕ) (node : FlowNode) (own : ℕ) (mark : LoopMark)
-    → Keeps (closed at node own mark c) from to final → from ≤ at → at < to → at < length c.graph.nodes → slice_get final at ≡ Some node
-test_closed c from to final at node own mark h lo hi there = h at lo hi ∙ get_set_same c.graph.nodes at node there
+pub test_closed : (c : Draft) (from to : ℕ) (final : List FlowNode) (at : ℕ) (node : FlowNode) (own : ℕ) (header : ℕ)
+    → Keeps (closed at node own header c) from to final → from ≤ at → at < to → at < length c.graph.nodes → slice_get final at ≡ Some node
+test_closed c from to final at node own header h lo hi there = h at lo hi ∙ get_set_same c.graph.nodes at node there
 
 -- a condition with its test, what is behind them, and the test aimed
-pub lays_round : {a b c : Draft} {start at to k : ℕ} {P : List FlowNode → List ℕ → Type 0} (x : SourceExpression) (node : FlowNode) (own : ℕ) (mark : LoopMark)
+pub lays_round : {a b c : Draft} {start at to k : ℕ} {P : List FlowNode → List ℕ → Type 0} (x : SourceExpression) (node : FlowNode) (own : ℕ) (header : ℕ)
     → LaysTurn a b x start at → Lays b c k (at + 1) to P → to ≤ length a.graph.nodes
-    → Lays a (closed at node own mark c) (expression_size x + 1 + k) start to
+    → Lays a (closed at node own header c) (expression_size x + 1 + k) start to
     (λ nodes lengths. Gives nodes lengths x 0 start at × (slice_get nodes at ≡ Some node) × P nodes lengths)
-lays_round {a} {b} {c} {start} {at} {to} {k} {P} x node own mark turn l there =
+lays_round {a} {b} {c} {start} {at} {to} {k} {P} x node own header turn l there =
     let e = turn.size_is in
     let s = l.size_is in
     let n = turn.fills.as_many in
@@ -97,27 +92,27 @@ lays_round {a} {b} {c} {start} {at} {to} {k} {P} x node own mark turn l there =
     let whole = fills_behind a b c start (at + 1) to turn.fills l.fills in
     record {
       size_is = omega (arith, e, s);
-      fills = fills_closed a c start to at node own mark whole (omega (arith, e)) (omega (arith, s));
+      fills = fills_closed a c start to at node own header whole (omega (arith, e)) (omega (arith, s));
       gives = λ final h. (
         turn.gives final (front final h),
-        test_closed c _ _ final at node own mark h (omega (arith, e)) (omega (arith, s)) (omega (arith, n, m, s, there)),
-        subst (P final) turn.fills.arrays (l.gives final (keeps_closed c _ _ _ _ final at node own mark h (omega (arith, e)) (omega arith) (inl (omega arith)))),
+        test_closed c _ _ final at node own header h (omega (arith, e)) (omega (arith, s)) (omega (arith, n, m, s, there)),
+        subst (P final) turn.fills.arrays (l.gives final (keeps_closed c _ _ _ _ final at node own header h (omega (arith, e)) (omega arith) (inl (omega arith)))),
       );
     }
   where
-    front : (final : List FlowNode) → Keeps (closed at node own mark c) start to final → Keeps b start at final
+    front : (final : List FlowNode) → Keeps (closed at node own header c) start to final → Keeps b start at final
     front final h i lo hi =
         let e = turn.size_is in
         let s = l.size_is in
-        keeps_closed c _ _ start at final at node own mark h (omega arith) (omega (arith, s)) (inr (omega arith)) i lo hi
+        keeps_closed c _ _ start at final at node own header h (omega arith) (omega (arith, s)) (inr (omega arith)) i lo hi
         ∙ l.fills.nodes_kept i (inl (omega (arith, hi)))
 
 -- a condition with its test, what is before them, and the test aimed
-pub lays_round_before : {a b c : Draft} {start from at k : ℕ} {P : List FlowNode → List ℕ → Type 0} (x : SourceExpression) (node : FlowNode) (own : ℕ) (mark : LoopMark)
+pub lays_round_before : {a b c : Draft} {start from at k : ℕ} {P : List FlowNode → List ℕ → Type 0} (x : SourceExpression) (node : FlowNode) (own : ℕ) (header : ℕ)
     → LaysTurn a b x start at → Lays b c k from start P → at < length a.graph.nodes
-    → Lays a (closed at node own mark c) (k + expression_size x + 1) from (at + 1)
+    → Lays a (closed at node own header c) (k + expression_size x + 1) from (at + 1)
     (λ nodes lengths. P nodes lengths × Gives nodes lengths x 0 start at × (slice_get nodes at ≡ Some node))
-lays_round_before {a} {b} {c} {start} {from} {at} {k} {P} x node own mark turn l there =
+lays_round_before {a} {b} {c} {start} {from} {at} {k} {P} x node own header turn l there =
     let e = turn.size_is in
     let s = l.size_is in
     let n = turn.fills.as_many in
@@ -125,21 +120,16 @@ lays_round_before {a} {b} {c} {start} {from} {at} {k} {P} x node own mark turn l
     let whole = fills_both a b c from start (at + 1) turn.fills l.fills in
     record {
       size_is = omega (arith, e, s);
-      fills = fills_closed a c from (at + 1) at node own mark whole (omega (arith, e, s)) (omega arith);
+      fills = fills_closed a c from (at + 1) at node own header whole (omega (arith, e, s)) (omega arith);
       gives = λ final h. (
-        subst (P final) turn.fills.arrays (l.gives final (keeps_closed c _ _ _ _ final at node own mark h (omega arith) (omega (arith, e)) (inr (omega (arith, e))))),
+        subst (P final) turn.fills.arrays (l.gives final (keeps_closed c _ _ _ _ final at node own header h (omega arith) (omega (arith, e)) (inr (omega (arith, e))))),
         turn.gives final (back final h),
-        test_closed c _ _ final at node own mark h (omega (arith, e, s)) (omega arith) (omega (arith, n, m, there)),
+        test_closed c _ _ final at node own header h (omega (arith, e, s)) (omega arith) (omega (arith, n, m, there)),
       );
     }
   where
-    back : (final : List FlowNode) → Keeps (closed at node own mark c) from (at + 1) final → Keeps b start at final
+    back : (final : List FlowNode) → Keeps (closed at node own header c) from (at + 1) final → Keeps b start at final
     back final h i lo hi =
         let s = l.size_is in
-        keeps_closed c _ _ start at final at node own mark h (omega (arith, s)) (omega arith) (inr (omega arith)) i lo hi
+        keeps_closed c _ _ start at final at node own header h (omega (arith, s)) (omega arith) (inr (omega arith)) i lo hi
         ∙ l.fills.nodes_kept i (inr lo)
-
--- the same of a condition alone, as a part that was placed
-pub turn_laid : {a b : Draft} {x : SourceExpression} {start at : ℕ} → LaysTurn a b x start at
-    → Lays a b (expression_size x + 1) start (at + 1) (λ nodes lengths. Unit {0})
-turn_laid turn = let e = turn.size_is in record { size_is = omega (arith, e); fills = turn.fills; gives = λ final h. tt }

@@ -18,7 +18,7 @@ use Rattle.pc_check.specs.Sound.{has_slots}
 use Rattle.pc_flow.specs.declared.node.FlowNode.{FlowNode}
 use Rattle.pc_flow.specs.declared.node.FlowNode.TheVariants.{Op, Test}
 use Rattle.pc_flow.specs.FlowGraph.{IsVariable, ItemFits}
-use Rattle.pc_lower.specs.Lowers.{temporary, held, prefix_item, Bounds, Combines, Gives}
+use Rattle.pc_lower.specs.Lowers.{temporary, held, prefix_item, Bounds, Combines, Does, Gives}
 use Rattle.pc_lower.specs.models.Drafts.{Draft}
 use Rattle.pc_lower.specs.models.Fills.{Lays, HasRoom}
 use Rattle.pc_lower.specs.models.LowersExpression.{AreLengths, MayLower, LaysExpression, Guards}
@@ -131,10 +131,6 @@ copy_fits dest arrays a h k = record { reads = (k, tt); writes = h; array = tt }
 pub truth_fits : (dest arrays : ℕ) (a : Operand) → dest < 96 → IsVariable a → ItemFits arrays (Bin codes.Unequal dest a (Lit (pos 0)))
 truth_fits dest arrays a h k = record { reads = (k, (tt, tt)); writes = h; array = tt }
 
--- a load
-pub load_fits : (dest arrays array : ℕ) (a : Operand) → dest < 96 → array < arrays → IsVariable a → ItemFits arrays (Load dest array a)
-load_fits dest arrays array a h there k = record { reads = (k, tt); writes = h; array = there }
-
 -- the value of a part that was measured
 pub value_fits : (x : SourceExpression) (u arrays : ℕ) → has_slots most_scalars arrays x ≡ true → u + need x ≤ most_temporaries → IsVariable (held x u)
 value_fits x u arrays slots h = let n = hold_needed x in held_fits x u arrays slots (omega (arith, n, h))
@@ -160,33 +156,28 @@ module _ {d : Draft} {array line at : ℕ} {x : SourceExpression} {t to q : ℕ}
   pub element_place : IsVariable (held x t)
   element_place = value_fits x t (length d.graph.arrays) element-slots.1 element-needs.0
 
-  pub element_room : HasRoom d 1 to inside
+  pub element_array : array < length d.graph.arrays
+  element_array = element-slots.0
+
+  pub element_first : t < most_temporaries
+  element_first = element-needs.1.1
+
+  pub element_room : HasRoom d 4 to inside
   unfolding expression_size
-  element_room = less_room 1 (omega arith) may.room
+  element_room = less_room 4 (omega arith) may.room
 
-  pub element_item : ItemFits (length d.graph.arrays) (Load (64 + t) array (held x t))
-  element_item = let n = element-needs.1.1 in load_fits (64 + t) (length d.graph.arrays) array (held x t) (omega (arith, n)) element-slots.0 element_place
+  pub element_index : {d1 : Draft} {m : ℕ} {P : List FlowNode → List ℕ → Type 0} → Lays d d1 4 m to P → MayLower d1 x t m m inside
+  unfolding expression_size
+  element_index l = may_part x t may l element-slots.1 element-needs.0 (omega arith) (omega arith)
 
-  module _ {d1 : Draft} {n : ℕ} {P : List FlowNode → List ℕ → Type 0} (l : Lays d d1 1 n to P) where
-    pub bounds_room : HasRoom d1 3 n inside
-    unfolding expression_size
-    bounds_room = room_left 3 may.room l (omega arith)
-
-    pub bounds_array : array < length d1.graph.arrays
-    bounds_array = subst (λ (arrays : List ℕ). array < length arrays) (sym l.fills.arrays) element-slots.0
-
-    pub element_index : {d2 : Draft} {m : ℕ} {Q : List FlowNode → List ℕ → Type 0} → Lays d1 d2 3 m n Q → MayLower d2 x t m m inside
-    unfolding expression_size
-    element_index k = may_part x t may (lays_both l k) element-slots.1 element-needs.0 (omega arith) (omega arith)
-
-pub lays_element : {a b c e : Draft} {p m n to : ℕ} (array line at : ℕ) (x : SourceExpression) (t q : ℕ)
-    → Lays a b 1 n to (λ nodes lengths. slice_get nodes n ≡ Some (Op (Load (64 + t) array (held x t)) q))
-    → Lays b c 3 m n (λ nodes lengths. Bounds nodes lengths array at (temporary (t + hold x)) (held x t) m n)
-    → LaysExpression x t p m m c e → LaysExpression (Indexed array line at x) t p to q a e
+pub lays_element : {a b c : Draft} {p m to : ℕ} (array line at : ℕ) (x : SourceExpression) (t q : ℕ)
+    → Lays a b 4 m to (λ nodes lengths. (n : ℕ) × Bounds nodes lengths array at (temporary (t + hold x)) (held x t) m n
+    × Does nodes lengths n (Load (temporary t) array (held x t)) q)
+    → LaysExpression x t p m m b c → LaysExpression (Indexed array line at x) t p to q a c
 unfolding expression_size
-lays_element {p = p} {m = m} {n = n} array line at x t q load bounds index =
-    lays_as (expression_size x + 4) (λ nodes lengths. Gives nodes lengths (Indexed array line at x) t p q) (lays_both (lays_both load bounds) index) (omega arith)
-    (λ nodes h. (m, n, h.1, h.0.1, h.0.0))
+lays_element {p = p} {m = m} array line at x t q load index =
+    lays_as (expression_size x + 4) (λ nodes lengths. Gives nodes lengths (Indexed array line at x) t p q) (lays_both load index) refl
+    (λ nodes h. (m, h.0.0, h.1, h.0.1, h.0.2))
 
 -- ---- a binary operator
 

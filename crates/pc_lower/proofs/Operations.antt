@@ -56,11 +56,6 @@ prefix-item Minus d a = record { left = Lit (pos 0); right = a; same = refl; val
 prefix-item Flip d a = record { left = a; right = Lit (negsuc 0); same = refl; value = λ n. refl }
 prefix-item Not d a = record { left = a; right = Lit (pos 0); same = refl; value = λ n. refl }
 
--- a test's value holds where the test does
-pub holds-test : (b : Bool) → holds (word_of_test b) ≡ b
-holds-test true = refl
-holds-test false = refl
-
 -- where names up to an expression's temporary are kept, so is its value
 pub held-kept : (nodes : List FlowNode) (lengths : List ℕ) (e : SourceExpression) (t p q : ℕ) → Gives nodes lengths e t p q → (old new : State) → Keeps (t + hold e) old new
     → operand_value new.names (held e t) ≡ operand_value old.names (held e t)

@@ -62,10 +62,6 @@ remaining x = (state_at_end x).turns
 abbrev pub Paid : (w c n : ℕ) → Completion → List Kind → Type 0
 Paid w c n x ks = n ≤ remaining x + cost w (length ks) + c
 
--- an outcome in which all turns are left
-pay_nothing : (w c n : ℕ) (s : SourceState) (ks : List Kind) → n ≡ s.turns → Paid w c n (GoesOn s) ks
-pay_nothing w c n s ks e = omega (arith, e)
-
 -- a value, and what is done with it
 do_with-paid : (w c n : ℕ) (x : Evaluated) (ks : List Kind) (next : ℤ → SourceState → List Kind) (kont : ℤ → SourceState → Completion)
     → (state_given x).turns ≡ n → ((v : ℤ) (s : SourceState) → s.turns ≡ n → Paid w c n (kont v s) (next v s)) → Paid w c n (do_with x kont) (traced ks x next)
@@ -168,7 +164,8 @@ turn_from-paid : (w c left : ℕ) (s : SourceState) (body : SourceState → Comp
 turn_from-paid w c zero s body passed h = omega arith
 turn_from-paid w c (suc left) s body passed h = let p = h left (omega arith) in omega (arith, p)
 
-module _ (w cb cs : ℕ) (fits : cb + cs ≤ w) (test : SourceState → Evaluated) (test_trace : SourceState → List Kind) (step : SourceState → Completion) (step_trace : SourceState → List Kind) (body : SourceState → Completion) (body_trace : SourceState → List Kind)
+module _ (w cb cs : ℕ) (fits : cb + cs ≤ w) (test : SourceState → Evaluated) (test_trace : SourceState → List Kind)
+    (step : SourceState → Completion) (step_trace : SourceState → List Kind) (body : SourceState → Completion) (body_trace : SourceState → List Kind)
     (test-keeps : (n : ℕ) (s : SourceState) → s.turns ≡ n → (state_given (test s)).turns ≡ n)
     (step-pays : (s : SourceState) → Paid w cs s.turns (step s) (step_trace s)) (step-falls : (s : SourceState) → (state_at_end (step s)).turns ≤ s.turns)
     (body-pays : (s : SourceState) → Paid w cb s.turns (body s) (body_trace s)) (body-falls : (s : SourceState) → (state_at_end (body s)).turns ≤ s.turns) where
@@ -257,10 +254,12 @@ mutual
       let after = loop_trace_from (eval lengths test) (trace lengths test) (execute_optional lengths step) (optional_trace lengths step) (execute lengths body) (statement_trace lengths body) in
       let fits : dos body + dos_optional step ≤ w = omega (arith, le) in
       let c = dos_list first + 0 in
-      weaken w c (dos_list first + dos_optional step + dos body) s.turns s.turns (then_do (execute_list lengths first s) next) (traced_on (list_trace lengths first s) (execute_list lengths first s) after)
+      weaken w c (dos_list first + dos_optional step + dos body) s.turns s.turns (then_do (execute_list lengths first s) next)
+      (traced_on (list_trace lengths first s) (execute_list lengths first s) after)
       (omega arith) refl
       (then-paid w (dos_list first) 0 s.turns (execute_list lengths first s) (list_trace lengths first s) after next (execute_list-paid lengths w first (omega (arith, le)) s)
-      (λ u less. loop_from-paid w (dos body) (dos_optional step) fits (eval lengths test) (trace lengths test) (execute_optional lengths step) (optional_trace lengths step) (execute lengths body) (statement_trace lengths body)
+      (λ u less. loop_from-paid w (dos body) (dos_optional step) fits (eval lengths test) (trace lengths test)
+      (execute_optional lengths step) (optional_trace lengths step) (execute lengths body) (statement_trace lengths body)
       (eval-turns lengths test) (execute_optional-paid lengths w step (omega (arith, le))) (execute_optional-steady lengths step).turns_fall
       (execute-paid lengths w body (omega (arith, le))) (execute-steady lengths body).turns_fall u))
   execute-paid lengths w (source.BreakOut line) le s = omega arith

@@ -10,14 +10,14 @@ use Rattle.pc_word.specs.SourceLimits.{most_scalars}
 use Rattle.pc_word.proofs.Truth.{less_of}
 use Rattle.pc_check.specs.Sizes.{expression_size}
 use Rattle.pc_flow.specs.declared.node.FlowNode.{FlowNode}
-use Rattle.pc_flow.specs.declared.node.FlowNode.TheVariants.{Op, Test}
+use Rattle.pc_flow.specs.declared.node.FlowNode.TheVariants.{Test}
 use Rattle.pc_flow.specs.FlowGraph.{IsVariable, ItemFits}
-use Rattle.pc_lower.specs.Lowers.{held, Does, Tests, Gives}
+use Rattle.pc_lower.specs.Lowers.{held, Gives}
 use Rattle.pc_lower.specs.declared.spot.Spot.{Spot}
 use Rattle.pc_lower.specs.models.Drafts.{Draft, IsPlaced}
 use Rattle.pc_lower.specs.models.Fills.{Fills, Lays, HasRoom}
 use Rattle.pc_lower.specs.models.LowersExpression.{IsReady, IsHeld, MayLower, LaysExpression}
-use Rattle.pc_lower.specs.models.LowersStatement.{LaysTurn, IsSpot}
+use Rattle.pc_lower.specs.models.LowersStatement.{ConditionNodes, LaysTurn, IsSpot}
 use Rattle.pc_lower.proofs.Fills.{fills_both, lays_both, lays_as, room_left, placed_still}
 use Rattle.pc_lower.proofs.Lowered.{operator_some}
 
@@ -70,6 +70,7 @@ lays_nothing d to P f = record {
     forward = omega arith;
     as_many = refl;
     as_many_loops = refl;
+    same_loops = refl;
     arrays = refl;
     nodes_kept = λ i h. refl;
     ranks_kept = λ i h. refl;
@@ -101,18 +102,11 @@ value_alone {x = x} ready value h = record {
 }
 
 -- a condition and its test
-pub lays_condition : {a b c : Draft} {start m to y z : ℕ} (x : SourceExpression)
+pub lays_condition : {a b c : Draft} {start m to : ℕ} (x : SourceExpression) (y z : ℕ)
     → Lays a b 1 m to (λ nodes lengths. slice_get nodes m ≡ Some (Test (held x 0) y z None)) → LaysExpression x 0 start m m b c
-    → Lays a c (expression_size x + 1) start to (λ nodes lengths. (n : ℕ) × Gives nodes lengths x 0 start n × Tests nodes lengths n (held x 0) y z)
-lays_condition {start = start} {m = m} {y = y} {z = z} x test value =
-    lays_as _ (λ nodes lengths. (n : ℕ) × Gives nodes lengths x 0 start n × Tests nodes lengths n (held x 0) y z) (lays_both test value) refl (λ nodes h. (m, h.1, h.0))
-
--- a value and its print
-pub lays_print : {a b c : Draft} {start m to q : ℕ} (x : SourceExpression)
-    → Lays a b 1 m to (λ nodes lengths. slice_get nodes m ≡ Some (Op (Print (held x 0)) q)) → LaysExpression x 0 start m m b c
-    → Lays a c (expression_size x + 1) start to (λ nodes lengths. (n : ℕ) × Gives nodes lengths x 0 start n × Does nodes lengths n (Print (held x 0)) q)
-lays_print {start = start} {m = m} {q = q} x print value =
-    lays_as _ (λ nodes lengths. (n : ℕ) × Gives nodes lengths x 0 start n × Does nodes lengths n (Print (held x 0)) q) (lays_both print value) refl (λ nodes h. (m, h.1, h.0))
+    → Lays a c (expression_size x + 1) start to (ConditionNodes x y z start)
+lays_condition {start = start} {m = m} x y z test value =
+    lays_as _ (ConditionNodes x y z start) (lays_both test value) refl (λ nodes h. record { is = (m, h.1, h.0) })
 
 -- the condition of a loop and its test
 pub lays_turn : {a b c : Draft} {start m to at : ℕ} {P : List FlowNode → List ℕ → Type 0} (x : SourceExpression) → at + 1 ≡ to
@@ -131,49 +125,7 @@ lays_turn {a} {b} {c} {start} {m} {to} {at} {P} x e test value =
 pub print_fits : (arrays : ℕ) (value : Operand) → IsVariable value → ItemFits arrays (Print value)
 print_fits arrays value h = record { reads = (h, tt); writes = tt; array = tt }
 
--- ---- room
-
--- room before a number, where what is behind it is left for later
-pub room_before : {d : Draft} {size to : ℕ} {inside : Option ℕ} (k mid : ℕ) → mid ≤ to → k + to ≤ size + mid → HasRoom d size to inside → HasRoom d k mid inside
-room_before {d} {size} {to} {inside} k mid le fits room =
-    let w = room.within in
-    let there = room.there in
-    let r = room.ranks in
-    record {
-      within = omega (arith, w, fits);
-      there = omega (arith, le, there);
-      unranked = λ i lo hi. room.unranked i (omega (arith, lo, le)) (omega (arith, hi, fits));
-      ranks = omega (arith, r, fits, le);
-      loop_there = room.loop_there;
-    }
-
--- room in another loop
-pub room_in : {d : Draft} {size to : ℕ} {inside : Option ℕ} (other : Option ℕ) → IfSome other (λ loop. loop < length d.graph.loops)
-    → HasRoom d size to inside → HasRoom d size to other
-room_in other there room = record { within = room.within; there = room.there; unranked = room.unranked; ranks = room.ranks; loop_there = there }
-
--- room that is left behind a part
-pub room_behind : {a b : Draft} {size to from mid : ℕ} {inside : Option ℕ} (k : ℕ) → HasRoom a size to inside → Fills a b from mid → k + mid ≡ to → to ≤ size + from
-    → HasRoom b k to inside
-room_behind {a} {b} {size} {to} {from} {mid} {inside} k room fills e fits =
-    let there = room.there in
-    let r = room.ranks in
-    let s = fills.ranked in
-    let n = fills.as_many in
-    record {
-      within = omega (arith, e);
-      there = omega (arith, there, n);
-      unranked = λ i lo hi. fills.ranks_kept i (inr (omega (arith, e, hi))) ∙ room.unranked i lo (omega (arith, hi, e, fits));
-      ranks = omega (arith, r, s, e, fits);
-      loop_there = subst (λ (x : ℕ). IfSome inside (λ loop. loop < x)) (sym fills.as_many_loops) room.loop_there;
-    }
-
 -- ---- spots of parts
-
--- what holds of a number that there is or none
-pub if_some : (o : Option ℕ) {P Q : ℕ → Type 0} → ((x : ℕ) → P x → Q x) → IfSome o P → IfSome o Q
-if_some None f h = tt
-if_some (Some x) f h = f x h
 
 -- the spot of a part that is placed before another one, and leads on to it
 pub spot_before : {d d1 : Draft} {size loops k start entry : ℕ} {spot : Spot} {P : List FlowNode → List ℕ → Type 0} (rest few done ends : ℕ)
@@ -192,36 +144,4 @@ spot_before {d} {d1} {size} {loops} {k} {start} {entry} {spot} rest few done end
       returns = placed_still l is.returns;
       loops_there = omega (arith, there, as_many, e);
       numbers = omega (arith, numbers, below, e);
-      outer = if_some spot.inside (λ x h. omega (arith, h, numbers, e)) is.outer;
-    }
-
--- the spot of a part in a loop
-pub spot_in : {d d1 : Draft} {size loops k from to : ℕ} {spot : Spot} {P : List FlowNode → List ℕ → Type 0} (own rest few : ℕ) (part : Spot)
-    → IsSpot d size loops spot → Lays d d1 k from to P → HasRoom d1 rest part.end spot.inside → IsPlaced d1.graph part.next → IsPlaced d1.graph part.break_to
-    → IsPlaced d1.graph part.continue_to → IsPlaced d1.graph part.return_to → part.inside ≡ Some own → part.loops_end ≤ spot.loops_end → own + few < part.loops_end
-    → IsSpot d1 rest few part
-spot_in {d} {d1} {spot = spot} own rest few part is l room follows breaks continues returns within le numbers =
-    let there = is.loops_there in
-    let as_many = l.fills.as_many_loops in
-    record {
-      arrays = rw l.fills.arrays is.arrays;
-      room = room_in part.inside (subst (λ (o : Option ℕ). IfSome o (λ loop. loop < length d1.graph.loops)) (sym within) (omega (arith, there, as_many, le, numbers))) room;
-      next = follows;
-      breaks = breaks;
-      continues = continues;
-      returns = returns;
-      loops_there = omega (arith, there, as_many, le);
-      numbers = omega (arith, numbers);
-      outer = subst (λ (o : Option ℕ). IfSome o (λ loop. loop + few < part.loops_end)) (sym within) numbers;
-    }
-
--- the place of a loop's condition
-pub turn_ready : {d : Draft} {size loops : ℕ} {spot : Spot} (n own mid : ℕ) → IsSpot d size loops spot → mid ≤ spot.end → n + spot.end ≤ size + mid
-    → own < spot.loops_end → IsReady d n mid spot.next (Some own)
-turn_ready {d} n own mid is le fits numbers =
-    let there = is.loops_there in
-    record {
-      arrays = is.arrays;
-      room = room_in (Some own) (omega (arith, there, numbers)) (room_before n mid le fits is.room);
-      leads = is.next;
     }

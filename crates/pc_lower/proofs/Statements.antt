@@ -257,7 +257,8 @@ module _ (nodes : List FlowNode) (lengths : List ℕ) where
   turn_from-comes (suc left) body passed y q b c h s out f at stands = h (set_turns left s) out f at (Stands-turn left s out f.state stands)
 
   -- a loop from h to q, whose condition comes to its test at m, whose body begins at y and comes to n, and whose step comes from n to h
-  module _ (test : SourceState → Evaluated) (test_trace : SourceState → List Kind) (step : SourceState → Completion) (step_trace : SourceState → List Kind) (body : SourceState → Completion) (body_trace : SourceState → List Kind)
+  module _ (test : SourceState → Evaluated) (test_trace : SourceState → List Kind)
+      (step : SourceState → Completion) (step_trace : SourceState → List Kind) (body : SourceState → Completion) (body_trace : SourceState → List Kind)
       (w : Operand) (h m y n q b c : ℕ) (tests-at : TestsTurn nodes lengths m w y q)
       (test-comes : (s : SourceState) (out : List ℤ) (f : FlowState) → f.node ≡ h → Stands s out f.state → Comes nodes lengths (test_trace s) out f (Valued nodes w 0 m f.state (test s)))
       (step-comes : (s : SourceState) (out : List ℤ) (f : FlowState) → f.node ≡ n → Stands s out f.state → Comes nodes lengths (step_trace s) out f (Finished nodes h b c (step s)))

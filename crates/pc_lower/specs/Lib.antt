@@ -3,3 +3,4 @@ pub mod Kinds
 pub mod Laws
 pub mod Lowers
 pub mod Lowered
+pub mod SourceLoops

@@ -9,6 +9,7 @@ use Rattle.pc_meaning.specs.Trace.{trace_of}
 use Rattle.pc_flow.specs.FlowGraph.{FlowGraph}
 use Rattle.pc_flow.specs.FlowRun.{flow_start, flow_run}
 use Rattle.pc_lower.specs.Kinds.{kinds_from}
+use Rattle.pc_lower.specs.SourceLoops.{source_loops, loops_of}
 use Rattle.pc_lower.specs.declared.error.LowerError.{LowerError}
 use Rattle.pc_lower.specs.declared.error.LowerError.TheVariants.{TooLarge, Memory}
 
@@ -21,6 +22,7 @@ pub record IsLowered (program : ResolvedProgram) (flow : FlowGraph) : Type 0 whe
       → kinds_from flow.nodes flow.arrays (length (trace_of program input n)) (flow_start flow.entry input) ≡ trace_of program input n
   pub counted : length flow.nodes ≡ resolved_size program
   pub arrays : flow.arrays ≡ program.arrays
+  pub loops : source_loops flow.loops ≡ loops_of program
   pub few : resolved_size program ≤ most_nodes
 
 -- Why a program of a size has no flow graph: it has too many nodes, and they are told, as far as a number goes; or

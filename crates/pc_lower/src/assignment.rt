@@ -1,21 +1,50 @@
 //! Assignments and declarations of scalars, lowered backwards. Their temporaries begin at 0.
 ghost use Rattle.std.specs.Prelude.{◌≡◌, ◌+◌, ◌<◌, ◌≤◌, ℕ, true, Some, None, option_map, length};
 ghost use Rattle.pc_word.specs.SourceLimits.{most_scalars, most_temporaries};
+ghost use Rattle.pc_word.specs.declared.item.Item.TheVariants.{Store};
+ghost use Rattle.pc_word.specs.declared.item.Operand.TheVariants.{Name};
 ghost use Rattle.pc_syntax.specs.Erasure.{expression_of};
 ghost use Rattle.pc_syntax.specs.Source.{Combined, Variable};
 ghost use Rattle.pc_check.specs.Needs.{hold, optional_need, assignment_need};
 ghost use Rattle.pc_check.specs.Sizes.{expression_size, operator_size, optional_size, target_size};
 ghost use Rattle.pc_check.specs.Sound.{has_slots, optional_has_slots, has_target};
-ghost use Rattle.pc_lower.specs.Lowers.{Puts, Assigns, Declares};
+ghost use Rattle.pc_flow.specs.FlowGraph.{IsVariable};
+ghost use Rattle.pc_lower.specs.Lowers.{temporary, held, Gives, Combines, Does, Puts, Assigns, Declares};
 ghost use Rattle.pc_lower.specs.models.Fills.{Lays};
 ghost use Rattle.pc_lower.specs.models.LowersExpression.{IsReady, IsHeld};
 
 use crate::draft::Draft;
+use crate::element::{Element, lay_bounds, lay_load};
 use crate::expression::lower_expression;
-use crate::parts::{held, hold, lay_bounds, lay_item, lay_operation};
+use crate::parts::{Operation, held, lay_item, lay_operation};
 use crate::site::Site;
+use pc_check::hold;
 use pc_syntax::{BinaryOp, Expr};
 use pc_word::{Item, Operand};
+
+/// What an assignment is, beside its index and its value: the scalar or the array, the line of the
+/// bracket, and the operator, if any, with its line.
+#[derive(Clone, Copy, Debug)]
+pub(crate) struct Target {
+    pub name: u32,
+    pub bracket: u32,
+    pub op: Option<BinaryOp>,
+    pub at: u32,
+}
+
+impl Target {
+    /// The element of the array, where its index is known.
+    fn element(self, index: Operand) -> Element
+        requires { self.name ≤ 255 }
+        ensures { result ≡ record { array = self.name; line = self.bracket; index = index } }
+    {
+        Element {
+            array: self.name as u8,
+            line: self.bracket,
+            index,
+        }
+    }
+}
 
 /// A value that is put into a scalar.
 fn lower_put(draft: &mut Draft, scalar: u32, value: &Expr, site: Site) -> u32
@@ -34,146 +63,147 @@ fn lower_put(draft: &mut Draft, scalar: u32, value: &Expr, site: Site) -> u32
 fn lower_compound(
     draft: &mut Draft,
     scalar: u32,
-    op: BinaryOp,
-    at: u32,
+    operation: Operation,
     value: &Expr,
     site: Site,
 ) -> u32
-    requires ready { IsReady draft.now (expression_size (expression_of value.now) + operator_size op + 1) site.end site.next
+    requires ready { IsReady draft.now (expression_size (expression_of value.now) + operator_size operation.op + 1) site.end site.next
         site.inside }
     requires scalar { scalar < most_scalars }
     requires value { IsHeld draft.now.graph.arrays (expression_of value.now) 0 }
-    ensures { (line : ℕ) → Lays draft.old draft.new (expression_size (expression_of value.now) + operator_size op + 1) result
+    ensures { Lays draft.old draft.new (expression_size (expression_of value.now) + operator_size operation.op + 1) result
         site.end (λ nodes lengths. Puts nodes lengths scalar
-        (Combined op at (Variable scalar line) (expression_of value.now)) result site.next) }
+        (Combined operation.op operation.line (Variable scalar 0) (expression_of value.now)) result site.next) }
 {
     let from = Operand::Name(64);
     let last = lay_item(draft, Item::Copy { dest: scalar, from }, site);
     let second = held(value, 0);
     let first = Operand::Name(scalar);
-    let middle = lay_operation(draft, op, at, first, second, site.leading_to(last).above(0));
+    let within = site.leading_to(last).above(0);
+    let middle = lay_operation(draft, operation, first, second, within);
     lower_expression(draft, value, site.leading_to(middle).above(0))
 }
 
 /// A value that is stored into an element: the index, the value, the bound test and the store.
-fn lower_store(
-    draft: &mut Draft,
-    array: u8,
-    bracket: u32,
-    index: &Expr,
-    value: &Expr,
-    site: Site,
-) -> u32
+fn lower_store(draft: &mut Draft, element: Element, index: &Expr, value: &Expr, site: Site) -> u32
     requires ready { IsReady draft.now (expression_size (expression_of index.now) + expression_size (expression_of value.now) + 4)
         site.end site.next site.inside }
-    requires array { array < length draft.now.graph.arrays }
+    requires array { element.array < length draft.now.graph.arrays }
+    requires place { element.index ≡ held (expression_of index.now) 0 }
     requires index { IsHeld draft.now.graph.arrays (expression_of index.now) 0 }
     requires value { IsHeld draft.now.graph.arrays (expression_of value.now) (hold (expression_of index.now)) }
     requires temporaries { hold (expression_of index.now) + hold (expression_of value.now) < most_temporaries }
-    ensures { (line at : ℕ) → Lays draft.old draft.new
+    ensures { Lays draft.old draft.new
         (expression_size (expression_of index.now) + expression_size (expression_of value.now) + 4) result site.end
-        (λ nodes lengths. Assigns nodes lengths array line (Some (expression_of index.now)) bracket None at
+        (λ nodes lengths. Assigns nodes lengths element.array 0 (Some (expression_of index.now)) element.line None 0
         (expression_of value.now) result site.next) }
 {
     let above = hold(index);
-    let place = held(index, 0);
     let store = Item::Store {
-        array,
-        index: place,
+        array: element.array,
+        index: element.index,
         value: held(value, above),
     };
     let last = lay_item(draft, store, site);
     let within = site.leading_to(last).above(above + hold(value));
-    let bounds = lay_bounds(draft, array, bracket, place, within);
+    let bounds = lay_bounds(draft, element, within);
     let middle = lower_expression(draft, value, site.leading_to(bounds).above(above));
     lower_expression(draft, index, site.leading_to(middle).above(0))
+}
+
+/// What is done with the old value of an element, which stands in the site's temporary: the value,
+/// the operation and the store.
+fn lower_change(
+    draft: &mut Draft,
+    element: Element,
+    operation: Operation,
+    value: &Expr,
+    site: Site,
+) -> u32
+    requires ready { IsReady draft.now (expression_size (expression_of value.now) + operator_size operation.op + 1) site.end site.next
+        site.inside }
+    requires array { element.array < length draft.now.graph.arrays }
+    requires index { IsVariable element.index }
+    requires value { IsHeld draft.now.graph.arrays (expression_of value.now) (site.temporary + 1) }
+    ensures { Lays draft.old draft.new (expression_size (expression_of value.now) + operator_size operation.op + 1) result site.end
+        (λ nodes lengths. (m n : ℕ) × Gives nodes lengths (expression_of value.now) (site.temporary + 1) result m
+        × Combines nodes lengths operation.op operation.line (temporary site.temporary) (Name (temporary site.temporary))
+        (held (expression_of value.now) (site.temporary + 1)) m n
+        × Does nodes lengths n (Store element.array element.index (Name (temporary site.temporary))) site.next) }
+{
+    let old = Operand::Name(64 + site.temporary);
+    let store = Item::Store {
+        array: element.array,
+        index: element.index,
+        value: old,
+    };
+    let last = lay_item(draft, store, site);
+    let above = site.temporary + 1;
+    let second = held(value, above);
+    let middle = lay_operation(draft, operation, old, second, site.leading_to(last));
+    lower_expression(draft, value, site.leading_to(middle).above(above))
 }
 
 /// An element that is changed by an operator and a value: the index, the bound test, the load, the
 /// value, the operation and the store.
 fn lower_update(
     draft: &mut Draft,
-    array: u8,
-    bracket: u32,
+    element: Element,
     index: &Expr,
-    op: BinaryOp,
-    at: u32,
+    operation: Operation,
     value: &Expr,
     site: Site,
 ) -> u32
     requires ready { IsReady draft.now (expression_size (expression_of index.now) + expression_size (expression_of value.now)
-        + (operator_size op + 5)) site.end site.next site.inside }
-    requires array { array < length draft.now.graph.arrays }
+        + (operator_size operation.op + 5)) site.end site.next site.inside }
+    requires array { element.array < length draft.now.graph.arrays }
+    requires place { element.index ≡ held (expression_of index.now) 0 }
     requires index { IsHeld draft.now.graph.arrays (expression_of index.now) 0 }
     requires value { IsHeld draft.now.graph.arrays (expression_of value.now) (hold (expression_of index.now) + 1) }
-    ensures { (line : ℕ) → Lays draft.old draft.new
-        (expression_size (expression_of index.now) + expression_size (expression_of value.now) + (operator_size op + 5)) result
-        site.end (λ nodes lengths. Assigns nodes lengths array line (Some (expression_of index.now)) bracket (Some op) at
-        (expression_of value.now) result site.next) }
+    ensures { Lays draft.old draft.new
+        (expression_size (expression_of index.now) + expression_size (expression_of value.now) + (operator_size operation.op + 5))
+        result site.end (λ nodes lengths. Assigns nodes lengths element.array 0 (Some (expression_of index.now)) element.line
+        (Some operation.op) operation.line (expression_of value.now) result site.next) }
 {
     let above = hold(index);
-    let place = held(index, 0);
-    let old = Operand::Name(64 + above);
-    let store = Item::Store {
-        array,
-        index: place,
-        value: old,
-    };
-    let last = lay_item(draft, store, site);
-    let added = held(value, above + 1);
-    let operation = lay_operation(
-        draft,
-        op,
-        at,
-        old,
-        added,
-        site.leading_to(last).above(above),
-    );
-    let middle = lower_expression(draft, value, site.leading_to(operation).above(above + 1));
-    let load = Item::Load {
-        dest: 64 + above,
-        array,
-        index: place,
-    };
-    let loaded = lay_item(draft, load, site.leading_to(middle));
-    let bounds = lay_bounds(
-        draft,
-        array,
-        bracket,
-        place,
-        site.leading_to(loaded).above(above),
-    );
-    lower_expression(draft, index, site.leading_to(bounds).above(0))
+    let changed = lower_change(draft, element, operation, value, site.above(above));
+    let within = site.leading_to(changed).above(above);
+    let loaded = lay_load(draft, element, above, within);
+    lower_expression(draft, index, site.leading_to(loaded).above(0))
 }
 
 /// An assignment to a scalar or to an element, with an operator or without.
 pub(crate) fn lower_assignment(
     draft: &mut Draft,
-    target: u32,
+    target: Target,
     index: &Option<Expr>,
-    bracket: u32,
-    op: &Option<BinaryOp>,
-    at: u32,
     value: &Expr,
     site: Site,
 ) -> u32
     requires ready { IsReady draft.now (optional_size (option_map expression_of index.now) + expression_size (expression_of value.now)
-        + target_size (option_map expression_of index.now) op.now) site.end site.next site.inside }
-    requires target { has_target most_scalars (length draft.now.graph.arrays) (option_map expression_of index.now) target ≡ true }
-    requires temporaries { assignment_need (option_map expression_of index.now) op.now (expression_of value.now) ≤ most_temporaries }
+        + target_size (option_map expression_of index.now) target.op) site.end site.next site.inside }
+    requires target { has_target most_scalars (length draft.now.graph.arrays) (option_map expression_of index.now) target.name ≡ true }
+    requires temporaries { assignment_need (option_map expression_of index.now) target.op (expression_of value.now) ≤ most_temporaries }
     requires index { optional_has_slots most_scalars (length draft.now.graph.arrays) (option_map expression_of index.now) ≡ true }
     requires value { has_slots most_scalars (length draft.now.graph.arrays) (expression_of value.now) ≡ true }
-    ensures { (line : ℕ) → Lays draft.old draft.new (optional_size (option_map expression_of index.now)
-        + expression_size (expression_of value.now) + target_size (option_map expression_of index.now) op.now) result site.end
-        (λ nodes lengths. Assigns nodes lengths target line (option_map expression_of index.now) bracket op.now at
+    ensures { Lays draft.old draft.new (optional_size (option_map expression_of index.now)
+        + expression_size (expression_of value.now) + target_size (option_map expression_of index.now) target.op) result site.end
+        (λ nodes lengths. Assigns nodes lengths target.name 0 (option_map expression_of index.now) target.bracket target.op target.at
         (expression_of value.now) result site.next) }
 {
-    match (index, op) {
-        (None, None) => lower_put(draft, target, value, site),
-        (None, Some(op)) => lower_compound(draft, target, *op, at, value, site),
-        (Some(index), None) => lower_store(draft, target as u8, bracket, index, value, site),
+    let line = target.at;
+    match (index, target.op) {
+        (None, None) => lower_put(draft, target.name, value, site),
+        (None, Some(op)) => {
+            lower_compound(draft, target.name, Operation { op, line }, value, site)
+        }
+        (Some(index), None) => {
+            let element = target.element(held(index, 0));
+            lower_store(draft, element, index, value, site)
+        }
         (Some(index), Some(op)) => {
-            lower_update(draft, target as u8, bracket, index, *op, at, value, site)
+            let element = target.element(held(index, 0));
+            lower_update(draft, element, index, Operation { op, line }, value, site)
         }
     }
 }

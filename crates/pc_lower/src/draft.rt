@@ -3,7 +3,7 @@
 ghost use Rattle.std.specs.Prelude.{◌≡◌, ◌+◌, ◌<◌, Some, None, length, slice_get, slice_index, replicate, IfOk};
 ghost use Rattle.pc_flow.specs.FlowGraph.{IsTarget};
 ghost use Rattle.pc_flow.specs.declared.node.FlowNode.TheVariants.{Test, Stop};
-ghost use Rattle.pc_lower.specs.models.Drafts.{CanPlace, draft_with, CanAim, aimed, CanMark, marked, MayBegin, first_draft};
+ghost use Rattle.pc_lower.specs.models.Drafts.{CanPlace, draft_with, CanAim, aimed, headed, MayBegin, first_draft};
 ghost use Rattle.pc_lower.specs.models.Fills.{Lays};
 
 use pc_flow::{Flow, FlowNode, FlowNodeList, InsideList, RankList};
@@ -97,12 +97,14 @@ impl Draft {
         );
     }
 
-    /// Puts the mark of a loop, whose outer loop has a smaller number.
-    pub(crate) fn mark(&mut self, number: u16, mark: LoopMark)
-        requires can { CanMark self.now number mark }
-        ensures { self.new ≡ marked number mark self.old }
+    /// Puts the header of a loop into its mark.
+    #[tactic(auto, using(crate::proofs::LoopMarks::header_put_at))]
+    pub(crate) fn set_header(&mut self, number: u16, header: u32)
+        requires there { number < length self.now.graph.loops }
+        ensures { self.new ≡ headed number header self.old }
     {
-        self.loops.set(number as usize, mark);
+        let mark = self.loops.as_slice()[number as usize];
+        self.loops.set(number as usize, LoopMark { header, ..mark });
     }
 
     /// The graph of these nodes, which begins at one of them.

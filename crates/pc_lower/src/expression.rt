@@ -6,11 +6,12 @@ ghost use Rattle.pc_syntax.specs.Erasure.{expression_of};
 ghost use Rattle.pc_lower.specs.models.LowersExpression.{MayLower, LaysExpression};
 
 use crate::draft::Draft;
+use crate::element::{Element, lay_load};
 use crate::parts::{
-    held, hold, lay_bounds, lay_guard, lay_item, lay_operation, lay_test, prefix_item,
+    Operation, held, lay_guard, lay_item, lay_operation, lay_test, next_temporary, prefix_item,
 };
 use crate::site::Site;
-use pc_syntax::{BinaryOp, Expr, UnaryOp};
+use pc_syntax::{Expr, UnaryOp};
 use pc_word::{Item, OpCode, Operand, TrapKind};
 
 /// `read()`: whether input is left, the test of that, the trap and the read.
@@ -32,17 +33,14 @@ fn lower_element(draft: &mut Draft, array: u32, at: u32, index: &Expr, site: Sit
     requires may { MayLower draft.now (Indexed array at at (expression_of index.now)) site.temporary site.end site.next site.inside }
     ensures { (line : ℕ) → LaysExpression (Indexed array line at (expression_of index.now)) site.temporary result site.end site.next draft.old draft.new }
 {
-    let array = array as u8;
-    let place = held(index, site.temporary);
-    let load = Item::Load {
-        dest: 64 + site.temporary,
-        array,
-        index: place,
+    let element = Element {
+        array: array as u8,
+        line: at,
+        index: held(index, site.temporary),
     };
-    let last = lay_item(draft, load, site);
-    let within = site.leading_to(last).above(site.temporary + hold(index));
-    let bounds = lay_bounds(draft, array, at, place, within);
-    lower_expression(draft, index, site.leading_to(bounds))
+    let within = next_temporary(index, site.temporary);
+    let loaded = lay_load(draft, element, within, site);
+    lower_expression(draft, index, site.leading_to(loaded))
 }
 
 /// A unary operator: the operand and the operation.
@@ -60,19 +58,18 @@ fn lower_unary(draft: &mut Draft, op: UnaryOp, operand: &Expr, site: Site) -> u3
 #[cycle(lower_expression)]
 fn lower_binary(
     draft: &mut Draft,
-    op: BinaryOp,
-    at: u32,
+    operation: Operation,
     left: &Expr,
     right: &Expr,
     site: Site,
 ) -> u32
-    requires may { MayLower draft.now (Combined op at (expression_of left.now) (expression_of right.now)) site.temporary site.end site.next site.inside }
-    ensures { LaysExpression (Combined op at (expression_of left.now) (expression_of right.now)) site.temporary result site.end site.next draft.old draft.new }
+    requires may { MayLower draft.now (Combined operation.op operation.line (expression_of left.now) (expression_of right.now)) site.temporary site.end site.next site.inside }
+    ensures { LaysExpression (Combined operation.op operation.line (expression_of left.now) (expression_of right.now)) site.temporary result site.end site.next draft.old draft.new }
 {
-    let above = site.temporary + hold(left);
+    let above = next_temporary(left, site.temporary);
     let first = held(left, site.temporary);
     let second = held(right, above);
-    let last = lay_operation(draft, op, at, first, second, site);
+    let last = lay_operation(draft, operation, first, second, site);
     let middle = lower_expression(draft, right, site.leading_to(last).above(above));
     lower_expression(draft, left, site.leading_to(middle))
 }
@@ -163,7 +160,10 @@ pub(crate) fn lower_expression(draft: &mut Draft, expression: &Expr, site: Site)
             at,
             left,
             right,
-        } => lower_binary(draft, *op, *at, left, right, site),
+        } => {
+            let operation = Operation { op: *op, line: *at };
+            lower_binary(draft, operation, left, right, site)
+        }
         Expr::Both { left, right } => lower_both(draft, left, right, site),
         Expr::Either { left, right } => lower_either(draft, left, right, site),
         Expr::Choose { test, yes, no } => lower_choice(draft, test, yes, no, site),

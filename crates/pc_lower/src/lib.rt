@@ -4,9 +4,11 @@
 
 mod assignment;
 mod draft;
+mod element;
 mod error;
 mod expression;
 mod laws;
+mod marks;
 mod measure;
 mod parts;
 mod program;

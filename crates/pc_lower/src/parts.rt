@@ -4,16 +4,18 @@ ghost use Rattle.pc_word.specs.SourceLimits.{most_temporaries};
 ghost use Rattle.pc_syntax.specs.Erasure.{expression_of};
 ghost use Rattle.pc_check.specs.Needs.{hold};
 ghost use Rattle.pc_check.specs.Sizes.{operator_size};
+ghost use Rattle.pc_meaning.specs.Expression.{divides};
 ghost use Rattle.pc_meaning.specs.Lowered.{binary_code};
 ghost use Rattle.pc_flow.specs.declared.node.FlowNode.TheVariants.{Op, Test};
 ghost use Rattle.pc_flow.specs.FlowGraph.{IsVariable, ItemFits};
-ghost use Rattle.pc_lower.specs.Lowers.{temporary, held, prefix_item, binary_item, Bounds, Combines};
+ghost use Rattle.pc_lower.specs.Lowers.{temporary, held, prefix_item, binary_item, Combines};
 ghost use Rattle.pc_lower.specs.models.Drafts.{IsPlaced, MayPlace};
 ghost use Rattle.pc_lower.specs.models.Fills.{HasRoom, Lays};
-ghost use Rattle.pc_lower.specs.models.LowersExpression.{AreLengths, Guards};
+ghost use Rattle.pc_lower.specs.models.LowersExpression.{Guards};
 
 use crate::draft::Draft;
 use crate::site::Site;
+use pc_check::hold;
 use pc_flow::FlowNode;
 use pc_syntax::{BinaryOp, Expr, UnaryOp};
 use pc_word::{Item, OpCode, Operand, TrapKind};
@@ -75,17 +77,12 @@ pub(crate) fn held(expression: &Expr, t: u32) -> Operand
     }
 }
 
-/// How many temporaries hold it.
-#[tactic(auto, using(pc_syntax::proofs::ErasureLaws::expression_forms))]
-pub(crate) fn hold(expression: &Expr) -> u32
-    ensures { result ≡ hold (expression_of expression.now) }
+/// The first temporary above those that hold the value of an expression, which begin at one.
+pub(crate) fn next_temporary(expression: &Expr, t: u32) -> u32
+    requires { t ≤ most_temporaries }
+    ensures { result ≡ t + hold (expression_of expression.now) }
 {
-    match expression {
-        Expr::Lit { .. } | Expr::Name { .. } => 0,
-        Expr::Read { .. } | Expr::Element { .. } | Expr::Unary { .. } => 1,
-        Expr::Binary { .. } | Expr::Both { .. } | Expr::Either { .. } => 1,
-        Expr::Choose { .. } => 1,
-    }
+    t + hold(expression)
 }
 
 /// The item for a unary operator.
@@ -166,73 +163,48 @@ pub(crate) fn lay_guard(
     lay(draft, test, site.leading_to(trap))
 }
 
+/// A binary operator, and the line of its token.
+#[derive(Clone, Copy, Debug)]
+pub(crate) struct Operation {
+    pub op: BinaryOp,
+    pub line: u32,
+}
+
+/// Whether the right operand of an operator is a divisor.
+fn divides(op: BinaryOp) -> bool
+    ensures { result ≡ divides op }
+{
+    match op {
+        BinaryOp::Div | BinaryOp::Rem => true,
+        _ => false,
+    }
+}
+
 /// A binary operator on two values, behind a test of the divisor where there is one.
 pub(crate) fn lay_operation(
     draft: &mut Draft,
-    op: BinaryOp,
-    line: u32,
+    operation: Operation,
     left: Operand,
     right: Operand,
     site: Site,
 ) -> u32
-    requires room { HasRoom draft.now (operator_size op) site.end site.inside }
+    requires room { HasRoom draft.now (operator_size operation.op) site.end site.inside }
     requires result_there { site.temporary < most_temporaries }
     requires left { IsVariable left }
     requires right { IsVariable right }
     requires leads { IsPlaced draft.now.graph site.next }
-    ensures { Lays draft.old draft.new (operator_size op) result site.end (λ nodes lengths. Combines nodes lengths op line (temporary site.temporary) left right result site.next) }
+    ensures { Lays draft.old draft.new (operator_size operation.op) result site.end
+        (λ nodes lengths. Combines nodes lengths operation.op operation.line (temporary site.temporary) left right result site.next) }
 {
-    let item = binary_item(op, 64 + site.temporary, left, right);
-    let operation = FlowNode::Op {
+    let item = binary_item(operation.op, 64 + site.temporary, left, right);
+    let node = FlowNode::Op {
         item,
         next: site.next,
     };
-    let at = lay(draft, operation, site);
-    match op {
-        BinaryOp::Div | BinaryOp::Rem => {
-            lay_guard(
-                draft,
-                right,
-                TrapKind::DivideByZero,
-                line,
-                site.leading_to(at),
-            )
-        }
-        _ => at,
+    let at = lay(draft, node, site);
+    if !divides(operation.op) {
+        return at;
     }
-}
-
-/// A test that an index is within an array, with the trap to which it leads.
-pub(crate) fn lay_bounds(draft: &mut Draft, array: u8, line: u32, index: Operand, site: Site) -> u32
-    requires room { HasRoom draft.now 3 site.end site.inside }
-    requires array_there { array < length draft.now.graph.arrays }
-    requires lengths { AreLengths draft.now.graph.arrays }
-    requires result_there { site.temporary < most_temporaries }
-    requires index { IsVariable index }
-    requires leads { IsPlaced draft.now.graph site.next }
-    ensures { Lays draft.old draft.new 3 result site.end (λ nodes lengths. Bounds nodes lengths array line (temporary site.temporary) index result site.next) }
-{
-    let within = 64 + site.temporary;
-    let length = draft.length(array) as i32;
-    let guard = lay_guard(
-        draft,
-        Operand::Name(within),
-        TrapKind::OutOfBounds,
-        line,
-        site,
-    );
-    let below = Item::Bin {
-        op: OpCode::Below,
-        dest: within,
-        left: index,
-        right: Operand::Lit(length),
-    };
-    lay(
-        draft,
-        FlowNode::Op {
-            item: below,
-            next: guard,
-        },
-        site.leading_to(guard),
-    )
+    let kind = TrapKind::DivideByZero;
+    lay_guard(draft, right, kind, operation.line, site.leading_to(at))
 }

@@ -1,5 +1,5 @@
 //! A checked program as a flow graph.
-ghost use Rattle.std.specs.Prelude.{◌≡◌, IfOk, IfErr, None, replicate, true, length};
+ghost use Rattle.std.specs.Prelude.{◌≡◌, IfOk, IfErr, true, length};
 ghost use Rattle.pc_word.specs.SourceLimits.{most_scalars};
 ghost use Rattle.pc_syntax.specs.Erasure.{list_of};
 ghost use Rattle.pc_check.specs.Sizes.{list_size, resolved_size};
@@ -10,27 +10,15 @@ ghost use Rattle.pc_lower.specs.models.LowersStatement.{IsUnplaced, IsLaid};
 
 use crate::draft::Draft;
 use crate::error::LowerError;
+use crate::marks::mark_list;
 use crate::measure::list_loops;
 use crate::spot::Spot;
 use crate::statement::lower_list;
 use pc_check::{Checked, size};
 use pc_flow::{Flow, FlowNode};
 use pc_syntax::StmtList;
-use pc_word::{LengthList, LoopList, LoopMark, MOST_NODES};
-use std::alloc::{AllocError, Global};
-
-/// So many loops, whose marks come later.
-fn no_marks(alloc: Global, count: u16) -> Result<LoopList, AllocError>
-    ensures { IfOk result (λ list. list ≡ replicate count (record { line = 0; header = 0; outer = None })) }
-{
-    let mark = LoopMark {
-        line: 0,
-        header: 0,
-        outer: None,
-    };
-    let items = vec![in alloc; mark; count as usize]?;
-    Ok(LoopList::from_vec(items))
-}
+use pc_word::{LengthList, LoopList, MOST_NODES};
+use std::alloc::Global;
 
 /// The end, with the last number, and before it the statements. Gives the number of the first node.
 fn lower_body(draft: &mut Draft, last: u32, body: &StmtList) -> u32
@@ -64,7 +52,8 @@ pub fn lower(alloc: Global, checked: &Checked) -> Result<Flow, LowerError>
     }
     let arrays = LengthList::from_slice(alloc, checked.arrays.as_slice())?;
     let items = &checked.body.items;
-    let loops = no_marks(alloc, list_loops(items))?;
+    let mut loops = LoopList::new(alloc);
+    mark_list(&mut loops, items, None)?;
     let mut draft = Draft::new(alloc, count, loops, arrays)?;
     let entry = lower_body(&mut draft, count - 1, items);
     Ok(draft.into_flow(entry))

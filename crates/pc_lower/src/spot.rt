@@ -59,6 +59,20 @@ impl Spot {
         }
     }
 
+    /// The place of a `for`'s body before its step: a `break` leads out of the loop, and a `continue`
+    /// to the step, as the body's end does.
+    pub(crate) fn round(self, out: u32, step: Laid) -> Spot
+        ensures { result ≡ record self { end = step.start; next = step.entry; break_to = out; continue_to = step.entry } }
+    {
+        Spot {
+            end: step.start,
+            next: step.entry,
+            break_to: out,
+            continue_to: step.entry,
+            ..self
+        }
+    }
+
     /// The place of a loop's condition and its test, before a number.
     pub(crate) fn turn(self, own: u16, end: u32) -> Site
         ensures { result ≡ record { temporary = 0; end = end; next = self.next; inside = Some own } }

@@ -1,23 +1,23 @@
 //! Statements, lowered backwards: each one is given the number behind its last node, and places where
 //! it leads.
-ghost use Rattle.std.specs.Prelude.{◌≡◌, ◌+◌, ℕ, Some, true, length};
+ghost use Rattle.std.specs.Prelude.{◌≡◌, ◌+◌, ◌<◌, true, length};
 ghost use Rattle.pc_word.specs.SourceLimits.{most_scalars};
 ghost use Rattle.pc_syntax.specs.Source.{Branch, WhileLoop, DoLoop, ForLoop};
 ghost use Rattle.pc_syntax.specs.Erasure.{expression_of, statement_of, optional_of, list_of};
-ghost use Rattle.pc_check.specs.Sizes.{statement_size, branch_size, list_size};
+ghost use Rattle.pc_check.specs.Sizes.{expression_size, statement_size, branch_size, list_size};
 ghost use Rattle.pc_check.specs.Sound.{is_sound, branch_is_sound, list_is_sound};
-ghost use Rattle.pc_lower.specs.Lowers.{Implements, ImplementsOptional};
 ghost use Rattle.pc_lower.specs.models.Drafts.{IsPlaced};
 ghost use Rattle.pc_lower.specs.models.Fills.{Lays};
-ghost use Rattle.pc_lower.specs.models.LowersStatement.{loop_count, branch_loops, list_loops, IsSpot, LaysStatement, LaysOptional, LaysList};
+ghost use Rattle.pc_lower.specs.models.LowersExpression.{IsHeld};
+ghost use Rattle.pc_lower.specs.models.LowersStatement.{loop_count, branch_loops, list_loops, IsSpot, LaysStatement, LaysOptional, LaysList, StatementNodes, RoundNodes, TurnsNodes};
 
-use crate::assignment::{lower_assignment, lower_declaration};
+use crate::assignment::{Target, lower_assignment, lower_declaration};
 use crate::draft::Draft;
-use crate::measure::{branch_loops, branch_size, list_loops, loop_count, statement_size};
+use crate::measure::{branch_loops, list_loops, loop_count};
 use crate::spot::{Laid, Spot};
-use crate::value::{close_loop, lower_condition, lower_print, lower_turn, lower_value};
+use crate::value::{Closing, close_loop, lower_condition, lower_print, lower_turn, lower_value};
+use pc_check::{branch_size, statement_size};
 use pc_syntax::{Expr, Stmt, StmtList};
-use pc_word::LoopMark;
 
 /// A condition, its test, and the statement on each side.
 #[cycle(lower_statement)]
@@ -28,12 +28,15 @@ fn lower_branch(
     no: &Option<Box<Stmt>>,
     spot: Spot,
 ) -> Laid
-    requires spot { IsSpot draft.now (statement_size (Branch 0 (expression_of test.now) (statement_of yes.now) (optional_of no.now)))
-        (loop_count (Branch 0 (expression_of test.now) (statement_of yes.now) (optional_of no.now))) spot }
-    requires sound { is_sound most_scalars (length draft.now.graph.arrays) true
-        (Branch 0 (expression_of test.now) (statement_of yes.now) (optional_of no.now)) ≡ true }
-    ensures laid { (line : ℕ) → LaysStatement (Branch line (expression_of test.now) (statement_of yes.now) (optional_of no.now))
-        spot result draft.old draft.new }
+    requires spot { IsSpot draft.now (expression_size (expression_of test.now) + statement_size (statement_of yes.now)
+        + branch_size (optional_of no.now) + 1) (loop_count (statement_of yes.now) + branch_loops (optional_of no.now)) spot }
+    requires test { IsHeld draft.now.graph.arrays (expression_of test.now) 0 }
+    requires yes { is_sound most_scalars (length draft.now.graph.arrays) true (statement_of yes.now) ≡ true }
+    requires no { branch_is_sound most_scalars (length draft.now.graph.arrays) true (optional_of no.now) ≡ true }
+    ensures laid { Lays draft.old draft.new (expression_size (expression_of test.now) + statement_size (statement_of yes.now)
+        + branch_size (optional_of no.now) + 1) result.start spot.end
+        (StatementNodes (Branch 0 (expression_of test.now) (statement_of yes.now) (optional_of no.now))
+        spot.break_to spot.continue_to spot.return_to result.entry spot.next) }
     ensures begins { IsPlaced draft.new.graph result.entry }
 {
     let other = lower_optional(draft, no, spot);
@@ -49,12 +52,16 @@ fn lower_branch(
 
 /// A `while`: the condition, its test and the body, which leads back to the condition.
 #[cycle(lower_statement)]
-fn lower_while(draft: &mut Draft, line: u32, test: &Expr, body: &Stmt, spot: Spot) -> Laid
-    requires spot { IsSpot draft.now (statement_size (WhileLoop line (expression_of test.now) (statement_of body.now)))
-        (loop_count (WhileLoop line (expression_of test.now) (statement_of body.now))) spot }
-    requires sound { is_sound most_scalars (length draft.now.graph.arrays) true
-        (WhileLoop line (expression_of test.now) (statement_of body.now)) ≡ true }
-    ensures laid { LaysStatement (WhileLoop line (expression_of test.now) (statement_of body.now)) spot result draft.old draft.new }
+#[tactic(auto, using(crate::proofs::Assigned::held_value))]
+fn lower_while(draft: &mut Draft, test: &Expr, body: &Stmt, spot: Spot) -> Laid
+    requires spot { IsSpot draft.now (expression_size (expression_of test.now) + statement_size (statement_of body.now) + 1)
+        (loop_count (statement_of body.now) + 1) spot }
+    requires test { IsHeld draft.now.graph.arrays (expression_of test.now) 0 }
+    requires body { is_sound most_scalars (length draft.now.graph.arrays) true (statement_of body.now) ≡ true }
+    ensures laid { Lays draft.old draft.new (expression_size (expression_of test.now) + statement_size (statement_of body.now) + 1)
+        result.start spot.end
+        (StatementNodes (WhileLoop 0 (expression_of test.now) (statement_of body.now))
+        spot.break_to spot.continue_to spot.return_to result.entry spot.next) }
     ensures begins { IsPlaced draft.new.graph result.entry }
 {
     let own = spot.loops_end - 1 - loop_count(body);
@@ -67,29 +74,36 @@ fn lower_while(draft: &mut Draft, line: u32, test: &Expr, body: &Stmt, spot: Spo
         inside: Some(own),
         ..spot
     };
-    let laid = lower_statement(draft, body, within);
-    let mark = LoopMark {
-        line,
+    let yes = lower_statement(draft, body, within).entry;
+    let no = spot.next;
+    let closing = Closing {
+        at,
+        yes,
+        no,
+        own,
         header,
-        outer: spot.inside,
     };
-    close_loop(draft, test, at, laid.entry, spot.next, own, mark);
+    close_loop(draft, test, closing);
     Laid::at(header)
 }
 
 /// A `do`: the body, the condition and its test, which leads back to the body.
 #[cycle(lower_statement)]
-fn lower_do(draft: &mut Draft, line: u32, test: &Expr, body: &Stmt, spot: Spot) -> Laid
-    requires spot { IsSpot draft.now (statement_size (DoLoop line (statement_of body.now) (expression_of test.now)))
-        (loop_count (DoLoop line (statement_of body.now) (expression_of test.now))) spot }
-    requires sound { is_sound most_scalars (length draft.now.graph.arrays) true
-        (DoLoop line (statement_of body.now) (expression_of test.now)) ≡ true }
-    ensures laid { LaysStatement (DoLoop line (statement_of body.now) (expression_of test.now)) spot result draft.old draft.new }
+#[tactic(auto, using(crate::proofs::Assigned::held_value))]
+fn lower_do(draft: &mut Draft, test: &Expr, body: &Stmt, spot: Spot) -> Laid
+    requires spot { IsSpot draft.now (statement_size (statement_of body.now) + expression_size (expression_of test.now) + 1)
+        (loop_count (statement_of body.now) + 1) spot }
+    requires test { IsHeld draft.now.graph.arrays (expression_of test.now) 0 }
+    requires body { is_sound most_scalars (length draft.now.graph.arrays) true (statement_of body.now) ≡ true }
+    ensures laid { Lays draft.old draft.new (statement_size (statement_of body.now) + expression_size (expression_of test.now) + 1)
+        result.start spot.end
+        (StatementNodes (DoLoop 0 (statement_of body.now) (expression_of test.now))
+        spot.break_to spot.continue_to spot.return_to result.entry spot.next) }
     ensures begins { IsPlaced draft.new.graph result.entry }
 {
     let own = spot.loops_end - 1 - loop_count(body);
     let at = spot.end - 1;
-    let next = lower_turn(draft, test, own, spot.turn(own, spot.end));
+    let next = lower_turn(draft, test, own, spot.turn(own, at + 1));
     let within = Spot {
         end: next,
         next,
@@ -99,12 +113,14 @@ fn lower_do(draft: &mut Draft, line: u32, test: &Expr, body: &Stmt, spot: Spot) 
         ..spot
     };
     let laid = lower_statement(draft, body, within);
-    let mark = LoopMark {
-        line,
+    let closing = Closing {
+        at,
+        yes: laid.entry,
+        no: spot.next,
+        own,
         header: laid.start,
-        outer: spot.inside,
     };
-    close_loop(draft, test, at, laid.entry, spot.next, own, mark);
+    close_loop(draft, test, closing);
     laid
 }
 
@@ -124,8 +140,7 @@ fn lower_round(
     requires step { branch_is_sound most_scalars (length draft.now.graph.arrays) true (optional_of step.now) ≡ true }
     requires body { is_sound most_scalars (length draft.now.graph.arrays) true (statement_of body.now) ≡ true }
     ensures laid { Lays draft.old draft.new (statement_size (statement_of body.now) + branch_size (optional_of step.now)) result.start spot.end
-        (λ nodes lengths. (n : ℕ) × Implements nodes lengths (statement_of body.now) out n spot.return_to result.entry n
-        × ImplementsOptional nodes lengths (optional_of step.now) spot.break_to spot.continue_to spot.return_to n spot.next) }
+        (RoundNodes (statement_of body.now) (optional_of step.now) out spot.break_to spot.continue_to spot.return_to result.entry spot.next) }
     ensures begins { IsPlaced draft.new.graph result.entry }
 {
     let inner = Spot {
@@ -133,39 +148,32 @@ fn lower_round(
         ..spot
     };
     let after = lower_optional(draft, step, inner);
-    let within = Spot {
-        end: after.start,
-        next: after.entry,
-        break_to: out,
-        continue_to: after.entry,
-        ..spot
-    };
-    lower_statement(draft, body, within)
+    lower_statement(draft, body, spot.round(out, after))
 }
 
-/// A `for`: the first part, the condition, its test, the body and the step, which leads back to the
+/// The turns of a `for`: the condition, its test, the body and the step, which leads back to the
 /// condition.
 #[cycle(lower_statement)]
-fn lower_for(
+#[tactic(auto, using(crate::proofs::Assigned::held_value))]
+fn lower_turns(
     draft: &mut Draft,
-    line: u32,
-    first: &StmtList,
+    own: u16,
     test: &Expr,
     step: &Option<Box<Stmt>>,
     body: &Stmt,
     spot: Spot,
-) -> Laid
-    requires spot { IsSpot draft.now
-        (statement_size (ForLoop line (list_of first.now) (expression_of test.now) (optional_of step.now) (statement_of body.now)))
-        (loop_count (ForLoop line (list_of first.now) (expression_of test.now) (optional_of step.now) (statement_of body.now))) spot }
-    requires sound { is_sound most_scalars (length draft.now.graph.arrays) true
-        (ForLoop line (list_of first.now) (expression_of test.now) (optional_of step.now) (statement_of body.now)) ≡ true }
-    ensures laid { LaysStatement (ForLoop line (list_of first.now) (expression_of test.now) (optional_of step.now) (statement_of body.now))
-        spot result draft.old draft.new }
-    ensures begins { IsPlaced draft.new.graph result.entry }
+) -> u32
+    requires spot { IsSpot draft.now (expression_size (expression_of test.now) + 1 + (statement_size (statement_of body.now)
+        + branch_size (optional_of step.now))) (branch_loops (optional_of step.now) + loop_count (statement_of body.now)) spot }
+    requires own { own < length draft.now.graph.loops }
+    requires test { IsHeld draft.now.graph.arrays (expression_of test.now) 0 }
+    requires step { branch_is_sound most_scalars (length draft.now.graph.arrays) true (optional_of step.now) ≡ true }
+    requires body { is_sound most_scalars (length draft.now.graph.arrays) true (statement_of body.now) ≡ true }
+    ensures { Lays draft.old draft.new (expression_size (expression_of test.now) + 1 + (statement_size (statement_of body.now)
+        + branch_size (optional_of step.now))) result spot.end
+        (TurnsNodes (expression_of test.now) (optional_of step.now) (statement_of body.now) spot.break_to spot.continue_to spot.return_to
+        result spot.next) }
 {
-    let behind = spot.loops_end - loop_count(body) - branch_loops(step);
-    let own = behind - 1 - list_loops(first);
     let at = spot.end - 1 - statement_size(body) - branch_size(step);
     let header = lower_turn(draft, test, own, spot.turn(own, at + 1));
     let within = Spot {
@@ -173,13 +181,47 @@ fn lower_for(
         inside: Some(own),
         ..spot
     };
-    let laid = lower_round(draft, body, step, spot.next, within);
-    let mark = LoopMark {
-        line,
+    let yes = lower_round(draft, body, step, spot.next, within).entry;
+    let no = spot.next;
+    let closing = Closing {
+        at,
+        yes,
+        no,
+        own,
         header,
-        outer: spot.inside,
     };
-    close_loop(draft, test, at, laid.entry, spot.next, own, mark);
+    close_loop(draft, test, closing);
+    header
+}
+
+/// A `for`: the first part and the turns.
+#[cycle(lower_statement)]
+#[tactic(auto, using(crate::proofs::Weights::list_some))]
+fn lower_for(
+    draft: &mut Draft,
+    first: &StmtList,
+    test: &Expr,
+    step: &Option<Box<Stmt>>,
+    body: &Stmt,
+    spot: Spot,
+) -> Laid
+    requires spot { IsSpot draft.now (list_size (list_of first.now) + expression_size (expression_of test.now)
+        + branch_size (optional_of step.now) + statement_size (statement_of body.now) + 1)
+        (list_loops (list_of first.now) + (branch_loops (optional_of step.now) + loop_count (statement_of body.now)) + 1) spot }
+    requires first { list_is_sound most_scalars (length draft.now.graph.arrays) true (list_of first.now) ≡ true }
+    requires test { IsHeld draft.now.graph.arrays (expression_of test.now) 0 }
+    requires step { branch_is_sound most_scalars (length draft.now.graph.arrays) true (optional_of step.now) ≡ true }
+    requires body { is_sound most_scalars (length draft.now.graph.arrays) true (statement_of body.now) ≡ true }
+    ensures laid { Lays draft.old draft.new (list_size (list_of first.now) + expression_size (expression_of test.now)
+        + branch_size (optional_of step.now) + statement_size (statement_of body.now) + 1) result.start spot.end
+        (StatementNodes
+        (ForLoop 0 (list_of first.now) (expression_of test.now) (optional_of step.now) (statement_of body.now))
+        spot.break_to spot.continue_to spot.return_to result.entry spot.next) }
+    ensures begins { IsPlaced draft.new.graph result.entry }
+{
+    let behind = spot.loops_end - loop_count(body) - branch_loops(step);
+    let own = behind - 1 - list_loops(first);
+    let header = lower_turns(draft, own, test, step, body, spot);
     lower_list(draft, first, spot.before(Laid::at(header), behind))
 }
 
@@ -207,22 +249,30 @@ pub(crate) fn lower_statement(draft: &mut Draft, statement: &Stmt, spot: Spot) -
             at,
             value,
             ..
-        } => Laid::at(lower_assignment(draft, *symbol, index, *bracket, op, *at, value, site)),
+        } => {
+            let target = Target {
+                name: *symbol,
+                bracket: *bracket,
+                op: *op,
+                at: *at,
+            };
+            Laid::at(lower_assignment(draft, target, index, value, site))
+        }
         Stmt::Print { value, .. } => Laid::at(lower_print(draft, value, site)),
         Stmt::Eval { value, .. } => lower_value(draft, value, site),
         Stmt::Return { value, .. } => lower_value(draft, value, spot.site(spot.return_to)),
         Stmt::Break { .. } => Laid::empty(spot.end, spot.break_to),
         Stmt::Continue { .. } => Laid::empty(spot.end, spot.continue_to),
         Stmt::Array { .. } | Stmt::Empty => Laid::empty(spot.end, spot.next),
-        Stmt::While { line, test, body } => lower_while(draft, *line, test, body, spot),
-        Stmt::Do { line, body, test } => lower_do(draft, *line, test, body, spot),
+        Stmt::While { test, body, .. } => lower_while(draft, test, body, spot),
+        Stmt::Do { body, test, .. } => lower_do(draft, test, body, spot),
         Stmt::For {
-            line,
             first,
             test,
             step,
             body,
-        } => lower_for(draft, *line, first, test, step, body, spot),
+            ..
+        } => lower_for(draft, first, test, step, body, spot),
     }
 }
 

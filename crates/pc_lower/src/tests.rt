@@ -2,7 +2,7 @@ use crate::lower;
 use pc_check::{CheckError, check};
 use pc_flow::FlowNode;
 use pc_syntax::{BinaryOp, Expr, Program, Stmt};
-use pc_word::{Item, OpCode, Operand, Seq};
+use pc_word::{Item, LoopMark, OpCode, Operand, Seq};
 use std::alloc::Global;
 use std::test::Fail;
 
@@ -39,6 +39,67 @@ fn halving(alloc: Global) -> Result<Program, CheckError> {
     })?;
     items.push(Stmt::Print { line: 1, value })?;
     Ok(Program { items })
+}
+
+/// `x -= 1;` on line 4.
+fn falling() -> Stmt {
+    Stmt::Assign {
+        symbol: 7,
+        line: 4,
+        index: None,
+        bracket: 4,
+        op: Some(BinaryOp::Sub),
+        at: 4,
+        value: Expr::Lit { value: 1 },
+    }
+}
+
+/// `int x = read();`, and below it `while (x)` and `do x -= 1; while (x);`
+fn nested(alloc: Global) -> Result<Program, CheckError> {
+    let body = Box::new(alloc, falling())?;
+    let test = Expr::Name { symbol: 7, line: 4 };
+    let inner = Stmt::Do {
+        line: 3,
+        body,
+        test,
+    };
+    let body = Box::new(alloc, inner)?;
+    let test = Expr::Name { symbol: 7, line: 2 };
+    let outer = Stmt::While {
+        line: 2,
+        test,
+        body,
+    };
+    let mut items = Seq::new(alloc);
+    items.push(Stmt::Scalar {
+        symbol: 7,
+        line: 1,
+        init: Some(Expr::Read { line: 1 }),
+    })?;
+    items.push(outer)?;
+    Ok(Program { items })
+}
+
+#[test]
+fn headers_begin_turns(rt: HostRuntime) -> Result<(), Fail> {
+    let alloc = rt.alloc();
+    let checked = check(alloc, &nested(alloc)?)?;
+    let flow = lower(alloc, &checked)?;
+    assert_eq!(rt; flow.count(), 10);
+    let marks = [
+        LoopMark {
+            line: 2,
+            header: 5,
+            outer: None,
+        },
+        LoopMark {
+            line: 3,
+            header: 6,
+            outer: Some(0),
+        },
+    ];
+    assert!(rt; flow.loops().as_slice() == marks.as_slice());
+    Ok(())
 }
 
 /// The numbers to which a node's edges lead, and the greatest where it has none.

@@ -1,6 +1,6 @@
 -- A flow graph in the making: all its nodes are there from the start, and are placed one after the other. A node that is
 -- not placed yet has rank 0 and stops; each one that is placed gets a rank above all before it.
-use Rattle.std.specs.Prelude.{◌≡◌, ℕ, ◌+◌, ◌<◌, ◌≤◌, List, length, replicate, Option, Some, None, IfSome, slice_get, slice_set, slice_index}
+use Rattle.std.specs.Prelude.{◌≡◌, ℕ, zero, suc, ◌+◌, ◌<◌, ◌≤◌, List, [], ◌∷◌, length, replicate, Option, Some, None, IfSome, slice_get, slice_set, slice_index}
 use Rattle.pc_word.specs.SourceLimits.{most_nodes}
 use Rattle.pc_word.specs.MachineLimits.{most_arrays}
 use Rattle.pc_word.specs.declared.item.Operand.{Operand}
@@ -88,16 +88,17 @@ pub record CanAim (draft : Draft) (at : ℕ) (on : Operand) (on_yes on_no turn :
 abbrev pub aimed : ℕ → FlowNode → Draft → Draft
 aimed at node draft = record draft { graph = record draft.graph { nodes = slice_set draft.graph.nodes at node } }
 
--- ---- the mark of a loop
+-- ---- the header of a loop
 
--- a mark that a loop may have
-pub record CanMark (draft : Draft) (number : ℕ) (mark : LoopMark) : Type 0 where
-  pub there : number < length draft.graph.loops
-  pub outer : IfSome mark.outer (λ outer. outer < number)
+-- marks with another header of one loop
+abbrev pub with_header : List LoopMark → (number header : ℕ) → List LoopMark
+with_header [] number header = []
+with_header (mark ∷ marks) zero header = record mark { header = header } ∷ marks
+with_header (mark ∷ marks) (suc number) header = mark ∷ with_header marks number header
 
--- the draft with the mark of a loop
-abbrev pub marked : ℕ → LoopMark → Draft → Draft
-marked number mark draft = record draft { graph = record draft.graph { loops = slice_set draft.graph.loops number mark } }
+-- the draft with the header of a loop
+abbrev pub headed : (number header : ℕ) → Draft → Draft
+headed number header draft = record draft { graph = record draft.graph { loops = with_header draft.graph.loops number header } }
 
 -- ---- from the first to the last
 

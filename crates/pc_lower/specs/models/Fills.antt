@@ -3,17 +3,19 @@
 use Rattle.std.specs.Prelude.{◌≡◌, ℕ, ◌+◌, ◌<◌, ◌≤◌, ◌⊎◌, List, length, Option, IfSome, slice_get, slice_index}
 use Rattle.pc_word.specs.SourceLimits.{most_nodes}
 use Rattle.pc_flow.specs.declared.node.FlowNode.{FlowNode}
+use Rattle.pc_lower.specs.SourceLoops.{source_loops}
 use Rattle.pc_lower.specs.models.Drafts.{Draft}
 
 -- a number outside of those from one to another
 abbrev pub IsOutside : (from to i : ℕ) → Type 0
 IsOutside from to i = (i < from) ⊎ (to ≤ i)
 
--- the nodes from one number to another were placed; all else is as before, but for marks of loops
+-- the nodes from one number to another were placed; all else is as before, but for the headers of loops
 pub record Fills (old new : Draft) (from to : ℕ) : Type 0 where
   pub forward : from ≤ to
   pub as_many : length new.graph.nodes ≡ length old.graph.nodes
   pub as_many_loops : length new.graph.loops ≡ length old.graph.loops
+  pub same_loops : source_loops new.graph.loops ≡ source_loops old.graph.loops
   pub arrays : new.graph.arrays ≡ old.graph.arrays
   pub nodes_kept : (i : ℕ) → IsOutside from to i → slice_get new.graph.nodes i ≡ slice_get old.graph.nodes i
   pub ranks_kept : (i : ℕ) → IsOutside from to i → slice_index new.graph.ranks i ≡ slice_index old.graph.ranks i

@@ -6,8 +6,8 @@ pub lay_operation-middle-requires-clause-right : goal.lay_operation-middle-requi
 lay_operation-middle-requires-clause-right c = rw c.held-second.ensures (held_value c.requires.value)
 
 pub returns : goal.returns
-returns c line =
-    let operation = rw (c.above.ensures, c.leading_to.ensures, c.held-second.ensures) at c.lay_operation-middle.ensures in
-    let value = rw (c.above-2.ensures, c.leading_to-2.ensures) at c.lower_expression.ensures in
-    lays_compound c.args.scalar line c.args.at c.args.site.next c.args.op (expression_of c.args.value.now) c.requires.scalar
+returns c =
+    let operation = rw (c.above-within.ensures, c.leading_to.ensures, c.held-second.ensures) at c.lay_operation-middle.ensures in
+    let value = rw (c.above.ensures, c.leading_to-2.ensures) at c.lower_expression.ensures in
+    lays_compound c.args.scalar 0 c.args.operation.line c.args.site.next c.args.operation.op (expression_of c.args.value.now) c.requires.scalar
     c.lay_item-last.ensures operation value

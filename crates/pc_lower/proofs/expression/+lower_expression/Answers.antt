@@ -3,7 +3,7 @@ use Rattle.std.specs.Prelude.{pos}
 use Rattle.pc_syntax.specs.Erasure.{expression_of}
 use Rattle.pc_syntax.proofs.ErasureLaws.{expression_of-Element}
 use Rattle.pc_lower.proofs.Lowered.{unary_room, unary_item, unary_operand, lays_unary}
-use Rattle.pc_lower.proofs.Lowered.{element_small, element_temporary, element_place, element_room, element_item, bounds_room, bounds_array, element_index, lays_element}
+use Rattle.pc_lower.proofs.Lowered.{element_small, element_array, element_temporary, element_first, element_place, element_room, element_index, lays_element}
 use Rattle.pc_lower.proofs.Lowered.{binary_temporary, binary_above, binary_room, binary_left_value, binary_right_value, binary_right, binary_left, lays_binary}
 use Rattle.pc_lower.proofs.Lowered.{is_conjunction, is_disjunction, shortcut_room, shortcut_copy, shortcut_left_value, truth_room, truth_item, shortcut_right}
 use Rattle.pc_lower.proofs.Lowered.{test_room, shortcut_left, lays_conjunction, lays_disjunction}
@@ -29,43 +29,37 @@ lower_unary-returns t c =
 
 -- ---- an element
 
-pub lower_element-overflow_cast-array : goal.lower_element-overflow_cast-array
-lower_element-overflow_cast-array t c = let small = element_small c.requires.may in omega (arith, small)
+pub lower_element-overflow_cast-element : goal.lower_element-overflow_cast-element
+lower_element-overflow_cast-element t c = let small = element_small c.requires.may in omega (arith, small)
 
-pub lower_element-lay_item-last-requires-clause-room : goal.lower_element-lay_item-last-requires-clause-room
-lower_element-lay_item-last-requires-clause-room t c = element_room c.requires.may
+pub lower_element-lay_load-loaded-requires-clause-room : goal.lower_element-lay_load-loaded-requires-clause-room
+lower_element-lay_load-loaded-requires-clause-room t c = element_room c.requires.may
 
-pub lower_element-lay_item-last-requires-clause-fits : goal.lower_element-lay_item-last-requires-clause-fits
-lower_element-lay_item-last-requires-clause-fits t c = rw c.held-place.ensures (element_item c.requires.may)
+pub lower_element-lay_load-loaded-requires-clause-array_there : goal.lower_element-lay_load-loaded-requires-clause-array_there
+lower_element-lay_load-loaded-requires-clause-array_there t c = element_array c.requires.may
 
-pub lower_element-lay_bounds-bounds-requires-clause-room : goal.lower_element-lay_bounds-bounds-requires-clause-room
-lower_element-lay_bounds-bounds-requires-clause-room t c = rw (c.above-within.ensures, c.leading_to.ensures) (bounds_room c.requires.may c.lay_item-last.ensures)
+pub lower_element-lay_load-loaded-requires-clause-within_there : goal.lower_element-lay_load-loaded-requires-clause-within_there
+lower_element-lay_load-loaded-requires-clause-within_there t c = rw c.next_temporary-within.ensures (element_temporary c.requires.may)
 
-pub lower_element-lay_bounds-bounds-requires-clause-array_there : goal.lower_element-lay_bounds-bounds-requires-clause-array_there
-lower_element-lay_bounds-bounds-requires-clause-array_there t c = bounds_array c.requires.may c.lay_item-last.ensures
+pub lower_element-lay_load-loaded-requires-clause-result_there : goal.lower_element-lay_load-loaded-requires-clause-result_there
+lower_element-lay_load-loaded-requires-clause-result_there t c = element_first c.requires.may
 
-pub lower_element-lay_bounds-bounds-requires-clause-result_there : goal.lower_element-lay_bounds-bounds-requires-clause-result_there
-lower_element-lay_bounds-bounds-requires-clause-result_there t c = rw (c.above-within.ensures, c.hold.ensures) (element_temporary c.requires.may)
-
-pub lower_element-lay_bounds-bounds-requires-clause-index : goal.lower_element-lay_bounds-bounds-requires-clause-index
-lower_element-lay_bounds-bounds-requires-clause-index t c = rw c.held-place.ensures (element_place c.requires.may)
+pub lower_element-lay_load-loaded-requires-clause-index : goal.lower_element-lay_load-loaded-requires-clause-index
+lower_element-lay_load-loaded-requires-clause-index t c = rw c.held.ensures (element_place c.requires.may)
 
 pub lower_element-lower_expression-requires : goal.lower_element-lower_expression-requires
-lower_element-lower_expression-requires t c =
-    let bounds = rw (c.above-within.ensures, c.leading_to.ensures) at c.lay_bounds-bounds.ensures in
-    (omega (arith, c.decreases), rw c.leading_to-2.ensures (element_index c.requires.may c.lay_item-last.ensures bounds))
+lower_element-lower_expression-requires t c = (omega (arith, c.decreases), rw c.leading_to.ensures (element_index c.requires.may c.lay_load-loaded.ensures))
 
 pub lower_element-returns : goal.lower_element-returns
 lower_element-returns t c line =
-    let load = rw c.held-place.ensures at c.lay_item-last.ensures in
-    let bounds = rw (c.above-within.ensures, c.leading_to.ensures, c.hold.ensures, c.held-place.ensures) at c.lay_bounds-bounds.ensures in
-    let index = rw c.leading_to-2.ensures at c.lower_expression.ensures in
-    lays_element c.args.array line c.args.at (expression_of c.args.index.now) c.args.site.temporary c.args.site.next load bounds index
+    let load = rw (c.next_temporary-within.ensures, c.held.ensures) at c.lay_load-loaded.ensures in
+    let index = rw c.leading_to.ensures at c.lower_expression.ensures in
+    lays_element c.args.array line c.args.at (expression_of c.args.index.now) c.args.site.temporary c.args.site.next load index
 
 -- ---- a binary operator
 
 pub lower_binary-held-second-requires : goal.lower_binary-held-second-requires
-lower_binary-held-second-requires t c = rw c.hold.ensures (binary_above c.requires.may)
+lower_binary-held-second-requires t c = rw c.next_temporary-above.ensures (binary_above c.requires.may)
 
 pub lower_binary-lay_operation-last-requires-clause-room : goal.lower_binary-lay_operation-last-requires-clause-room
 lower_binary-lay_operation-last-requires-clause-room t c = binary_room c.requires.may
@@ -77,10 +71,10 @@ pub lower_binary-lay_operation-last-requires-clause-left : goal.lower_binary-lay
 lower_binary-lay_operation-last-requires-clause-left t c = rw c.held-first.ensures (binary_left_value c.requires.may)
 
 pub lower_binary-lay_operation-last-requires-clause-right : goal.lower_binary-lay_operation-last-requires-clause-right
-lower_binary-lay_operation-last-requires-clause-right t c = rw (c.held-second.ensures, c.hold.ensures) (binary_right_value c.requires.may)
+lower_binary-lay_operation-last-requires-clause-right t c = rw (c.held-second.ensures, c.next_temporary-above.ensures) (binary_right_value c.requires.may)
 
 pub lower_binary-lower_expression-middle-requires : goal.lower_binary-lower_expression-middle-requires
-lower_binary-lower_expression-middle-requires t c = (omega (arith, c.decreases), rw (c.above.ensures, c.leading_to.ensures, c.hold.ensures) (binary_right c.requires.may c.lay_operation-last.ensures))
+lower_binary-lower_expression-middle-requires t c = (omega (arith, c.decreases), rw (c.above.ensures, c.leading_to.ensures, c.next_temporary-above.ensures) (binary_right c.requires.may c.lay_operation-last.ensures))
 
 pub lower_binary-lower_expression-requires : goal.lower_binary-lower_expression-requires
 lower_binary-lower_expression-requires t c =
@@ -89,10 +83,10 @@ lower_binary-lower_expression-requires t c =
 
 pub lower_binary-returns : goal.lower_binary-returns
 lower_binary-returns t c =
-    let operation = rw (c.held-first.ensures, c.held-second.ensures, c.hold.ensures) at c.lay_operation-last.ensures in
-    let right = rw (c.above.ensures, c.leading_to.ensures, c.hold.ensures) at c.lower_expression-middle.ensures in
+    let operation = rw (c.held-first.ensures, c.held-second.ensures, c.next_temporary-above.ensures) at c.lay_operation-last.ensures in
+    let right = rw (c.above.ensures, c.leading_to.ensures, c.next_temporary-above.ensures) at c.lower_expression-middle.ensures in
     let left = rw c.leading_to-2.ensures at c.lower_expression.ensures in
-    lays_binary c.args.op c.args.at (expression_of c.args.left.now) (expression_of c.args.right.now) c.args.site.temporary c.args.site.next operation right left
+    lays_binary c.args.operation.op c.args.operation.line (expression_of c.args.left.now) (expression_of c.args.right.now) c.args.site.temporary c.args.site.next operation right left
 
 -- ---- `&&`
 

@@ -27,6 +27,9 @@ decreases-lower_do l = 2 * statement_weight (statement_of l.body.now) + 1
 abbrev pub decreases-lower_round : goal.decreases-lower_round
 decreases-lower_round l = 2 * (branch_weight (optional_of l.step.now) + statement_weight (statement_of l.body.now)) + 1
 
+abbrev pub decreases-lower_turns : goal.decreases-lower_turns
+decreases-lower_turns l = 2 * (branch_weight (optional_of l.step.now) + statement_weight (statement_of l.body.now)) + 2
+
 abbrev pub decreases-lower_for : goal.decreases-lower_for
 decreases-lower_for l = 2 * (list_weight (list_of l.first.now) + branch_weight (optional_of l.step.now) + statement_weight (statement_of l.body.now)) + 1
 

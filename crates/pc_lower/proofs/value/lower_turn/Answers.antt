@@ -9,7 +9,7 @@ lay-last-requires-clause-fits c = rw c.held.ensures (record {
   leads = (c.requires.ready.leads.there, c.requires.ready.leads.there, c.requires.own);
 })
 
-pub returns : goal.returns
-returns c at e =
+pub returns-clause-turn : goal.returns-clause-turn
+returns-clause-turn c at e =
     let value = rw (c.above.ensures, c.leading_to.ensures) at c.lower_expression.ensures in
     lays_turn (expression_of c.args.test.now) e c.lay-last.ensures value
