@@ -71,9 +71,9 @@ units (Next region) = zero
 units Stops_here = zero
 units (Traps_here kind line) = zero
 
--- items and tests that a region may have
-abbrev pub most_units : ℕ
-most_units = 128
+-- nodes of a flow graph that a region may have
+abbrev pub most_region_nodes : ℕ
+most_region_nodes = 128
 
 -- the region to which a tree leads that has no test
 abbrev pub untested : TableTree → Option ℕ
@@ -93,7 +93,7 @@ pub data ComesUntested (table : Table) (from : ℕ) : (to : ℕ) → Type 0 wher
 -- a region of a table: what it names is there, it is not too large, and its live variables rise
 pub record RegionKeeps (table : Table) (region : TableRegion) : Type 0 where
   pub there : TreeIsThere (length table.arrays) (length table.regions) region.tree
-  pub few : units region.tree ≤ most_units
+  pub few : units region.tree ≤ most_region_nodes
   pub rising : IsStrictlyIncreasing region.live
   pub inside_there : IfSome region.inside (λ loop. loop < length table.loops)
   pub heads_there : IfSome region.heads (λ loop. loop < length table.loops)

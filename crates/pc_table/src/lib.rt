@@ -7,7 +7,7 @@ mod tree;
 
 pub use laws::laws_of_regions;
 use pc_word::Seq;
-pub use table::{Region, RegionTable};
+pub use table::{MOST_REGION_NODES, Region, RegionTable};
 pub use tree::RegionTree;
 
 /// Variables.

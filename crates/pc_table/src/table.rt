@@ -1,6 +1,9 @@
 use crate::{RegionList, RegionTree, VarList};
 use pc_word::{LengthList, LoopList};
 
+/// Nodes of a flow graph that a region may have.
+pub const MOST_REGION_NODES: u32 = 128;
+
 /// A region: the part of a flow graph that is a tree below one node, its head.
 #[derive(Debug, Drop)]
 pub struct Region {

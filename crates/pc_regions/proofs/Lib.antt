@@ -1,0 +1,2 @@
+pub mod CutKeeps
+pub mod CutRuns

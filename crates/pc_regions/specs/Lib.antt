@@ -1,0 +1,4 @@
+pub mod models
+pub mod Reachable
+pub mod Loops
+pub mod Cut
