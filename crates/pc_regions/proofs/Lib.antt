@@ -1,2 +1,4 @@
 pub mod CutKeeps
 pub mod CutRuns
+pub mod Numberings
+pub mod Reaching

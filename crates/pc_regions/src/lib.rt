@@ -2,5 +2,7 @@
 #![tactic(auto)]
 
 mod error;
+mod numbering;
+mod reachable;
 
 pub use error::RegionError;
