@@ -1,3 +1,4 @@
+pub mod Counting
 pub mod CutKeeps
 pub mod CutRuns
 pub mod Numberings

@@ -2,6 +2,7 @@
 #![tactic(auto)]
 
 mod error;
+mod in_edges;
 mod numbering;
 mod reachable;
 
