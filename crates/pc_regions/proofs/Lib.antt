@@ -1,5 +1,6 @@
 pub mod Counting
 pub mod CutKeeps
 pub mod CutRuns
+pub mod LoopsEntered
 pub mod Numberings
 pub mod Reaching

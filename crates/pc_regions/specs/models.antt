@@ -1,3 +1,4 @@
 pub mod Counts
+pub mod Entering
 pub mod Numbered
 pub mod Reaching

@@ -2,6 +2,7 @@
 #![tactic(auto)]
 
 mod error;
+mod headers;
 mod in_edges;
 mod numbering;
 mod reachable;
