@@ -148,7 +148,7 @@ inside_there flow is at None e = tt
 inside_there flow is at (Some loop) e = is.loops_there at loop e
 
 -- a node that is the header of a loop belongs to it
-entered_belongs : (flow : FlowGraph) (loop at : ℕ) → IsEntered flow loop at → BelongsTo flow loop at
+pub entered_belongs : (flow : FlowGraph) (loop at : ℕ) → IsEntered flow loop at → BelongsTo flow loop at
 entered_belongs flow loop at (Begins belongs) = belongs
 entered_belongs flow loop at (Led_into from here leads outside belongs) = belongs
 

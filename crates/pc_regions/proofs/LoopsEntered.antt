@@ -51,7 +51,7 @@ in_round loops loop outer None rounds within = absurd within
 in_round loops loop outer (Some round) rounds within = Deeper rounds.there rounds.outer within
 
 -- a loop that stands in another is that one, or the loop round it stands there
-out_round : (loops : List LoopMark) (loop outer : ℕ) (round : Option ℕ) → Rounds loops loop round → IsWithin loops loop outer → (loop ≡ outer) ⊎ InLoop loops round outer
+pub out_round : (loops : List LoopMark) (loop outer : ℕ) (round : Option ℕ) → Rounds loops loop round → IsWithin loops loop outer → (loop ≡ outer) ⊎ InLoop loops round outer
 out_round loops loop outer round rounds Same = inl refl
 out_round loops loop outer round rounds (Deeper {round = other} {mark} there is within) =
     let marks : mark ≡ rounds.mark = (one_mark there rounds.there) in

@@ -98,7 +98,7 @@ fn lower(headers: &mut [Option<u32>], number: u16, to: u32)
 }
 
 /// The loop round a loop.
-fn outer_loop(flow: &Flow, number: u16) -> Option<u16>
+pub(crate) fn outer_loop(flow: &Flow, number: u16) -> Option<u16>
     requires { number < length flow.now.loops }
     ensures { Rounds flow.now.loops number result }
 {

@@ -3,6 +3,7 @@
 
 mod error;
 mod headers;
+mod heads;
 mod in_edges;
 mod numbering;
 mod reachable;
