@@ -147,6 +147,7 @@ counted_more flow froms old new from h adds = record {
   where
     both : (a b p q r : ℕ) → a ≡ up_to_two p → b ≡ up_to_two (a + q) → r ≡ p + q → b ≡ up_to_two r
     both a b p q r e f g = omega (arith, e, f, g)
+
     in_edges_more : (to : ℕ) → in_edges flow (froms ++ from ∷ []) to ≡ in_edges flow froms to + edges_of (slice_get flow.nodes from) to
     in_edges_more to =
         let whole = sum_by-append (λ f. edges_of (slice_get flow.nodes f) to) froms (from ∷ []) in

@@ -89,7 +89,7 @@ node_small flow at x (Test on on_yes on_no turn) fits h = read_small on x fits.0
 node_small flow at x Stop fits h = absurd (cc)
 node_small flow at x (Trap kind line) fits h = absurd (cc)
 
-live_small : (flow : FlowGraph) (x at : ℕ) → IsFlow flow → IsLive flow x at → x < variables
+pub live_small : (flow : FlowGraph) (x at : ℕ) → IsFlow flow → IsLive flow x at → x < variables
 live_small flow x at is (Read_here {node} there h) = node_small flow at x node (is.nodes_fit at node there) h
 live_small flow x at is (Read_later there passed leads live) = live_small flow x _ is live
 
@@ -110,9 +110,9 @@ test_needs : (flow : FlowGraph) (at yes_side no_side : ℕ) (on : Operand) (turn
 test_needs flow at yes_side no_side on turn x here one other p q h = elim (or_true (reads_name on x) (one || other) h) [
   | inl e ↦ Read_here here (operand_reads on x e)
   | inr e ↦ elim (or_true one other e) [
-      | inl d ↦ Read_later here refl (inl refl) (p d)
-      | inr d ↦ Read_later here refl (inr refl) (q d)
-    ]
+    | inl d ↦ Read_later here refl (inl refl) (p d)
+    | inr d ↦ Read_later here refl (inr refl) (q d)
+  ]
 ]
 
 -- ---- what an item names
@@ -163,7 +163,7 @@ heads_there flow is at (Some loop) h =
 -- ---- heads
 
 -- the head of a region that is there
-head_at : (regions : List TableRegion) (number : ℕ) (region : TableRegion) → slice_get regions number ≡ Some region
+pub head_at : (regions : List TableRegion) (number : ℕ) (region : TableRegion) → slice_get regions number ≡ Some region
     → slice_get (heads_of regions) number ≡ Some region.head
 head_at [] number region e = absurd (cc)
 head_at (other ∷ regions) zero region e = let same : other ≡ region = (cc) in ap (λ (r : TableRegion). Some r.head) same

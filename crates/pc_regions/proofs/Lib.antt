@@ -1,7 +1,10 @@
 pub mod Counting
 pub mod CutKeeps
 pub mod CutRuns
+pub mod LiveLists
 pub mod LoopsEntered
 pub mod Marking
 pub mod Numberings
 pub mod Reaching
+pub mod RegionsCut
+pub mod TreesCut

@@ -134,10 +134,13 @@ module _ (loops : List LoopMark) (first : OuterFirst loops) (to : ℕ) where
     where
       longer : (loop : ℕ) → loop < length headers → loop < length (with_lesser headers number)
       longer loop lt = subst (λ (n : ℕ). loop < n) (sym (set_length headers number (Some (lesser (header_at headers number) to)))) lt
+
       same_of : (a b : ℕ) → nat_eq a b ≡ true → a ≡ b
       same_of a b e = grind (arith, nat_tests)
+
       other_of : (a b : ℕ) → nat_eq a b ≡ false → b ≢ a
       other_of a b e = grind (arith, nat_tests)
+
       by_number : (loop : ℕ) → loop < length (with_lesser headers number) → (b : Bool) → nat_eq number loop ≡ b → Each (Some number) outside headers final loop
       by_number loop lt true e =
           let same = same_of number loop e in
@@ -189,9 +192,9 @@ module _ (loops : List LoopMark) (P : ℕ → ℕ → Type 0) (inner outside : O
   there_then : (loop at : ℕ) → header_at new loop ≡ Some at → Then loop at
   there_then loop at e = elim (enters.each loop (within_old loop at e)) [
     | inl is ↦ elim (lesser_is (header_at old loop) to at (sym is.1 ∙ e)) [
-        | inl before ↦ inl (h.there loop at before)
-        | inr same ↦ inr (is.0, same)
-      ]
+      | inl before ↦ inl (h.there loop at before)
+      | inr same ↦ inr (is.0, same)
+    ]
     | inr is ↦ inl (h.there loop at (sym is.1 ∙ e))
   ]
 
@@ -268,6 +271,7 @@ module _ (flow : FlowGraph) (is_flow : IsFlow flow) where
           (λ belongs. leads.0.1 (belongs_in_loop flow from loop outside outside_is belongs)),
           subst (λ (n : ℕ). BelongsTo flow loop n) leads.1 (in_loop_belongs flow to loop inner e leads.0.0),
         )
+
         into : (inner : Option ℕ) → slice_get flow.inside to ≡ Some inner → (loop at : ℕ) → P loop at ⊎ Along to loop at → P loop at ⊎ (LeadsInto flow.loops inner outside loop × (to ≡ at))
         into inner e loop at (inl before) = inl before
         into inner e loop at (inr led) = inr (
@@ -343,6 +347,7 @@ module _ (flow : FlowGraph) (from : ℕ) (outside : Option ℕ) (is_flow : IsFlo
       sides loop at (inl (inl before)) = inl before
       sides loop at (inl (inr led)) = inr (inl led.0, led.1, led.2)
       sides loop at (inr led) = inr (inr led.0, led.1, led.2)
+
       parts : (loop at : ℕ) → IsEnteredFrom flow froms loop at ⊎ (HasEdge (Test on on_yes on_no turn) at × (BelongsTo flow loop from → ⊥) × BelongsTo flow loop at)
           → (IsEnteredFrom flow froms loop at ⊎ Along flow is_flow from outside outside_is on_yes loop at) ⊎ Along flow is_flow from outside outside_is on_no loop at
       parts loop at (inl before) = inl (inl before)
@@ -394,11 +399,14 @@ entry_enters flow old new is none same crosses =
     nothing_at zero loop at e = cc
     nothing_at (suc n) zero at e = cc
     nothing_at (suc n) (suc loop) at e = nothing_at n loop at e
+
     none_there : (loop at : ℕ) → header_at old loop ≡ Some at → ⊥
     none_there loop at e = nothing_at (length flow.loops) loop at (subst (λ (l : List (Option ℕ)). header_at l loop ≡ Some at) none e)
+
     forth : (inner : Option ℕ) → slice_get flow.inside flow.entry ≡ Some inner → (loop at : ℕ) → ⊥ ⊎ (LeadsInto flow.loops inner None loop × (flow.entry ≡ at)) → IsEnteredFrom flow [] loop at
     forth inner e loop at (inl never) = absurd never
     forth inner e loop at (inr leads) = subst (λ (n : ℕ). IsEnteredFrom flow [] loop n) leads.1 (Begins (in_loop_belongs flow flow.entry loop inner e leads.0.0))
+
     back : (inner : Option ℕ) → slice_get flow.inside flow.entry ≡ Some inner → (loop at : ℕ) → IsEnteredFrom flow [] loop at → ⊥ ⊎ (LeadsInto flow.loops inner None loop × (flow.entry ≡ at))
     back inner e loop _ (Begins belongs) = inr ((belongs_in_loop flow flow.entry loop inner e belongs, λ never. never), refl)
     back inner e loop at (Led_into place there found edge outside belongs) = absurd (cc)

@@ -102,6 +102,7 @@ marks_entry old entry lt = record { as_many = set_length old entry true; marked 
       | inl before ↦ Was_marked before
       | inr same ↦ As_entry same
     ]
+
     back : (at : ℕ) → WillBeMarked old entry [] at → IsMarked (slice_set old entry true) at
     back at (Was_marked before) = set_marks old entry at before
     back at (As_entry same) = subst (λ (n : ℕ). IsMarked (slice_set old entry true) n) same (set_marked old entry lt)
@@ -126,6 +127,7 @@ marks_header old new entry headers at lt h = record {
       | inl before ↦ more_marked old entry headers (Some at) other ((h.marked other).0 before)
       | inr same ↦ As_header (length headers) (get_last headers (Some at) ∙ ap (λ (n : ℕ). Some (Some n)) same)
     ]
+
     back : (other : ℕ) → WillBeMarked old entry (headers ++ Some at ∷ []) other → IsMarked (slice_set new at true) other
     back other (Was_marked before) = set_marks new at other ((h.marked other).1 (Was_marked before))
     back other (As_entry same) = set_marks new at other ((h.marked other).1 (As_entry same))
@@ -140,6 +142,7 @@ marks_none old new entry headers h = record { as_many = h.as_many; marked = λ o
   where
     forth : (other : ℕ) → IsMarked new other → WillBeMarked old entry (headers ++ None ∷ []) other
     forth other e = more_marked old entry headers None other ((h.marked other).0 e)
+
     back : (other : ℕ) → WillBeMarked old entry (headers ++ None ∷ []) other → IsMarked new other
     back other (Was_marked before) = (h.marked other).1 (Was_marked before)
     back other (As_entry same) = (h.marked other).1 (As_entry same)
@@ -193,6 +196,7 @@ marked_are_heads flow reachable counts headers new are counted h marks = record 
   where
     old_mark : (at : ℕ) → mark_at (map (λ count. nat_le 2 count) counts) at ≡ nat_le 2 (slice_index counts at)
     old_mark at = count_marks counts at
+
     forth : (at : ℕ) → WillBeMarked (map (λ count. nat_le 2 count) counts) flow.entry headers at → IsHead flow reachable at
     forth at (Was_marked e) =
         let high = at_least (slice_index counts at) (sym (old_mark at) ∙ e) in
@@ -200,6 +204,7 @@ marked_are_heads flow reachable counts headers new are counted h marks = record 
         Edges_meet (omega (arith, high, count))
     forth at (As_entry same) = Is_entry (sym same)
     forth at (As_header loop e) = Heads_loop loop (found_is_header flow reachable are headers h loop at (stands_header headers loop at e))
+
     back : (at : ℕ) → IsHead flow reachable at → WillBeMarked (map (λ count. nat_le 2 count) counts) flow.entry headers at
     back at (Is_entry same) = As_entry (sym same)
     back at (Edges_meet many) =

@@ -54,9 +54,9 @@ met_before : (old new : Numbered) (node number place at : ℕ) → Meets old new
 met_before old new node number place at meets there = elim meets.grown [
   | inl same ↦ inl (subst (λ (order : List ℕ). slice_get order place ≡ Some at) same there)
   | inr more ↦ elim (get_more old.order node place at (subst (λ (order : List ℕ). slice_get order place ≡ Some at) more.0 there)) [
-      | inl before ↦ inl before
-      | inr last ↦ inr last.1
-    ]
+    | inl before ↦ inl before
+    | inr last ↦ inr last.1
+  ]
 ]
 
 -- ---- the edges of a node, by what it is
@@ -88,9 +88,9 @@ module _ (nodes : List FlowNode) (from : ℕ) where
         side to (subst (λ (n : FlowNode). HasEdge n to) (sym (only_node (Test on on_yes on_no turn) node here there)) edge);
     only = λ place at there. elim (met_before mid new on_no other place at second there) [
       | inl before ↦ elim (met_before old mid on_yes one place at first before) [
-          | inl earlier ↦ inl earlier
-          | inr e ↦ inr (Test on on_yes on_no turn, here, inl e)
-        ]
+        | inl earlier ↦ inl earlier
+        | inr e ↦ inr (Test on on_yes on_no turn, here, inl e)
+      ]
       | inr e ↦ inr (Test on on_yes on_no turn, here, inr e)
     ];
   }
@@ -176,6 +176,7 @@ reaching_goes_on flow it new done from h here meets = record {
     found_there [] i lt = absurd (omega arith)
     found_there (x ∷ xs) zero lt = (x, refl)
     found_there (x ∷ xs) (suc i) lt = found_there xs i (omega arith)
+
     only_one : (xs : List ℕ) (i : ℕ) {x y : ℕ} → slice_get xs i ≡ Some x → slice_get xs i ≡ Some y → x ≡ y
     only_one xs i p q = cc
 

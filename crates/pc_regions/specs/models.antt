@@ -1,4 +1,5 @@
 pub mod Counts
+pub mod Cutting
 pub mod Entering
 pub mod Marks
 pub mod Numbered

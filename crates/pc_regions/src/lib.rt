@@ -1,11 +1,14 @@
 //! Cutting: from a flow graph to its table of regions.
 #![tactic(auto)]
 
+mod cutting;
 mod error;
 mod headers;
 mod heads;
 mod in_edges;
 mod numbering;
 mod reachable;
+mod table;
 
 pub use error::RegionError;
+pub use table::regions;

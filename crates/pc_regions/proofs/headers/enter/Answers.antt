@@ -43,7 +43,7 @@ loop-inner-preserved-then-number-other c =
 -- the edge comes from the same loop still, which has a smaller number, or from none
 comes_below : (c : goal.After-outer_loop-inner) → (c.in_default-outside.outside ≡ c.loop-inner.outside) × IfSome c.loop-inner.outside (λ other. other < c.in-Some.number)
 comes_below c = elim c.in_default-outside.branch [
-  | in_default-outside-via-in-Some-outside+else-number-other w ↦ 
+  | in_default-outside-via-in-Some-outside+else-number-other w ↦
       (w.outside-is ∙ sym w.in-Some-outside.is, below_some c.loop-inner.outside w.in-Some-outside.other c.in-Some.number w.in-Some-outside.is w.if-number-other.false)
   | in_default-outside-via-in_default-outside w ↦ (w.outside-is, below_none c.loop-inner.outside c.in-Some.number w.in_default-outside.is)
 ]

@@ -29,7 +29,7 @@ loop-inner-preserved c =
           elim (out_round loops c.in-Some.number loop c.outer_loop-inner.result c.outer_loop-inner.ensures within) [
             | inl same ↦
                 absurd (not_that (header_at c.args.headers.now c.in-Some.number) c.args.at (sym c.eq.ensures ∙ c.if-eq.false)
-                    (ap (λ (n : ℕ). header_at c.args.headers.now n) same ∙ e))
+                (ap (λ (n : ℕ). header_at c.args.headers.now n) same ∙ e))
             | inr around ↦ around
           ];
     }
