@@ -1,15 +1,13 @@
 -- A cut keeps what every region table keeps.
-use Rattle.std.proofs.Common.{◌≡◌, inl, inr, ℕ, zero, suc, ◌+◌, ◌<◌, ◌≤◌, Bool, true, false, not, ◌||◌, ◌&&◌, List, [], ◌∷◌, length, map, Option, Some, None, refl, sym, ◌∙◌, ap, subst, arith}
+use Rattle.std.proofs.Common.{◌≡◌, inl, inr, ℕ, zero, suc, ◌+◌, ◌<◌, ◌≤◌, Bool, true, false, not, ◌||◌, ◌&&◌, List, [], ◌∷◌, length, Option, Some, None, refl, sym, ap, subst, arith}
 use Rattle.std.specs.Prelude.{nat_eq, IfSome, slice_get, slice_index}
 use Rattle.std.specs.List.{AllByRecursion, list_any}
-use Rattle.std.proofs.lemmas.List.{length-map}
 use Rattle.std.proofs.lemmas.Bool.Decides.{nat_tests}
 use Rattle.pc_word.specs.declared.item.Item.{Item}
 use Rattle.pc_word.specs.declared.item.Item.TheVariants.{Bin, Copy, Load, Store, Print, Read, More}
 use Rattle.pc_word.specs.declared.item.Operand.{Operand}
 use Rattle.pc_word.specs.declared.item.Operand.TheVariants.{Name, Lit}
 use Rattle.pc_word.specs.declared.loop_mark.LoopMark.{LoopMark}
-use Rattle.pc_word.specs.SourceLimits.{most_scalars, most_temporaries}
 use Rattle.pc_word.specs.MachineLimits.{most_arrays}
 use Rattle.pc_word.specs.Items.{operands_of, dest_of, array_of}
 use Rattle.pc_word.specs.Commit.{writes}
@@ -20,11 +18,11 @@ use Rattle.pc_flow.specs.declared.node.FlowNode.TheVariants.{Op, Test, Stop, Tra
 use Rattle.pc_flow.specs.FlowGraph.{FlowGraph, IsVariable, ItemFits, NodeFits, IsFlow, variables}
 use Rattle.pc_live.specs.Live.{is_variable, node_reads, IsLive, Read_here, Read_later}
 use Rattle.pc_live.proofs.Logic.{or_true, place_within}
-use Rattle.pc_table.specs.Table.{TableTree, Does, Asks, Next, Stops_here, Traps_here, TableRegion, Table, tree_of, live_of, region_tree, region_live}
+use Rattle.pc_table.specs.Table.{TableTree, TableRegion, Table, tree_of, live_of, region_live}
 use Rattle.pc_table.specs.RegionRun.{arrive}
-use Rattle.pc_table.specs.TableKeeps.{NamesVariable, ItemIsThere, TreeIsThere, reads_name, reads, needs, units, most_region_nodes, untested, ComesUntested, By_one, By_more, RegionKeeps, TableKeeps}
-use Rattle.pc_regions.specs.Loops.{IsWithin, Same, Deeper, BelongsTo, IsEntered, Begins, Led_into, IsHeader, HeadsLoop}
-use Rattle.pc_regions.specs.Cut.{IsHead, IsTreeOf, An_item, A_test, A_stop, A_trap, IsBehind, Taken, Not_taken, IsRegionOf, IsCutOf, heads_of}
+use Rattle.pc_table.specs.TableKeeps.{NamesVariable, ItemIsThere, TreeIsThere, reads_name, reads, needs, units, untested, ComesUntested, By_one, By_more, RegionKeeps, TableKeeps}
+use Rattle.pc_regions.specs.Loops.{IsWithin, Same, Deeper, BelongsTo, IsEntered, Begins, Led_into, HeadsLoop}
+use Rattle.pc_regions.specs.Cut.{IsTreeOf, An_item, A_test, A_stop, A_trap, IsBehind, Taken, Not_taken, IsRegionOf, IsCutOf, heads_of}
 use Rattle.pc_regions.proofs.CutRuns.{region_at, arrive_tree}
 
 -- ---- what items read

@@ -2,7 +2,6 @@
 use Rattle.std.proofs.Common.{◌≡◌, ℕ, zero, suc, Bool, true, false, List, [], ◌∷◌, Option, Some, None, refl, sym, ◌∙◌, ap, subst}
 use Rattle.std.specs.Prelude.{ℤ, if◌then◌else◌, slice_get}
 use Rattle.pc_word.specs.declared.item.Item.{Item}
-use Rattle.pc_word.specs.declared.item.Operand.{Operand}
 use Rattle.pc_word.specs.declared.item.MachineFault.{MachineFault}
 use Rattle.pc_word.specs.Word.{holds}
 use Rattle.pc_word.specs.State.{State, start_state}
@@ -13,9 +12,9 @@ use Rattle.pc_word.specs.Run.{Seen, AgreeOnInputs, after_printing, seen_of, run_
 use Rattle.pc_word.proofs.Runs.{Agree-equal}
 use Rattle.pc_flow.specs.declared.node.FlowNode.{FlowNode}
 use Rattle.pc_flow.specs.FlowGraph.{FlowGraph}
-use Rattle.pc_flow.specs.FlowRun.{FlowState, after_item, run_node, flow_step, flow_run}
-use Rattle.pc_table.specs.Table.{TableTree, Does, Asks, Next, Stops_here, Traps_here, TableRegion, Table, tree_of, region_tree}
-use Rattle.pc_table.specs.RegionRun.{Place, arrive, place_at, lead_on, side_of, region_step, region_step_at, table_run}
+use Rattle.pc_flow.specs.FlowRun.{after_item, run_node, flow_step, flow_run}
+use Rattle.pc_table.specs.Table.{TableTree, TableRegion, Table, tree_of, region_tree}
+use Rattle.pc_table.specs.RegionRun.{arrive, place_at, lead_on, region_step, region_step_at, table_run}
 use Rattle.pc_regions.specs.Cut.{IsTreeOf, An_item, A_test, A_stop, A_trap, IsBehind, Taken, Not_taken, IsRegionOf, IsCutOf, heads_of}
 
 -- the region whose head stands at a place among the heads

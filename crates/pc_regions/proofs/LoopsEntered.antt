@@ -1,9 +1,8 @@
 -- Loops that are entered along edges, and the least nodes where they are.
-use Rattle.std.proofs.Common.{◌≡◌, ◌≢◌, ℕ, zero, suc, ◌+◌, ◌<◌, ◌≤◌, ◌⊎◌, inl, inr, min, Bool, true, false, List, [], ◌∷◌, ◌++◌, length, Option, Some, None, refl, sym, ◌∙◌, ap, subst, arith, get_or-set_same, get_or-set_other}
-use Rattle.std.specs.Prelude.{if◌then◌else◌, nat_eq, IfSome, slice_get, slice_set, slice_index, slice_index_or, replicate}
+use Rattle.std.proofs.Common.{◌≡◌, ◌≢◌, ℕ, zero, suc, ◌<◌, ◌≤◌, ◌⊎◌, inl, inr, min, Bool, true, false, List, [], ◌∷◌, ◌++◌, length, Option, Some, None, refl, sym, ◌∙◌, ap, subst, arith, get_or-set_same, get_or-set_other}
+use Rattle.std.specs.Prelude.{nat_eq, IfSome, slice_get, slice_set, replicate}
 use Rattle.std.proofs.lemmas.Bool.Decides.{nat_tests}
-use Rattle.std.proofs.lemmas.List.{length-replicate, get_or-replicate, get_or_past}
-use Rattle.std.proofs.lemmas.Option.{slice_get_within}
+use Rattle.std.proofs.lemmas.List.{length-replicate}
 use Rattle.pc_word.specs.declared.loop_mark.LoopMark.{LoopMark}
 use Rattle.pc_word.proofs.Lists.{set_length}
 use Rattle.pc_word.proofs.Truth.{decide_le}
@@ -16,8 +15,7 @@ use Rattle.pc_flow.specs.FlowGraph.{FlowGraph, IsFlow, HasEdge}
 use Rattle.pc_regions.proofs.Numberings.{get_front, get_last, get_more}
 use Rattle.pc_regions.proofs.Reaching.{item_leads, test_leads}
 use Rattle.pc_regions.proofs.Counting.{listed_there}
-use Rattle.pc_regions.specs.Reachable.{IsReachable, AreReachable}
-use Rattle.pc_regions.specs.Loops.{IsWithin, Same, Deeper, BelongsTo, IsEntered, IsHeader}
+use Rattle.pc_regions.specs.Loops.{IsWithin, Same, Deeper, BelongsTo}
 use Rattle.pc_regions.specs.models.Entering.{Rounds, depth_bound, InLoop, LeadsInto, header_at, lesser, Enters, IsEnteredFrom, Begins, Led_into, AreHeadersOf, AreHeadersFrom, EntersFrom}
 
 -- ---- loops round loops

@@ -1,22 +1,19 @@
 -- Marks of heads: what is marked is a head, and each head is marked.
-use Rattle.std.proofs.Common.{◌≡◌, ◌≢◌, ℕ, zero, suc, ◌<◌, ◌≤◌, ◌⊎◌, inl, inr, min, map, Bool, true, false, List, [], ◌∷◌, ◌++◌, take, length, Option, Some, None, refl, sym, ◌∙◌, ap, subst, arith, get_or-set_same, get_or-set_other}
-use Rattle.std.specs.Prelude.{nat_eq, nat_le, ◌↔◌, IfSome, slice_get, slice_set, slice_index, slice_index_or}
+use Rattle.std.proofs.Common.{◌≡◌, ℕ, zero, suc, ◌<◌, ◌≤◌, ◌⊎◌, inl, inr, map, Bool, true, List, [], ◌∷◌, ◌++◌, length, Option, Some, None, refl, sym, ◌∙◌, ap, subst, arith}
+use Rattle.std.specs.Prelude.{nat_le, slice_get, slice_set, slice_index}
 use Rattle.std.proofs.lemmas.Bool.Decides.{nat_tests}
 use Rattle.std.proofs.lemmas.List.{length-map}
-use Rattle.pc_word.specs.declared.loop_mark.LoopMark.{LoopMark}
 use Rattle.pc_word.proofs.Lists.{set_length}
-use Rattle.pc_word.proofs.Truth.{decide_le}
 use Rattle.pc_flow.specs.FlowGraph.{FlowGraph, IsFlow}
-use Rattle.pc_regions.specs.Reachable.{AreReachable, in_edges}
+use Rattle.pc_regions.specs.Reachable.{AreReachable}
 use Rattle.pc_regions.specs.Loops.{IsWithin, Same, BelongsTo, IsEntered, IsHeader, HeadsLoop}
 use Rattle.pc_regions.specs.Loops as loops
 use Rattle.pc_regions.specs.Cut.{IsHead, Is_entry, Edges_meet, Heads_loop}
-use Rattle.pc_regions.specs.models.Counts.{up_to_two, CountsEdges}
-use Rattle.pc_regions.specs.models.Entering.{Rounds, InLoop, header_at, IsEnteredFrom, Begins, Led_into, AreHeadersFrom}
+use Rattle.pc_regions.specs.models.Counts.{CountsEdges}
+use Rattle.pc_regions.specs.models.Entering.{header_at, IsEnteredFrom, Begins, Led_into, AreHeadersFrom}
 use Rattle.pc_regions.specs.models.Marks.{mark_at, IsMarked, WillBeMarked, Was_marked, As_entry, As_header, Marks, AreHeads, FindsLoop}
 use Rattle.pc_regions.proofs.Numberings.{get_front, get_more, get_last}
 use Rattle.pc_regions.proofs.CutKeeps.{entered_belongs}
-use Rattle.pc_regions.proofs.Counting.{reachable_there}
 use Rattle.pc_live.proofs.Logic.{place_within}
 
 -- ---- headers that were found

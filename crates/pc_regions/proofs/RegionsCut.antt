@@ -1,27 +1,23 @@
 -- Regions that are cut, one after the other.
-use Rattle.std.proofs.Common.{◌≡◌, ◌⊎◌, inl, inr, ℕ, zero, suc, ◌+◌, ◌-◌, ◌<◌, ◌≤◌, Bool, List, [], ◌∷◌, ◌++◌, length, map, Option, Some, None, refl, sym, ◌∙◌, ap, subst, arith}
+use Rattle.std.proofs.Common.{◌≡◌, inl, inr, ℕ, zero, suc, ◌-◌, ◌<◌, ◌≤◌, Bool, List, [], ◌∷◌, ◌++◌, length, Option, Some, None, refl, sym, ◌∙◌, ap, subst, arith}
 use Rattle.std.specs.Prelude.{is_some, slice_get}
 use Rattle.std.proofs.lemmas.List.{length-map, length-replicate, map-append}
 use Rattle.std.proofs.lemmas.List.Sums.{count_by-le-length}
 use Rattle.std.proofs.lemmas.Option.{slice_get_within}
-use Rattle.pc_word.proofs.Truth.{decide_le}
 use Rattle.pc_flow.specs.FlowGraph.{FlowGraph, IsFlow, variables}
 use Rattle.pc_live.specs.declared.variable_set.VariableSet.{VariableSet}
 use Rattle.pc_live.specs.Liveness.{IsLivenessOf}
 use Rattle.pc_table.specs.declared.table.Region.{Region}
 use Rattle.pc_table.specs.Table.{TableTree, TableRegion, Table, table_region, table_regions}
 use Rattle.pc_table.specs.TableKeeps.{most_region_nodes}
-use Rattle.pc_regions.specs.Loops.{HeadsLoop}
-use Rattle.pc_regions.specs.Cut.{IsHead, IsTreeOf, An_item, A_test, A_stop, A_trap, IsBehind, Taken, Not_taken, AreMet, AreFound, First, Found, IsRegionOf, IsCutOf, heads_of, nexts_of}
-use Rattle.pc_regions.specs.models.Numbered.{Numbered, IsNumbered, nothing_met, Meets, KeepsPlaces}
-use Rattle.pc_regions.specs.models.Entering.{AreHeadersFrom}
+use Rattle.pc_regions.specs.Cut.{IsHead, IsTreeOf, An_item, A_test, A_stop, A_trap, IsBehind, Taken, Not_taken, AreFound, First, Found, IsRegionOf, IsCutOf, heads_of, nexts_of}
+use Rattle.pc_regions.specs.models.Numbered.{Numbered, IsNumbered, nothing_met, Meets}
 use Rattle.pc_regions.specs.models.Marks.{IsMarked, AreHeads, FindsLoop}
 use Rattle.pc_regions.specs.models.Cutting.{TreeFor, RegionFor, Names, live_below, AreRegionsSoFar, AreRegions}
-use Rattle.pc_regions.proofs.Numberings.{get_front, get_last, get_more, length_more}
+use Rattle.pc_regions.proofs.Numberings.{get_more, length_more}
 use Rattle.pc_regions.proofs.Reaching.{first_of}
 use Rattle.pc_regions.proofs.LiveLists.{live_exact, live_rising}
 use Rattle.pc_regions.proofs.Marking.{finds_heads}
-use Rattle.pc_regions.proofs.CutKeeps.{head_at}
 
 -- ---- one region
 

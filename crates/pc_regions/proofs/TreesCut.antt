@@ -1,18 +1,17 @@
 -- Trees that are cut, node by node, and the regions that they name.
-use Rattle.std.proofs.Common.{◌≡◌, ◌⊎◌, inl, inr, ℕ, zero, suc, ◌+◌, ◌-◌, ◌<◌, ◌≤◌, Bool, true, false, List, [], ◌∷◌, ◌++◌, length, map, Option, Some, None, refl, sym, ◌∙◌, ap, subst, arith}
+use Rattle.std.proofs.Common.{◌≡◌, ◌⊎◌, inl, inr, ℕ, zero, suc, ◌-◌, ◌≤◌, Bool, false, List, [], ◌∷◌, ◌++◌, length, Option, Some, refl, sym, ◌∙◌, ap, subst, arith}
 use Rattle.std.specs.Prelude.{slice_get}
 use Rattle.pc_word.specs.declared.item.Item.{Item}
 use Rattle.pc_word.specs.declared.item.Operand.{Operand}
 use Rattle.pc_word.specs.declared.item.TrapKind.{TrapKind}
-use Rattle.pc_flow.specs.declared.node.FlowNode.{FlowNode}
 use Rattle.pc_flow.specs.declared.node.FlowNode.TheVariants.{Op, Test, Stop, Trap}
 use Rattle.pc_flow.specs.FlowGraph.{FlowGraph}
 use Rattle.pc_live.proofs.Logic.{place_within}
 use Rattle.pc_table.specs.Table.{TableTree, Does, Asks, Next, Stops_here, Traps_here}
-use Rattle.pc_regions.specs.Cut.{IsTreeOf, An_item, A_test, A_stop, A_trap, IsBehind, Taken, Not_taken, AreMet, None_met, Known, Met}
+use Rattle.pc_regions.specs.Cut.{IsTreeOf, An_item, A_test, A_stop, A_trap, Taken, Not_taken, AreMet, None_met, Known, Met}
 use Rattle.pc_regions.specs.models.Numbered.{Numbered, Meets, KeepsPlaces}
 use Rattle.pc_regions.specs.models.Marks.{mark_at, IsMarked}
-use Rattle.pc_regions.specs.models.Cutting.{TreeFor, BehindFor, MayBeTaken, Names}
+use Rattle.pc_regions.specs.models.Cutting.{TreeFor, BehindFor, Names}
 use Rattle.pc_regions.proofs.Numberings.{length_more}
 use Rattle.pc_regions.proofs.Reaching.{item_leads, test_leads, meets_keeps}
 

@@ -9,6 +9,8 @@ mod in_edges;
 mod numbering;
 mod reachable;
 mod table;
+#[cfg(test)]
+mod tests;
 
 pub use error::RegionError;
 pub use table::regions;

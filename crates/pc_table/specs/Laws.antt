@@ -1,5 +1,4 @@
 -- Laws of the definitions. Each is the contract of a function of laws.rt, which does nothing.
-use Rattle.std.specs.Prelude.{ℕ, ℤ, List}
 use Rattle.pc_word.specs.Run.{Grows}
 use Rattle.pc_word.specs.State.{State}
 use Rattle.pc_table.specs.Table.{TableTree, Table}

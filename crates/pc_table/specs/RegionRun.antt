@@ -1,5 +1,5 @@
 -- What regions do one after the other: each item and each test takes one unit, and the next region follows at no cost.
-use Rattle.std.specs.Prelude.{ℕ, ℤ, if◌then◌else◌, List, [], Option}
+use Rattle.std.specs.Prelude.{ℤ, if◌then◌else◌, List, []}
 use Rattle.pc_word.specs.declared.item.End.TheVariants.{Ended, Trapped, Fault}
 use Rattle.pc_word.specs.Word.{holds}
 use Rattle.pc_word.specs.Run.{Run, Step, Goes, Stops, run_from}

@@ -1,5 +1,5 @@
 -- Regions in the making: trees that hold whatever regions are named later, and the numbers that they name.
-use Rattle.std.specs.Prelude.{◌≡◌, ◌⊎◌, ℕ, zero, ◌<◌, ◌≤◌, Bool, true, false, List, length, filter, Some, slice_get}
+use Rattle.std.specs.Prelude.{◌≡◌, ◌⊎◌, ℕ, zero, ◌≤◌, Bool, true, false, List, length, filter, Some, slice_get}
 use Rattle.std.specs.List.{range_with_len}
 use Rattle.pc_flow.specs.FlowGraph.{FlowGraph}
 use Rattle.pc_live.specs.declared.variable_set.VariableSet.{VariableSet}

@@ -1,4 +1,4 @@
-use Rattle.std.proofs.Common.{◌≡◌, length, Some, None, sym, ◌∙◌, ap}
+use Rattle.std.proofs.Common.{◌≡◌, length, Some, None, ◌∙◌, ap}
 use Rattle.pc_table.specs.Table.{table_region, table_regions}
 use Rattle.pc_regions.specs.models.Numbered.{nothing_met}
 use Rattle.pc_regions.proofs.RegionsCut.{so_far_begins, so_far_goes_on, so_far_whole, head_within, regions_within, behind_regions, region_more, fewer_left}

@@ -1,5 +1,4 @@
 use Rattle.std.proofs.Common.{◌-◌, length}
-use Rattle.pc_flow.specs.FlowGraph.{IsFlow}
 use Rattle.pc_table.specs.Table.{table_regions}
 use Rattle.pc_regions.specs.models.Cutting.{AreRegionsSoFar}
 use Rattle.pc_regions.proofs.cutting.cut.Given as goal

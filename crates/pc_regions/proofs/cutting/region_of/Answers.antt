@@ -1,4 +1,3 @@
-use Rattle.std.proofs.Common.{◌≡◌, ◌∙◌, sym, subst}
 use Rattle.pc_table.specs.Table.{table_tree}
 use Rattle.pc_regions.proofs.RegionsCut.{region_found}
 use Rattle.pc_regions.proofs.cutting.region_of.Goals as goal

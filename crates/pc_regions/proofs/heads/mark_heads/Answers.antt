@@ -1,6 +1,5 @@
-use Rattle.std.proofs.Common.{◌≡◌, ◌+◌, ◌<◌, ◌++◌, [], ◌∷◌, take, List, Option, Some, None, length, get_or, sym, ◌∙◌, ap, subst, arith}
+use Rattle.std.proofs.Common.{◌<◌, take, None, length, sym, ◌∙◌, subst}
 use Rattle.std.proofs.lemmas.List.{take_more}
-use Rattle.pc_regions.specs.models.Marks.{Marks}
 use Rattle.pc_regions.proofs.Marking.{marks_header, marks_none}
 use Rattle.pc_regions.proofs.heads.mark_heads.Goals as goal
 use Rattle.pc_regions.proofs.heads.mark_heads.Goals.{in-Some, in_default}

@@ -1,5 +1,4 @@
 use Rattle.std.proofs.Common.{take}
-use Rattle.pc_flow.specs.FlowGraph.{IsFlow}
 use Rattle.pc_regions.specs.models.Counts.{CountsEdges}
 use Rattle.pc_regions.proofs.in_edges.in_edge_counts.Given as goal
 

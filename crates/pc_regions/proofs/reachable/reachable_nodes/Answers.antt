@@ -1,5 +1,4 @@
 use Rattle.std.proofs.Common.{◌≡◌, ◌+◌, suc, length, sym, ◌∙◌, ap, subst, arith}
-use Rattle.pc_flow.specs.FlowGraph.{IsFlow}
 use Rattle.pc_regions.specs.models.Numbered.{nothing_met}
 use Rattle.pc_regions.specs.models.Reaching.{IsReaching}
 use Rattle.pc_regions.proofs.Reaching.{reaching_begins, reaching_goes_on, reached_all, node_within, done_within}

@@ -1,4 +1,4 @@
-use Rattle.std.proofs.Common.{◌≡◌, ◌∙◌}
+use Rattle.std.proofs.Common.{◌∙◌}
 use Rattle.pc_table.specs.Table.{Table, table_regions}
 use Rattle.pc_regions.specs.Cut.{IsCutOf}
 use Rattle.pc_regions.proofs.RegionsCut.{regions_are_cut}
