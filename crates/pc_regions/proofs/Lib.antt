@@ -4,7 +4,10 @@ pub mod CutRuns
 pub mod LiveLists
 pub mod LoopsEntered
 pub mod Marking
+pub mod Members
 pub mod Numberings
+pub mod OneCut
 pub mod Reaching
 pub mod RegionsCut
+pub mod SameTrees
 pub mod TreesCut

@@ -2,3 +2,4 @@ pub mod models
 pub mod Reachable
 pub mod Loops
 pub mod Cut
+pub mod Laws

@@ -6,6 +6,7 @@ mod error;
 mod headers;
 mod heads;
 mod in_edges;
+mod laws;
 mod numbering;
 mod reachable;
 mod table;
@@ -13,4 +14,5 @@ mod table;
 mod tests;
 
 pub use error::RegionError;
+pub use laws::law_of_one_cut;
 pub use table::regions;
