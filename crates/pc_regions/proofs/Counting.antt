@@ -13,6 +13,7 @@ use Rattle.pc_flow.specs.declared.node.FlowNode.TheVariants.{Op, Test, Stop, Tra
 use Rattle.pc_flow.specs.FlowGraph.{FlowGraph, IsFlow}
 use Rattle.pc_regions.specs.Reachable.{IsReachable, Entry, Behind, AreReachable, one_if, edges_of, in_edges}
 use Rattle.pc_regions.specs.models.Counts.{up_to_two, CountsEdges, AddsEdge, AddsEdges}
+use Rattle.pc_regions.proofs.Places.{index_stands, same_number, other_number}
 use Rattle.pc_regions.proofs.Reaching.{item_leads, test_leads, edge_leads}
 
 -- ---- one edge
@@ -21,12 +22,6 @@ use Rattle.pc_regions.proofs.Reaching.{item_leads, test_leads, edge_leads}
 elsewhere : (next to : ℕ) (b : Bool) → nat_eq next to ≡ b → b ≡ false → one_if next to ≡ 0
 elsewhere next to b e f = simp (e, f)
 
-same_of : (a b : ℕ) → nat_eq a b ≡ true → a ≡ b
-same_of a b e = grind (arith, nat_tests)
-
-other_of : (a b : ℕ) → nat_eq a b ≡ false → a ≢ b
-other_of a b e = grind (arith, nat_tests)
-
 capped : (n k : ℕ) → n ≤ 2 → k ≡ 0 → n ≡ up_to_two (n + k)
 capped n k h e = omega (arith, h, e)
 
@@ -34,7 +29,7 @@ capped n k h e = omega (arith, h, e)
 raised : (old : List ℕ) (next : ℕ) → next < length old → ((to : ℕ) → slice_index old to ≤ 2) → slice_index old next < 2 → (to : ℕ) (b : Bool) → nat_eq next to ≡ b
     → slice_index (slice_set old next (slice_index old next + 1)) to ≡ up_to_two (slice_index old to + (if b then 1 else 0))
 raised old next within few low to true e =
-    let same = same_of next to e in
+    let same = same_number next to e in
     let there = index_set_same old next (slice_index old next + 1) within in
     let is : slice_index (slice_set old next (slice_index old next + 1)) to ≡ slice_index old next + 1 =
     subst (λ (n : ℕ). slice_index (slice_set old next (slice_index old next + 1)) n ≡ slice_index old next + 1) same there in
@@ -45,7 +40,7 @@ raised old next within few low to true e =
     small : (n : ℕ) → n < 2 → n + 1 ≡ up_to_two (n + 1)
     small n h = omega (arith, h)
 raised old next within few low to false e =
-    index_set_other old next to (slice_index old next + 1) (other_of next to e) ∙ capped (slice_index old to) 0 (few to) refl
+    index_set_other old next to (slice_index old next + 1) (other_number next to e) ∙ capped (slice_index old to) 0 (few to) refl
 
 pub edge_raised : (next : ℕ) (old : List ℕ) → next < length old → ((to : ℕ) → slice_index old to ≤ 2) → slice_index old next < 2
     → AddsEdge next old (slice_set old next (slice_index old next + 1))
@@ -58,7 +53,7 @@ edge_raised next old within few low = record {
 full : (old : List ℕ) (next : ℕ) → ((to : ℕ) → slice_index old to ≤ 2) → 2 ≤ slice_index old next → (to : ℕ) (b : Bool) → nat_eq next to ≡ b
     → slice_index old to ≡ up_to_two (slice_index old to + (if b then 1 else 0))
 full old next few high to true e =
-    let now : 2 ≤ slice_index old to = subst (λ (n : ℕ). 2 ≤ slice_index old n) (same_of next to e) high in
+    let now : 2 ≤ slice_index old to = subst (λ (n : ℕ). 2 ≤ slice_index old n) (same_number next to e) high in
     let most = few to in
     omega (arith, now, most)
 full old next few high to false e = capped (slice_index old to) 0 (few to) refl
@@ -112,12 +107,7 @@ reachable_there flow at is (Behind {from} {node} reached here edge) = edge_leads
 -- so is each of a list of them
 pub listed_there : (flow : FlowGraph) (reachable : List ℕ) (place : ℕ) → IsFlow flow → AreReachable flow reachable → place < length reachable
     → slice_index reachable place < length flow.nodes
-listed_there flow reachable place is are lt = reachable_there flow (slice_index reachable place) is (are.only place (slice_index reachable place) (stands reachable place lt))
-  where
-    stands : (xs : List ℕ) (i : ℕ) → i < length xs → slice_get xs i ≡ Some (slice_index xs i)
-    stands [] i lt = absurd (omega arith)
-    stands (x ∷ xs) zero lt = refl
-    stands (x ∷ xs) (suc i) lt = stands xs i (omega arith)
+listed_there flow reachable place is are lt = reachable_there flow (slice_index reachable place) is (are.only place (slice_index reachable place) (index_stands reachable place lt))
 
 -- no edge counted
 pub none_counted : (flow : FlowGraph) → CountsEdges flow [] (replicate (length flow.nodes) 0)

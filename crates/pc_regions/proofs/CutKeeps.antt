@@ -2,7 +2,6 @@
 use Rattle.std.proofs.Common.{◌≡◌, inl, inr, ℕ, zero, suc, ◌+◌, ◌<◌, ◌≤◌, Bool, true, false, not, ◌||◌, ◌&&◌, List, [], ◌∷◌, length, Option, Some, None, refl, sym, ap, subst, arith}
 use Rattle.std.specs.Prelude.{nat_eq, IfSome, slice_get, slice_index}
 use Rattle.std.specs.List.{AllByRecursion, list_any}
-use Rattle.std.proofs.lemmas.Bool.Decides.{nat_tests}
 use Rattle.pc_word.specs.declared.item.Item.{Item}
 use Rattle.pc_word.specs.declared.item.Item.TheVariants.{Bin, Copy, Load, Store, Print, Read, More}
 use Rattle.pc_word.specs.declared.item.Operand.{Operand}
@@ -23,6 +22,7 @@ use Rattle.pc_table.specs.RegionRun.{arrive}
 use Rattle.pc_table.specs.TableKeeps.{NamesVariable, ItemIsThere, TreeIsThere, reads_name, reads, needs, units, untested, ComesUntested, By_one, By_more, RegionKeeps, TableKeeps}
 use Rattle.pc_regions.specs.Loops.{IsWithin, Same, Deeper, BelongsTo, IsEntered, Begins, Led_into, HeadsLoop}
 use Rattle.pc_regions.specs.Cut.{IsTreeOf, An_item, A_test, A_stop, A_trap, IsBehind, Taken, Not_taken, IsRegionOf, IsCutOf, heads_of}
+use Rattle.pc_regions.proofs.Places.{same_number}
 use Rattle.pc_regions.proofs.CutRuns.{region_at, arrive_tree}
 
 -- ---- what items read
@@ -68,10 +68,7 @@ item_reads (More dest) next x h = absurd (cc)
 -- ---- variables that are live are variables
 
 read_small : (operand : Operand) (x : ℕ) → IsVariable operand → is_variable operand x ≡ true → x < variables
-read_small (Name name) x fits h = subst (λ (y : ℕ). y < variables) (same name x h) fits
-  where
-    same : (a b : ℕ) → nat_eq a b ≡ true → a ≡ b
-    same a b e = grind (arith, nat_tests)
+read_small (Name name) x fits h = subst (λ (y : ℕ). y < variables) (same_number name x h) fits
 read_small (Lit value) x fits h = absurd (cc)
 
 list_small : (operands : List Operand) (x : ℕ) → AllByRecursion IsVariable operands → list_any (λ o. is_variable o x) operands ≡ true → x < variables

@@ -12,6 +12,7 @@ use Rattle.pc_live.specs.declared.variable_set.VariableSet.{VariableSet}
 use Rattle.pc_live.specs.Live.{IsLive}
 use Rattle.pc_live.specs.Liveness.{member, set_at, IsLivenessOf}
 use Rattle.pc_regions.specs.models.Cutting.{live_below}
+use Rattle.pc_regions.proofs.Places.{same_number}
 use Rattle.pc_regions.proofs.CutKeeps.{live_small}
 
 -- ---- ranges
@@ -76,18 +77,12 @@ range_below : (a n x : ℕ) → list_any (nat_eq x) (range_with_len a n) ≡ tru
 range_below a zero x h = absurd (cc)
 range_below a (suc n) x h = here (λ e. range_below (a + 1) n x e) (nat_eq x a) refl h
   where
-    same : (x a : ℕ) → nat_eq x a ≡ true → x ≡ a
-    same x a e = grind (arith, nat_tests)
-
     here : (list_any (nat_eq x) (range_with_len (a + 1) n) ≡ true → x < a + 1 + n) → (b : Bool) → nat_eq x a ≡ b
         → (b || list_any (nat_eq x) (range_with_len (a + 1) n)) ≡ true → x < a + suc n
-    here rest true e h = let is = same x a e in omega (arith, is)
+    here rest true e h = let is = same_number x a e in omega (arith, is)
     here rest false e h = let below = rest h in omega (arith, below)
 
 -- ---- what passes a test
-
-same_number : (x y : ℕ) → nat_eq x y ≡ true → x ≡ y
-same_number x y e = grind (arith, nat_tests)
 
 -- a number that stands in a list and passes stands in what passes
 has_step : (p : ℕ → Bool) (x y : ℕ) (xs : List ℕ) → (list_any (nat_eq x) xs ≡ true → list_any (nat_eq x) (filter p xs) ≡ true) → p x ≡ true

@@ -12,7 +12,7 @@ use Rattle.pc_word.specs.declared.item.TrapKind.{TrapKind}
 use Rattle.pc_flow.specs.declared.node.FlowNode.{FlowNode}
 use Rattle.pc_flow.specs.declared.node.FlowNode.TheVariants.{Op, Test, Stop, Trap}
 use Rattle.pc_flow.specs.FlowGraph.{FlowGraph, IsFlow, HasEdge}
-use Rattle.pc_regions.proofs.Numberings.{get_front, get_last, get_more}
+use Rattle.pc_regions.proofs.Places.{get_front, get_last, get_more, found_within, same_number, other_number}
 use Rattle.pc_regions.proofs.Reaching.{item_leads, test_leads}
 use Rattle.pc_regions.proofs.Counting.{listed_there}
 use Rattle.pc_regions.specs.Loops.{IsWithin, Same, Deeper, BelongsTo}
@@ -133,18 +133,12 @@ module _ (loops : List LoopMark) (first : OuterFirst loops) (to : ℕ) where
       longer : (loop : ℕ) → loop < length headers → loop < length (with_lesser headers number)
       longer loop lt = subst (λ (n : ℕ). loop < n) (sym (set_length headers number (Some (lesser (header_at headers number) to)))) lt
 
-      same_of : (a b : ℕ) → nat_eq a b ≡ true → a ≡ b
-      same_of a b e = grind (arith, nat_tests)
-
-      other_of : (a b : ℕ) → nat_eq a b ≡ false → b ≢ a
-      other_of a b e = grind (arith, nat_tests)
-
       by_number : (loop : ℕ) → loop < length (with_lesser headers number) → (b : Bool) → nat_eq number loop ≡ b → Each (Some number) outside headers final loop
       by_number loop lt true e =
-          let same = same_of number loop e in
+          let same = same_number number loop e in
           subst (λ (n : ℕ). Each (Some number) outside headers final n) same
           (each_same number round outside headers final there below rounds (subst (λ (n : ℕ). Each round outside (with_lesser headers number) final n) (sym same) (h.each loop lt)))
-      by_number loop lt false e = each_other number loop round outside headers final (other_of number loop e) rounds (h.each loop lt)
+      by_number loop lt false e = each_other number loop round outside headers final (λ same. other_number number loop e (sym same)) rounds (h.each loop lt)
 
 -- ---- headers so far
 
@@ -236,12 +230,6 @@ module _ (flow : FlowGraph) (is_flow : IsFlow flow) where
       inner_there None e = tt
       inner_there (Some n) e = is_flow.loops_there to n e
 
-  -- the loop in which a node stands is found
-  inside_found : (xs : List (Option ℕ)) (i : ℕ) → i < length xs → (x : Option ℕ) × (slice_get xs i ≡ Some x)
-  inside_found [] i lt = absurd (omega arith)
-  inside_found (x ∷ xs) zero lt = (x, refl)
-  inside_found (x ∷ xs) (suc i) lt = inside_found xs i (omega arith)
-
   -- an edge to a node, from one that stands in `outside`
   abbrev Crosses : (outside : Option ℕ) → ℕ → List (Option ℕ) → List (Option ℕ) → Type 0
   Crosses outside to old new = (inner : Option ℕ) → slice_get flow.inside to ≡ Some inner → Enters flow.loops inner outside to old new
@@ -255,7 +243,7 @@ module _ (flow : FlowGraph) (is_flow : IsFlow flow) where
     edge_more : (P : ℕ → ℕ → Type 0) (to : ℕ) (old new : List (Option ℕ)) → length old ≡ length flow.loops → to < length flow.nodes
         → AreHeadersOf P old → Crosses outside to old new → AreHeadersOf (λ loop at. P loop at ⊎ Along to loop at) new
     edge_more P to old new as_many lt h crosses =
-        let found = inside_found flow.inside to (subst (λ (n : ℕ). to < n) (sym is_flow.all_placed) lt) in
+        let found = found_within flow.inside to (subst (λ (n : ℕ). to < n) (sym is_flow.all_placed) lt) in
         let inner = found.0 in
         headers_alike (λ loop at. P loop at ⊎ (LeadsInto flow.loops inner outside loop × (to ≡ at))) (λ loop at. P loop at ⊎ Along to loop at) new
         (λ loop at. along inner found.1 loop at) (λ loop at. into inner found.1 loop at)
@@ -381,7 +369,7 @@ pub ruleset edges = (item_leads, test_leads, item_enters, test_enters, stop_ente
 pub entry_enters : (flow : FlowGraph) (old new : List (Option ℕ)) → IsFlow flow → old ≡ replicate (length flow.loops) None → length new ≡ length old
     → ((inner : Option ℕ) → slice_get flow.inside flow.entry ≡ Some inner → Enters flow.loops inner None flow.entry old new) → AreHeadersFrom flow [] new
 entry_enters flow old new is none same crosses =
-    let found = inside_found flow is flow.inside flow.entry (subst (λ (n : ℕ). flow.entry < n) (sym is.all_placed) is.begins) in
+    let found = found_within flow.inside flow.entry (subst (λ (n : ℕ). flow.entry < n) (sym is.all_placed) is.begins) in
     let nothing : Option ℕ = None in
     let as_many : length old ≡ length flow.loops = ap (λ (l : List (Option ℕ)). length l) none ∙ length-replicate (length flow.loops) nothing in
     record {

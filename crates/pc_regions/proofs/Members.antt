@@ -3,9 +3,9 @@ use Rattle.std.proofs.Common.{◌≡◌, ◌≢◌, ◌⊎◌, inl, inr, ℕ, ze
 use Rattle.std.specs.Prelude.{nat_eq, slice_get, slice_index, sum_by}
 use Rattle.std.specs.List.{list_any}
 use Rattle.std.specs.List.Sorted.{IsStrictlyIncreasing}
-use Rattle.std.proofs.lemmas.Bool.Decides.{nat_tests}
 use Rattle.std.proofs.lemmas.List.Sums.{sum_by-append, sum_by-cons}
 use Rattle.pc_live.proofs.Logic.{or_true, or_first, or_second}
+use Rattle.pc_regions.proofs.Places.{same_number, own_number}
 
 -- a number stands in a list
 abbrev pub Has : List ℕ → ℕ → Type 0
@@ -62,12 +62,6 @@ same_sum f xs ys one other forth back =
     omega (arith, low, high)
 
 -- ---- lists that rise
-
-same_number : (x y : ℕ) → nat_eq x y ≡ true → x ≡ y
-same_number x y e = grind (arith, nat_tests)
-
-own_number : (x : ℕ) → nat_eq x x ≡ true
-own_number x = grind (arith, nat_tests)
 
 -- what is behind the first rises
 rising_rest : (x : ℕ) (xs : List ℕ) → IsStrictlyIncreasing (x ∷ xs) → IsStrictlyIncreasing xs

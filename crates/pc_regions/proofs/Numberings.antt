@@ -7,34 +7,7 @@ use Rattle.std.proofs.lemmas.List.{get_or-replicate, length-replicate}
 use Rattle.pc_word.proofs.Lists.{count_more, set_at, set_length}
 use Rattle.pc_word.specs.SourceLimits.{most_nodes}
 use Rattle.pc_regions.specs.models.Numbered.{Numbered, IsNumbered, nothing_met, Meets}
-
--- what stands in a list stands there in a longer one
-pub get_front : {X : Type 0} (xs ys : List X) (i : ℕ) (x : X) → slice_get xs i ≡ Some x → slice_get (xs ++ ys) i ≡ Some x
-get_front [] ys i x e = absurd (cc)
-get_front (z ∷ xs) ys zero x e = e
-get_front (z ∷ xs) ys (suc i) x e = get_front xs ys i x e
-
--- what stands within a list
-pub found_within : {X : Type 0} (xs : List X) (i : ℕ) → i < length xs → (x : X) × (slice_get xs i ≡ Some x)
-found_within [] i lt = absurd (omega arith)
-found_within (x ∷ xs) zero lt = (x, refl)
-found_within (x ∷ xs) (suc i) lt = found_within xs i (omega arith)
-
--- an element that was put behind a list
-pub get_last : {X : Type 0} (xs : List X) (x : X) → slice_get (xs ++ x ∷ []) (length xs) ≡ Some x
-get_last [] x = refl
-get_last (y ∷ xs) x = get_last xs x
-
--- what stands in a list with an element more stood there before, or is that element
-pub get_more : {X : Type 0} (xs : List X) (y : X) (i : ℕ) (x : X) → slice_get (xs ++ y ∷ []) i ≡ Some x
-    → (slice_get xs i ≡ Some x) ⊎ ((i ≡ length xs) × (y ≡ x))
-get_more [] y zero x e = inr (refl, cc)
-get_more [] y (suc i) x e = absurd (cc)
-get_more (z ∷ xs) y zero x e = inl e
-get_more (z ∷ xs) y (suc i) x e = elim (get_more xs y i x e) [
-  | inl h ↦ inl h
-  | inr h ↦ inr (ap suc h.0, h.1)
-]
+use Rattle.pc_regions.proofs.Places.{get_front, get_last, get_more, length_more, set_there, set_elsewhere}
 
 -- a node that gets a number is counted
 count_set : (xs : List (Option ℕ)) (i x : ℕ) → slice_get xs i ≡ Some None → count_by is_some (slice_set xs i (Some x)) ≡ suc (count_by is_some xs)
@@ -50,20 +23,6 @@ count_set (y ∷ xs) (suc i) x e =
     let rest = count_set xs i x e in
     omega (arith, more, before, rest)
 
--- what stands where an element was put
-set_there : {X : Type 0} (xs : List X) (i : ℕ) (x : X) → i < length xs → slice_get (slice_set xs i x) i ≡ Some x
-set_there [] i x h = absurd (omega arith)
-set_there (y ∷ xs) zero x h = refl
-set_there (y ∷ xs) (suc i) x h = set_there xs i x (omega arith)
-
--- and elsewhere
-set_elsewhere : {X : Type 0} (xs : List X) (i j : ℕ) (x : X) → i ≢ j → slice_get (slice_set xs i x) j ≡ slice_get xs j
-set_elsewhere [] i j x h = refl
-set_elsewhere (y ∷ xs) zero zero x h = absurd (h refl)
-set_elsewhere (y ∷ xs) zero (suc j) x h = refl
-set_elsewhere (y ∷ xs) (suc i) zero x h = refl
-set_elsewhere (y ∷ xs) (suc i) (suc j) x h = set_elsewhere xs i j x (λ e. h (ap suc e))
-
 -- the numbering in which a node has the next number
 abbrev pub numbered_next : Numbered → ℕ → Numbered
 numbered_next it node = record { numbers = slice_set it.numbers node (Some (length it.order)); order = it.order ++ node ∷ [] }
@@ -73,11 +32,6 @@ numbered_equal : (it other : Numbered) → it.numbers ≡ other.numbers → it.o
 numbered_equal it other p q =
     ap (λ (numbers : List (Option ℕ)). let made : Numbered = record { numbers = numbers; order = it.order } in made) p
     ∙ ap (λ (order : List ℕ). let made : Numbered = record { numbers = other.numbers; order = order } in made) q
-
--- a list with an element more
-pub length_more : {X : Type 0} (xs : List X) (x : X) → length (xs ++ x ∷ []) ≡ suc (length xs)
-length_more [] x = refl
-length_more (y ∷ xs) x = ap suc (length_more xs x)
 
 -- a node that was met before is another one than a node that was not
 not_met : (it : Numbered) (node number other : ℕ) → IsNumbered it → slice_get it.numbers node ≡ Some None → slice_get it.order number ≡ Some other → node ≢ other

@@ -12,7 +12,7 @@ use Rattle.pc_regions.specs.Reachable.{AreReachable, edges_of}
 use Rattle.pc_regions.specs.Loops.{HeadsLoop}
 use Rattle.pc_live.specs.Live.{IsLive}
 use Rattle.pc_regions.specs.Cut.{IsTreeOf, IsHead, Is_entry, Edges_meet, Heads_loop, AreMet, None_met, Known, Met, AreFound, First, Found, IsRegionOf, IsCutOf, heads_of, nexts_of}
-use Rattle.pc_regions.proofs.Numberings.{get_front, get_last, get_more, length_more}
+use Rattle.pc_regions.proofs.Places.{found_within, get_more, length_more}
 use Rattle.pc_regions.proofs.LoopsEntered.{within_below}
 use Rattle.pc_regions.proofs.CutKeeps.{head_at}
 use Rattle.pc_regions.proofs.Members.{Has, same_sum, same_rising}
@@ -157,11 +157,6 @@ table_equal one other p q r =
     ap (λ (x : List TableRegion). let made : Table = record { regions = x; loops = one.loops; arrays = one.arrays } in made) p
     ∙ ap (λ (x : List LoopMark). let made : Table = record { regions = other.regions; loops = x; arrays = one.arrays } in made) q
     ∙ ap (λ (x : List ℕ). let made : Table = record { regions = other.regions; loops = other.loops; arrays = x } in made) r
-
-found_within : {X : Type 0} (xs : List X) (i : ℕ) → i < length xs → (x : X) × (slice_get xs i ≡ Some x)
-found_within [] i lt = absurd (omega arith)
-found_within (x ∷ xs) zero lt = (x, refl)
-found_within (x ∷ xs) (suc i) lt = found_within xs i (omega arith)
 
 -- ---- two cuts
 

@@ -14,7 +14,7 @@ use Rattle.pc_flow.specs.FlowGraph.{FlowGraph, IsFlow, IsTarget, TestFits, HasEd
 use Rattle.pc_regions.specs.Reachable.{IsReachable, Entry, Behind, AreReachable}
 use Rattle.pc_regions.specs.models.Numbered.{Numbered, IsNumbered, nothing_met, Meets, KeepsPlaces}
 use Rattle.pc_regions.specs.models.Reaching.{MeetsEdges, IsReaching}
-use Rattle.pc_regions.proofs.Numberings.{get_front, get_more}
+use Rattle.pc_regions.proofs.Places.{get_front, get_more, found_within, none_left}
 
 -- ---- where edges lead
 
@@ -161,7 +161,7 @@ reaching_goes_on flow it new done from h here meets = record {
     | inl before ↦
         let few = h.few in
         let inside : place < length it.order = omega (arith, before, few) in
-        let was = found_there it.order place inside in
+        let was = found_within it.order place inside in
         let same = only_one new.order place (meets.keeps place was.0 was.1) there in
         let led = h.closed place was.0 to node before was.1 (subst (λ (n : ℕ). slice_get flow.nodes n ≡ Some node) (sym same) found) edge in
         (led.0, meets.keeps led.0 to led.1)
@@ -172,19 +172,8 @@ reaching_goes_on flow it new done from h here meets = record {
   ];
 }
   where
-    found_there : (xs : List ℕ) (i : ℕ) → i < length xs → (x : ℕ) × (slice_get xs i ≡ Some x)
-    found_there [] i lt = absurd (omega arith)
-    found_there (x ∷ xs) zero lt = (x, refl)
-    found_there (x ∷ xs) (suc i) lt = found_there xs i (omega arith)
-
     only_one : (xs : List ℕ) (i : ℕ) {x y : ℕ} → slice_get xs i ≡ Some x → slice_get xs i ≡ Some y → x ≡ y
     only_one xs i p q = cc
-
--- no node is left
-none_left : (xs : List ℕ) (i : ℕ) → slice_get xs i ≡ None → length xs ≤ i
-none_left [] i e = omega arith
-none_left (x ∷ xs) zero e = absurd (cc)
-none_left (x ∷ xs) (suc i) e = let rest = none_left xs i e in omega (arith, rest)
 
 -- where edges were gone along from each node that was met, each reachable node was met
 met_all : (flow : FlowGraph) (it : Numbered) (done : ℕ) → IsReaching flow it done → length it.order ≤ done → (at : ℕ) → IsReachable flow at

@@ -14,7 +14,7 @@ use Rattle.pc_regions.specs.Cut.{IsHead, IsTreeOf, An_item, A_test, A_stop, A_tr
 use Rattle.pc_regions.specs.models.Numbered.{Numbered, IsNumbered, nothing_met, Meets}
 use Rattle.pc_regions.specs.models.Marks.{IsMarked, AreHeads, FindsLoop}
 use Rattle.pc_regions.specs.models.Cutting.{TreeFor, RegionFor, Names, live_below, AreRegionsSoFar, AreRegions}
-use Rattle.pc_regions.proofs.Numberings.{get_more, length_more}
+use Rattle.pc_regions.proofs.Places.{get_more, length_more, none_left}
 use Rattle.pc_regions.proofs.Reaching.{first_of}
 use Rattle.pc_regions.proofs.LiveLists.{live_exact, live_rising}
 use Rattle.pc_regions.proofs.Marking.{finds_heads}
@@ -94,12 +94,6 @@ so_far_goes_on flow marks it new regions region head h here head_is is names =
     last_head number other last =
         subst (λ (n : ℕ). slice_get new.order n ≡ Some other.head) (sym last.0)
         (names.keeps (length regions) head here ∙ ap (λ (n : ℕ). Some n) (sym head_is ∙ ap (λ (r : TableRegion). r.head) last.1))
-
--- no head is left
-none_left : (xs : List ℕ) (i : ℕ) → slice_get xs i ≡ None → length xs ≤ i
-none_left [] i e = omega arith
-none_left (x ∷ xs) zero e = absurd (cc)
-none_left (x ∷ xs) (suc i) e = let rest = none_left xs i e in omega (arith, rest)
 
 -- regions whose heads stand in an order, as many as there are
 heads_are : (regions : List TableRegion) (order : List ℕ) → length regions ≡ length order

@@ -12,7 +12,7 @@ use Rattle.pc_regions.specs.Cut.{IsTreeOf, An_item, A_test, A_stop, A_trap, Take
 use Rattle.pc_regions.specs.models.Numbered.{Numbered, Meets, KeepsPlaces}
 use Rattle.pc_regions.specs.models.Marks.{mark_at, IsMarked}
 use Rattle.pc_regions.specs.models.Cutting.{TreeFor, BehindFor, Names}
-use Rattle.pc_regions.proofs.Numberings.{length_more}
+use Rattle.pc_regions.proofs.Places.{length_more}
 use Rattle.pc_regions.proofs.Reaching.{item_leads, test_leads, meets_keeps}
 
 -- ---- numbers that are named

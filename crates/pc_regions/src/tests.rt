@@ -4,7 +4,7 @@ ghost use Rattle.pc_live.specs.models.Example.{example};
 use super::*;
 use pc_flow::{Flow, FlowNode, FlowNodeList, InsideList, RankList};
 use pc_live::live;
-use pc_table::{RegionTree, laws_of_regions};
+use pc_table::{Region, RegionTree, laws_of_regions};
 use pc_word::{Item, LengthList, LoopList, LoopMark, OpCode, Operand};
 use std::alloc::Global;
 use std::test::Fail;
@@ -150,6 +150,19 @@ fn list_parts(tree: &RegionTree, parts: &mut Vec<Part>) -> Result<(), Fail> {
     }
 }
 
+/// Whether a region is as it was cut by hand.
+fn is_cut(alloc: Global, region: &Region, cut: &Cut) -> Result<bool, Fail> {
+    let mut parts = Vec::new(alloc);
+    list_parts(&region.tree, &mut parts)?;
+    Ok(
+        region.head == cut.head
+            && parts.as_slice() == cut.parts
+            && region.live.as_slice() == cut.live
+            && region.inside == cut.inside
+            && region.heads == cut.heads,
+    )
+}
+
 #[test]
 fn a_loop_is_cut_at_its_header(rt: HostRuntime) -> Result<(), Fail> {
     let flow = example(rt.alloc())?;
@@ -157,16 +170,12 @@ fn a_loop_is_cut_at_its_header(rt: HostRuntime) -> Result<(), Fail> {
     let table = regions(rt.alloc(), &flow, &liveness)?;
     assert_eq!(rt; table.regions.len(), CUT.len());
     for (region, cut) in table.regions.as_slice().iter().zip(CUT.iter()) {
-        assert_eq!(rt; region.head, cut.head);
-        let mut parts = Vec::new(rt.alloc());
-        list_parts(&region.tree, &mut parts)?;
-        assert!(rt; parts.as_slice() == cut.parts);
-        assert!(rt; region.live.as_slice() == cut.live);
-        assert_eq!(rt; region.inside, cut.inside);
-        assert_eq!(rt; region.heads, cut.heads);
+        let as_cut = is_cut(rt.alloc(), region, cut)?;
+        assert!(rt; as_cut);
     }
     assert_eq!(rt; table.loops.len(), 1);
     assert!(rt; table.arrays.is_empty());
     laws_of_regions();
+    law_of_one_cut();
     Ok(())
 }

@@ -12,7 +12,9 @@ tree_at-returns-in_ok-no-in-Test-clause-tree t c =
 
 pub tree_behind-returns-then-may_be_taken-clause-tree : goal.tree_behind-returns-then-may_be_taken-clause-tree
 tree_behind-returns-then-may_be_taken-clause-tree t c =
-    IfOk-weaker c.tree_at.result _ _ (λ tree h. taken_behind c.args.flow.now c.args.marks.now c.tree_at.new.found.order c.args.room.now c.args.to c.tree_at.new.room (table_tree tree) c.if-may_be_taken.ensures.0 h) c.tree_at.ensures.tree
+    IfOk-weaker c.tree_at.result _ _
+    (λ tree h. taken_behind c.args.flow.now c.args.marks.now c.tree_at.new.found.order c.args.room.now c.args.to c.tree_at.new.room (table_tree tree) c.if-may_be_taken.ensures.0 h)
+    c.tree_at.ensures.tree
 
 pub tree_behind-returns-clause-names : goal.tree_behind-returns-clause-names
 tree_behind-returns-clause-names t c = names_one c.args.found.now c.number.new.self c.args.to c.in_ok-region.region c.in_ok-region.ensures.met
