@@ -1,0 +1,14 @@
+pub mod Counting
+pub mod CutKeeps
+pub mod CutRuns
+pub mod LiveLists
+pub mod LoopsEntered
+pub mod Marking
+pub mod Members
+pub mod Numberings
+pub mod OneCut
+pub mod Places
+pub mod Reaching
+pub mod RegionsCut
+pub mod SameTrees
+pub mod TreesCut

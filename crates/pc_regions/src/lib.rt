@@ -1,0 +1,18 @@
+//! Cutting: from a flow graph to its table of regions.
+#![tactic(auto)]
+
+mod cutting;
+mod error;
+mod headers;
+mod heads;
+mod in_edges;
+mod laws;
+mod numbering;
+mod reachable;
+mod table;
+#[cfg(test)]
+mod tests;
+
+pub use error::RegionError;
+pub use laws::law_of_one_cut;
+pub use table::regions;

@@ -1,0 +1,4 @@
+pub mod Table
+pub mod RegionRun
+pub mod TableKeeps
+pub mod Laws
