@@ -1,0 +1,5 @@
+pub mod Chains
+pub mod Example
+pub mod Folds
+pub mod Plans
+pub mod Tables

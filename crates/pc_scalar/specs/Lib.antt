@@ -1,0 +1,4 @@
+pub mod models
+pub mod Folded
+pub mod LoopTests
+pub mod Tally

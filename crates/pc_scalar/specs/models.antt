@@ -1,0 +1,4 @@
+pub mod Ends
+pub mod Example
+pub mod Folding
+pub mod Plan
