@@ -20,7 +20,7 @@ use Rattle.pc_flow.specs.FlowGraph.{FlowGraph, IsFlow, IsTarget, HasEdge, TestFi
 use Rattle.pc_flow.specs.FlowRun.{FlowState, after_item, run_node, flow_step, flow_start, flow_run}
 use Rattle.pc_live.proofs.Dead.{Same, operand_same, operands_same, StatesAlike, OutcomesAlike, does_alike}
 use Rattle.pc_pass.specs.Reachable.{IsReachable, Entry, Behind}
-use Rattle.pc_pass.specs.models.Change.{Change, MayLead, Here, Past, AlikeIn, Corresponds, ItemBecomes, SideBecomes, Becomes, Does, Tests, Stops_too, Traps_too}
+use Rattle.pc_pass.specs.models.Change.{Change, Way, Here, Past, LeadsPast, AlikeIn, Corresponds, ItemBecomes, SideBecomes, Becomes, Does, Tests, Stops_too, Traps_too}
 use Rattle.pc_pass.specs.models.Change.{IsChange}
 
 -- ---- nodes that can be reached
@@ -174,11 +174,11 @@ module _ (change : Change) where
 
   module _ (is : IsChange change) where
     -- one unit of each, where both are at the same node
-    units_correspond : (at : ℕ) (s t : State) → IsReachable change.old at → change.Knows at s → AlikeIn (change.Matters at) s t
+    units_correspond : (at : ℕ) (s t : State) → ((next : ℕ) → change.Skips at next → ⊥) → IsReachable change.old at → change.Knows at s → AlikeIn (change.Matters at) s t
         → StepsCorrespond (flow_step change.old (record { node = at; state = s })) (flow_step change.new (record { node = at; state = t }))
-    units_correspond at s t reached known alike =
+    units_correspond at s t stays reached known alike =
         let found = node_there change.old.nodes at (reachable_there change.old at is.is_flow reached) in
-        let made = is.becomes at found.0 reached found.1 in
+        let made = is.becomes at found.0 reached found.1 stays in
         let both = nodes_correspond at found.0 made.other s t found.1 made.becomes reached known alike in
         subst (λ (o : Option FlowNode). StepsCorrespond (run_node lengths s o) (flow_step change.new (record { node = at; state = t }))) (sym found.1)
         (subst (λ (l : List ℕ). StepsCorrespond (run_node lengths s (Some found.0)) (run_node l t (slice_get change.new.nodes at))) (sym is.same_arrays)
@@ -200,21 +200,21 @@ module _ (change : Change) where
     }
 
     -- the old graph passes a node that is skipped, or both do the same
-    moves : (at to : ℕ) (s t : State) → MayLead change.Skips at to → IsReachable change.old at → change.Knows at s → AlikeIn (change.Matters at) s t
+    moves : (at to : ℕ) (s t : State) → Way change.Skips at to → ((next : ℕ) → change.Skips to next → ⊥) → IsReachable change.old at → change.Knows at s → AlikeIn (change.Matters at) s t
         → MeetsAgain (flow_step change.old) (flow_step change.new) (Corresponds change) (record { node = at; state = s }) (record { node = to; state = t })
         ⊎ MeetsLower (flow_step change.old) (flow_step change.new) (Corresponds change) rank_of (record { node = at; state = s }) (record { node = to; state = t })
-    moves _ _ s t (Here {at = at}) reached known alike = inl (record {
+    moves _ _ s t (Here {at = at}) stays reached known alike = inl (record {
       more_steps = 0;
       other_steps = 0;
       meet = steps_meet (flow_step change.old) (flow_step change.new) (flow_step change.old (record { node = at; state = s })) (flow_step change.new (record { node = at; state = t }))
-          (units_correspond at s t reached known alike);
+          (units_correspond at s t stays reached known alike);
     })
-    moves _ _ s t (Past {at = at} {next = next} {to = to} skips rest) reached known alike =
+    moves _ _ s t (Past {at = at} {next = next} {to = to} skips rest) stays reached known alike =
         let skipped = is.skips at next reached skips in
         let nothing = skipped.does_nothing s known in
         inr (meets_lower (record { node = at; state = s }) (record { node = next; state = nothing.after }) (record { node = to; state = t }) nothing.steps
         (record {
-          leads = rest;
+          leads = record { way = rest; stays = stays };
           reached = skipped.reached reached;
           known = nothing.known;
           alike = record {
@@ -231,7 +231,7 @@ module _ (change : Change) where
         let new_start = flow_start change.new.entry input in
         Agree-sym (λ n. run_from (flow_step change.old) n start) (λ n. run_from (flow_step change.new) n new_start)
         (Agree-simulated_in_time (flow_step change.old) (flow_step change.new) (Corresponds change) rank_of
-        (λ here there c. moves here.node there.node here.state there.state c.leads c.reached c.known c.alike) start new_start
+        (λ here there c. moves here.node there.node here.state there.state c.leads.way c.leads.stays c.reached c.known c.alike) start new_start
         (record {
           leads = is.begins;
           reached = Entry;

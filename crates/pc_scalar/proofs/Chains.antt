@@ -7,20 +7,20 @@ use Rattle.pc_word.proofs.Lists.{index_set_same, index_set_other}
 use Rattle.pc_flow.specs.declared.node.FlowNode.{FlowNode}
 use Rattle.pc_flow.specs.declared.node.FlowNode.TheVariants.{Op, Test, Stop, Trap}
 use Rattle.pc_flow.specs.FlowGraph.{FlowGraph, Descends, TestFits, NodeFits, HasEdge, turn_of, KeepsTurn}
-use Rattle.pc_pass.specs.models.Change.{MayLead, Here, Past}
+use Rattle.pc_pass.specs.models.Change.{Way, Here, Past, LeadsPast}
 use Rattle.pc_scalar.specs.models.Ends.{Jump, FallsAlong, IsShortened, EndsAt, AreEnds, led}
 
 -- one way after another
-pub may_lead-trans : (Skips : ℕ → ℕ → Type 0) (a b c : ℕ) → MayLead Skips a b → MayLead Skips b c → MayLead Skips a c
-may_lead-trans Skips _ _ c Here h = h
-may_lead-trans Skips _ b c (Past skips rest) h = Past skips (may_lead-trans Skips _ b c rest h)
+pub way-trans : (Skips : ℕ → ℕ → Type 0) (a b c : ℕ) → Way Skips a b → Way Skips b c → Way Skips a c
+way-trans Skips _ _ c Here h = h
+way-trans Skips _ b c (Past skips rest) h = Past skips (way-trans Skips _ b c rest h)
 
 -- a table is a shortened one of itself
 pub shortened_first : (table : List ℕ) → IsShortened table table
 shortened_first table = record {
   as_many = refl;
   leads = λ at there. elim (cases_eq (slice_index table at) at) [
-    | inl same ↦ subst (MayLead (Jump table) at) (sym same) Here
+    | inl same ↦ subst (Way (Jump table) at) (sym same) Here
     | inr other ↦ Past (record { leads = refl; other = other }) Here
   ];
   ends = λ at there same. same;
@@ -31,7 +31,7 @@ module _ (flow : FlowGraph) (first : List ℕ) (falls : FallsAlong flow first) w
   Rank at = slice_index flow.ranks at
 
   -- where a chain leads to, the rank is lower, if it is another node
-  pub chain_falls : (at to : ℕ) → at < length first → MayLead (Jump first) at to → (to < length first) × ((to ≡ at) ⊎ (Rank to < Rank at))
+  pub chain_falls : (at to : ℕ) → at < length first → Way (Jump first) at to → (to < length first) × ((to ≡ at) ⊎ (Rank to < Rank at))
   chain_falls _ _ there Here = (there, inl refl)
   chain_falls _ to there (Past {at = at} {next = next} skips rest) =
       let low : Rank next < Rank at = subst (λ (n : ℕ). Rank n < Rank at) skips.leads (falls.falls at there (λ same. skips.other (sym skips.leads ∙ same))) in
@@ -58,18 +58,18 @@ module _ (flow : FlowGraph) (first : List ℕ) (falls : FallsAlong flow first) w
 
     module _ (at far : ℕ) (there : at < length first) (other : slice_index table at ≢ at) (is : far ≡ slice_index table (slice_index table at)) where
       -- two steps of the chain
-      pub two_lead : MayLead (Jump first) at far
+      pub two_lead : Way (Jump first) at far
       two_lead =
           let next = next_falls at there other in
-          subst (MayLead (Jump first) at) (sym is)
-          (may_lead-trans (Jump first) at (slice_index table at) (slice_index table (slice_index table at)) (shortened.leads at there)
+          subst (Way (Jump first) at) (sym is)
+          (way-trans (Jump first) at (slice_index table at) (slice_index table (slice_index table at)) (shortened.leads at there)
           (shortened.leads (slice_index table at) next.0))
 
       -- lead to a lower rank
       pub two_fall : (far < length first) × (Rank far < Rank at)
       two_fall =
           let next = next_falls at there other in
-          let behind = chain_falls (slice_index table at) far next.0 (subst (MayLead (Jump first) (slice_index table at)) (sym is) (shortened.leads (slice_index table at) next.0)) in (
+          let behind = chain_falls (slice_index table at) far next.0 (subst (Way (Jump first) (slice_index table at)) (sym is) (shortened.leads (slice_index table at) next.0)) in (
             behind.0,
             elim behind.1 [
               | inl same ↦ subst (λ (n : ℕ). Rank n < Rank at) (sym same) next.1
@@ -85,8 +85,8 @@ module _ (flow : FlowGraph) (first : List ℕ) (falls : FallsAlong flow first) w
           record {
             as_many = length-set table at far ∙ shortened.as_many;
             leads = λ k low. elim (cases_eq at k) [
-              | inl same ↦ subst (λ (n : ℕ). MayLead (Jump first) n (slice_index (slice_set table at far) n)) same (subst (MayLead (Jump first) at) (sym stands) two_lead)
-              | inr apart ↦ subst (MayLead (Jump first) k) (sym (index_set_other table at k far apart)) (shortened.leads k low)
+              | inl same ↦ subst (λ (n : ℕ). Way (Jump first) n (slice_index (slice_set table at far) n)) same (subst (Way (Jump first) at) (sym stands) two_lead)
+              | inr apart ↦ subst (Way (Jump first) k) (sym (index_set_other table at k far apart)) (shortened.leads k low)
             ];
             ends = λ k low e. elim (cases_eq at k) [
               | inl same ↦
@@ -115,9 +115,21 @@ ends_more first ends more at end is long here so_far k low = elim (cases_eq k at
 -- ---- ends
 
 -- a chain that goes nowhere ends where it begins
-pub stays_end : (table : List ℕ) (at to : ℕ) → slice_index table at ≡ at → MayLead (Jump table) at to → to ≡ at
+pub stays_end : (table : List ℕ) (at to : ℕ) → slice_index table at ≡ at → Way (Jump table) at to → to ≡ at
 stays_end table _ _ stays Here = refl
 stays_end table _ to stays (Past skips rest) = absurd (skips.other (sym skips.leads ∙ stays))
+
+-- where a chain ends, its end is no other node's place
+pub end_leads_past : (table : List ℕ) (from to : ℕ) → EndsAt table from to → LeadsPast (Jump table) from to
+end_leads_past table from to end = record { way = end.leads; stays = λ next jump. jump.other (sym jump.leads ∙ end.stays) }
+
+-- a chain has one end
+pub one_end : (table : List ℕ) (from to other : ℕ) → Way (Jump table) from to → slice_index table to ≡ to → Way (Jump table) from other → slice_index table other ≡ other → to ≡ other
+one_end table _ _ other Here stays way ends = sym (stays_end table _ other stays way)
+one_end table _ to _ (Past skips rest) stays Here ends = absurd (skips.other (sym skips.leads ∙ ends))
+one_end table _ to other (Past {next = next} skips rest) stays (Past {next = second} also more) ends =
+    let same : second ≡ next = sym also.leads ∙ skips.leads in
+    one_end table next to other rest stays (subst (λ (n : ℕ). Way (Jump table) n other) same more) ends
 
 module _ (flow : FlowGraph) (table ends : List ℕ) (falls : FallsAlong flow table) (are_ends : AreEnds table ends) where
   -- an end is there, and its rank is no higher

@@ -19,32 +19,15 @@ use Rattle.pc_flow.specs.FlowGraph.{FlowGraph, ItemFits, IsTarget, HasEdge, Test
 use Rattle.pc_flow.specs.FlowRun.{FlowState, run_node}
 use Rattle.pc_pass.specs.Pass.{Keeps}
 use Rattle.pc_pass.specs.Reachable.{IsReachable, Entry, Behind}
-use Rattle.pc_pass.specs.models.Change.{Change, MayLead, Becomes, Does, Tests, Stops_too, Traps_too, IsSkipped, IsChange}
-use Rattle.pc_pass.proofs.Changes.{change_agrees, node_there, reachable_there, edge_target}
+use Rattle.pc_pass.specs.models.Change.{Change, LeadsPast, Becomes, Does, Tests, Stops_too, Traps_too, IsSkipped, IsChange}
+use Rattle.pc_pass.proofs.Changes.{change_agrees, node_there, reachable_there}
 use Rattle.pc_scalar.specs.declared.plan.Plan.{Plan}
 use Rattle.pc_scalar.specs.Folded.{IsFolded}
 use Rattle.pc_scalar.specs.LoopTests.{IsLoopTest, KeepsLoopTests}
 use Rattle.pc_scalar.specs.models.Plan.{Fits, planned}
 use Rattle.pc_scalar.specs.models.Ends.{Jump, FallsAlong, NodeThere, led}
 use Rattle.pc_scalar.specs.models.Folding.{folded_item, folded, taken, AreTaken, IsFolding}
-use Rattle.pc_scalar.proofs.Tables.{mapped_there, mapped_from}
-use Rattle.pc_scalar.proofs.Chains.{stays_end, end_falls, led_fits, led_turn, edge_led, edge_led_from, keeps_turn}
-
--- ---- edges
-
-sides_there : (flow : FlowGraph) (at on_yes on_no : ℕ) (turn : Option ℕ) → TestFits flow at on_yes on_no turn
-    → IsTarget flow on_yes × IsTarget flow on_no
-sides_there flow at on_yes on_no None h = (h.0.target, h.1.target)
-sides_there flow at on_yes on_no (Some turn) h = (h.0, h.1)
-
--- the edges of a node that fits lead to nodes that are there
-pub fits_there : (flow : FlowGraph) (at count : ℕ) (node : FlowNode) → count ≡ length flow.nodes → NodeFits flow at node → NodeThere count node
-fits_there flow at count (Op item to) e fits = subst (λ (n : ℕ). to < n) (sym e) fits.1.target
-fits_there flow at count (Test on on_yes on_no turn) e fits =
-    let sides = sides_there flow at on_yes on_no turn fits.1 in
-    (subst (λ (n : ℕ). on_yes < n) (sym e) sides.0, subst (λ (n : ℕ). on_no < n) (sym e) sides.1)
-fits_there flow at count Stop e fits = tt
-fits_there flow at count (Trap kind line) e fits = tt
+use Rattle.pc_scalar.proofs.Skipping.{sides_there, fits_there, KeepsEdges, IsSkipping, new_there, new_made_of, new_as_many, skipping_fits, end_leads, reachable_stays, skipping_keeps_tests}
 
 -- ---- folded items
 
@@ -192,38 +175,28 @@ module _ (flow : FlowGraph) (table : List ℕ) (are : AreTaken flow table) where
 
 -- ---- the folded graph
 
+-- folded nodes have the edges that they had
+folded_keeps : (flow : FlowGraph) → KeepsEdges flow folded
+folded_keeps flow = record { fits = folded_fits flow; turn = folded_turn; edge = folded_edge; edge_from = folded_edge_from }
+
+-- folding skips the tests of literals
+is_skipping : (flow : FlowGraph) (plan : Plan) (is : IsFolding flow plan) → IsSkipping flow plan is.table is.ends folded
+is_skipping flow plan is = record {
+  is_flow = is.taken_sides.is_flow;
+  falls = taken_falls flow is.table is.taken_sides;
+  are_ends = is.are_ends;
+  nodes = is.nodes;
+  entry = is.entry;
+  keeps = folded_keeps flow;
+}
+
 module _ (flow : FlowGraph) (plan : Plan) (is : IsFolding flow plan) where
   abbrev new : FlowGraph
   new = planned plan flow
 
-  falls : FallsAlong flow is.table
-  falls = taken_falls flow is.table is.taken_sides
-
-  there_new : (at : ℕ) (node : FlowNode) → slice_get flow.nodes at ≡ Some node → slice_get new.nodes at ≡ Some (led is.ends (folded node))
-  there_new at node there = rw is.nodes (mapped_there (λ n. led is.ends (folded n)) flow.nodes at node there)
-
-  made_of : (at : ℕ) (node : FlowNode) → slice_get new.nodes at ≡ Some node
-      → (before : FlowNode) × (slice_get flow.nodes at ≡ Some before) × (led is.ends (folded before) ≡ node)
-  made_of at node there = mapped_from (λ n. led is.ends (folded n)) flow.nodes at node (rw is.nodes at there)
-
-  as_many : length new.nodes ≡ length flow.nodes
-  as_many = ap length is.nodes ∙ length-map flow.nodes (λ n. led is.ends (folded n))
-
   -- the plan fits
   pub folding_fits : Fits flow plan
-  folding_fits = record {
-    nodes = record {
-      as_many = as_many;
-      each = λ at old other there stands.
-          let made = there_new at old there in
-          let same : led is.ends (folded old) ≡ other = (cc) in
-          let fits = led_fits flow is.table is.ends falls is.are_ends at (folded old) (folded_fits flow at old (is.taken_sides.is_flow.nodes_fit at old there)) in (
-            subst (NodeFits flow at) same fits,
-            subst (KeepsTurn old) same (keeps_turn old (led is.ends (folded old)) (led_turn is.ends (folded old) ∙ folded_turn old)),
-          );
-    };
-    entry = rw is.entry ((end_falls flow is.table is.ends falls is.are_ends flow.entry is.taken_sides.is_flow.begins).0);
-  }
+  folding_fits = skipping_fits flow plan is.table is.ends folded (is_skipping flow plan is)
 
   -- ---- it shows what the graph shows
 
@@ -231,12 +204,12 @@ module _ (flow : FlowGraph) (plan : Plan) (is : IsFolding flow plan) where
   abbrev change : Change
   change = record { old = flow; new = new; Skips = Jump is.table; Knows = λ at s. Unit {0}; Matters = λ at x. Unit {0} }
 
-  end_leads : (to : ℕ) → IsTarget flow to → MayLead (Jump is.table) to (slice_index is.ends to)
-  end_leads to there = (is.are_ends.each to (omega (arith, falls.as_many))).leads
+  leads : (to : ℕ) → IsTarget flow to → LeadsPast (Jump is.table) to (slice_index is.ends to)
+  leads = end_leads flow plan is.table is.ends folded (is_skipping flow plan is)
 
   node_becomes : (at : ℕ) (node : FlowNode) → NodeFits flow at node → Becomes change at node (led is.ends (folded node))
   node_becomes at (Op item to) fits = Does (record {
-    leads = end_leads to fits.1.target;
+    leads = leads to fits.1.target;
     same_dest = folded_dest item;
     does_same = λ s known. folded_does flow.arrays item to s;
     reads = λ x h. tt;
@@ -246,8 +219,8 @@ module _ (flow : FlowGraph) (plan : Plan) (is : IsFolding flow plan) where
   node_becomes at (Test on on_yes on_no turn) fits =
       let sides = sides_there flow at on_yes on_no turn fits.1 in
       Tests (record { same_value = λ s known. refl; reads = λ x h. tt })
-      (record { leads = end_leads on_yes sides.0; passes = λ x h. tt; knows = λ s h. tt })
-      (record { leads = end_leads on_no sides.1; passes = λ x h. tt; knows = λ s h. tt })
+      (record { leads = leads on_yes sides.0; passes = λ x h. tt; knows = λ s h. tt })
+      (record { leads = leads on_no sides.1; passes = λ x h. tt; knows = λ s h. tt })
   node_becomes at Stop fits = Stops_too
   node_becomes at (Trap kind line) fits = Traps_too
 
@@ -257,7 +230,6 @@ module _ (flow : FlowGraph) (plan : Plan) (is : IsFolding flow plan) where
       let there = reachable_there flow at is.taken_sides.is_flow reached in
       let jumped = jump_side flow is.table is.taken_sides at there (λ same. jump.other (sym jump.leads ∙ same)) in
       let side : IsTakenSide flow at next = subst (IsTakenSide flow at) jump.leads jumped in
-      let test : FlowNode = Test (Lit side.value) side.on_yes side.on_no None in
       record {
         lower = (side_descends flow at next is.taken_sides.is_flow side).lower;
         reached = λ h. Behind h side.there (edge_taken (holds side.value) side.on_yes side.on_no next side.leads);
@@ -276,30 +248,25 @@ module _ (flow : FlowGraph) (plan : Plan) (is : IsFolding flow plan) where
   is_change = record {
     is_flow = is.taken_sides.is_flow;
     same_arrays = refl;
-    begins = rw is.entry (end_leads flow.entry is.taken_sides.is_flow.begins);
+    begins = rw is.entry (leads flow.entry is.taken_sides.is_flow.begins);
     known_first = λ input words. tt;
     skips = skips;
-    becomes = λ at node reached there. record {
+    becomes = λ at node reached there stays. record {
       other = led is.ends (folded node);
-      there = there_new at node there;
+      there = new_there flow plan is.table is.ends folded (is_skipping flow plan is) at node there;
       becomes = node_becomes at node (is.taken_sides.is_flow.nodes_fit at node there);
     };
   }
 
   pub folding_keeps : Keeps flow new
-  folding_keeps = record { agrees = change_agrees change is_change; as_many = as_many; same_loops = refl; same_arrays = refl }
+  folding_keeps = record {
+    agrees = change_agrees change is_change;
+    as_many = new_as_many flow plan is.table is.ends folded (is_skipping flow plan is);
+    same_loops = refl;
+    same_arrays = refl;
+  }
 
   -- ---- and is folded
-
-  -- the place of a node that can be reached is its own
-  reachable_stays : (at : ℕ) → IsReachable new at → slice_index is.table at ≡ at
-  reachable_stays _ Entry = rw is.entry ((is.are_ends.each flow.entry (omega (arith, falls.as_many, is.taken_sides.is_flow.begins))).stays)
-  reachable_stays _ (Behind {from = from} {at = at} {node = node} reached there edge) =
-      let before = made_of from node there in
-      let led_edge : HasEdge (led is.ends (folded before.0)) at = subst (λ (n : FlowNode). HasEdge n at) (sym before.2) edge in
-      let next = edge_led_from is.ends (folded before.0) at led_edge in
-      let target = edge_target flow from next.0 before.0 (is.taken_sides.is_flow.nodes_fit from before.0 before.1) (folded_edge_from before.0 next.0 next.1) in
-      subst (λ (n : ℕ). slice_index is.table n ≡ n) next.2 (is.are_ends.each next.0 (omega (arith, falls.as_many, target))).stays
 
   -- a test of a literal that stays is a loop's
   no_literal_test : (at on_yes on_no : ℕ) (value : ℤ) (node : FlowNode) → slice_get flow.nodes at ≡ Some node → slice_index is.table at ≡ at
@@ -327,36 +294,18 @@ module _ (flow : FlowGraph) (plan : Plan) (is : IsFolding flow plan) where
   pub folding_folds : IsFolded new
   folding_folds = record {
     computes_none = λ at to dest op left right reached there.
-        let before = made_of at (Op (Bin op dest (Lit left) (Lit right)) to) there in
+        let before = new_made_of flow plan is.table is.ends folded (is_skipping flow plan is) at (Op (Bin op dest (Lit left) (Lit right)) to) there in
         no_constant before.0 op dest to left right before.2;
     tests_none = λ at on_yes on_no value reached there.
-        let before = made_of at (Test (Lit value) on_yes on_no None) there in
-        no_literal_test at on_yes on_no value before.0 before.1 (reachable_stays at reached) before.2;
+        let before = new_made_of flow plan is.table is.ends folded (is_skipping flow plan is) at (Test (Lit value) on_yes on_no None) there in
+        no_literal_test at on_yes on_no value before.0 before.1 (reachable_stays flow plan is.table is.ends folded (is_skipping flow plan is) at reached) before.2;
   }
 
   -- ---- and keeps the tests of loops
 
-  -- a loop's test stays in its place
-  loop_test_stays : (to turn : ℕ) → IsLoopTest flow to turn → slice_index is.ends to ≡ to
-  loop_test_stays to turn test =
-      let stays : slice_index is.table to ≡ to = is.taken_sides.each to test.node test.there ∙ taken_of_loop to turn test.node test.tests in
-      let within : to < length flow.nodes = slice_get_within flow.nodes to test.node test.there in
-      stays_end is.table to (slice_index is.ends to) stays (end_leads to within)
-
   pub folding_keeps_tests : KeepsLoopTests flow new
-  folding_keeps_tests = record {
-    stay = λ at turn test. record {
-      node = led is.ends (folded test.node);
-      there = there_new at test.node test.there;
-      tests = led_turn is.ends (folded test.node) ∙ folded_turn test.node ∙ test.tests;
-    };
-    led = λ from to turn test edge. record {
-      node = led is.ends (folded edge.node);
-      there = there_new from edge.node edge.there;
-      edge = subst (HasEdge (led is.ends (folded edge.node))) (loop_test_stays to turn test) (edge_led is.ends (folded edge.node) to (folded_edge edge.node to edge.edge));
-    };
-    begins = λ turn test. is.entry ∙ loop_test_stays flow.entry turn test;
-  }
+  folding_keeps_tests = skipping_keeps_tests flow plan is.table is.ends folded (is_skipping flow plan is)
+      (λ to turn test. is.taken_sides.each to test.node test.there ∙ taken_of_loop to turn test.node test.tests)
 
 pub ruleset plan_laws = (taken_falls)
 

@@ -22,17 +22,22 @@ use Rattle.pc_pass.specs.Reachable.{IsReachable}
 pub record Change : Type 1 where
   pub old : FlowGraph
   pub new : FlowGraph
-  -- the first node may be skipped: edges to it may lead to the second instead
+  -- the first node is skipped: edges to it lead to the second instead, or past that one too
   pub Skips : ℕ → ℕ → Type 0
   -- what is known of the state, wherever the old graph comes to a node
   pub Knows : ℕ → State → Type 0
   -- the variables whose values still matter at a node; those of the others may differ
   pub Matters : ℕ → ℕ → Type 0
 
--- where an edge to the first node may lead instead: past nodes that may be skipped
-pub data MayLead (Skips : ℕ → ℕ → Type 0) : (from to : ℕ) → Type 0 where
-  Here : {at : ℕ} → MayLead Skips at at
-  Past : {at next to : ℕ} → Skips at next → MayLead Skips next to → MayLead Skips at to
+-- a way past nodes that are skipped
+pub data Way (Skips : ℕ → ℕ → Type 0) : (from to : ℕ) → Type 0 where
+  Here : {at : ℕ} → Way Skips at at
+  Past : {at next to : ℕ} → Skips at next → Way Skips next to → Way Skips at to
+
+-- where an edge to the first node leads instead: past nodes that are skipped, to one that is not
+pub record LeadsPast (Skips : ℕ → ℕ → Type 0) (from to : ℕ) : Type 0 where
+  pub way : Way Skips from to
+  pub stays : (next : ℕ) → Skips to next → ⊥
 
 -- ---- where the two graphs are
 
@@ -44,7 +49,7 @@ pub record AlikeIn (Matters : ℕ → Type 0) (s t : State) : Type 0 where
 
 -- where the old graph is and where the new one is
 pub record Corresponds (change : Change) (here there : FlowState) : Type 0 where
-  pub leads : MayLead change.Skips here.node there.node
+  pub leads : LeadsPast change.Skips here.node there.node
   pub reached : IsReachable change.old here.node
   pub known : change.Knows here.node here.state
   pub alike : AlikeIn (change.Matters here.node) here.state there.state
@@ -54,7 +59,7 @@ pub record Corresponds (change : Change) (here there : FlowState) : Type 0 where
 -- an item in the place of another: from each state in which the node can be reached it does the same, what it reads matters,
 -- and so does what matters behind it and is not written
 pub record ItemBecomes (change : Change) (at : ℕ) (item other : Item) (to onward : ℕ) : Type 0 where
-  pub leads : MayLead change.Skips to onward
+  pub leads : LeadsPast change.Skips to onward
   pub same_dest : dest_of other ≡ dest_of item
   pub does_same : (s : State) → change.Knows at s → item_step change.old.arrays other to s ≡ item_step change.old.arrays item to s
   pub reads : (x : ℕ) → list_any (λ operand. is_variable operand x) (operands_of other) ≡ true → change.Matters at x
@@ -64,7 +69,7 @@ pub record ItemBecomes (change : Change) (at : ℕ) (item other : Item) (to onwa
 
 -- one side of a test: where it leads to, and what matters and is known there
 pub record SideBecomes (change : Change) (at to onward : ℕ) : Type 0 where
-  pub leads : MayLead change.Skips to onward
+  pub leads : LeadsPast change.Skips to onward
   pub passes : (x : ℕ) → change.Matters to x → change.Matters at x
   pub knows : (s : State) → change.Knows at s → change.Knows to s
 
@@ -101,7 +106,7 @@ pub record DoesNothing (change : Change) (at next : ℕ) (s : State) : Type 0 wh
   pub same_input : after.input ≡ s.input
   pub same_names : (x : ℕ) → change.Matters next x → after.names x ≡ s.names x
 
--- a node that may be skipped
+-- a node that is skipped
 pub record IsSkipped (change : Change) (at next : ℕ) : Type 0 where
   pub lower : slice_index change.old.ranks next < slice_index change.old.ranks at
   pub reached : IsReachable change.old at → IsReachable change.old next
@@ -114,7 +119,8 @@ pub record IsSkipped (change : Change) (at next : ℕ) : Type 0 where
 pub record IsChange (change : Change) : Type 0 where
   pub is_flow : IsFlow change.old
   pub same_arrays : change.new.arrays ≡ change.old.arrays
-  pub begins : MayLead change.Skips change.old.entry change.new.entry
+  pub begins : LeadsPast change.Skips change.old.entry change.new.entry
   pub known_first : (input : List ℤ) → All IsWord input → change.Knows change.old.entry (start_state input)
   pub skips : (at next : ℕ) → IsReachable change.old at → change.Skips at next → IsSkipped change at next
-  pub becomes : (at : ℕ) (node : FlowNode) → IsReachable change.old at → slice_get change.old.nodes at ≡ Some node → BecomesAt change at node
+  pub becomes : (at : ℕ) (node : FlowNode) → IsReachable change.old at → slice_get change.old.nodes at ≡ Some node
+      → ((next : ℕ) → change.Skips at next → ⊥) → BecomesAt change at node

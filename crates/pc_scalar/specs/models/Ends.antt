@@ -3,7 +3,7 @@ use Rattle.std.specs.Prelude.{◌≡◌, ◌≢◌, ℕ, ◌<◌, List, length, 
 use Rattle.pc_flow.specs.declared.node.FlowNode.{FlowNode}
 use Rattle.pc_flow.specs.declared.node.FlowNode.TheVariants.{Op, Test, Stop, Trap}
 use Rattle.pc_flow.specs.FlowGraph.{FlowGraph}
-use Rattle.pc_pass.specs.models.Change.{MayLead}
+use Rattle.pc_pass.specs.models.Change.{Way}
 
 -- the table puts another node in the place of this one
 pub record Jump (table : List ℕ) (at next : ℕ) : Type 0 where
@@ -19,12 +19,12 @@ pub record FallsAlong (flow : FlowGraph) (table : List ℕ) : Type 0 where
 -- a table in which chains of another one are shortened, and end where they ended
 pub record IsShortened (first table : List ℕ) : Type 0 where
   pub as_many : length table ≡ length first
-  pub leads : (at : ℕ) → at < length first → MayLead (Jump first) at (slice_index table at)
+  pub leads : (at : ℕ) → at < length first → Way (Jump first) at (slice_index table at)
   pub ends : (at : ℕ) → at < length first → slice_index table at ≡ at → slice_index first at ≡ at
 
 -- the chain from the first node ends at the second, whose place no other takes
 pub record EndsAt (table : List ℕ) (from to : ℕ) : Type 0 where
-  pub leads : MayLead (Jump table) from to
+  pub leads : Way (Jump table) from to
   pub stays : slice_index table to ≡ to
 
 -- the end of each node's chain

@@ -2,7 +2,7 @@ use Rattle.std.proofs.Common.{length, refl, arith, ap}
 use Rattle.std.proofs.lemmas.List.{length_push}
 use Rattle.pc_pass.specs.models.Change.{Here}
 use Rattle.pc_scalar.specs.models.Ends.{Jump}
-use Rattle.pc_scalar.proofs.Chains.{may_lead-trans, shortened_first, two_lead, two_fall, shortened_more, ends_more, next_falls}
+use Rattle.pc_scalar.proofs.Chains.{way-trans, shortened_first, two_lead, two_fall, shortened_more, ends_more, next_falls}
 use Rattle.pc_scalar.proofs.ends.chain_ends.Goals as goal
 
 pub loop-from-init : goal.loop-from-init
@@ -25,7 +25,7 @@ pub loop-table-preserved : goal.loop-table-preserved
 loop-table-preserved c = record {
   shortened = shortened_more c.args.flow.now c.args.table.now c.requires c.loop-table.table c.loop-table.invariant.shortened c.loop-table.at _ c.loop-table.invariant.there c.loop-table-test.true refl;
   there = (two_fall c.args.flow.now c.args.table.now c.requires c.loop-table.table c.loop-table.invariant.shortened c.loop-table.at _ c.loop-table.invariant.there c.loop-table-test.true refl).0;
-  leads = may_lead-trans (Jump c.args.table.now) c.loop-from.from c.loop-table.at _ c.loop-table.invariant.leads
+  leads = way-trans (Jump c.args.table.now) c.loop-from.from c.loop-table.at _ c.loop-table.invariant.leads
       (two_lead c.args.flow.now c.args.table.now c.requires c.loop-table.table c.loop-table.invariant.shortened c.loop-table.at _ c.loop-table.invariant.there c.loop-table-test.true refl);
 }
 

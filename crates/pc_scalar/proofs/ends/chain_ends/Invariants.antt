@@ -1,5 +1,5 @@
 use Rattle.std.proofs.Common.{◌≡◌, ◌<◌, ℕ, length, slice_index}
-use Rattle.pc_pass.specs.models.Change.{MayLead}
+use Rattle.pc_pass.specs.models.Change.{Way}
 use Rattle.pc_scalar.specs.models.Ends.{Jump, IsShortened, EndsAt}
 use Rattle.pc_scalar.proofs.ends.chain_ends.Given as goal
 
@@ -8,7 +8,7 @@ abbrev pub invariant-loop-table : goal.invariant-loop-table
 invariant-loop-table l = record {
   shortened : IsShortened l.fn.table l.table;
   there : l.at < length l.fn.table;
-  leads : MayLead (Jump l.fn.table) l.from l.at;
+  leads : Way (Jump l.fn.table) l.from l.at;
 }
 
 -- along a chain the rank falls
