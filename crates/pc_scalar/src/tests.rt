@@ -93,7 +93,7 @@ fn example(alloc: Global) -> Result<Flow, Fail>
 }
 
 /// Whether the nodes of a graph are those of the example but for these.
-fn differs_at(flow: &Flow, changed: &[(u32, FlowNode)]) -> bool {
+fn is_example_but_for(flow: &Flow, changed: &[(u32, FlowNode)]) -> bool {
     for (at, old) in NODES.iter().enumerate() {
         let mut wanted = *old;
         for (number, node) in changed.iter() {
@@ -138,7 +138,42 @@ fn constants_are_folded(rt: HostRuntime) -> Result<(), Fail> {
             },
         ),
     ];
-    assert!(rt; differs_at(&flow, &changed));
+    assert!(rt; is_example_but_for(&flow, &changed));
     assert_eq!(rt; flow.entry(), 0);
+    Ok(())
+}
+
+#[test]
+fn dead_writes_are_skipped(rt: HostRuntime) -> Result<(), Fail> {
+    let mut flow = example(rt.alloc())?;
+    let mut pass = Dead::new(rt.alloc());
+    assert_eq!(rt; pass.name(), "dead");
+    pass.apply(&mut flow)?;
+    assert_eq!(rt; pass.changes(), 2);
+    let changed = [
+        (
+            1,
+            FlowNode::Op {
+                item: Item::Copy {
+                    dest: 1,
+                    from: Operand::Name(0),
+                },
+                next: 3,
+            },
+        ),
+        (
+            3,
+            FlowNode::Op {
+                item: Item::Bin {
+                    op: OpCode::Mul,
+                    dest: 3,
+                    left: Operand::Name(0),
+                    right: Operand::Name(1),
+                },
+                next: 5,
+            },
+        ),
+    ];
+    assert!(rt; is_example_but_for(&flow, &changed));
     Ok(())
 }
