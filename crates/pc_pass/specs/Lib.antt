@@ -1,1 +1,3 @@
+pub mod models
 pub mod Pass
+pub mod Reachable
