@@ -19,7 +19,7 @@ use Rattle.pc_flow.specs.declared.node.FlowNode.TheVariants.{Op, Test, Stop, Tra
 use Rattle.pc_flow.specs.FlowGraph.{FlowGraph, IsFlow, IsTarget, HasEdge, TestFits, NodeFits}
 use Rattle.pc_flow.specs.FlowRun.{FlowState, after_item, run_node, flow_step, flow_start, flow_run}
 use Rattle.pc_live.proofs.Dead.{Same, operand_same, operands_same, StatesAlike, OutcomesAlike, does_alike}
-use Rattle.pc_pass.specs.Reachable.{IsReachable, Entry, Behind}
+use Rattle.pc_flow.specs.Reachable.{IsReachableNode, Entry, Behind}
 use Rattle.pc_pass.specs.models.Change.{Change, Way, Here, Past, LeadsPast, AlikeIn, Corresponds, ItemBecomes, SideBecomes, Becomes, Does, Tests, Stops_too, Traps_too}
 use Rattle.pc_pass.specs.models.Change.{IsChange}
 
@@ -40,9 +40,9 @@ edge_target flow from to Stop fits e = absurd e
 edge_target flow from to (Trap kind line) fits e = absurd e
 
 -- each node that can be reached is there
-pub reachable_there : (flow : FlowGraph) (at : ℕ) → IsFlow flow → IsReachable flow at → IsTarget flow at
+pub reachable_there : (flow : FlowGraph) (at : ℕ) → IsFlow flow → IsReachableNode flow at → IsTarget flow at
 reachable_there flow _ is Entry = is.begins
-reachable_there flow _ is (Behind {from = from} {at = at} {node = node} before there edge) =
+reachable_there flow _ is (Behind {from = from} {to = at} {node = node} before there edge) =
     edge_target flow from at node (is.nodes_fit from node there) edge
 
 -- so some node stands there
@@ -88,7 +88,7 @@ module _ (change : Change) where
   same_before item to onward s None = (refl, refl, refl)
 
   module _ (at to onward : ℕ) (item other : Item) (becomes : ItemBecomes change at item other to onward) (s t : State)
-      (reached : IsReachable change.old to) (known : change.Knows at s) (alike : AlikeIn (change.Matters at) s t) where
+      (reached : IsReachableNode change.old to) (known : change.Knows at s) (alike : AlikeIn (change.Matters at) s t) where
     -- the states behind the two items correspond
     behind_items : (printed : List ℤ) (after more moved : State) (leaf last : ℕ)
         → item_step lengths item to s ≡ Commits printed after leaf → StatesAlike to (dest_of other) s t after more leaf last → moved ≡ more
@@ -138,7 +138,7 @@ module _ (change : Change) where
   -- the side that is taken
   side_corresponds : (b : Bool) (at to_yes to_no onward_yes onward_no : ℕ) (s t : State)
       → SideBecomes change at to_yes onward_yes → SideBecomes change at to_no onward_no
-      → IsReachable change.old to_yes → IsReachable change.old to_no → change.Knows at s → AlikeIn (change.Matters at) s t
+      → IsReachableNode change.old to_yes → IsReachableNode change.old to_no → change.Knows at s → AlikeIn (change.Matters at) s t
       → Corresponds change (record { node = if b then to_yes else to_no; state = s }) (record { node = if b then onward_yes else onward_no; state = t })
   side_corresponds true at to_yes to_no onward_yes onward_no s t yes_side no_side first second known alike = record {
     leads = yes_side.leads;
@@ -157,7 +157,7 @@ module _ (change : Change) where
 
   -- one unit of a node and of the node that it becomes
   nodes_correspond : (at : ℕ) (node other : FlowNode) (s t : State) → slice_get change.old.nodes at ≡ Some node → Becomes change at node other
-      → IsReachable change.old at → change.Knows at s → AlikeIn (change.Matters at) s t
+      → IsReachableNode change.old at → change.Knows at s → AlikeIn (change.Matters at) s t
       → StepsCorrespond (run_node lengths s (Some node)) (run_node lengths t (Some other))
   nodes_correspond at _ _ s t there (Does {item = item} {other = other} {to = to} {onward = onward} becomes) reached known alike =
       items_correspond at to onward item other becomes s t (Behind reached there refl) known alike
@@ -174,7 +174,7 @@ module _ (change : Change) where
 
   module _ (is : IsChange change) where
     -- one unit of each, where both are at the same node
-    units_correspond : (at : ℕ) (s t : State) → ((next : ℕ) → change.Skips at next → ⊥) → IsReachable change.old at → change.Knows at s → AlikeIn (change.Matters at) s t
+    units_correspond : (at : ℕ) (s t : State) → ((next : ℕ) → change.Skips at next → ⊥) → IsReachableNode change.old at → change.Knows at s → AlikeIn (change.Matters at) s t
         → StepsCorrespond (flow_step change.old (record { node = at; state = s })) (flow_step change.new (record { node = at; state = t }))
     units_correspond at s t stays reached known alike =
         let found = node_there change.old.nodes at (reachable_there change.old at is.is_flow reached) in
@@ -200,7 +200,7 @@ module _ (change : Change) where
     }
 
     -- the old graph passes a node that is skipped, or both do the same
-    moves : (at to : ℕ) (s t : State) → Way change.Skips at to → ((next : ℕ) → change.Skips to next → ⊥) → IsReachable change.old at → change.Knows at s → AlikeIn (change.Matters at) s t
+    moves : (at to : ℕ) (s t : State) → Way change.Skips at to → ((next : ℕ) → change.Skips to next → ⊥) → IsReachableNode change.old at → change.Knows at s → AlikeIn (change.Matters at) s t
         → MeetsAgain (flow_step change.old) (flow_step change.new) (Corresponds change) (record { node = at; state = s }) (record { node = to; state = t })
         ⊎ MeetsLower (flow_step change.old) (flow_step change.new) (Corresponds change) rank_of (record { node = at; state = s }) (record { node = to; state = t })
     moves _ _ s t (Here {at = at}) stays reached known alike = inl (record {

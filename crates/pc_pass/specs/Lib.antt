@@ -1,3 +1,2 @@
 pub mod models
 pub mod Pass
-pub mod Reachable

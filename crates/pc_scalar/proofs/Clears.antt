@@ -27,7 +27,7 @@ use Rattle.pc_live.specs.models.Rounds.{behind}
 use Rattle.pc_live.proofs.Logic.{or_true, or_first, or_second, place_within}
 use Rattle.pc_live.proofs.Rounds.{some_behind}
 use Rattle.pc_pass.specs.Pass.{Keeps}
-use Rattle.pc_pass.specs.Reachable.{IsReachable, Entry, Behind}
+use Rattle.pc_flow.specs.Reachable.{IsReachableNode, Entry, Behind}
 use Rattle.pc_pass.specs.models.Change.{Change, LeadsPast, Past, Becomes, Does, Tests, Stops_too, Traps_too, DoesNothing, IsSkipped, IsChange}
 use Rattle.pc_pass.proofs.Changes.{change_agrees, node_there, reachable_there}
 use Rattle.pc_scalar.specs.declared.plan.Plan.{Plan}
@@ -305,7 +305,7 @@ module _ (flow : FlowGraph) (plan : Plan) (is : IsClearing flow plan) where
   node_becomes at (Trap kind line) there fits kept = Traps_too
 
   -- an item that is needless writes nothing that matters behind it
-  skips : (at next : ℕ) → IsReachable flow at → Jump is.table at next → IsSkipped change at next
+  skips : (at next : ℕ) → IsReachableNode flow at → Jump is.table at next → IsSkipped change at next
   skips at next reached jump =
       let there = reachable_there flow at is_flow reached in
       let jumped = jump_needless flow is.sets is.table is.are_needed is.are_cleared at there (λ same. jump.other (sym jump.leads ∙ same)) in

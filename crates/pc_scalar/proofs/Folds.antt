@@ -18,7 +18,7 @@ use Rattle.pc_flow.specs.declared.node.FlowNode.TheVariants.{Op, Test, Stop, Tra
 use Rattle.pc_flow.specs.FlowGraph.{FlowGraph, ItemFits, IsTarget, HasEdge, TestFits, Descends, NodeFits, IsFlow, KeepsTurn, turn_of}
 use Rattle.pc_flow.specs.FlowRun.{FlowState, run_node}
 use Rattle.pc_pass.specs.Pass.{Keeps}
-use Rattle.pc_pass.specs.Reachable.{IsReachable, Entry, Behind}
+use Rattle.pc_flow.specs.Reachable.{IsReachableNode, Entry, Behind}
 use Rattle.pc_pass.specs.models.Change.{Change, LeadsPast, Becomes, Does, Tests, Stops_too, Traps_too, IsSkipped, IsChange}
 use Rattle.pc_pass.proofs.Changes.{change_agrees, node_there, reachable_there}
 use Rattle.pc_scalar.specs.declared.plan.Plan.{Plan}
@@ -225,7 +225,7 @@ module _ (flow : FlowGraph) (plan : Plan) (is : IsFolding flow plan) where
   node_becomes at (Trap kind line) fits = Traps_too
 
   -- a test of a literal does nothing but go to the side that is taken
-  skips : (at next : ℕ) → IsReachable flow at → Jump is.table at next → IsSkipped change at next
+  skips : (at next : ℕ) → IsReachableNode flow at → Jump is.table at next → IsSkipped change at next
   skips at next reached jump =
       let there = reachable_there flow at is.taken_sides.is_flow reached in
       let jumped = jump_side flow is.table is.taken_sides at there (λ same. jump.other (sym jump.leads ∙ same)) in

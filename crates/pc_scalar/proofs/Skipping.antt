@@ -6,7 +6,7 @@ use Rattle.std.proofs.lemmas.Option.{slice_get_within}
 use Rattle.pc_flow.specs.declared.node.FlowNode.{FlowNode}
 use Rattle.pc_flow.specs.declared.node.FlowNode.TheVariants.{Op, Test, Stop, Trap}
 use Rattle.pc_flow.specs.FlowGraph.{FlowGraph, IsTarget, HasEdge, TestFits, NodeFits, IsFlow, KeepsTurn, turn_of}
-use Rattle.pc_pass.specs.Reachable.{IsReachable, Entry, Behind}
+use Rattle.pc_flow.specs.Reachable.{IsReachableNode, Entry, Behind}
 use Rattle.pc_pass.specs.models.Change.{LeadsPast}
 use Rattle.pc_pass.proofs.Changes.{edge_target}
 use Rattle.pc_scalar.specs.declared.plan.Plan.{Plan}
@@ -86,9 +86,9 @@ module _ (flow : FlowGraph) (plan : Plan) (table ends : List ℕ) (made : FlowNo
   end_leads to there = end_leads_past table to (slice_index ends to) (is.are_ends.each to (omega (arith, is.falls.as_many)))
 
   -- the place of a node that can be reached is its own
-  pub reachable_stays : (at : ℕ) → IsReachable new at → slice_index table at ≡ at
+  pub reachable_stays : (at : ℕ) → IsReachableNode new at → slice_index table at ≡ at
   reachable_stays _ Entry = rw is.entry ((is.are_ends.each flow.entry (omega (arith, is.falls.as_many, is.is_flow.begins))).stays)
-  reachable_stays _ (Behind {from = from} {at = at} {node = node} reached there edge) =
+  reachable_stays _ (Behind {from = from} {to = at} {node = node} reached there edge) =
       let before = new_made_of from node there in
       let led_edge : HasEdge (led ends (made before.0)) at = subst (λ (n : FlowNode). HasEdge n at) (sym before.2) edge in
       let next = edge_led_from ends (made before.0) at led_edge in

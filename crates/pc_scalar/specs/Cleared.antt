@@ -5,7 +5,7 @@ use Rattle.pc_word.specs.declared.item.Item.TheVariants.{Bin, Copy, Load, Store,
 use Rattle.pc_flow.specs.declared.node.FlowNode.TheVariants.{Op}
 use Rattle.pc_flow.specs.FlowGraph.{FlowGraph}
 use Rattle.pc_live.specs.Live.{IsLive}
-use Rattle.pc_pass.specs.Reachable.{IsReachable}
+use Rattle.pc_flow.specs.Reachable.{IsReachableNode}
 
 -- the variable that an item writes, if that is all it does
 abbrev pub only_writes : Item → Option ℕ
@@ -19,5 +19,5 @@ only_writes (More dest) = Some dest
 
 -- each item that can be reached and only writes a variable writes one that is live behind it
 pub record WritesAreLive (flow : FlowGraph) : Type 0 where
-  pub live : (at to dest : ℕ) (item : Item) → IsReachable flow at → slice_get flow.nodes at ≡ Some (Op item to) → only_writes item ≡ Some dest
+  pub live : (at to dest : ℕ) (item : Item) → IsReachableNode flow at → slice_get flow.nodes at ≡ Some (Op item to) → only_writes item ≡ Some dest
       → IsLive flow dest to

@@ -16,7 +16,7 @@ use Rattle.pc_flow.specs.declared.node.FlowNode.TheVariants.{Op, Test, Stop, Tra
 use Rattle.pc_flow.specs.FlowGraph.{FlowGraph, IsFlow}
 use Rattle.pc_flow.specs.FlowRun.{FlowState, flow_step}
 use Rattle.pc_live.specs.Live.{is_variable}
-use Rattle.pc_pass.specs.Reachable.{IsReachable}
+use Rattle.pc_flow.specs.Reachable.{IsReachableNode}
 
 -- a graph, the one that is made of it, and what their nodes are compared by
 pub record Change : Type 1 where
@@ -50,7 +50,7 @@ pub record AlikeIn (Matters : ℕ → Type 0) (s t : State) : Type 0 where
 -- where the old graph is and where the new one is
 pub record Corresponds (change : Change) (here there : FlowState) : Type 0 where
   pub leads : LeadsPast change.Skips here.node there.node
-  pub reached : IsReachable change.old here.node
+  pub reached : IsReachableNode change.old here.node
   pub known : change.Knows here.node here.state
   pub alike : AlikeIn (change.Matters here.node) here.state there.state
 
@@ -109,7 +109,7 @@ pub record DoesNothing (change : Change) (at next : ℕ) (s : State) : Type 0 wh
 -- a node that is skipped
 pub record IsSkipped (change : Change) (at next : ℕ) : Type 0 where
   pub lower : slice_index change.old.ranks next < slice_index change.old.ranks at
-  pub reached : IsReachable change.old at → IsReachable change.old next
+  pub reached : IsReachableNode change.old at → IsReachableNode change.old next
   pub passes : (x : ℕ) → change.Matters next x → change.Matters at x
   pub does_nothing : (s : State) → change.Knows at s → DoesNothing change at next s
 
@@ -121,6 +121,6 @@ pub record IsChange (change : Change) : Type 0 where
   pub same_arrays : change.new.arrays ≡ change.old.arrays
   pub begins : LeadsPast change.Skips change.old.entry change.new.entry
   pub known_first : (input : List ℤ) → All IsWord input → change.Knows change.old.entry (start_state input)
-  pub skips : (at next : ℕ) → IsReachable change.old at → change.Skips at next → IsSkipped change at next
-  pub becomes : (at : ℕ) (node : FlowNode) → IsReachable change.old at → slice_get change.old.nodes at ≡ Some node
+  pub skips : (at next : ℕ) → IsReachableNode change.old at → change.Skips at next → IsSkipped change at next
+  pub becomes : (at : ℕ) (node : FlowNode) → IsReachableNode change.old at → slice_get change.old.nodes at ≡ Some node
       → ((next : ℕ) → change.Skips at next → ⊥) → BecomesAt change at node
