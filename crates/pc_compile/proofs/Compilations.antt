@@ -1,5 +1,5 @@
 -- A program's graph and its rows, put together.
-use Rattle.std.proofs.Common.{◌≡◌, ℕ, ◌<◌, ◌≤◌, true, List, [], ◌∷◌, length, sum, refl, sym, subst, arith}
+use Rattle.std.proofs.Common.{◌≡◌, ℕ, ◌≤◌, true, List, [], ◌∷◌, length, sum, refl, sym, ◌∙◌, subst, arith}
 use Rattle.std.specs.Prelude.{nat_le}
 use Rattle.std.specs.List.{AllByRecursion, list_all}
 use Rattle.std.proofs.lemmas.Bool.Decides.{nat_tests}
@@ -10,18 +10,16 @@ use Rattle.pc_word.proofs.Truth.{and_true}
 use Rattle.pc_syntax.specs.Source.{ResolvedProgram}
 use Rattle.pc_check.specs.Sound.{is_length}
 use Rattle.pc_meaning.specs.SourceRun.{source_run}
-use Rattle.pc_flow.specs.FlowGraph.{FlowGraph, IsFlow}
+use Rattle.pc_flow.specs.FlowGraph.{FlowGraph}
 use Rattle.pc_flow.specs.FlowRun.{flow_run}
 use Rattle.pc_lower.specs.Lowered.{IsLowered}
-use Rattle.pc_machine.specs.MachineCode.{CodeRow}
 use Rattle.pc_machine.specs.MachineRun.{machine_run}
 use Rattle.pc_machine.specs.WellFormed.{AreArrays}
 use Rattle.pc_word.specs.Ranges.{IsBetween, AreLimits}
-use Rattle.pc_object.specs.declared.object.Note.{Note}
 use Rattle.pc_object.specs.ObjectText.{CodeWithNotes}
-use Rattle.pc_compile.specs.Plain.{IsPlain}
-use Rattle.pc_machine.specs.Reachable.{IsReachable}
+use Rattle.pc_pass.specs.Pass.{Keeps}
 use Rattle.pc_compile.specs.Compiled.{IsCompiled}
+use Rattle.pc_compile.specs.models.Made.{IsObjectOf, object_with}
 use Rattle.pc_compile.proofs.PlainCodes.{plain_is_well_formed, plain_is_short}
 use Rattle.pc_compile.proofs.PlainRuns.{rows_show}
 
@@ -40,38 +38,31 @@ lengths_between (size ∷ arrays) h =
 pub are_arrays : (arrays : List ℕ) → length arrays ≤ most_arrays → list_all is_length arrays ≡ true → sum arrays ≤ most_elements → AreArrays arrays
 are_arrays arrays few sized elements = record { count = few; each = lengths_between arrays sized; elements = elements }
 
-module _ (program : ResolvedProgram) (limits : Limits) (flow : FlowGraph) (rows : List CodeRow) where
-  -- the object that is made of these rows
-  abbrev made : CodeWithNotes
-  made = record { code = record { limits = limits; arrays = flow.arrays; rows = rows }; notes = [] }
-
-  -- it is the program's
-  pub made_is_compiled : AreLimits limits → AreArrays program.arrays → IsFlow flow → IsLowered program flow → IsPlain flow rows
-      → ((row : ℕ) → row < length rows → IsReachable rows row) → IsCompiled program limits flow made
-  made_is_compiled fine arrays is lowered plain reached =
-      let own_arrays = subst AreArrays (sym lowered.arrays) arrays in
-      record {
-        agree = AgreeOnInputs-trans (source_run program) (flow_run flow) (machine_run made.code)
-            (AgreeOnInputs-sym (flow_run flow) (source_run program) lowered.agree)
-            (AgreeOnInputs-sym (machine_run made.code) (flow_run flow) (rows_show flow plain.order limits rows plain.rows_of_nodes));
-        is_object = record {
-          code = plain_is_well_formed flow limits plain.order rows plain.rows_of_nodes fine is own_arrays;
-          choices = tt;
-          few_notes = omega arith;
-          few_bytes = plain_is_short flow limits plain.order rows plain.rows_of_nodes is;
-        };
-        limited = refl;
-        arrays = lowered.arrays;
-        bare = refl;
-        lowered = lowered;
-        plain = plain;
-        reached = reached;
-      }
-
--- the same of an object whose parts are equal to these
-pub equal_is_compiled : (program : ResolvedProgram) (limits : Limits) (flow : FlowGraph) (rows : List CodeRow) (arrays : List ℕ) (notes : List Note)
-    → arrays ≡ flow.arrays → notes ≡ [] → IsCompiled program limits flow (made program limits flow rows)
-    → IsCompiled program limits flow (record { code = record { limits = limits; arrays = arrays; rows = rows }; notes = notes })
-equal_is_compiled program limits flow rows arrays notes p q h =
-    subst (λ (lengths : List ℕ). IsCompiled program limits flow (record { code = record { limits = limits; arrays = lengths; rows = rows }; notes = notes })) (sym p)
-    (subst (λ (ns : List Note). IsCompiled program limits flow (record { code = record { limits = limits; arrays = flow.arrays; rows = rows }; notes = ns })) (sym q) h)
+-- the object that is made of a graph, which passes made of the program's, is the program's
+pub is_compiled : (program : ResolvedProgram) (limits : Limits) (first flow : FlowGraph) (object : CodeWithNotes) → AreLimits limits → AreArrays program.arrays
+    → IsLowered program first → Keeps first flow → IsObjectOf flow limits object → IsCompiled program limits flow object
+is_compiled program limits first flow object fine arrays lowered kept made =
+    let plain = made.plain in
+    let code = (object_with limits flow.arrays made.rows).code in
+    let same_arrays = kept.same_arrays ∙ lowered.arrays in
+    let shows = rows_show flow plain.order limits made.rows plain.rows_of_nodes in
+    let agree_first = AgreeOnInputs-trans (flow_run flow) (flow_run first) (source_run program) kept.agrees lowered.agree in
+    subst (IsCompiled program limits flow) (sym made.is) (record {
+      agree = AgreeOnInputs-trans (source_run program) (flow_run flow) (machine_run code)
+          (AgreeOnInputs-sym (flow_run flow) (source_run program) agree_first)
+          (AgreeOnInputs-sym (machine_run code) (flow_run flow) shows);
+      is_object = record {
+        code = plain_is_well_formed flow limits plain.order made.rows plain.rows_of_nodes fine made.kept (subst AreArrays (sym same_arrays) arrays);
+        choices = tt;
+        few_notes = omega arith;
+        few_bytes = plain_is_short flow limits plain.order made.rows plain.rows_of_nodes made.kept;
+      };
+      limited = refl;
+      arrays = same_arrays;
+      bare = refl;
+      first = first;
+      lowered = lowered;
+      kept = kept;
+      plain = plain;
+      reached = made.reached;
+    })

@@ -7,6 +7,7 @@ use Rattle.pc_syntax.specs.Source.{ResolvedProgram}
 use Rattle.pc_meaning.specs.SourceRun.{source_run}
 use Rattle.pc_flow.specs.FlowGraph.{FlowGraph}
 use Rattle.pc_lower.specs.Lowered.{IsLowered}
+use Rattle.pc_pass.specs.Pass.{Keeps}
 use Rattle.pc_machine.specs.MachineRun.{machine_run}
 use Rattle.pc_object.specs.ObjectText.{CodeWithNotes, IsObject}
 use Rattle.pc_compile.specs.Plain.{IsPlain}
@@ -15,14 +16,17 @@ use Rattle.pc_compile.specs.declared.error.CompileError.{CompileError}
 use Rattle.pc_compile.specs.declared.error.CompileError.TheVariants.{TooLarge, Memory}
 
 -- The object does what the program does, for every input of words, and may be written; it has the given limits, the
--- program's arrays and no notes. Its rows are those of the graph, which is the program's; leaves lead to each from row 0.
+-- program's arrays and no notes. Its rows are those of the graph, which passes made of the program's; leaves lead to each
+-- from row 0.
 pub record IsCompiled (program : ResolvedProgram) (limits : Limits) (flow : FlowGraph) (object : CodeWithNotes) : Type 0 where
   pub agree : AgreeOnInputs (source_run program) (machine_run object.code)
   pub is_object : IsObject object
   pub limited : object.code.limits ≡ limits
   pub arrays : object.code.arrays ≡ program.arrays
   pub bare : object.notes ≡ []
-  pub lowered : IsLowered program flow
+  pub first : FlowGraph
+  pub lowered : IsLowered program first
+  pub kept : Keeps first flow
   pub plain : IsPlain flow object.code.rows
   pub reached : (row : ℕ) → row < length object.code.rows → IsReachable object.code.rows row
 

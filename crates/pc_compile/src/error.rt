@@ -4,6 +4,7 @@ ghost use Rattle.pc_compile.specs.declared.error.CompileError.TheVariants.{Memor
 ghost use Rattle.pc_compile.specs.models.Errors.{error_of_lowering};
 
 use pc_lower::LowerError;
+use pc_pass::PassMemory;
 use std::alloc::AllocError;
 use thiserror::Error;
 
@@ -27,6 +28,14 @@ impl From<LowerError> for CompileError {
             LowerError::TooLarge { nodes } => CompileError::TooLarge { nodes },
             LowerError::Memory => CompileError::Memory,
         }
+    }
+}
+
+impl From<PassMemory> for CompileError {
+    ghost from_gives = { λ _ error. error ≡ Memory };
+
+    fn from(_error: PassMemory) -> CompileError {
+        CompileError::Memory
     }
 }
 

@@ -1,4 +1,4 @@
-//! From a checked program to its object: the flow graph, and its nodes as rows.
+//! From a checked program to its object: the flow graph, passes over it, and its nodes as rows.
 #![tactic(auto)]
 
 mod emission;
@@ -7,4 +7,4 @@ mod numbering;
 mod program;
 
 pub use error::CompileError;
-pub use program::{Compiled, compile};
+pub use program::{Compiled, compile, compile_with};

@@ -15,7 +15,7 @@ use Rattle.pc_report.specs.declared.fault.SourceFault.{SourceFault}
 use Rattle.pc_report.specs.declared.fault.SourceFault.TheVariants.{TooLong}
 use Rattle.pc_report.specs.declared.fault.ToolFault.{ToolFault}
 use Rattle.pc_report.specs.declared.fault.ToolFault.TheVariants as fault
-use Rattle.pc_report.specs.Report.{report_lines}
+use Rattle.pc_report.specs.Report.{PassCount, report_lines}
 use Rattle.pc_tool.specs.Compilation.{Compiled, report_on}
 use Rattle.pc_tool.specs.Compiler.{CompilerEnds, Done, Misused, Unread, Refused, Unwritten, Unreported, Lacking, CompilerLacks, Early, Writing, Reporting, CompilerPromise}
 use Rattle.pc_tool.specs.Due.{Told}
@@ -33,7 +33,7 @@ use Rattle.pc_tool.proofs.Streams.{sends_none, sends_part}
 rose_later : (one two three : ℕ) → one ≤ two → Rose two three → Rose one three
 rose_later one two three le rose = omega (arith, le, rose)
 
-module _ (request : CompileRequest) (old mid new : Shelved) (out out_now : Streamed) (keeps : ReadKeeps old mid) where
+module _ (passes : List PassCount) (request : CompileRequest) (old mid new : Shelved) (out out_now : Streamed) (keeps : ReadKeeps old mid) where
   keeps_behind : ReadKeeps mid new → ReadKeeps old new
   keeps_behind later = record {
     held = later.held ∙ keeps.held;
@@ -62,13 +62,13 @@ module _ (request : CompileRequest) (old mid new : Shelved) (out out_now : Strea
     written = subst (λ (held : Option Files). HoldsFile held new.held request.object (object_text object)) keeps.held it.written;
   }
 
-  lacks_behind : CompilerLacks mid new out out_now (Some request) → CompilerLacks old new out out_now (Some request)
+  lacks_behind : CompilerLacks passes mid new out out_now (Some request) → CompilerLacks passes old new out out_now (Some request)
   lacks_behind (Early later same) = Early (keeps_behind later) same
   lacks_behind (Writing source differs same) = Writing (holds_behind IsSomeSource source) (differs_behind request.object differs) same
   lacks_behind (Reporting {program} {object} asked it sent) = Reporting asked (compiled_behind program object it) sent
 
   -- what a command comes to behind a read, it comes to from before it
-  pub ends_behind : (due : Option ToolFault) → CompilerEnds mid new out out_now (Some request) due → CompilerEnds old new out out_now (Some request) due
+  pub ends_behind : (due : Option ToolFault) → CompilerEnds passes mid new out out_now (Some request) due → CompilerEnds passes old new out out_now (Some request) due
   ends_behind due (Done {program} {object} it sent) = Done (compiled_behind program object it) sent
   ends_behind due (Unread {name} is later fault same) = Unread is (keeps_behind later) (read_fault_behind name.now fault) same
   ends_behind due (Refused {what} later source same) = Refused (keeps_behind later) (holds_behind (λ text. HasFault text what) source) same
@@ -80,27 +80,27 @@ module _ (request : CompileRequest) (old mid new : Shelved) (out out_now : Strea
 -- ---- each step
 
 -- no source was read
-pub read_ends : (request : CompileRequest) (old new : Shelved) (out : Streamed) (why : ToolFault) → ReadKeeps old new → FailsToRead request.source old new why
-    → CompilerEnds old new out out (Some request) (Some why)
-read_ends request old new out why keeps (Not_read is fault) = Unread is keeps fault refl
-read_ends request old new out why keeps (Too_long long) = Refused keeps long refl
-read_ends request old new out why keeps No_memory = Lacking (Early keeps refl)
+pub read_ends : (passes : List PassCount) (request : CompileRequest) (old new : Shelved) (out : Streamed) (why : ToolFault) → ReadKeeps old new → FailsToRead request.source old new why
+    → CompilerEnds passes old new out out (Some request) (Some why)
+read_ends passes request old new out why keeps (Not_read is fault) = Unread is keeps fault refl
+read_ends passes request old new out why keeps (Too_long long) = Refused keeps long refl
+read_ends passes request old new out why keeps No_memory = Lacking (Early keeps refl)
 
 -- nothing was touched, for want of memory
-pub memory_ends : (given : Option CompileRequest) (old : Shelved) (out : Streamed) → CompilerEnds old old out out given (Some (fault.NoMemory Pcc))
-memory_ends given old out = Lacking (Early (same_keeps old) refl)
+pub memory_ends : (passes : List PassCount) (given : Option CompileRequest) (old : Shelved) (out : Streamed) → CompilerEnds passes old old out out given (Some (fault.NoMemory Pcc))
+memory_ends passes given old out = Lacking (Early (same_keeps old) refl)
 
 -- the words are no command
-pub usage_ends : (given : Option CompileRequest) (old : Shelved) (out : Streamed) → given ≡ None → CompilerEnds old old out out given (Some (fault.Usage Pcc))
-usage_ends given old out none = subst (λ (g : Option CompileRequest). CompilerEnds old old out out g (Some (fault.Usage Pcc))) (sym none) (Misused refl refl)
+pub usage_ends : (passes : List PassCount) (given : Option CompileRequest) (old : Shelved) (out : Streamed) → given ≡ None → CompilerEnds passes old old out out given (Some (fault.Usage Pcc))
+usage_ends passes given old out none = subst (λ (g : Option CompileRequest). CompilerEnds passes old old out out g (Some (fault.Usage Pcc))) (sym none) (Misused refl refl)
 
 -- the text has a fault
-pub text_ends : (request : CompileRequest) (old : Shelved) (out : Streamed) (text : List ℕ) (what : SourceFault) → HasSource old.held request.source text
-    → HasFault text what → CompilerEnds old old out out (Some request) (Some (fault.Source Pcc what))
-text_ends request old out text what has faulty =
+pub text_ends : (passes : List PassCount) (request : CompileRequest) (old : Shelved) (out : Streamed) (text : List ℕ) (what : SourceFault) → HasSource old.held request.source text
+    → HasFault text what → CompilerEnds passes old old out out (Some request) (Some (fault.Source Pcc what))
+text_ends passes request old out text what has faulty =
     Refused (same_keeps old) (has_holds old.held request.source text (λ text. HasFault text what) has faulty) refl
 
-module _ (request : CompileRequest) (old new : Shelved) (out out_now : Streamed) (it : Translation) (has : HasTranslation old.held request it) where
+module _ (passes : List PassCount) (request : CompileRequest) (old new : Shelved) (out out_now : Streamed) (it : Translation) (has : HasTranslation old.held request it) where
   is_source : HoldsSource old.held request.source IsSomeSource
   is_source = has_holds old.held request.source has.text IsSomeSource has.in_source (has.is.program, has.is.translates.source)
 
@@ -112,30 +112,30 @@ module _ (request : CompileRequest) (old new : Shelved) (out out_now : Streamed)
     written = subst (λ bytes. HoldsFile old.held new.held request.object bytes) has.is.bytes written;
   }
 
-  same_report : reported it ≡ report_on has.is.program has.is.object
+  same_report : reported it passes ≡ report_on has.is.program has.is.object passes
   same_report = rw (has.is.nodes, has.is.rows, has.is.notes) refl
 
-  same_lines : report_lines (reported it) ≡ report_lines (report_on has.is.program has.is.object)
+  same_lines : report_lines (reported it passes) ≡ report_lines (report_on has.is.program has.is.object passes)
   same_lines = ap report_lines same_report
 
   -- the object was not written
   pub unwritten_ends : (name : Bor (List ℕ)) → request.object ≡ name.now → OnlyFileDiffers old.held new.held name.now → WriteFaultOf old new name.now
-      → CompilerEnds old new out out (Some request) (Some (fault.WriteFile Pcc name))
+      → CompilerEnds passes old new out out (Some request) (Some (fault.WriteFile Pcc name))
   unwritten_ends name is differs failed = Unwritten is is_source differs failed refl
 
   -- there was no memory to write it
-  pub unwritten_lacks : OnlyFileDiffers old.held new.held request.object → CompilerEnds old new out out (Some request) (Some (fault.NoMemory Pcc))
+  pub unwritten_lacks : OnlyFileDiffers old.held new.held request.object → CompilerEnds passes old new out out (Some request) (Some (fault.NoMemory Pcc))
   unwritten_lacks differs = Lacking (Writing is_source differs refl)
 
   -- it was written
   pub report_ends : (due : Option ToolFault) → HoldsFile old.held new.held request.object it.bytes.items
-      → ReportEnds request.report (report_lines (reported it)) out out_now due → CompilerEnds old new out out_now (Some request) due
+      → ReportEnds request.report (report_lines (reported it passes)) out out_now due → CompilerEnds passes old new out out_now (Some request) due
   report_ends due written (Unasked asked same) = Done (compiled written) (rw asked same)
   report_ends due written (Sent asked sent) = Done (compiled written) (rw asked (subst (λ text. Appends out.told out_now.told text) same_lines sent))
   report_ends due written (Broken_off asked rose part) =
       Unreported asked (compiled written) rose (subst (λ text. AppendsPart out.told out_now.told text) same_lines part)
   report_ends due written (Unmade asked same) =
-      Lacking (Reporting asked (compiled written) (sends_none out out_now (report_lines (report_on has.is.program has.is.object)) same))
+      Lacking (Reporting asked (compiled written) (sends_none out out_now (report_lines (report_on has.is.program has.is.object passes)) same))
 
 -- ---- what is due behind a read and behind a report
 
@@ -170,30 +170,30 @@ pub ruleset reports_due = (report_unasked, report_sent, report_broken_off, repor
 -- ---- no memory for a line
 
 -- where a fault is due, what stands is what may stand where memory ran out
-pub ends_lacking : (given : Option CompileRequest) (old new : Shelved) (out out_now : Streamed) (why : ToolFault)
-    → CompilerEnds old new out out_now given (Some why) → CompilerLacks old new out out_now given
-ends_lacking given old new out out_now why (Misused same quiet) = Early (subst (λ (now : Shelved). ReadKeeps old now) (sym same) (same_keeps old)) quiet
-ends_lacking given old new out out_now why (Unread is keeps failed same) = Early keeps same
-ends_lacking given old new out out_now why (Refused keeps source same) = Early keeps same
-ends_lacking given old new out out_now why (Unwritten {request} {name} is source differs failed same) =
+pub ends_lacking : (passes : List PassCount) (given : Option CompileRequest) (old new : Shelved) (out out_now : Streamed) (why : ToolFault)
+    → CompilerEnds passes old new out out_now given (Some why) → CompilerLacks passes old new out out_now given
+ends_lacking passes given old new out out_now why (Misused same quiet) = Early (subst (λ (now : Shelved). ReadKeeps old now) (sym same) (same_keeps old)) quiet
+ends_lacking passes given old new out out_now why (Unread is keeps failed same) = Early keeps same
+ends_lacking passes given old new out out_now why (Refused keeps source same) = Early keeps same
+ends_lacking passes given old new out out_now why (Unwritten {request} {name} is source differs failed same) =
     Writing source (subst (λ name. OnlyFileDiffers old.held new.held name) (sym is) differs) same
-ends_lacking given old new out out_now why (Unreported {request} {program} {object} asked it rose part) =
-    Reporting asked it (sends_part out out_now (report_lines (report_on program object)) part)
-ends_lacking given old new out out_now why (Lacking lacks) = lacks
+ends_lacking passes given old new out out_now why (Unreported {request} {program} {object} asked it rose part) =
+    Reporting asked it (sends_part out out_now (report_lines (report_on program object passes)) part)
+ends_lacking passes given old new out out_now why (Lacking lacks) = lacks
 
 -- what the compiler came to is what it promises, once it is told
-pub compiler_promise : (given : Option CompileRequest) (old new : Outside) (due : Option ToolFault) (code : ℕ)
-    → CompilerEnds old.shelf new.shelf old.out new.out given due → new.input ≡ old.input
+pub compiler_promise : (given : Option CompileRequest) (passes : List PassCount) (old new : Outside) (due : Option ToolFault) (code : ℕ)
+    → CompilerEnds passes old.shelf new.shelf old.out new.out given due → new.input ≡ old.input
     → Told due old.err new.err code ⊎ (IsSome due × Told (Some (fault.NoMemory Pcc)) old.err new.err code)
-    → CompilerPromise given old new code
-compiler_promise given old new due code ends input (inl told) = record { due = due; ends = ends; told = told; input = input }
-compiler_promise given old new (Some why) code ends input (inr told) = record {
+    → CompilerPromise given passes old new code
+compiler_promise given passes old new due code ends input (inl told) = record { due = due; ends = ends; told = told; input = input }
+compiler_promise given passes old new (Some why) code ends input (inr told) = record {
   due = Some (fault.NoMemory Pcc);
-  ends = Lacking (ends_lacking given old.shelf new.shelf old.out new.out why ends);
+  ends = Lacking (ends_lacking passes given old.shelf new.shelf old.out new.out why ends);
   told = told.1;
   input = input;
 }
-compiler_promise given old new None code ends input (inr told) = let none = told.0 in absurd cc
+compiler_promise given passes old new None code ends input (inr told) = let none = told.0 in absurd cc
 
 pub ruleset compiler_endings = (
   read_ends,

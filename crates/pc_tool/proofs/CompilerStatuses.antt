@@ -5,6 +5,7 @@ use Rattle.pc_syntax.specs.Source.{SourceProgram}
 use Rattle.pc_object.specs.ObjectText.{CodeWithNotes}
 use Rattle.pc_outside.specs.Shelf.{Shelved, ReadKeeps, OnlyFileDiffers}
 use Rattle.pc_command.specs.Requests.{CompileRequest}
+use Rattle.pc_report.specs.Report.{PassCount}
 use Rattle.pc_report.specs.declared.fault.ToolFault.{ToolFault}
 use Rattle.pc_tool.specs.Compiler.{CompilerEnds, Done, Misused, Unread, Refused, Unwritten, Unreported, Lacking, CompilerLacks, Early, Writing, Reporting, CompilerPromise}
 use Rattle.pc_tool.specs.CompilerLaws.{HasCompiled, HasReadFault, HasWriteFault, HasErrorFault, KeepsOthers, IsTold, CompilerStatuses}
@@ -20,18 +21,18 @@ use Rattle.pc_tool.proofs.Statuses.{due_status, status_of, either_first, third_f
 
 -- ---- what is due, by how it ended
 
-module _ (old new : Outside) where
+module _ (passes : List PassCount) (old new : Outside) where
   -- how it ended, with the status of what was due
   abbrev Ends : Option CompileRequest → Option ToolFault → Type 0
-  Ends given due = CompilerEnds old.shelf new.shelf old.out new.out given due
+  Ends given due = CompilerEnds passes old.shelf new.shelf old.out new.out given due
 
   compiled_of : (given : Option CompileRequest) (due : Option ToolFault) (code : ℕ) → Ends given due → Told due old.err new.err code → due_status due ≡ 0
-      → IsSomeAnd given (HasCompiled old new)
+      → IsSomeAnd given (HasCompiled passes old new)
   compiled_of given due code (Done {request} {program} {object} it sent) told e =
       record { program = program; object = object; compiled = it; reported = sent; silent = told.1 }
   compiled_of given due code _ told e = absurd cc
 
-  lacking_of : (given : Option CompileRequest) (due : Option ToolFault) → Ends given due → due_status due ≡ 1 → CompilerLacks old.shelf new.shelf old.out new.out given
+  lacking_of : (given : Option CompileRequest) (due : Option ToolFault) → Ends given due → due_status due ≡ 1 → CompilerLacks passes old.shelf new.shelf old.out new.out given
   lacking_of given due (Lacking lacks) e = lacks
   lacking_of given due _ e = absurd cc
 
@@ -79,7 +80,7 @@ module _ (old new : Outside) where
   read_keeps_others None keeps = keeps.held
   read_keeps_others (Some request) keeps = kept_differs old.shelf.held new.shelf.held request.object keeps.held
 
-  others_lacking : (given : Option CompileRequest) → CompilerLacks old.shelf new.shelf old.out new.out given → KeepsOthers given old new
+  others_lacking : (given : Option CompileRequest) → CompilerLacks passes old.shelf new.shelf old.out new.out given → KeepsOthers given old new
   others_lacking given (Early keeps same) = read_keeps_others given keeps
   others_lacking given (Writing source differs same) = differs
   others_lacking given (Reporting {request} asked it sent) = written_differs old.shelf.held new.shelf.held request.object _ it.written
@@ -95,13 +96,13 @@ module _ (old new : Outside) where
   others_of given due (Lacking lacks) = others_lacking given lacks
 
   -- a report that is asked for is not left out
-  unasked_lacking : (request : CompileRequest) → CompilerLacks old.shelf new.shelf old.out new.out (Some request) → request.report ≡ false → new.out ≡ old.out
+  unasked_lacking : (request : CompileRequest) → CompilerLacks passes old.shelf new.shelf old.out new.out (Some request) → request.report ≡ false → new.out ≡ old.out
   unasked_lacking request (Early keeps same) off = same
   unasked_lacking request (Writing source differs same) off = same
   unasked_lacking request (Reporting asked it sent) off = absurd cc
 
   unasked_of : (request : CompileRequest) (due : Option ToolFault) → Ends (Some request) due → request.report ≡ false → new.out ≡ old.out
-  unasked_of request due (Done {program} {object} it sent) off = subst (λ asked. Reports asked (report_on program object) old.out new.out) off sent
+  unasked_of request due (Done {program} {object} it sent) off = subst (λ asked. Reports asked (report_on program object passes) old.out new.out) off sent
   unasked_of request due (Unread is keeps failed same) off = same
   unasked_of request due (Refused keeps source same) off = same
   unasked_of request due (Unwritten is source differs failed same) off = same
@@ -154,10 +155,10 @@ module _ (old new : Outside) where
       | inr part ↦ broken part
     ]
 
-    pub statuses : CompilerStatuses given old new code
+    pub statuses : CompilerStatuses given passes old new code
     statuses = record {
-      compiled = by_status (λ code. code ≡ 0 → IsSomeAnd given (HasCompiled old new)) (λ e. compiled_of given due code ends told e) (λ part e. absurd (omega (arith, part.0, e)));
-      lacking = by_status (λ code. code ≡ 1 → CompilerLacks old.shelf new.shelf old.out new.out given) (lacking_of given due ends) (λ part e. absurd (omega (arith, part.0, e)));
+      compiled = by_status (λ code. code ≡ 0 → IsSomeAnd given (HasCompiled passes old new)) (λ e. compiled_of given due code ends told e) (λ part e. absurd (omega (arith, part.0, e)));
+      lacking = by_status (λ code. code ≡ 1 → CompilerLacks passes old.shelf new.shelf old.out new.out given) (lacking_of given due ends) (λ part e. absurd (omega (arith, part.0, e)));
       misused = by_status (λ code. code ≡ 2 → (given ≡ None) × (new.shelf ≡ old.shelf)) (misused_of given due ends) (λ part e. absurd (omega (arith, part.0, e)));
       unread = by_status (λ code. code ≡ 3 → IsSomeAnd given (HasReadFault old new)) (unread_of given due ends) (λ part e. absurd (omega (arith, part.0, e)));
       refused = by_status (λ code. code ≡ 4 → IsSomeAnd given (λ request. HoldsSource old.shelf.held request.source IsNoSource))
@@ -179,5 +180,5 @@ module _ (old new : Outside) where
     }
 
 -- the promise says all this
-pub statuses_of : (given : Option CompileRequest) (old new : Outside) (code : ℕ) → CompilerPromise given old new code → CompilerStatuses given old new code
-statuses_of given old new code promise = statuses old new given promise.due code promise.ends promise.told
+pub statuses_of : (given : Option CompileRequest) (passes : List PassCount) (old new : Outside) (code : ℕ) → CompilerPromise given passes old new code → CompilerStatuses given passes old new code
+statuses_of given passes old new code promise = statuses passes old new given promise.due code promise.ends promise.told

@@ -48,7 +48,7 @@ is_translation limits text checked flow object it h compiled words bytes nodes r
   object = object;
   translates = translates limits text checked flow object h compiled words;
   bytes = bytes;
-  nodes = nodes ∙ compiled.lowered.counted ∙ sized text checked h;
+  nodes = nodes ∙ compiled.kept.as_many ∙ compiled.lowered.counted ∙ sized text checked h;
   rows = rows;
   notes = notes;
 }

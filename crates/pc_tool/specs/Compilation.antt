@@ -1,5 +1,5 @@
 -- What is compiled: the object that stands for a source, and what is reported of it.
-use Rattle.std.specs.Prelude.{◌≡◌, ℕ, Bool, true, false, List, [], length}
+use Rattle.std.specs.Prelude.{◌≡◌, ℕ, Bool, true, false, List, [], length, map}
 use Rattle.std.specs.Io.KnownBytes.{Appends}
 use Rattle.pc_word.specs.declared.item.Limits.{Limits}
 use Rattle.pc_syntax.specs.Source.{SourceProgram}
@@ -7,7 +7,7 @@ use Rattle.pc_check.specs.Sizes.{size}
 use Rattle.pc_object.specs.ObjectText.{CodeWithNotes, object_text}
 use Rattle.pc_outside.specs.Shelf.{Shelved, HoldsFile}
 use Rattle.pc_command.specs.Requests.{CompileRequest}
-use Rattle.pc_report.specs.Report.{Report, report_lines}
+use Rattle.pc_report.specs.Report.{PassCount, Report, report_lines}
 use Rattle.pc_tool.specs.Files.{HasSource}
 use Rattle.pc_tool.specs.Meaning.{Same}
 use Rattle.pc_tool.specs.Objects.{Loads}
@@ -30,9 +30,14 @@ pub record Compiled (request : CompileRequest) (program : SourceProgram) (object
   pub translates : Translates request.limits text program object
   pub written : HoldsFile old.held new.held request.object (object_text object)
 
--- what is reported: the size of the program, which is the number of nodes of its flow graph, and the rows of the object
-abbrev pub report_on : SourceProgram → CodeWithNotes → Report
-report_on program object = record { nodes = size program; rows = length object.code.rows; passes = []; notes = object.notes }
+-- the names of passes, and how many changes each has made
+abbrev pub counts_of : {P : Type 0} → (P → List ℕ) → (P → ℕ) → List P → List PassCount
+counts_of label changed passes = map (λ pass. record { name = label pass; changes = changed pass }) passes
+
+-- what is reported: the size of the program, which is the number of nodes of its flow graph, the rows of the object, and the
+-- passes
+abbrev pub report_on : SourceProgram → CodeWithNotes → List PassCount → Report
+report_on program object passes = record { nodes = size program; rows = length object.code.rows; passes = passes; notes = object.notes }
 
 -- the report was sent where it is asked for, and else nothing
 abbrev pub Reports : Bool → Report → Streamed → Streamed → Type 0

@@ -11,7 +11,7 @@ use Rattle.pc_report.specs.declared.fault.Speaker.TheVariants.{Pcc}
 use Rattle.pc_report.specs.declared.fault.SourceFault.{SourceFault}
 use Rattle.pc_report.specs.declared.fault.ToolFault.{ToolFault}
 use Rattle.pc_report.specs.declared.fault.ToolFault.TheVariants as fault
-use Rattle.pc_report.specs.Report.{report_lines}
+use Rattle.pc_report.specs.Report.{PassCount, report_lines}
 use Rattle.pc_tool.specs.Compilation.{Compiled, Reports, report_on}
 use Rattle.pc_tool.specs.Due.{Told}
 use Rattle.pc_tool.specs.Files.{HoldsSource}
@@ -21,47 +21,48 @@ use Rattle.pc_tool.specs.SourceFaults.{HasFault}
 
 -- What stands where memory ran out: nothing was written and sent; or SRC is a source, and at most OBJ differs; or OBJ holds its
 -- object, and the front of the report was sent.
-pub data CompilerLacks (old new : Shelved) (out out_now : Streamed) : (given : Option CompileRequest) → Type 0 where
+pub data CompilerLacks (passes : List PassCount) (old new : Shelved) (out out_now : Streamed) : (given : Option CompileRequest) → Type 0 where
   Early : {given : Option CompileRequest} →
       ReadKeeps old new →
       out_now ≡ out →
-      CompilerLacks old new out out_now given
+      CompilerLacks passes old new out out_now given
   Writing : {request : CompileRequest} →
       HoldsSource old.held request.source IsSomeSource →
       OnlyFileDiffers old.held new.held request.object →
       out_now ≡ out →
-      CompilerLacks old new out out_now (Some request)
+      CompilerLacks passes old new out out_now (Some request)
   Reporting : {request : CompileRequest} {program : SourceProgram} {object : CodeWithNotes} →
       request.report ≡ true →
       Compiled request program object old new →
-      SendsFront out out_now (report_lines (report_on program object)) →
-      CompilerLacks old new out out_now (Some request)
+      SendsFront out out_now (report_lines (report_on program object passes)) →
+      CompilerLacks passes old new out out_now (Some request)
 
--- How the compiler ends, by what is due: what was given, and what stands on the shelf and was sent to the output.
-pub data CompilerEnds (old new : Shelved) (out out_now : Streamed) : (given : Option CompileRequest) (due : Option ToolFault) → Type 0 where
+-- How the compiler ends, by what is due: what was given, and what stands on the shelf and was sent to the output. `passes` are
+-- those over the flow graph, as they are at the end.
+pub data CompilerEnds (passes : List PassCount) (old new : Shelved) (out out_now : Streamed) : (given : Option CompileRequest) (due : Option ToolFault) → Type 0 where
   -- the object is written, and the report sent where it is asked for
   Done : {request : CompileRequest} {program : SourceProgram} {object : CodeWithNotes} →
       Compiled request program object old new →
-      Reports request.report (report_on program object) out out_now →
-      CompilerEnds old new out out_now (Some request) None
+      Reports request.report (report_on program object passes) out out_now →
+      CompilerEnds passes old new out out_now (Some request) None
   -- the words are no command
   Misused :
       new ≡ old →
       out_now ≡ out →
-      CompilerEnds old new out out_now None (Some (fault.Usage Pcc))
+      CompilerEnds passes old new out out_now None (Some (fault.Usage Pcc))
   -- the shelf had a read fault of SRC
   Unread : {request : CompileRequest} {name : Bor (List ℕ)} →
       request.source ≡ OfFile name.now →
       ReadKeeps old new →
       ReadFaultOf old new name.now →
       out_now ≡ out →
-      CompilerEnds old new out out_now (Some request) (Some (fault.ReadFile Pcc name))
+      CompilerEnds passes old new out out_now (Some request) (Some (fault.ReadFile Pcc name))
   -- SRC has a text with this fault
   Refused : {request : CompileRequest} {what : SourceFault} →
       ReadKeeps old new →
       HoldsSource old.held request.source (λ text. HasFault text what) →
       out_now ≡ out →
-      CompilerEnds old new out out_now (Some request) (Some (fault.Source Pcc what))
+      CompilerEnds passes old new out out_now (Some request) (Some (fault.Source Pcc what))
   -- SRC is a source, and the shelf had a write fault of OBJ
   Unwritten : {request : CompileRequest} {name : Bor (List ℕ)} →
       request.object ≡ name.now →
@@ -69,23 +70,23 @@ pub data CompilerEnds (old new : Shelved) (out out_now : Streamed) : (given : Op
       OnlyFileDiffers old.held new.held name.now →
       WriteFaultOf old new name.now →
       out_now ≡ out →
-      CompilerEnds old new out out_now (Some request) (Some (fault.WriteFile Pcc name))
+      CompilerEnds passes old new out out_now (Some request) (Some (fault.WriteFile Pcc name))
   -- the object is written, and a proper prefix of the report was sent before the output failed
   Unreported : {request : CompileRequest} {program : SourceProgram} {object : CodeWithNotes} →
       request.report ≡ true →
       Compiled request program object old new →
       Rose out.faults out_now.faults →
-      AppendsPart out.told out_now.told (report_lines (report_on program object)) →
-      CompilerEnds old new out out_now (Some request) (Some (fault.WriteOutput Pcc))
+      AppendsPart out.told out_now.told (report_lines (report_on program object passes)) →
+      CompilerEnds passes old new out out_now (Some request) (Some (fault.WriteOutput Pcc))
   -- memory ran out
   Lacking : {given : Option CompileRequest} →
-      CompilerLacks old new out out_now given →
-      CompilerEnds old new out out_now given (Some (fault.NoMemory Pcc))
+      CompilerLacks passes old new out out_now given →
+      CompilerEnds passes old new out out_now given (Some (fault.NoMemory Pcc))
 
--- What the compiler promises of the outside before and after it: it came to an end, what was due then is told, and the input
+-- What the compiler promises of the outside before and after it, with these passes at its end: it came to an end, what was due then is told, and the input
 -- was not touched.
-pub record CompilerPromise (given : Option CompileRequest) (old new : Outside) (code : ℕ) : Type 0 where
+pub record CompilerPromise (given : Option CompileRequest) (passes : List PassCount) (old new : Outside) (code : ℕ) : Type 0 where
   pub due : Option ToolFault
-  pub ends : CompilerEnds old.shelf new.shelf old.out new.out given due
+  pub ends : CompilerEnds passes old.shelf new.shelf old.out new.out given due
   pub told : Told due old.err new.err code
   pub input : new.input ≡ old.input

@@ -7,6 +7,7 @@ use Rattle.pc_syntax.specs.Source.{SourceProgram}
 use Rattle.pc_object.specs.ObjectText.{CodeWithNotes}
 use Rattle.pc_outside.specs.Shelf.{Files, ReadFaultOf, WriteFaultOf, ReadKeeps, OnlyFileDiffers}
 use Rattle.pc_command.specs.Requests.{CompileRequest, SourcePlace, OfFile, OfSample}
+use Rattle.pc_report.specs.Report.{PassCount}
 use Rattle.pc_sample.specs.SampleText.{sample_text}
 use Rattle.pc_tool.specs.Compilation.{Compiled, Reports, report_on}
 use Rattle.pc_tool.specs.Compiler.{CompilerLacks, CompilerPromise}
@@ -15,11 +16,11 @@ use Rattle.pc_tool.specs.Outside.{Outside}
 use Rattle.pc_tool.specs.Source.{IsSomeSource, IsNoSource}
 
 -- the object at OBJ does what the source does, the report was sent where it is asked for, and nothing was told
-pub record HasCompiled (old new : Outside) (request : CompileRequest) : Type 0 where
+pub record HasCompiled (passes : List PassCount) (old new : Outside) (request : CompileRequest) : Type 0 where
   pub program : SourceProgram
   pub object : CodeWithNotes
   pub compiled : Compiled request program object old.shelf new.shelf
-  pub reported : Reports request.report (report_on program object) old.out new.out
+  pub reported : Reports request.report (report_on program object passes) old.out new.out
   pub silent : new.err ≡ old.err
 
 -- the source is a file, of which the shelf had a read fault
@@ -48,10 +49,10 @@ IsTold held (OfFile name) text = (files : Files) × (held ≡ Some files) × (ge
 IsTold held (OfSample number) text = text ≡ sample_text number
 
 -- what follows
-pub record CompilerStatuses (given : Option CompileRequest) (old new : Outside) (code : ℕ) : Type 0 where
+pub record CompilerStatuses (given : Option CompileRequest) (passes : List PassCount) (old new : Outside) (code : ℕ) : Type 0 where
   -- what each status says
-  pub compiled : code ≡ 0 → IsSomeAnd given (HasCompiled old new)
-  pub lacking : code ≡ 1 → CompilerLacks old.shelf new.shelf old.out new.out given
+  pub compiled : code ≡ 0 → IsSomeAnd given (HasCompiled passes old new)
+  pub lacking : code ≡ 1 → CompilerLacks passes old.shelf new.shelf old.out new.out given
   pub misused : code ≡ 2 → (given ≡ None) × (new.shelf ≡ old.shelf)
   pub unread : code ≡ 3 → IsSomeAnd given (HasReadFault old new)
   pub refused : code ≡ 4 → IsSomeAnd given (λ request. HoldsSource old.shelf.held request.source IsNoSource)
@@ -76,4 +77,6 @@ pub record CompilerStatuses (given : Option CompileRequest) (old new : Outside) 
 
 -- the law: the promise says all this
 abbrev pub CompilerPromisesSay : Type 0
-CompilerPromisesSay = (given : Option CompileRequest) (old new : Outside) (code : ℕ) → CompilerPromise given old new code → CompilerStatuses given old new code
+CompilerPromisesSay =
+    (given : Option CompileRequest) (passes : List PassCount) (old new : Outside) (code : ℕ)
+    → CompilerPromise given passes old new code → CompilerStatuses given passes old new code

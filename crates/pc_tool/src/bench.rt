@@ -2,6 +2,7 @@
 
 use crate::{Who, tool};
 use pc_outside::{CallList, MemoryShelf, MemorySink, MemorySource};
+use pc_pass::Pass;
 use std::alloc::{AllocError, Global};
 use std::test::Fail;
 
@@ -84,6 +85,20 @@ pub(crate) fn call(
     input: &[u8],
     failing: Failing,
 ) -> Result<Left, Fail> {
+    let mut passes = Vec::new(alloc);
+    call_with(alloc, who, line, &mut passes, shelf, input, failing)
+}
+
+/// Calls a program with the words of a line, and with passes.
+pub(crate) fn call_with(
+    alloc: Global,
+    who: Who,
+    line: &str,
+    passes: &mut Vec<Box<dyn Pass>>,
+    shelf: &mut MemoryShelf,
+    input: &[u8],
+    failing: Failing,
+) -> Result<Left, Fail> {
     let words = words_of(alloc, line)?;
     let input = Vec::from_slice(alloc, input)?;
     let mut input = MemorySource::new(input, only(alloc, failing.input)?);
@@ -93,6 +108,7 @@ pub(crate) fn call(
         alloc,
         who,
         words.as_slice(),
+        passes,
         shelf,
         &mut input,
         &mut out,

@@ -1,13 +1,15 @@
 //! The compiler: from the words of its command to the object on the shelf and the report.
-ghost use Rattle.std.specs.Prelude.{◌≡◌, ◌≤◌, length, true, Some};
+ghost use Rattle.std.specs.Prelude.{◌≡◌, ◌≤◌, length, map, true, IfOk, None, Some};
 ghost use Rattle.pc_command.specs.Requests.{compile_command_of, compile_request, source_place};
 ghost use Rattle.pc_command.specs.Words.{spelled};
+ghost use Rattle.pc_tool.specs.Compilation.{counts_of};
 ghost use Rattle.pc_tool.specs.Compiler.{CompilerEnds};
 ghost use Rattle.pc_tool.specs.Files.{HasSource};
 ghost use Rattle.pc_tool.specs.Outside.{streamed};
 ghost use Rattle.std.specs.List.{AllByRecursion};
 ghost use Rattle.pc_object.specs.ObjectText.{IsChoice};
-ghost use Rattle.pc_report.specs.Report.{report_lines};
+ghost use Rattle.pc_pass.specs.Pass.{EachRose};
+ghost use Rattle.pc_report.specs.Report.{pass_of, report_lines};
 ghost use Rattle.pc_tool.specs.models.Compiling.{HasTranslation, ReportEnds, reported};
 ghost use Rattle.pc_word.specs.Ranges.{AreLimits};
 ghost use Rattle.pc_word.specs.SourceLimits.{most_source};
@@ -17,22 +19,26 @@ use crate::source::read_source;
 use crate::translation::{Translation, translate};
 use pc_command::{CommandError, CompileCommand, compile_command};
 use pc_outside::{Shelf, ShelfError, Sink, send};
-use pc_report::{ReportError, ReportFacts, Speaker, ToolFault, report_text};
-use std::alloc::Global;
+use pc_pass::Pass;
+use pc_report::{PassFact, ReportError, ReportFacts, Speaker, ToolFault, report_text};
+use std::alloc::{AllocError, Global};
 
 /// Compiles as the words say, and gives what is due then.
 #[tactic(auto, using(crate::proofs::CompilerEndings::compiler_endings))]
-pub(crate) fn run_compiler<'a, H: Shelf, O: Sink>(
+pub(crate) fn run_compiler<'a, P: Pass, H: Shelf, O: Sink>(
     alloc: Global,
     words: &'a [String],
+    passes: &mut Vec<P>,
     shelf: &mut H,
     out: &mut O,
 ) -> Option<ToolFault<'a>>
-    ensures { CompilerEnds (H.state shelf.old) (H.state shelf.new) (streamed (O.taken out.old) (O.faults out.old))
+    ensures ends { CompilerEnds (counts_of P.label P.changed passes.new.items) (H.state shelf.old) (H.state shelf.new) (streamed (O.taken out.old) (O.faults out.old))
         (streamed (O.taken out.new) (O.faults out.new)) (compile_command_of (spelled words.entry.now)) result }
+    ensures named { map P.label passes.new.items ≡ map P.label passes.old.items }
+    ensures ran { result ≡ None → EachRose (map P.runs passes.old.items) (map P.runs passes.new.items) }
 {
     match compile_command(alloc, words) {
-        Ok(command) => compile_source(alloc, command, shelf, out),
+        Ok(command) => compile_source(alloc, command, passes, shelf, out),
         Err(CommandError::NoCommand) => Some(ToolFault::Usage { who: Speaker::Pcc }),
         Err(CommandError::Memory) => Some(ToolFault::NoMemory { who: Speaker::Pcc }),
     }
@@ -40,39 +46,48 @@ pub(crate) fn run_compiler<'a, H: Shelf, O: Sink>(
 
 /// Compiles the source that the command names.
 #[tactic(auto, using(crate::proofs::CompilerEndings::compiler_endings))]
-fn compile_source<'a, H: Shelf, O: Sink>(
+fn compile_source<'a, P: Pass, H: Shelf, O: Sink>(
     alloc: Global,
     command: CompileCommand<'a>,
+    passes: &mut Vec<P>,
     shelf: &mut H,
     out: &mut O,
 ) -> Option<ToolFault<'a>>
     requires { AreLimits command.limits }
-    ensures { CompilerEnds (H.state shelf.old) (H.state shelf.new) (streamed (O.taken out.old) (O.faults out.old))
+    ensures ends { CompilerEnds (counts_of P.label P.changed passes.new.items) (H.state shelf.old) (H.state shelf.new) (streamed (O.taken out.old) (O.faults out.old))
         (streamed (O.taken out.new) (O.faults out.new)) (Some (compile_request command.entry)) result }
+    ensures named { map P.label passes.new.items ≡ map P.label passes.old.items }
+    ensures ran { result ≡ None → EachRose (map P.runs passes.old.items) (map P.runs passes.new.items) }
 {
     match read_source(alloc, command.source, shelf) {
-        Ok(text) => compile_text(alloc, text.as_slice(), command, shelf, out),
+        Ok(text) => compile_text(alloc, text.as_slice(), command, passes, shelf, out),
         Err(fault) => Some(fault),
     }
 }
 
 /// Compiles the source's text.
 #[tactic(auto, using(crate::proofs::CompilerEndings::compiler_endings))]
-fn compile_text<'a, H: Shelf, O: Sink>(
+fn compile_text<'a, P: Pass, H: Shelf, O: Sink>(
     alloc: Global,
     text: &[u8],
     command: CompileCommand<'a>,
+    passes: &mut Vec<P>,
     shelf: &mut H,
     out: &mut O,
 ) -> Option<ToolFault<'a>>
     requires few_bytes { length text.now ≤ most_source }
     requires limits { AreLimits command.limits }
     requires source { HasSource (H.state shelf.old).held (source_place command.source) text.now }
-    ensures { CompilerEnds (H.state shelf.old) (H.state shelf.new) (streamed (O.taken out.old) (O.faults out.old))
+    ensures ends { CompilerEnds (counts_of P.label P.changed passes.new.items) (H.state shelf.old) (H.state shelf.new) (streamed (O.taken out.old) (O.faults out.old))
         (streamed (O.taken out.new) (O.faults out.new)) (Some (compile_request command.entry)) result }
+    ensures named { map P.label passes.new.items ≡ map P.label passes.old.items }
+    ensures ran { result ≡ None → EachRose (map P.runs passes.old.items) (map P.runs passes.new.items) }
 {
-    match translate(alloc, text, command.limits) {
-        Ok(translation) => write_object(alloc, &translation, command, shelf, out),
+    match translate(alloc, text, passes, command.limits) {
+        Ok(translation) => {
+            let passes = passes.as_slice();
+            write_object(alloc, &translation, command, passes, shelf, out)
+        }
         Err(Refusal::Source { fault }) => Some(ToolFault::Source {
             who: Speaker::Pcc,
             fault,
@@ -83,19 +98,20 @@ fn compile_text<'a, H: Shelf, O: Sink>(
 
 /// Writes the object, and sends the report where it is asked for.
 #[tactic(auto, using(crate::proofs::CompilerEndings::compiler_endings))]
-fn write_object<'a, H: Shelf, O: Sink>(
+fn write_object<'a, P: Pass, H: Shelf, O: Sink>(
     alloc: Global,
     translation: &Translation,
     command: CompileCommand<'a>,
+    passes: &[P],
     shelf: &mut H,
     out: &mut O,
 ) -> Option<ToolFault<'a>>
     requires { HasTranslation (H.state shelf.old).held (compile_request command) translation.now }
-    ensures { CompilerEnds (H.state shelf.old) (H.state shelf.new) (streamed (O.taken out.old) (O.faults out.old))
+    ensures { CompilerEnds (counts_of P.label P.changed passes.now) (H.state shelf.old) (H.state shelf.new) (streamed (O.taken out.old) (O.faults out.old))
         (streamed (O.taken out.new) (O.faults out.new)) (Some (compile_request command.entry)) result }
 {
     match shelf.write_file(alloc, command.object, translation.bytes.as_slice()) {
-        Ok(()) => report(alloc, translation, command.report, out),
+        Ok(()) => report(alloc, translation, passes, command.report, out),
         Err(ShelfError::Failed) => Some(ToolFault::WriteFile {
             who: Speaker::Pcc,
             name: command.object,
@@ -106,29 +122,57 @@ fn write_object<'a, H: Shelf, O: Sink>(
 
 /// Sends the report where it is asked for.
 #[tactic(auto, using(crate::proofs::CompilerEndings::reports_due))]
-fn report<'a, O: Sink>(
+fn report<'a, P: Pass, O: Sink>(
     alloc: Global,
     translation: &Translation,
+    passes: &[P],
     asked: bool,
     out: &mut O,
 ) -> Option<ToolFault<'a>>
     requires { AllByRecursion IsChoice translation.now.notes }
-    ensures { ReportEnds asked (report_lines (reported translation.now))
+    ensures { ReportEnds asked (report_lines (reported translation.now (counts_of P.label P.changed passes.now)))
         (streamed (O.taken out.old) (O.faults out.old)) (streamed (O.taken out.new) (O.faults out.new)) result }
 {
     if !asked {
         return None;
     }
-    let facts = ReportFacts {
-        nodes: translation.nodes,
-        rows: translation.rows,
-        passes: &[],
-        notes: translation.notes.as_slice(),
-    };
-    match report_text(alloc, &facts) {
+    match report_of(alloc, translation, passes) {
         Ok(text) => send_report(text.as_slice(), out),
         Err(ReportError::Memory) => Some(ToolFault::NoMemory { who: Speaker::Pcc }),
     }
+}
+
+/// The text of the report.
+fn report_of<P: Pass>(
+    alloc: Global,
+    translation: &Translation,
+    passes: &[P],
+) -> Result<Vec<u8>, ReportError>
+    requires { AllByRecursion IsChoice translation.now.notes }
+    ensures { IfOk result (λ text. text.items ≡ report_lines (reported translation.now (counts_of P.label P.changed passes.now))) }
+{
+    let passes = pass_facts(alloc, passes)?;
+    let facts = ReportFacts {
+        nodes: translation.nodes,
+        rows: translation.rows,
+        passes: passes.as_slice(),
+        notes: translation.notes.as_slice(),
+    };
+    report_text(alloc, &facts)
+}
+
+/// The names of passes, and how many changes each has made.
+fn pass_facts<'a, P: Pass>(alloc: Global, passes: &'a [P]) -> Result<Vec<PassFact<'a>>, AllocError>
+    ensures { IfOk result (λ facts. map pass_of facts.items ≡ counts_of P.label P.changed passes.entry.now) }
+{
+    let mut facts = Vec::new(alloc);
+    for pass in passes {
+        facts.push(PassFact {
+            name: pass.name(),
+            changes: pass.changes(),
+        })?;
+    }
+    Ok(facts)
 }
 
 /// Sends the text of a report.

@@ -1,23 +1,28 @@
-//! A program over the real outside: the words of the command line, the working folder, standard input
-//! and standard output.
+//! A program over the real outside: the words of the command line, the working folder, standard input,
+//! standard output and standard error.
 
 use crate::program::{Status, Who, tool};
+use crate::telling::tell;
 use crate::words::read_words;
 use pc_outside::{DirShelf, StdSink, StdSource};
+use pc_pass::Pass;
+use pc_report::{Speaker, ToolFault};
 use std::process::ExitCode;
 
-/// The status where there is no memory for the words: that of every other want of memory.
-const NO_MEMORY: Status = Status { code: 1 };
+/// Runs a program with these passes over the flow graph, and gives the status that it ends with.
+pub fn run(rt: &HostRuntime, who: Who, passes: &mut Vec<Box<dyn Pass>>) -> ExitCode {
+    ExitCode::from(status_of(rt, who, passes).code)
+}
 
-/// Runs a program, and gives the status that it ends with.
-pub fn run(rt: &HostRuntime, who: Who) -> ExitCode {
-    ExitCode::from(status_of(rt, who).code)
+/// Tells that there is no memory for what a program begins with, and gives the status for that.
+pub fn run_out(rt: &HostRuntime, who: Who) -> ExitCode {
+    ExitCode::from(no_memory(rt, who).code)
 }
 
 /// What `tool` answers to the words of the command line.
-fn status_of(rt: &HostRuntime, who: Who) -> Status {
+fn status_of(rt: &HostRuntime, who: Who, passes: &mut Vec<Box<dyn Pass>>) -> Status {
     let Ok(words) = read_words(rt) else {
-        return NO_MEMORY;
+        return no_memory(rt, who);
     };
     let alloc = rt.alloc();
     let mut shelf = DirShelf::new(alloc, rt, String::new(alloc));
@@ -28,9 +33,22 @@ fn status_of(rt: &HostRuntime, who: Who) -> Status {
         alloc,
         who,
         words.as_slice(),
+        passes,
         &mut shelf,
         &mut input,
         &mut out,
         &mut err,
     )
+}
+
+/// Tells that memory ran out.
+fn no_memory(rt: &HostRuntime, who: Who) -> Status {
+    let mut err = StdSink::new(rt.stderr());
+    let who = match who {
+        Who::Pcc => Speaker::Pcc,
+        Who::Pvm => Speaker::Pvm,
+    };
+    Status {
+        code: tell(rt.alloc(), who, Some(ToolFault::NoMemory { who }), &mut err),
+    }
 }

@@ -9,6 +9,8 @@ mod compiler_tests;
 mod file;
 mod host;
 mod laws;
+#[cfg(test)]
+mod pass_tests;
 mod program;
 #[cfg(test)]
 mod program_tests;
@@ -24,6 +26,6 @@ mod telling;
 mod translation;
 mod words;
 
-pub use host::run;
+pub use host::{run, run_out};
 pub use laws::{laws_of_the_compiler, laws_of_the_simulator};
 pub use program::{Status, Who, tool};

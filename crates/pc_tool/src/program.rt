@@ -1,8 +1,10 @@
 //! The top call.
-ghost use Rattle.std.specs.Prelude.{◌≡◌};
+ghost use Rattle.std.specs.Prelude.{◌≡◌, map};
 ghost use Rattle.pc_command.specs.Requests.{compile_command_of, simulate_command_of};
 ghost use Rattle.pc_command.specs.Words.{spelled};
 ghost use Rattle.pc_tool.specs.declared.program.Who.TheVariants.{Pcc, Pvm};
+ghost use Rattle.pc_pass.specs.Pass.{EachRose};
+ghost use Rattle.pc_tool.specs.Compilation.{counts_of};
 ghost use Rattle.pc_tool.specs.Compiler.{CompilerPromise};
 ghost use Rattle.pc_tool.specs.Outside.{outside_of, streamed};
 ghost use Rattle.pc_tool.specs.Simulator.{SimulatorPromise};
@@ -11,6 +13,7 @@ use crate::compile::run_compiler;
 use crate::simulate::run_simulator;
 use crate::telling::tell;
 use pc_outside::{Shelf, Sink, Source};
+use pc_pass::Pass;
 use pc_report::Speaker;
 use std::alloc::Global;
 
@@ -31,7 +34,8 @@ pub struct Status {
 }
 
 /// The whole program, over the outside that is lent. `words` are those of the command line without the
-/// program's own name.
+/// program's own name; `passes` are those that the compiler applies to each flow graph, once each and in
+/// order, and the simulator none.
 ///
 /// `Pcc` is called as `SRC -o OBJ [--ops N] [--tests N] [--mem N] [--window N] [--rows N] [--report]`. It reads
 /// the source at SRC, or makes the sample of a SRC such as `@7`, and writes its object to OBJ, which may be
@@ -68,12 +72,14 @@ pub fn tool<H: Shelf, I: Source, O: Sink, E: Sink>(
     alloc: Global,
     who: Who,
     words: &[String],
+    passes: &mut Vec<Box<dyn Pass>>,
     shelf: &mut H,
     input: &mut I,
     out: &mut O,
     err: &mut E,
 ) -> Status
     ensures compiler { who ≡ Pcc → CompilerPromise (compile_command_of (spelled words.now))
+        (counts_of (λ b. label b) (λ b. changed b) passes.new.items)
         (outside_of (H.state shelf.old) (streamed (I.left input.old) (I.faults input.old)) (streamed (O.taken out.old) (O.faults out.old)) (streamed (E.taken err.old) (E.faults err.old)))
         (outside_of (H.state shelf.new) (streamed (I.left input.new) (I.faults input.new)) (streamed (O.taken out.new) (O.faults out.new)) (streamed (E.taken err.new) (E.faults err.new)))
         result.code }
@@ -82,10 +88,13 @@ pub fn tool<H: Shelf, I: Source, O: Sink, E: Sink>(
         (outside_of (H.state shelf.new) (streamed (I.left input.new) (I.faults input.new)) (streamed (O.taken out.new) (O.faults out.new)) (streamed (E.taken err.new) (E.faults err.new)))
         result.code }
     ensures input_kept { who ≡ Pcc → input.new ≡ input.old }
+    ensures ran { who ≡ Pcc → result.code ≡ 0 → EachRose (map (λ b. runs b) passes.old.items) (map (λ b. runs b) passes.new.items) }
+    ensures named { map (λ b. label b) passes.new.items ≡ map (λ b. label b) passes.old.items }
+    ensures passes_kept { who ≡ Pvm → passes.new ≡ passes.old }
 {
     let code = match who {
         Who::Pcc => {
-            let due = run_compiler(alloc, words, shelf, out);
+            let due = run_compiler(alloc, words, passes, shelf, out);
             tell(alloc, Speaker::Pcc, due, err)
         }
         Who::Pvm => {

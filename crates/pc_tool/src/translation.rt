@@ -1,5 +1,6 @@
 //! From a source's text to the bytes of its object.
-ghost use Rattle.std.specs.Prelude.{◌≤◌, length, MatchResult};
+ghost use Rattle.std.specs.Prelude.{◌≡◌, ◌≤◌, length, map, MatchResult, OnOk};
+ghost use Rattle.pc_pass.specs.Pass.{EachRose};
 ghost use Rattle.pc_check.specs.Checks.{resolved_of};
 ghost use Rattle.pc_tool.specs.models.Translating.{IsChecked, IsTranslation, RefusesText};
 ghost use Rattle.pc_word.specs.Ranges.{AreLimits};
@@ -7,10 +8,11 @@ ghost use Rattle.pc_word.specs.SourceLimits.{most_source};
 
 use crate::refusal::Refusal;
 use pc_check::{Checked, check};
-use pc_compile::{Compiled, compile};
+use pc_compile::{Compiled, compile_with};
 use pc_lexer::tokens;
 use pc_object::{NoteList, Object, encode};
 use pc_parser::parse;
+use pc_pass::Pass;
 use pc_word::Limits;
 use std::alloc::Global;
 
@@ -24,14 +26,21 @@ pub(crate) struct Translation {
     pub(crate) notes: NoteList,
 }
 
-/// The object that does what a source does.
-pub(crate) fn translate(alloc: Global, text: &[u8], limits: Limits) -> Result<Translation, Refusal>
+/// The object that does what a source does, behind passes over its flow graph.
+pub(crate) fn translate<P: Pass>(
+    alloc: Global,
+    text: &[u8],
+    passes: &mut Vec<P>,
+    limits: Limits,
+) -> Result<Translation, Refusal>
     requires few_bytes { length text.now ≤ most_source }
     requires limits { AreLimits limits }
-    ensures { MatchResult result (λ it. IsTranslation limits text.now it) (λ refusal. RefusesText refusal text.now) }
+    ensures translation { MatchResult result (λ it. IsTranslation limits text.now it) (λ refusal. RefusesText refusal text.now) }
+    ensures named { map P.label passes.new.items ≡ map P.label passes.old.items }
+    ensures ran { OnOk result (EachRose (map P.runs passes.old.items) (map P.runs passes.new.items)) }
 {
     let checked = read_program(alloc, text)?;
-    let Compiled { flow, object } = compile(alloc, &checked, limits)?;
+    let Compiled { flow, object } = compile_with(alloc, &checked, passes, limits)?;
     let bytes = encode(alloc, &object)?;
     let Object { code, notes } = object;
     Ok(Translation {

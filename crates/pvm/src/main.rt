@@ -1,9 +1,11 @@
-//! The simulator: `pvm OBJ`, with the numbers of its input on standard input.
+//! The simulator: `pvm OBJ`.
 #![tactic(auto)]
 
+use pc_pass::Pass;
 use pc_tool::{Who, run};
 use std::process::ExitCode;
 
 fn main(rt: HostRuntime) -> ExitCode {
-    run(&rt, Who::Pvm)
+    let mut passes: Vec<Box<dyn Pass>> = Vec::new(rt.alloc());
+    run(&rt, Who::Pvm, &mut passes)
 }

@@ -10,7 +10,7 @@ use Rattle.pc_report.specs.declared.fault.Speaker.TheVariants.{Pcc}
 use Rattle.pc_report.specs.declared.fault.SourceFault.TheVariants.{TooLong}
 use Rattle.pc_report.specs.declared.fault.ToolFault.{ToolFault}
 use Rattle.pc_report.specs.declared.fault.ToolFault.TheVariants as fault
-use Rattle.pc_report.specs.Report.{Report}
+use Rattle.pc_report.specs.Report.{PassCount, Report}
 use Rattle.pc_tool.specs.Files.{HasSource, HoldsSource}
 use Rattle.pc_tool.specs.Outside.{Streamed}
 use Rattle.pc_tool.specs.SourceFaults.{HasFault}
@@ -34,9 +34,9 @@ pub record HasTranslation (held : Option Files) (request : CompileRequest) (it :
   pub in_source : HasSource held request.source text
   pub is : IsTranslation request.limits text it
 
--- what is reported of a translation
-abbrev pub reported : Translation → Report
-reported it = record { nodes = it.nodes; rows = it.rows; passes = []; notes = it.notes }
+-- what is reported of a translation and of the passes
+abbrev pub reported : Translation → List PassCount → Report
+reported it passes = record { nodes = it.nodes; rows = it.rows; passes = passes; notes = it.notes }
 
 -- what is due behind the report, and what was sent of its text
 pub data ReportEnds (asked : Bool) (text : List ℕ) (old new : Streamed) : (due : Option ToolFault) → Type 0 where

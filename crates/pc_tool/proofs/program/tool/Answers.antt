@@ -14,9 +14,9 @@ returns-in-Pcc-clause-compiler g c = λ _.
     let out_now = streamed (g.O.Sink.taken c.run_compiler-due.new.out) (g.O.Sink.faults c.run_compiler-due.new.out) in
     let err = streamed (g.E.Sink.taken c.args.err.now) (g.E.Sink.faults c.args.err.now) in
     let err_now = streamed (g.E.Sink.taken c.tell-code.new.err) (g.E.Sink.faults c.tell-code.new.err) in
-    compiler_promise (compile_command_of (spelled c.args.words.now))
+    compiler_promise (compile_command_of (spelled c.args.words.now)) _
     (outside_of (g.H.Shelf.state c.args.shelf.now) input out err) (outside_of (g.H.Shelf.state c.run_compiler-due.new.shelf) input out_now err_now)
-    c.run_compiler-due.result c.tell-code.result c.run_compiler-due.ensures refl c.tell-code.ensures
+    c.run_compiler-due.result c.tell-code.result c.run_compiler-due.ensures.ends refl c.tell-code.ensures
 
 pub returns-in-Pvm-clause-simulator : goal.returns-in-Pvm-clause-simulator
 returns-in-Pvm-clause-simulator g c = λ _.

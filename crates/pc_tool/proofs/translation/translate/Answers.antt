@@ -8,14 +8,14 @@ use Rattle.pc_object.specs.ObjectText.{object_of}
 use Rattle.pc_tool.proofs.Translations.{is_translation, uncompiled}
 use Rattle.pc_tool.proofs.translation.translate.Goals as goal
 
-pub returns-in_err-flow : goal.returns-in_err-flow
-returns-in_err-flow c =
+pub returns-in_err-flow-clause-translation : goal.returns-in_err-flow-clause-translation
+returns-in_err-flow-clause-translation g c =
     let p = err_from_is_err_and c.from_residual-in_err-flow.result c.from_residual-in_err-flow.ensures.1 in
     rw (p.1, p.2) (uncompiled c.in_err-flow.field-0.0 c.args.text.now (resolved_of c.in_ok-checked.checked) c.in_ok-checked.ensures
     c.in_err-flow.ensures.uncompiled)
 
-pub returns : goal.returns
-returns c =
+pub returns-clause-translation : goal.returns-clause-translation
+returns-clause-translation g c =
     let made = c.in_ok-flow.field-0 in
     is_translation c.args.limits c.args.text.now (resolved_of c.in_ok-checked.checked) made.flow (object_of made.object) _ c.in_ok-checked.ensures
     c.in_ok-flow.ensures.compiled c.in_ok-bytes.ensures.words c.in_ok-bytes.ensures.text c.count.ensures.number
