@@ -1,6 +1,6 @@
 -- Assignments that are lowered part by part: what a part may take for granted, and what the parts together give.
-use Rattle.std.proofs.Common.{◌≡◌, ℕ, ◌+◌, ◌<◌, ◌≤◌, List, length, Some, None, refl, arith}
-use Rattle.std.specs.Prelude.{Option, slice_get}
+use Rattle.std.proofs.Common.{◌≡◌, ℕ, ◌+◌, ◌<◌, List, length, Some, None, refl, arith}
+use Rattle.std.specs.Prelude.{slice_get}
 use Rattle.pc_word.specs.declared.item.Item.TheVariants.{Copy, Load, Store}
 use Rattle.pc_word.specs.declared.item.Operand.{Operand}
 use Rattle.pc_word.specs.declared.item.Operand.TheVariants.{Name}
@@ -9,14 +9,13 @@ use Rattle.pc_syntax.specs.declared.operator.BinaryOp.{BinaryOp}
 use Rattle.pc_syntax.specs.Source.{SourceExpression, Variable, Combined}
 use Rattle.pc_check.specs.Needs.{hold}
 use Rattle.pc_check.specs.Sizes.{expression_size, operator_size}
-use Rattle.pc_flow.specs.declared.node.FlowNode.{FlowNode}
 use Rattle.pc_flow.specs.declared.node.FlowNode.TheVariants.{Op}
 use Rattle.pc_flow.specs.FlowGraph.{IsVariable, ItemFits}
 use Rattle.pc_lower.specs.Lowers.{temporary, held, Gives, Bounds, Combines, Does, Puts, Assigns}
 use Rattle.pc_lower.specs.models.Drafts.{Draft}
 use Rattle.pc_lower.specs.models.Fills.{Lays}
-use Rattle.pc_lower.specs.models.LowersExpression.{IsReady, IsHeld, MayLower, LaysExpression}
-use Rattle.pc_lower.proofs.Fills.{lays_both, lays_as, room_left, placed_first}
+use Rattle.pc_lower.specs.models.LowersExpression.{IsHeld, LaysExpression}
+use Rattle.pc_lower.proofs.Fills.{lays_both, lays_as}
 use Rattle.pc_lower.proofs.Lowered.{value_fits}
 
 -- where the value of an expression is, there is a variable or a literal

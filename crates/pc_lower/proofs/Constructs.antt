@@ -21,12 +21,12 @@ use Rattle.pc_lower.specs.Lowers.{held, Does, Gives, Assigns, Declares}
 use Rattle.pc_lower.specs.declared.spot.Spot.{Spot}
 use Rattle.pc_lower.specs.declared.spot.Laid.{Laid}
 use Rattle.pc_lower.specs.models.Drafts.{Draft, IsPlaced}
-use Rattle.pc_lower.specs.models.Fills.{Lays, HasRoom}
+use Rattle.pc_lower.specs.models.Fills.{Lays}
 use Rattle.pc_lower.specs.models.LowersExpression.{IsHeld}
 use Rattle.pc_lower.specs.models.LowersStatement.{loop_count, branch_loops, list_loops, IsSpot, LaysList, LaysTurn, closed}
 use Rattle.pc_lower.specs.models.LowersStatement.{ConditionNodes, StatementNodes, OptionalNodes, ListNodes, RoundNodes, TurnsNodes}
 use Rattle.pc_lower.proofs.Weights.{statement_weight, list_weight}
-use Rattle.pc_lower.proofs.Fills.{lays_both, lays_as, less_room}
+use Rattle.pc_lower.proofs.Fills.{lays_both, lays_as}
 use Rattle.pc_lower.proofs.Spots.{lays_nothing, spot_before}
 use Rattle.pc_lower.proofs.Loops.{lays_round, lays_round_before}
 

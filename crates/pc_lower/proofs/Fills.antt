@@ -1,10 +1,9 @@
 -- Numbers of a draft that are filled from the end: one part after the other.
 use Rattle.std.proofs.Common.{◌≡◌, ◌≢◌, ℕ, zero, suc, ◌+◌, ◌<◌, ◌≤◌, ◌⊎◌, inl, inr, List, [], ◌∷◌, length, Option, Some, refl, sym, ◌∙◌, ap, subst, arith}
 use Rattle.std.specs.Prelude.{IfSome, slice_get, slice_set, slice_index}
-use Rattle.pc_word.proofs.Lists.{set_length, index_set_same, index_set_other}
 use Rattle.pc_word.proofs.Truth.{decide_le}
 use Rattle.pc_flow.specs.declared.node.FlowNode.{FlowNode}
-use Rattle.pc_lower.specs.models.Drafts.{Draft, IsDraft, IsPlaced, CanPlace, draft_with}
+use Rattle.pc_lower.specs.models.Drafts.{Draft, IsPlaced}
 use Rattle.pc_lower.specs.models.Fills.{IsOutside, Fills, Keeps, Lays, HasRoom}
 
 -- ---- lists with an element replaced

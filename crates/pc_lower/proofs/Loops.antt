@@ -7,7 +7,7 @@ use Rattle.pc_syntax.specs.Source.{SourceExpression}
 use Rattle.pc_check.specs.Sizes.{expression_size}
 use Rattle.pc_flow.specs.declared.node.FlowNode.{FlowNode}
 use Rattle.pc_lower.specs.Lowers.{Gives}
-use Rattle.pc_lower.specs.models.Drafts.{Draft, IsPlaced}
+use Rattle.pc_lower.specs.models.Drafts.{Draft}
 use Rattle.pc_lower.specs.models.Fills.{Fills, Keeps, Lays, IsOutside}
 use Rattle.pc_lower.specs.models.LowersStatement.{LaysTurn, closed}
 use Rattle.pc_lower.proofs.LoopMarks.{loops_with_header, header_length}

@@ -1,10 +1,10 @@
 -- The items for operators give the operators' values, and where the value of an expression is, it stays.
-use Rattle.std.proofs.Common.{◌≡◌, ℕ, ◌+◌, Bool, true, false, List, refl, arith}
+use Rattle.std.proofs.Common.{◌≡◌, ℕ, ◌+◌, List, refl, arith}
 use Rattle.std.specs.Prelude.{ℤ, pos, negsuc}
 use Rattle.pc_word.specs.declared.item.Item.TheVariants.{Bin}
 use Rattle.pc_word.specs.declared.item.Operand.{Operand}
 use Rattle.pc_word.specs.declared.item.Operand.TheVariants.{Lit}
-use Rattle.pc_word.specs.Word.{holds, word_of_test, word_apply}
+use Rattle.pc_word.specs.Word.{word_apply}
 use Rattle.pc_syntax.specs.declared.operator.UnaryOp.{UnaryOp}
 use Rattle.pc_syntax.specs.declared.operator.UnaryOp.TheVariants.{Minus, Flip, Not}
 use Rattle.pc_syntax.specs.declared.operator.BinaryOp.{BinaryOp}

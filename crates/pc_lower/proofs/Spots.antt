@@ -1,6 +1,6 @@
 -- Statements that are lowered part by part: what a part may take for granted.
-use Rattle.std.proofs.Common.{◌≡◌, ℕ, ◌+◌, ◌<◌, ◌≤◌, inr, List, length, Option, Some, None, true, refl, sym, ◌∙◌, subst, arith}
-use Rattle.std.specs.Prelude.{IfSome, slice_get}
+use Rattle.std.proofs.Common.{◌≡◌, ℕ, ◌+◌, ◌≤◌, List, length, Option, Some, None, true, refl, sym, subst, arith}
+use Rattle.std.specs.Prelude.{slice_get}
 use Rattle.pc_syntax.specs.Source.{SourceExpression, Literal, Variable, Input, Indexed, Prefixed, Combined, Conjunction, Disjunction, Conditional}
 use Rattle.pc_check.specs.Needs.{hold}
 use Rattle.pc_check.specs.Sound.{has_slots}
@@ -15,7 +15,7 @@ use Rattle.pc_flow.specs.FlowGraph.{IsVariable, ItemFits}
 use Rattle.pc_lower.specs.Lowers.{held, Gives}
 use Rattle.pc_lower.specs.declared.spot.Spot.{Spot}
 use Rattle.pc_lower.specs.models.Drafts.{Draft, IsPlaced}
-use Rattle.pc_lower.specs.models.Fills.{Fills, Lays, HasRoom}
+use Rattle.pc_lower.specs.models.Fills.{Fills, Lays}
 use Rattle.pc_lower.specs.models.LowersExpression.{IsReady, IsHeld, MayLower, LaysExpression}
 use Rattle.pc_lower.specs.models.LowersStatement.{ConditionNodes, LaysTurn, IsSpot}
 use Rattle.pc_lower.proofs.Fills.{fills_both, lays_both, lays_as, room_left, placed_still}

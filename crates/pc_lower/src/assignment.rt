@@ -33,6 +33,18 @@ pub(crate) struct Target {
 }
 
 impl Target {
+    /// An assignment to a name.
+    pub(crate) fn new(name: u32, bracket: u32, op: Option<BinaryOp>, at: u32) -> Target
+        ensures { result ≡ record { name = name; bracket = bracket; op = op; at = at } }
+    {
+        Target {
+            name,
+            bracket,
+            op,
+            at,
+        }
+    }
+
     /// The element of the array, where its index is known.
     fn element(self, index: Operand) -> Element
         requires { self.name ≤ 255 }

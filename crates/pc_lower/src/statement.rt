@@ -250,12 +250,7 @@ pub(crate) fn lower_statement(draft: &mut Draft, statement: &Stmt, spot: Spot) -
             value,
             ..
         } => {
-            let target = Target {
-                name: *symbol,
-                bracket: *bracket,
-                op: *op,
-                at: *at,
-            };
+            let target = Target::new(*symbol, *bracket, *op, *at);
             Laid::at(lower_assignment(draft, target, index, value, site))
         }
         Stmt::Print { value, .. } => Laid::at(lower_print(draft, value, site)),

@@ -74,7 +74,8 @@ pub lower_binary-lay_operation-last-requires-clause-right : goal.lower_binary-la
 lower_binary-lay_operation-last-requires-clause-right t c = rw (c.held-second.ensures, c.next_temporary-above.ensures) (binary_right_value c.requires.may)
 
 pub lower_binary-lower_expression-middle-requires : goal.lower_binary-lower_expression-middle-requires
-lower_binary-lower_expression-middle-requires t c = (omega (arith, c.decreases), rw (c.above.ensures, c.leading_to.ensures, c.next_temporary-above.ensures) (binary_right c.requires.may c.lay_operation-last.ensures))
+lower_binary-lower_expression-middle-requires t c =
+    (omega (arith, c.decreases), rw (c.above.ensures, c.leading_to.ensures, c.next_temporary-above.ensures) (binary_right c.requires.may c.lay_operation-last.ensures))
 
 pub lower_binary-lower_expression-requires : goal.lower_binary-lower_expression-requires
 lower_binary-lower_expression-requires t c =

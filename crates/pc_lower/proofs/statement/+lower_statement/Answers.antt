@@ -137,7 +137,7 @@ pub lower_statement-returns-in-Assign-clause-laid : goal.lower_statement-returns
 lower_statement-returns-in-Assign-clause-laid t c =
     let is = statement_of-Assign c.args.statement.now c.in-Assign.symbol c.in-Assign.line c.in-Assign.index c.in-Assign.bracket c.in-Assign.op c.in-Assign.at
     c.in-Assign.value c.in-Assign.is in
-    let laid = rw c.site-site.ensures at c.lower_assignment.ensures in
+    let laid = rw (c.new-target.ensures, c.site-site.ensures) at c.lower_assignment.ensures in
     rw (is, c.at-in-Assign.ensures)
     (lays_assignment c.args.spot.break_to c.args.spot.continue_to c.args.spot.return_to _ _ c.in-Assign.symbol c.in-Assign.line
     (option_map expression_of c.in-Assign.index) c.in-Assign.bracket c.in-Assign.op c.in-Assign.at (expression_of c.in-Assign.value) laid)
