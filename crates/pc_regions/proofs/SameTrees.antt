@@ -1,14 +1,13 @@
 -- Two cuts of one graph take the same trees, and name the same regions.
-use Rattle.std.proofs.Common.{◌≡◌, ◌⊎◌, inl, inr, ℕ, zero, suc, ◌<◌, ◌≤◌, List, [], ◌∷◌, ◌++◌, Option, Some, None, refl, sym, ◌∙◌, ap, subst, arith}
+use Rattle.std.proofs.Common.{◌≡◌, inl, inr, ℕ, zero, suc, ◌<◌, List, [], ◌∷◌, ◌++◌, Some, refl, sym, ◌∙◌, ap, subst, arith}
 use Rattle.std.specs.Prelude.{slice_get}
 use Rattle.pc_word.specs.declared.item.Item.{Item}
 use Rattle.pc_word.specs.declared.item.Operand.{Operand}
 use Rattle.pc_word.specs.declared.item.TrapKind.{TrapKind}
 use Rattle.pc_word.proofs.Truth.{decide_le}
-use Rattle.pc_flow.specs.declared.node.FlowNode.{FlowNode}
-use Rattle.pc_flow.specs.declared.node.FlowNode.TheVariants.{Op, Test, Stop, Trap}
+use Rattle.pc_flow.specs.declared.node.FlowNode.TheVariants.{Op, Test, Trap}
 use Rattle.pc_flow.specs.FlowGraph.{FlowGraph}
-use Rattle.pc_table.specs.Table.{TableTree, Does, Asks, Next, Stops_here, Traps_here}
+use Rattle.pc_table.specs.Table.{TableTree, Does, Asks, Next, Traps_here}
 use Rattle.pc_regions.specs.Cut.{IsTreeOf, An_item, A_test, A_stop, A_trap, IsBehind, Taken, Not_taken, AreMet, None_met, Known, Met, nexts_of}
 use Rattle.pc_regions.proofs.Members.{Once}
 
