@@ -75,7 +75,8 @@ module _ (flow : FlowGraph) (P Q : ℕ → Type 0) (forth : (at : ℕ) → P at 
   mutual
     pub same_tree : (room at left : ℕ) (tree : TableTree) → IsTreeOf flow P heads room at tree left → (rest : ℕ) (other : TableTree) → IsTreeOf flow Q others room at other rest
         → (known after last : ℕ) → AreMet known (nexts_of tree) after → AreMet known (nexts_of other) last → SameBelow known → SameTree tree other left rest after last
-    same_tree _ at left _ (An_item {room} {next} {item} {rest = tail} here behind) rest _ (An_item {next = next_too} {item = item_too} {rest = tail_too} here_too behind_too) known after last met met_too below =
+    same_tree _ at left _ (An_item {room} {next} {item} {rest = tail} here behind) rest _
+        (An_item {next = next_too} {item = item_too} {rest = tail_too} here_too behind_too) known after last met met_too below =
         let items : Some (Op item next) ≡ Some (Op item_too next_too) = sym here ∙ here_too in
         let same_item : item ≡ item_too = (cc) in
         let same_next : next_too ≡ next = (cc) in
