@@ -20,8 +20,8 @@ pub(crate) struct Heads {
 /// The heads of a graph.
 #[tactic(auto, using(crate::proofs::Marking::heads))]
 pub(crate) fn find_heads(alloc: Global, flow: &Flow) -> Result<Heads, AllocError>
-    requires { IsFlow flow.now }
-    ensures { IfOk result (λ heads. AreHeads flow.now heads.marks.items heads.headers.items) }
+    ensures kept { IsFlow flow.now }
+    ensures heads { IfOk result (λ heads. AreHeads flow.now heads.marks.items heads.headers.items) }
 {
     let reachable = reachable_nodes(alloc, flow)?;
     let counts = in_edge_counts(alloc, flow, reachable.as_slice())?;
