@@ -1,5 +1,5 @@
 //! The heads of a graph: the nodes where its regions begin, but for those that find no room in a region.
-ghost use Rattle.std.specs.Prelude.{◌≡◌, ◌<◌, ◌≤◌, ℕ, Some, IfOk, map, nat_le, length};
+ghost use Rattle.std.specs.Prelude.{◌≡◌, ◌<◌, ℕ, Some, IfOk, map, nat_le, length};
 ghost use Rattle.pc_flow.specs.FlowGraph.{IsFlow};
 ghost use Rattle.pc_regions.specs.models.Entering.{header_at};
 ghost use Rattle.pc_regions.specs.models.Marks.{Marks, AreHeads, FindsLoop};
