@@ -27,13 +27,13 @@ test_targets flow from on_yes on_no (Some turn) h = (h.0, h.1)
 -- ---- the sets behind a node
 
 -- a node to which an edge leads, with the variable in its set
-record Behind (sets : List VariableSet) (node : FlowNode) (variable : ℕ) : Type 0 where
-  next : ℕ
-  leads : HasEdge node next
-  has : member (set_at sets next) variable ≡ true
+pub record Behind (sets : List VariableSet) (node : FlowNode) (variable : ℕ) : Type 0 where
+  pub next : ℕ
+  pub leads : HasEdge node next
+  pub has : member (set_at sets next) variable ≡ true
 
 -- there is one where `behind` passes
-behind_some : (sets : List VariableSet) (node : FlowNode) (variable : ℕ) → behind sets node variable ≡ true → Behind sets node variable
+pub behind_some : (sets : List VariableSet) (node : FlowNode) (variable : ℕ) → behind sets node variable ≡ true → Behind sets node variable
 behind_some sets (Op item to) variable h = record { next = to; leads = refl; has = h }
 behind_some sets (Test on on_yes on_no turn) variable h =
     elim (or_true (member (set_at sets on_yes) variable) (member (set_at sets on_no) variable) h) [
@@ -44,7 +44,7 @@ behind_some sets Stop variable h = absurd (cc)
 behind_some sets (Trap kind line) variable h = absurd (cc)
 
 -- and where there is one it passes
-some_behind : (sets : List VariableSet) (node : FlowNode) (variable next : ℕ) → HasEdge node next → member (set_at sets next) variable ≡ true
+pub some_behind : (sets : List VariableSet) (node : FlowNode) (variable next : ℕ) → HasEdge node next → member (set_at sets next) variable ≡ true
     → behind sets node variable ≡ true
 some_behind sets (Op item to) variable next leads h = subst (λ (n : ℕ). member (set_at sets n) variable ≡ true) (sym leads) h
 some_behind sets (Test on on_yes on_no turn) variable next (inl e) h =
@@ -77,7 +77,7 @@ needed_live flow sets at variable sound small (Some node) e h = node_live flow s
 needed_live flow sets at variable sound small None e h = absurd (cc)
 
 -- sets have their bound where one of them is replaced
-set_fits : (sets : List VariableSet) (at : ℕ) (new : VariableSet) → All (λ (s : VariableSet). s.bits ≤ 2 ^ 128) sets → new.bits ≤ 2 ^ 128
+pub set_fits : (sets : List VariableSet) (at : ℕ) (new : VariableSet) → All (λ (s : VariableSet). s.bits ≤ 2 ^ 128) sets → new.bits ≤ 2 ^ 128
     → All (λ (s : VariableSet). s.bits ≤ 2 ^ 128) (set sets at new)
 set_fits sets at new fit fits k d h =
     let there : k < length sets = subst (λ (n : ℕ). k < n) (length-set sets at new) h in

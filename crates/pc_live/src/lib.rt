@@ -14,3 +14,5 @@ pub use analysis::live;
 pub use error::LiveError;
 pub use laws::law_of_dead_variables;
 pub use liveness::Liveness;
+pub use uses::{passed_by, read_by};
+pub use variable_set::VariableSet;

@@ -1,1 +1,2 @@
+pub mod models
 pub mod Pass

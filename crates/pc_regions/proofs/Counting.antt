@@ -10,7 +10,8 @@ use Rattle.pc_word.specs.declared.item.TrapKind.{TrapKind}
 use Rattle.pc_flow.specs.declared.node.FlowNode.{FlowNode}
 use Rattle.pc_flow.specs.declared.node.FlowNode.TheVariants.{Op, Test, Stop, Trap}
 use Rattle.pc_flow.specs.FlowGraph.{FlowGraph, IsFlow}
-use Rattle.pc_regions.specs.Reachable.{IsReachable, Entry, Behind, AreReachable, one_if, edges_of, in_edges}
+use Rattle.pc_regions.specs.Reachable.{AreReachable, one_if, edges_of, in_edges}
+use Rattle.pc_flow.specs.Reachable.{IsReachableNode, Entry, Behind}
 use Rattle.pc_regions.specs.models.Counts.{up_to_two, CountsEdges, AddsEdge, AddsEdges}
 use Rattle.pc_regions.proofs.Places.{index_stands, same_number, other_number}
 use Rattle.pc_regions.proofs.Reaching.{item_leads, test_leads, edge_leads}
@@ -99,7 +100,7 @@ pub ruleset edges = (item_leads, test_leads, item_edges, test_edges, stop_edges,
 -- ---- the loop
 
 -- a reachable node is there
-pub reachable_there : (flow : FlowGraph) (at : ℕ) → IsFlow flow → IsReachable flow at → at < length flow.nodes
+pub reachable_there : (flow : FlowGraph) (at : ℕ) → IsFlow flow → IsReachableNode flow at → at < length flow.nodes
 reachable_there flow _ is Entry = is.begins
 reachable_there flow at is (Behind {from} {node} reached here edge) = edge_leads flow from at node is here edge
 

@@ -11,7 +11,8 @@ use Rattle.pc_word.proofs.Truth.{decide_le}
 use Rattle.pc_flow.specs.declared.node.FlowNode.{FlowNode}
 use Rattle.pc_flow.specs.declared.node.FlowNode.TheVariants.{Op, Test, Stop, Trap}
 use Rattle.pc_flow.specs.FlowGraph.{FlowGraph, IsFlow, IsTarget, TestFits, HasEdge}
-use Rattle.pc_regions.specs.Reachable.{IsReachable, Entry, Behind, AreReachable}
+use Rattle.pc_regions.specs.Reachable.{AreReachable}
+use Rattle.pc_flow.specs.Reachable.{IsReachableNode, Entry, Behind}
 use Rattle.pc_regions.specs.models.Numbered.{Numbered, IsNumbered, nothing_met, Meets, KeepsPlaces}
 use Rattle.pc_regions.specs.models.Reaching.{MeetsEdges, IsReaching}
 use Rattle.pc_regions.proofs.Places.{get_front, get_more, found_within, none_left}
@@ -142,8 +143,8 @@ reaching_begins flow it new number is meets =
       closed = λ place at to node lt there here edge. absurd (omega arith);
     }
   where
-    only_entry : (place at : ℕ) → slice_get (flow.entry ∷ []) place ≡ Some at → IsReachable flow at
-    only_entry zero at e = let same : flow.entry ≡ at = (cc) in subst (λ (n : ℕ). IsReachable flow n) same Entry
+    only_entry : (place at : ℕ) → slice_get (flow.entry ∷ []) place ≡ Some at → IsReachableNode flow at
+    only_entry zero at e = let same : flow.entry ≡ at = (cc) in subst (λ (n : ℕ). IsReachableNode flow n) same Entry
     only_entry (suc place) at e = absurd (cc)
 
 -- a node more whose edges were gone along
@@ -176,7 +177,7 @@ reaching_goes_on flow it new done from h here meets = record {
     only_one xs i p q = cc
 
 -- where edges were gone along from each node that was met, each reachable node was met
-met_all : (flow : FlowGraph) (it : Numbered) (done : ℕ) → IsReaching flow it done → length it.order ≤ done → (at : ℕ) → IsReachable flow at
+met_all : (flow : FlowGraph) (it : Numbered) (done : ℕ) → IsReaching flow it done → length it.order ≤ done → (at : ℕ) → IsReachableNode flow at
     → (place : ℕ) × (slice_get it.order place ≡ Some at)
 met_all flow it done h all _ Entry = (0, h.entry)
 met_all flow it done h all at (Behind {from} {node} reached here edge) =

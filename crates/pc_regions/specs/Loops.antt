@@ -3,7 +3,7 @@ use Rattle.std.specs.Prelude.{◌≡◌, ℕ, ◌≤◌, List, Option, Some, Non
 use Rattle.pc_word.specs.declared.loop_mark.LoopMark.{LoopMark}
 use Rattle.pc_flow.specs.declared.node.FlowNode.{FlowNode}
 use Rattle.pc_flow.specs.FlowGraph.{FlowGraph, HasEdge}
-use Rattle.pc_regions.specs.Reachable.{IsReachable}
+use Rattle.pc_flow.specs.Reachable.{IsReachableNode}
 
 -- a loop is another one, or stands in it, however deep
 pub data IsWithin (loops : List LoopMark) : (inner outer : ℕ) → Type 0 where
@@ -25,7 +25,7 @@ pub record BelongsTo (flow : FlowGraph) (loop at : ℕ) : Type 0 where
 pub data IsEntered (flow : FlowGraph) (loop : ℕ) : (at : ℕ) → Type 0 where
   Begins : BelongsTo flow loop flow.entry → IsEntered flow loop flow.entry
   Led_into : {from to : ℕ} {node : FlowNode} →
-      IsReachable flow from →
+      IsReachableNode flow from →
       slice_get flow.nodes from ≡ Some node →
       HasEdge node to →
       (BelongsTo flow loop from → ⊥) →

@@ -1,22 +1,14 @@
--- Which nodes of a flow graph can come next at all, and how many edges from them lead to a node.
+-- The reachable nodes of a flow graph, and how many edges from them lead to a node.
 use Rattle.std.specs.Prelude.{◌≡◌, ℕ, ◌+◌, if◌then◌else◌, nat_eq, List, Option, Some, None, slice_get, sum_by}
 use Rattle.pc_flow.specs.declared.node.FlowNode.{FlowNode}
 use Rattle.pc_flow.specs.declared.node.FlowNode.TheVariants.{Op, Test, Stop, Trap}
-use Rattle.pc_flow.specs.FlowGraph.{FlowGraph, HasEdge}
-
--- a node is the entry, or an edge leads to it from such a node
-pub data IsReachable (flow : FlowGraph) : (at : ℕ) → Type 0 where
-  Entry : IsReachable flow flow.entry
-  Behind : {from to : ℕ} {node : FlowNode} →
-      IsReachable flow from →
-      slice_get flow.nodes from ≡ Some node →
-      HasEdge node to →
-      IsReachable flow to
+use Rattle.pc_flow.specs.FlowGraph.{FlowGraph}
+use Rattle.pc_flow.specs.Reachable.{IsReachableNode}
 
 -- these are the reachable nodes, each once
 pub record AreReachable (flow : FlowGraph) (reachable : List ℕ) : Type 0 where
-  pub only : (place at : ℕ) → slice_get reachable place ≡ Some at → IsReachable flow at
-  pub all : (at : ℕ) → IsReachable flow at → (place : ℕ) × (slice_get reachable place ≡ Some at)
+  pub only : (place at : ℕ) → slice_get reachable place ≡ Some at → IsReachableNode flow at
+  pub all : (at : ℕ) → IsReachableNode flow at → (place : ℕ) × (slice_get reachable place ≡ Some at)
   pub once : (one other at : ℕ) → slice_get reachable one ≡ Some at → slice_get reachable other ≡ Some at → one ≡ other
 
 -- ---- edges, counted

@@ -2,7 +2,7 @@
 use Rattle.std.specs.Prelude.{◌≡◌, ◌⊎◌, ℕ, ◌<◌, ◌≤◌, List, length, Some, slice_get}
 use Rattle.pc_flow.specs.declared.node.FlowNode.{FlowNode}
 use Rattle.pc_flow.specs.FlowGraph.{FlowGraph, HasEdge}
-use Rattle.pc_regions.specs.Reachable.{IsReachable}
+use Rattle.pc_flow.specs.Reachable.{IsReachableNode}
 use Rattle.pc_regions.specs.models.Numbered.{Numbered, KeepsPlaces}
 
 -- the nodes to which the edges of a node lead have been met, and no others
@@ -18,6 +18,6 @@ pub record IsReaching (flow : FlowGraph) (it : Numbered) (done : ℕ) : Type 0 w
   pub nodes : length it.numbers ≡ length flow.nodes
   pub entry : slice_get it.order 0 ≡ Some flow.entry
   pub few : done ≤ length it.order
-  pub only : (place at : ℕ) → slice_get it.order place ≡ Some at → IsReachable flow at
+  pub only : (place at : ℕ) → slice_get it.order place ≡ Some at → IsReachableNode flow at
   pub closed : (place at to : ℕ) (node : FlowNode) → place < done → slice_get it.order place ≡ Some at → slice_get flow.nodes at ≡ Some node → HasEdge node to
       → (other : ℕ) × (slice_get it.order other ≡ Some to)

@@ -1,0 +1,240 @@
+-- A graph that is made of another one node by node shows what that one shows.
+use Rattle.std.proofs.Common.{◌≡◌, ◌⊎◌, inl, inr, ℕ, zero, suc, ◌<◌, Bool, true, false, List, [], ◌∷◌, length, Option, Some, None, refl, sym, ◌∙◌, ap, subst, append-nil, arith}
+use Rattle.std.specs.Prelude.{ℤ, if◌then◌else◌, slice_get, slice_index}
+use Rattle.pc_word.specs.declared.item.Item.{Item}
+use Rattle.pc_word.specs.declared.item.MachineFault.{MachineFault}
+use Rattle.pc_word.specs.declared.item.End.TheVariants.{Fault}
+use Rattle.pc_word.specs.Word.{holds}
+use Rattle.pc_word.specs.Run.{Step, Goes, Stops, AgreeOnInputs, reach, reached_of, run_from}
+use Rattle.pc_word.specs.State.{State}
+use Rattle.pc_word.specs.Items.{operand_value, operands_of, dest_of}
+use Rattle.pc_word.specs.Commit.{writes, fault_of}
+use Rattle.pc_word.specs.Row.{RowOutcome, Faults, Commits, commit_of, item_step}
+use Rattle.pc_word.specs.Laws.{does_alone}
+use Rattle.pc_word.specs.models.Simulation.{Meet, MeetsAgain, MeetsLower}
+use Rattle.pc_word.proofs.Items.{item_step-is}
+use Rattle.pc_word.proofs.Runs.{Agree-sym, Agree-simulated_in_time}
+use Rattle.pc_flow.specs.declared.node.FlowNode.{FlowNode}
+use Rattle.pc_flow.specs.declared.node.FlowNode.TheVariants.{Op, Test, Stop, Trap}
+use Rattle.pc_flow.specs.FlowGraph.{FlowGraph, IsFlow, IsTarget, HasEdge, TestFits, NodeFits}
+use Rattle.pc_flow.specs.FlowRun.{FlowState, after_item, run_node, flow_step, flow_start, flow_run}
+use Rattle.pc_live.proofs.Dead.{Same, operand_same, operands_same, StatesAlike, OutcomesAlike, does_alike}
+use Rattle.pc_flow.specs.Reachable.{IsReachableNode, Entry, Behind}
+use Rattle.pc_pass.specs.models.Change.{Change, Way, Here, Past, LeadsPast, AlikeIn, Corresponds, ItemBecomes, SideBecomes, Becomes, Does, Tests, Stops_too, Traps_too}
+use Rattle.pc_pass.specs.models.Change.{IsChange}
+
+-- ---- nodes that can be reached
+
+test_targets : (flow : FlowGraph) (from on_yes on_no to : ℕ) (turn : Option ℕ) → TestFits flow from on_yes on_no turn
+    → (on_yes ≡ to) ⊎ (on_no ≡ to) → IsTarget flow to
+test_targets flow from on_yes on_no to None h (inl e) = subst (IsTarget flow) e h.0.target
+test_targets flow from on_yes on_no to None h (inr e) = subst (IsTarget flow) e h.1.target
+test_targets flow from on_yes on_no to (Some turn) h (inl e) = subst (IsTarget flow) e h.0
+test_targets flow from on_yes on_no to (Some turn) h (inr e) = subst (IsTarget flow) e h.1
+
+-- where an edge of a node that fits leads to
+pub edge_target : (flow : FlowGraph) (from to : ℕ) (node : FlowNode) → NodeFits flow from node → HasEdge node to → IsTarget flow to
+edge_target flow from to (Op item next) fits e = subst (IsTarget flow) e fits.1.target
+edge_target flow from to (Test on on_yes on_no turn) fits e = test_targets flow from on_yes on_no to turn fits.1 e
+edge_target flow from to Stop fits e = absurd e
+edge_target flow from to (Trap kind line) fits e = absurd e
+
+-- each node that can be reached is there
+pub reachable_there : (flow : FlowGraph) (at : ℕ) → IsFlow flow → IsReachableNode flow at → IsTarget flow at
+reachable_there flow _ is Entry = is.begins
+reachable_there flow _ is (Behind {from = from} {to = at} {node = node} before there edge) =
+    edge_target flow from at node (is.nodes_fit from node there) edge
+
+-- so some node stands there
+pub node_there : (nodes : List FlowNode) (at : ℕ) → at < length nodes → (node : FlowNode) × (slice_get nodes at ≡ Some node)
+node_there [] at lt = absurd (omega arith)
+node_there (node ∷ nodes) zero lt = (node, refl)
+node_there (node ∷ nodes) (suc at) lt = node_there nodes at (omega arith)
+
+-- ---- one unit of each
+
+module _ (change : Change) where
+  abbrev lengths : List ℕ
+  lengths = change.old.arrays
+
+  -- two steps print the same, and end alike or lead to places that correspond
+  abbrev StepsCorrespond : Step FlowState → Step FlowState → Type 0
+  StepsCorrespond (Goes printed here) (Goes other there) = (other ≡ printed) × Corresponds change here there
+  StepsCorrespond (Stops printed end) (Stops other last) = (other ≡ printed) × (last ≡ end)
+  StepsCorrespond (Goes printed here) (Stops other last) = ⊥
+  StepsCorrespond (Stops printed end) (Goes other there) = ⊥
+
+  -- such steps meet
+  steps_meet : (f g : FlowState → Step FlowState) (one other : Step FlowState) → StepsCorrespond one other
+      → Meet (Corresponds change) (reached_of one (reach f 0)) (reached_of other (reach g 0))
+  steps_meet f g (Goes printed here) (Goes again there) h = (rw (append-nil, append-nil) (sym h.0), h.1)
+  steps_meet f g (Stops printed end) (Stops again last) h = (sym h.0, sym h.1)
+  steps_meet f g (Goes printed here) (Stops again last) h = absurd h
+  steps_meet f g (Stops printed end) (Goes again there) h = absurd h
+
+  -- ---- items
+
+  -- two outcomes that are the same but for the node that comes next
+  abbrev SameBefore : (onward : ℕ) → RowOutcome ℕ → RowOutcome ℕ → Type 0
+  SameBefore onward (Faults fault) (Faults other) = other ≡ fault
+  SameBefore onward (Commits printed new leaf) (Commits again other last) = (again ≡ printed) × (other ≡ new) × (last ≡ onward)
+  SameBefore onward (Faults fault) (Commits again other last) = ⊥
+  SameBefore onward (Commits printed new leaf) (Faults other) = ⊥
+
+  -- an item before two nodes
+  same_before : (item : Item) (to onward : ℕ) (s : State) (fault : Option MachineFault)
+      → SameBefore onward (commit_of lengths s (item ∷ []) to fault) (commit_of lengths s (item ∷ []) onward fault)
+  same_before item to onward s (Some fault) = refl
+  same_before item to onward s None = (refl, refl, refl)
+
+  module _ (at to onward : ℕ) (item other : Item) (becomes : ItemBecomes change at item other to onward) (s t : State)
+      (reached : IsReachableNode change.old to) (known : change.Knows at s) (alike : AlikeIn (change.Matters at) s t) where
+    -- the states behind the two items correspond
+    behind_items : (printed : List ℤ) (after more moved : State) (leaf last : ℕ)
+        → item_step lengths item to s ≡ Commits printed after leaf → StatesAlike to (dest_of other) s t after more leaf last → moved ≡ more
+        → Corresponds change (record { node = leaf; state = after }) (record { node = onward; state = moved })
+    behind_items printed after more moved leaf last commits same is =
+        let to_same : item_step lengths item to s ≡ Commits printed after to = commits ∙ ap (Commits printed after) (sym same.leads) in
+        let behind : Corresponds change (record { node = to; state = after }) (record { node = onward; state = moved }) = record {
+          leads = becomes.leads;
+          reached = reached;
+          known = becomes.knows s after printed known to_same;
+          alike = record {
+            same_cells = ap (λ (x : State). x.cells) is ∙ same.cells;
+            same_input = ap (λ (x : State). x.input) is ∙ same.input;
+            same_names = λ x matters. ap (λ (y : State). y.names x) is
+                ∙ same.names x (λ unwritten. alike.same_names x
+                (becomes.passes x (ap (λ (d : Option ℕ). writes d x) (sym becomes.same_dest) ∙ unwritten) matters));
+          };
+        } in
+        subst (λ (n : ℕ). Corresponds change (record { node = n; state = after }) (record { node = onward; state = moved })) same.leads behind
+
+    outcomes_correspond : (one again moved : RowOutcome ℕ) → item_step lengths item to s ≡ one → OutcomesAlike to (dest_of other) s t one again
+        → SameBefore onward again moved → StepsCorrespond (after_item one) (after_item moved)
+    outcomes_correspond (Faults fault) (Faults other_fault) (Faults last_fault) is h k = (refl, ap Fault (k ∙ h))
+    outcomes_correspond (Commits printed after leaf) (Commits again more last) (Commits third moved node) is h k = (
+      k.0 ∙ h.0,
+      subst (λ (n : ℕ). Corresponds change (record { node = leaf; state = after }) (record { node = n; state = moved })) (sym k.2)
+          (behind_items printed after more moved leaf last is h.1 k.1),
+    )
+    outcomes_correspond (Faults fault) (Commits again more last) moved is h k = absurd h
+    outcomes_correspond (Commits printed after leaf) (Faults fault) moved is h k = absurd h
+    outcomes_correspond (Faults fault) (Faults again) (Commits third moved node) is h k = absurd k
+    outcomes_correspond (Commits printed after leaf) (Commits again more last) (Faults third) is h k = absurd k
+
+    -- the two items
+    items_correspond : StepsCorrespond (after_item (item_step lengths item to s)) (after_item (item_step lengths other onward t))
+    items_correspond =
+        let same : Same s.names t.names (operands_of other) = operands_same s.names t.names (operands_of other) (λ x e. alike.same_names x (becomes.reads x e)) in
+        let alone = does_alike lengths other to s t same alike.same_cells alike.same_input in
+        let first = subst (λ (o : RowOutcome ℕ). OutcomesAlike to (dest_of other) s t o (does_alone lengths other to t)) (sym (item_step-is lengths other to s)) alone in
+        let both = subst (λ (o : RowOutcome ℕ). OutcomesAlike to (dest_of other) s t (item_step lengths other to s) o) (sym (item_step-is lengths other to t)) first in
+        let this = subst (λ (o : RowOutcome ℕ). OutcomesAlike to (dest_of other) s t o (item_step lengths other to t)) (becomes.does_same s known) both in
+        outcomes_correspond (item_step lengths item to s) (item_step lengths other to t) (item_step lengths other onward t) refl this
+        (same_before other to onward t (fault_of lengths t (other ∷ [])))
+
+  -- ---- tests
+
+  -- the side that is taken
+  side_corresponds : (b : Bool) (at to_yes to_no onward_yes onward_no : ℕ) (s t : State)
+      → SideBecomes change at to_yes onward_yes → SideBecomes change at to_no onward_no
+      → IsReachableNode change.old to_yes → IsReachableNode change.old to_no → change.Knows at s → AlikeIn (change.Matters at) s t
+      → Corresponds change (record { node = if b then to_yes else to_no; state = s }) (record { node = if b then onward_yes else onward_no; state = t })
+  side_corresponds true at to_yes to_no onward_yes onward_no s t yes_side no_side first second known alike = record {
+    leads = yes_side.leads;
+    reached = first;
+    known = yes_side.knows s known;
+    alike = record { same_cells = alike.same_cells; same_input = alike.same_input; same_names = λ x m. alike.same_names x (yes_side.passes x m) };
+  }
+  side_corresponds false at to_yes to_no onward_yes onward_no s t yes_side no_side first second known alike = record {
+    leads = no_side.leads;
+    reached = second;
+    known = no_side.knows s known;
+    alike = record { same_cells = alike.same_cells; same_input = alike.same_input; same_names = λ x m. alike.same_names x (no_side.passes x m) };
+  }
+
+  -- ---- nodes
+
+  -- one unit of a node and of the node that it becomes
+  nodes_correspond : (at : ℕ) (node other : FlowNode) (s t : State) → slice_get change.old.nodes at ≡ Some node → Becomes change at node other
+      → IsReachableNode change.old at → change.Knows at s → AlikeIn (change.Matters at) s t
+      → StepsCorrespond (run_node lengths s (Some node)) (run_node lengths t (Some other))
+  nodes_correspond at _ _ s t there (Does {item = item} {other = other} {to = to} {onward = onward} becomes) reached known alike =
+      items_correspond at to onward item other becomes s t (Behind reached there refl) known alike
+  nodes_correspond at _ _ s t there (Tests {on = on} {other = other} {to_yes = to_yes} {to_no = to_no} {onward_yes = onward_yes} {onward_no = onward_no} tested yes_side no_side) reached known alike =
+      let moved : operand_value t.names other ≡ operand_value s.names other = operand_same s.names t.names other (λ x e. alike.same_names x (tested.reads x e)) in
+      let value : operand_value t.names other ≡ operand_value s.names on = moved ∙ tested.same_value s known in (
+        refl,
+        subst (λ (z : ℤ). Corresponds change (record { node = if holds (operand_value s.names on) then to_yes else to_no; state = s }) (record { node = if holds z then onward_yes else onward_no; state = t })) (sym value)
+            (side_corresponds (holds (operand_value s.names on)) at to_yes to_no onward_yes onward_no s t yes_side no_side
+            (Behind reached there (inl refl)) (Behind reached there (inr refl)) known alike),
+      )
+  nodes_correspond at _ _ s t there Stops_too reached known alike = (refl, refl)
+  nodes_correspond at _ _ s t there Traps_too reached known alike = (refl, refl)
+
+  module _ (is : IsChange change) where
+    -- one unit of each, where both are at the same node
+    units_correspond : (at : ℕ) (s t : State) → ((next : ℕ) → change.Skips at next → ⊥) → IsReachableNode change.old at → change.Knows at s → AlikeIn (change.Matters at) s t
+        → StepsCorrespond (flow_step change.old (record { node = at; state = s })) (flow_step change.new (record { node = at; state = t }))
+    units_correspond at s t stays reached known alike =
+        let found = node_there change.old.nodes at (reachable_there change.old at is.is_flow reached) in
+        let made = is.becomes at found.0 reached found.1 stays in
+        let both = nodes_correspond at found.0 made.other s t found.1 made.becomes reached known alike in
+        subst (λ (o : Option FlowNode). StepsCorrespond (run_node lengths s o) (flow_step change.new (record { node = at; state = t }))) (sym found.1)
+        (subst (λ (l : List ℕ). StepsCorrespond (run_node lengths s (Some found.0)) (run_node l t (slice_get change.new.nodes at))) (sym is.same_arrays)
+        (subst (λ (o : Option FlowNode). StepsCorrespond (run_node lengths s (Some found.0)) (run_node lengths t o)) (sym made.there) both))
+
+    -- how far the old graph is from the next test of a loop
+    abbrev rank_of : FlowState → FlowState → ℕ
+    rank_of here there = slice_index change.old.ranks here.node
+
+    -- a step of the old graph that nothing prints, to a place that still corresponds
+    meets_lower : (here next there : FlowState) → flow_step change.old here ≡ Goes [] next → Corresponds change next there
+        → slice_index change.old.ranks next.node < slice_index change.old.ranks here.node
+        → MeetsLower (flow_step change.old) (flow_step change.new) (Corresponds change) rank_of here there
+    meets_lower here next there steps corresponds lower = record {
+      steps = 1;
+      other_steps = 0;
+      meet = subst (λ (x : Step FlowState). Meet (λ (a : FlowState) (b : FlowState). Corresponds change a b × (rank_of a b < rank_of here there)) (reached_of x (reach (flow_step change.old) 0)) (reach (flow_step change.new) 0 there)) (sym steps)
+          (refl, (corresponds, lower));
+    }
+
+    -- the old graph passes a node that is skipped, or both do the same
+    moves : (at to : ℕ) (s t : State) → Way change.Skips at to → ((next : ℕ) → change.Skips to next → ⊥) → IsReachableNode change.old at → change.Knows at s → AlikeIn (change.Matters at) s t
+        → MeetsAgain (flow_step change.old) (flow_step change.new) (Corresponds change) (record { node = at; state = s }) (record { node = to; state = t })
+        ⊎ MeetsLower (flow_step change.old) (flow_step change.new) (Corresponds change) rank_of (record { node = at; state = s }) (record { node = to; state = t })
+    moves _ _ s t (Here {at = at}) stays reached known alike = inl (record {
+      more_steps = 0;
+      other_steps = 0;
+      meet = steps_meet (flow_step change.old) (flow_step change.new) (flow_step change.old (record { node = at; state = s })) (flow_step change.new (record { node = at; state = t }))
+          (units_correspond at s t stays reached known alike);
+    })
+    moves _ _ s t (Past {at = at} {next = next} {to = to} skips rest) stays reached known alike =
+        let skipped = is.skips at next reached skips in
+        let nothing = skipped.does_nothing s known in
+        inr (meets_lower (record { node = at; state = s }) (record { node = next; state = nothing.after }) (record { node = to; state = t }) nothing.steps
+        (record {
+          leads = record { way = rest; stays = stays };
+          reached = skipped.reached reached;
+          known = nothing.known;
+          alike = record {
+            same_cells = alike.same_cells ∙ sym nothing.same_cells;
+            same_input = alike.same_input ∙ sym nothing.same_input;
+            same_names = λ x m. alike.same_names x (skipped.passes x m) ∙ sym (nothing.same_names x m);
+          };
+        }) skipped.lower)
+
+    -- THE LAW: a graph whose nodes are changed one at a time shows what it showed, on every input of words and in both directions
+    pub change_agrees : AgreeOnInputs (flow_run change.new) (flow_run change.old)
+    change_agrees input words =
+        let start = flow_start change.old.entry input in
+        let new_start = flow_start change.new.entry input in
+        Agree-sym (λ n. run_from (flow_step change.old) n start) (λ n. run_from (flow_step change.new) n new_start)
+        (Agree-simulated_in_time (flow_step change.old) (flow_step change.new) (Corresponds change) rank_of
+        (λ here there c. moves here.node there.node here.state there.state c.leads.way c.leads.stays c.reached c.known c.alike) start new_start
+        (record {
+          leads = is.begins;
+          reached = Entry;
+          known = is.known_first input words;
+          alike = record { same_cells = refl; same_input = refl; same_names = λ x m. refl };
+        }))

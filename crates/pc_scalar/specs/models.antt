@@ -1,0 +1,5 @@
+pub mod Ends
+pub mod Example
+pub mod Folding
+pub mod Needed
+pub mod Plan
