@@ -1,5 +1,5 @@
 -- A graph has one cut.
-use Rattle.std.proofs.Common.{◌≡◌, ◌⊎◌, inl, inr, ℕ, zero, suc, ◌+◌, ◌<◌, ◌≤◌, Bool, true, false, List, [], ◌∷◌, ◌++◌, length, map, Option, Some, None, refl, sym, ◌∙◌, ap, subst, arith}
+use Rattle.std.proofs.Common.{◌≡◌, inl, inr, ℕ, zero, suc, ◌<◌, ◌≤◌, true, false, List, [], ◌∷◌, ◌++◌, length, Option, Some, None, refl, sym, ◌∙◌, ap, subst, arith}
 use Rattle.std.specs.Prelude.{nat_le, if◌then◌else◌, slice_get}
 use Rattle.std.proofs.lemmas.Bool.Decides.{nat_tests}
 use Rattle.std.proofs.lemmas.Option.{slice_get_within}
@@ -15,8 +15,8 @@ use Rattle.pc_regions.specs.Cut.{IsTreeOf, IsHead, Is_entry, Edges_meet, Heads_l
 use Rattle.pc_regions.proofs.Places.{found_within, get_more, length_more}
 use Rattle.pc_regions.proofs.LoopsEntered.{within_below}
 use Rattle.pc_regions.proofs.CutKeeps.{head_at}
-use Rattle.pc_regions.proofs.Members.{Has, same_sum, same_rising}
-use Rattle.pc_regions.proofs.SameTrees.{SameBelow, SameTree, same_tree}
+use Rattle.pc_regions.proofs.Members.{same_sum, same_rising}
+use Rattle.pc_regions.proofs.SameTrees.{SameBelow, same_tree}
 
 -- ---- heads
 

@@ -1,14 +1,13 @@
 -- Two cuts of one graph take the same trees, and name the same regions.
-use Rattle.std.proofs.Common.{◌≡◌, ◌⊎◌, inl, inr, ℕ, zero, suc, ◌<◌, ◌≤◌, List, [], ◌∷◌, ◌++◌, Option, Some, None, refl, sym, ◌∙◌, ap, subst, arith}
+use Rattle.std.proofs.Common.{◌≡◌, inl, inr, ℕ, zero, suc, ◌<◌, List, [], ◌∷◌, ◌++◌, Some, refl, sym, ◌∙◌, ap, subst, arith}
 use Rattle.std.specs.Prelude.{slice_get}
 use Rattle.pc_word.specs.declared.item.Item.{Item}
 use Rattle.pc_word.specs.declared.item.Operand.{Operand}
 use Rattle.pc_word.specs.declared.item.TrapKind.{TrapKind}
 use Rattle.pc_word.proofs.Truth.{decide_le}
-use Rattle.pc_flow.specs.declared.node.FlowNode.{FlowNode}
-use Rattle.pc_flow.specs.declared.node.FlowNode.TheVariants.{Op, Test, Stop, Trap}
+use Rattle.pc_flow.specs.declared.node.FlowNode.TheVariants.{Op, Test, Trap}
 use Rattle.pc_flow.specs.FlowGraph.{FlowGraph}
-use Rattle.pc_table.specs.Table.{TableTree, Does, Asks, Next, Stops_here, Traps_here}
+use Rattle.pc_table.specs.Table.{TableTree, Does, Asks, Next, Traps_here}
 use Rattle.pc_regions.specs.Cut.{IsTreeOf, An_item, A_test, A_stop, A_trap, IsBehind, Taken, Not_taken, AreMet, None_met, Known, Met, nexts_of}
 use Rattle.pc_regions.proofs.Members.{Once}
 
@@ -76,7 +75,8 @@ module _ (flow : FlowGraph) (P Q : ℕ → Type 0) (forth : (at : ℕ) → P at 
   mutual
     pub same_tree : (room at left : ℕ) (tree : TableTree) → IsTreeOf flow P heads room at tree left → (rest : ℕ) (other : TableTree) → IsTreeOf flow Q others room at other rest
         → (known after last : ℕ) → AreMet known (nexts_of tree) after → AreMet known (nexts_of other) last → SameBelow known → SameTree tree other left rest after last
-    same_tree _ at left _ (An_item {room} {next} {item} {rest = tail} here behind) rest _ (An_item {next = next_too} {item = item_too} {rest = tail_too} here_too behind_too) known after last met met_too below =
+    same_tree _ at left _ (An_item {room} {next} {item} {rest = tail} here behind) rest _
+        (An_item {next = next_too} {item = item_too} {rest = tail_too} here_too behind_too) known after last met met_too below =
         let items : Some (Op item next) ≡ Some (Op item_too next_too) = sym here ∙ here_too in
         let same_item : item ≡ item_too = (cc) in
         let same_next : next_too ≡ next = (cc) in

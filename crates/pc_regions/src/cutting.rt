@@ -1,5 +1,5 @@
 //! The regions of a graph, one after the other, in the order in which their heads are first named.
-ghost use Rattle.std.specs.Prelude.{◌≡◌, ◌<◌, ◌≤◌, ℕ, true, length, IfOk, OnOk, [], ◌∷◌};
+ghost use Rattle.std.specs.Prelude.{◌≡◌, ◌<◌, ◌≤◌, length, IfOk};
 ghost use Rattle.pc_flow.specs.FlowGraph.{IsFlow, variables};
 ghost use Rattle.pc_live.specs.Liveness.{IsLivenessOf};
 ghost use Rattle.pc_table.specs.Table.{table_tree, table_region, table_regions};

@@ -1,5 +1,5 @@
 //! The heads of a graph: the nodes where its regions begin, but for those that find no room in a region.
-ghost use Rattle.std.specs.Prelude.{◌≡◌, ◌<◌, ◌≤◌, ℕ, Some, IfOk, map, nat_le, length};
+ghost use Rattle.std.specs.Prelude.{◌≡◌, ◌<◌, ℕ, Some, IfOk, map, nat_le, length};
 ghost use Rattle.pc_flow.specs.FlowGraph.{IsFlow};
 ghost use Rattle.pc_regions.specs.models.Entering.{header_at};
 ghost use Rattle.pc_regions.specs.models.Marks.{Marks, AreHeads, FindsLoop};
@@ -20,8 +20,8 @@ pub(crate) struct Heads {
 /// The heads of a graph.
 #[tactic(auto, using(crate::proofs::Marking::heads))]
 pub(crate) fn find_heads(alloc: Global, flow: &Flow) -> Result<Heads, AllocError>
-    requires { IsFlow flow.now }
-    ensures { IfOk result (λ heads. AreHeads flow.now heads.marks.items heads.headers.items) }
+    ensures kept { IsFlow flow.now }
+    ensures heads { IfOk result (λ heads. AreHeads flow.now heads.marks.items heads.headers.items) }
 {
     let reachable = reachable_nodes(alloc, flow)?;
     let counts = in_edge_counts(alloc, flow, reachable.as_slice())?;

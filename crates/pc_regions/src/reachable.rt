@@ -11,7 +11,8 @@ use std::alloc::{AllocError, Global};
 
 /// The nodes to which edges lead from the entry, in the order in which they are first met.
 pub(crate) fn reachable_nodes(alloc: Global, flow: &Flow) -> Result<Seq<u32>, AllocError>
-    ensures { IfOk result (λ nodes. AreReachable flow.now nodes) }
+    ensures kept { IsFlow flow.now }
+    ensures nodes { IfOk result (λ nodes. AreReachable flow.now nodes) }
 {
     let mut met = Numbering::new(alloc, flow.count())?;
     met.number(flow.entry())?;

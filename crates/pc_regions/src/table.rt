@@ -33,7 +33,6 @@ pub fn regions(alloc: Global, flow: &Flow, live: &Liveness) -> Result<RegionTabl
     ensures same { IfOk result (λ table. (input : List ℤ) (n : ℕ) → table_run (table_of table) input n ≡ flow_run flow.now input n) }
     ensures agree { IfOk result (λ table. AgreeOnInputs (table_run (table_of table)) (flow_run flow.now)) }
 {
-    flow.count();
     let heads = find_heads(alloc, flow)?;
     let regions = cut(alloc, flow, live, &heads)?;
     let loops = LoopList::from_slice(alloc, flow.loops().as_slice())?;

@@ -27,5 +27,5 @@ loop-node-preserved c =
       c.count.ensures.kept,
     )
 
-pub returns : goal.returns
-returns c = rw c.into_order.ensures (reached_all c.args.flow.now c.loop-node.met c.loop-node.done c.loop-node.invariant.0 c.node.ensures.kept (sym c.in_default.ensures.node))
+pub returns-clause-nodes : goal.returns-clause-nodes
+returns-clause-nodes c = rw c.into_order.ensures (reached_all c.args.flow.now c.loop-node.met c.loop-node.done c.loop-node.invariant.0 c.node.ensures.kept (sym c.in_default.ensures.node))

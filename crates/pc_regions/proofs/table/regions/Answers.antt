@@ -13,14 +13,14 @@ made c = record { regions = table_regions c.in_ok-regions.regions; loops = c.in_
 -- it is the graph's cut
 is_cut : (c : goal.After-drop-heads-3) → IsCutOf c.args.flow.now (made c)
 is_cut c =
-    regions_are_cut c.args.flow.now c.in_ok-heads.heads.marks.items c.in_ok-heads.heads.headers.items (made c) c.in_ok-heads.ensures c.in_ok-regions.ensures
+    regions_are_cut c.args.flow.now c.in_ok-heads.heads.marks.items c.in_ok-heads.heads.headers.items (made c) c.in_ok-heads.ensures.heads c.in_ok-regions.ensures
     (c.in_ok-loops.ensures ∙ c.as_slice.ensures ∙ c.loops.ensures) (c.in_ok-arrays.ensures ∙ c.as_slice-2.ensures ∙ c.arrays.ensures)
 
 pub returns-clause-cut : goal.returns-clause-cut
 returns-clause-cut c = is_cut c
 
 pub returns-clause-kept : goal.returns-clause-kept
-returns-clause-kept c = cut_keeps c.args.flow.now (made c) c.count.ensures.kept (is_cut c)
+returns-clause-kept c = cut_keeps c.args.flow.now (made c) c.find_heads.ensures.kept (is_cut c)
 
 pub returns-clause-same : goal.returns-clause-same
 returns-clause-same c = cut_shows c.args.flow.now (made c) (is_cut c)
