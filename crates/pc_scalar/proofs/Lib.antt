@@ -2,7 +2,12 @@ pub mod Chains
 pub mod Clears
 pub mod Example
 pub mod Folds
+pub mod Knowing
+pub mod Meetings
 pub mod Needs
 pub mod Plans
+pub mod Predecessors
+pub mod Rewrites
+pub mod Rewritten
 pub mod Skipping
 pub mod Tables

@@ -1,13 +1,18 @@
 //! Passes over the flow graph that change one node at a time.
 #![tactic(auto)]
 
+mod before;
 mod clearing;
 mod dead;
 mod ends;
 mod fold;
 mod folding;
+mod known;
 mod needed;
 mod plan;
+mod reach;
+mod rewriting;
+mod rule;
 mod tally;
 #[cfg(test)]
 mod tests;
