@@ -302,12 +302,12 @@ computed_value op left right (Read dest) s e = absurd (cc)
 computed_value op left right (More dest) s e = absurd (cc)
 
 -- the variable that stands for a value
-record Holder (op : OpCode) (left right : Operand) (known : List (Option Item)) (name : ℕ) : Type 0 where
-  at : ℕ
-  item : Item
-  there : slice_get known at ≡ Some (Some item)
-  computes : computes op left right item ≡ true
-  dest : dest_of item ≡ Some name
+pub record Holder (op : OpCode) (left right : Operand) (known : List (Option Item)) (name : ℕ) : Type 0 where
+  pub at : ℕ
+  pub item : Item
+  pub there : slice_get known at ≡ Some (Some item)
+  pub computes : computes op left right item ≡ true
+  pub dest : dest_of item ≡ Some name
 
 holder_behind : (op : OpCode) (left right : Operand) (fact : Option Item) (known : List (Option Item)) (name : ℕ) → Holder op left right known name → Holder op left right (fact ∷ known) name
 holder_behind op left right fact known name it = record { at = suc it.at; item = it.item; there = it.there; computes = it.computes; dest = it.dest }
@@ -318,7 +318,7 @@ holder_first : (op : OpCode) (left right : Operand) (item : Item) (known : List 
 holder_first op left right item known name true is e rest = record { at = 0; item = item; there = refl; computes = is; dest = e }
 holder_first op left right item known name false is e rest = holder_behind op left right (Some item) known name (rest e)
 
-holder_found : (op : OpCode) (left right : Operand) (known : List (Option Item)) (name : ℕ) → holder op left right known ≡ Some name → Holder op left right known name
+pub holder_found : (op : OpCode) (left right : Operand) (known : List (Option Item)) (name : ℕ) → holder op left right known ≡ Some name → Holder op left right known name
 holder_found op left right [] name e = absurd (cc)
 holder_found op left right (None ∷ known) name e = holder_behind op left right None known name (holder_found op left right known name e)
 holder_found op left right (Some item ∷ known) name e = holder_first op left right item known name (computes op left right item) refl e (λ h. holder_found op left right known name h)

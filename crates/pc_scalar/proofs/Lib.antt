@@ -1,5 +1,6 @@
 pub mod Chains
 pub mod Clears
+pub mod CopyLaws
 pub mod Example
 pub mod Folds
 pub mod Knowing
@@ -10,4 +11,6 @@ pub mod Predecessors
 pub mod Rewrites
 pub mod Rewritten
 pub mod Skipping
+pub mod Standing
 pub mod Tables
+pub mod ValueLaws

@@ -47,7 +47,7 @@ rewritten_edge_from rule known (Test on on_yes on_no turn) to e = e
 rewritten_edge_from rule known Stop to e = e
 rewritten_edge_from rule known (Trap kind line) to e = e
 
-rewritten_turn : (rule : Rule) (known : List (Option Item)) (node : FlowNode) → turn_of (rewritten rule known node) ≡ turn_of node
+pub rewritten_turn : (rule : Rule) (known : List (Option Item)) (node : FlowNode) → turn_of (rewritten rule known node) ≡ turn_of node
 rewritten_turn rule known (Op item next) = refl
 rewritten_turn rule known (Test on on_yes on_no turn) = refl
 rewritten_turn rule known Stop = refl
@@ -60,7 +60,7 @@ no_skip at next = ⊥
 leads_there : (to : ℕ) → LeadsPast no_skip to to
 leads_there to = record { way = Here; stays = λ next h. h }
 
-none_there : (n x : ℕ) (item : Item) → slice_get (replicate n (let none : Option Item = None in none)) x ≡ Some (Some item) → ⊥
+pub none_there : (n x : ℕ) (item : Item) → slice_get (replicate n (let none : Option Item = None in none)) x ≡ Some (Some item) → ⊥
 none_there n x item e =
     let none : Option Item = None in
     let within = slice_get_within (replicate n none) x (Some item) e in
@@ -155,7 +155,7 @@ module _ (flow : FlowGraph) (rule : Rule) (plan : Plan) (is : IsRewriting flow r
   -- ---- tests of loops
 
   -- each node is as it was or rewritten, with the edges and the turn that it had
-  changed_edge : (at to : ℕ) (node : FlowNode) → slice_get flow.nodes at ≡ Some node → HasEdge node to → (other : FlowNode) × (slice_get new.nodes at ≡ Some other) × HasEdge other to
+  pub changed_edge : (at to : ℕ) (node : FlowNode) → slice_get flow.nodes at ≡ Some node → HasEdge node to → (other : FlowNode) × (slice_get new.nodes at ≡ Some other) × HasEdge other to
   changed_edge at to node there edge = elim (is.rewrites.each at node there) [
     | inl same ↦ (node, same, edge)
     | inr w ↦
@@ -192,7 +192,7 @@ module _ (flow : FlowGraph) (rule : Rule) (plan : Plan) (is : IsRewriting flow r
       let same : rewritten rule w.known w.node ≡ node = (let a = w.stands in cc) in
       Behind was w.there (rewritten_edge_from rule w.known w.node at (subst (λ (n : FlowNode). HasEdge n at) (sym same) edge))
 
-  reached_after : (at : ℕ) → IsReachable flow at → IsReachable new at
+  pub reached_after : (at : ℕ) → IsReachable flow at → IsReachable new at
   reached_after _ Entry = subst (IsReachable new) is.entry Entry
   reached_after _ (Behind {from = from} {at = at} {node = node} before there edge) =
       let it = changed_edge from at node there edge in

@@ -3,6 +3,8 @@
 
 mod before;
 mod clearing;
+mod copies;
+mod copying;
 mod dead;
 mod ends;
 mod fold;
@@ -16,6 +18,10 @@ mod rule;
 mod tally;
 #[cfg(test)]
 mod tests;
+mod values;
+mod valuing;
 
+pub use copies::Copies;
 pub use dead::Dead;
 pub use fold::Fold;
+pub use values::Values;
