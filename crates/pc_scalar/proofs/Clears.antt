@@ -170,11 +170,11 @@ wanted_kept : (sets : List VariableSet) (item : Item) (to dest : ℕ) → only_w
 wanted_kept sets item to dest only wanted = ap (is_unwanted (set_at sets to)) only ∙ ap not wanted
 
 -- what is read is a variable
-read_small : (operand : Operand) (x : ℕ) → IsVariable operand → is_variable operand x ≡ true → x < variables
+pub read_small : (operand : Operand) (x : ℕ) → IsVariable operand → is_variable operand x ≡ true → x < variables
 read_small (Name name) x small e = subst (λ (n : ℕ). n < variables) (eqb-true name x e) small
 read_small (Lit value) x small e = absurd (cc)
 
-reads_small : (operands : List Operand) (x : ℕ) → AllByRecursion IsVariable operands → list_any (λ operand. is_variable operand x) operands ≡ true → x < variables
+pub reads_small : (operands : List Operand) (x : ℕ) → AllByRecursion IsVariable operands → list_any (λ operand. is_variable operand x) operands ≡ true → x < variables
 reads_small [] x small e = absurd (cc)
 reads_small (operand ∷ operands) x small e = elim (or_true (is_variable operand x) (list_any (λ o. is_variable o x) operands) e) [
   | inl h ↦ read_small operand x small.0 h

@@ -1,8 +1,16 @@
 pub mod Chains
 pub mod Clears
+pub mod CopyLaws
 pub mod Example
 pub mod Folds
+pub mod Knowing
+pub mod Meetings
 pub mod Needs
 pub mod Plans
+pub mod Predecessors
+pub mod Rewrites
+pub mod Rewritten
 pub mod Skipping
+pub mod Standing
 pub mod Tables
+pub mod ValueLaws

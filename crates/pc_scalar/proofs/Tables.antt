@@ -1,10 +1,10 @@
 -- Lists that are made of the nodes of a graph, one after the other.
-use Rattle.std.proofs.Common.{◌≡◌, ℕ, zero, suc, ◌+◌, ◌<◌, ◌≤◌, Bool, cond, List, [], ◌∷◌, ◌++◌, length, map, take, get_or, Some, refl, sym, ◌∙◌, ap, subst, arith, inl, inr}
-use Rattle.std.specs.Prelude.{slice_get, slice_index}
+use Rattle.std.proofs.Common.{◌≡◌, ◌≢◌, ◌⊎◌, ℕ, zero, suc, ◌+◌, ◌<◌, ◌≤◌, Bool, cond, List, [], ◌∷◌, ◌++◌, length, map, take, drop, get_or, set, append_assoc, Some, refl, sym, ◌∙◌, ap, subst, arith, inl, inr}
+use Rattle.std.specs.Prelude.{slice_get, slice_set, slice_index}
 use Rattle.std.specs.List.{count_by}
 use Rattle.pc_word.proofs.Lists.{count_both, count_more}
 use Rattle.std.proofs.lemmas.Bool.{cases_eq}
-use Rattle.std.proofs.lemmas.List.{map-append, take_more, take_all, get_or_append_left, get_or_push}
+use Rattle.std.proofs.lemmas.List.{get_or_default, map-append, length-map, length-take-le, drop_more, get_or_at, set_at, take_more, take_all, get_or_append_left, get_or_push}
 use Rattle.std.proofs.lemmas.Option.{slice_get_within, slice_get-get_or}
 
 -- what stands at a place of a list
@@ -56,3 +56,55 @@ counted_more p xs i x there =
     let one_more = take_more xs i x (slice_get_within xs i x there) ∙ ap (λ z. take i xs ++ z ∷ []) (stands_at xs i x x there) in
     let taken = ap (count_by p) one_more in
     omega (arith, taken, count_both p (take i xs) (x ∷ []), count_more p x [])
+
+-- a list whose elements are changed one after the other
+pub changed_more : {X : Type 0} (f : X → X) (xs now : List X) (i : ℕ) (x : X) → i < length xs → now ≡ map f (take i xs) ++ drop i xs
+    → x ≡ f (get_or now i x) → set now i x ≡ map f (take (i + 1) xs) ++ drop (i + 1) xs
+changed_more f xs now i x there so_far is =
+    let front : length (map f (take i xs)) ≡ i = length-map (take i xs) f ∙ length-take-le i xs (omega arith) in
+    let split : now ≡ map f (take i xs) ++ get_or xs i x ∷ drop (i + 1) xs = so_far ∙ ap (λ l. map f (take i xs) ++ l) (drop_more xs i x there) in
+    let old : get_or now i x ≡ get_or xs i x = ap (λ l. get_or l i x) split ∙ get_or_at (map f (take i xs)) (get_or xs i x) (drop (i + 1) xs) x i front in
+    let value : x ≡ f (get_or xs i x) = is ∙ ap f old in
+    let one_more : map f (take (i + 1) xs) ≡ map f (take i xs) ++ f (get_or xs i x) ∷ [] = ap (map f) (take_more xs i x there) ∙ map-append f (take i xs) (get_or xs i x ∷ []) in
+    ap (λ l. set l i x) split ∙ set_at (map f (take i xs)) (get_or xs i x) (drop (i + 1) xs) x i front
+    ∙ rw one_more (ap (λ z. map f (take i xs) ++ z ∷ drop (i + 1) xs) value ∙ sym (append_assoc (map f (take i xs)) (f (get_or xs i x) ∷ []) (drop (i + 1) xs)))
+
+-- the element at a place, at another default
+pub same_default : {X : Type 0} (f : X → X) (xs : List X) (i : ℕ) (d x : X) → i < length xs → x ≡ f (get_or xs i d) → x ≡ f (get_or xs i x)
+same_default f xs i d x there e = e ∙ ap f (get_or_default xs i d x there)
+
+-- what stands in a list stands there in a longer one
+pub get_front : {X : Type 0} (xs ys : List X) (i : ℕ) (x : X) → slice_get xs i ≡ Some x → slice_get (xs ++ ys) i ≡ Some x
+get_front [] ys i x e = absurd (cc)
+get_front (z ∷ xs) ys zero x e = e
+get_front (z ∷ xs) ys (suc i) x e = get_front xs ys i x e
+
+-- an element that was put behind a list
+pub get_last : {X : Type 0} (xs : List X) (x : X) → slice_get (xs ++ x ∷ []) (length xs) ≡ Some x
+get_last [] x = refl
+get_last (y ∷ xs) x = get_last xs x
+
+-- what stands in a list with an element more stood there before, or is that element
+pub get_more : {X : Type 0} (xs : List X) (y : X) (i : ℕ) (x : X) → slice_get (xs ++ y ∷ []) i ≡ Some x
+    → (slice_get xs i ≡ Some x) ⊎ ((i ≡ length xs) × (y ≡ x))
+get_more [] y zero x e = inr (refl, cc)
+get_more [] y (suc i) x e = absurd (cc)
+get_more (z ∷ xs) y zero x e = inl e
+get_more (z ∷ xs) y (suc i) x e = elim (get_more xs y i x e) [
+  | inl h ↦ inl h
+  | inr h ↦ inr (ap suc h.0, h.1)
+]
+
+-- what stands where an element was put
+pub set_there : {X : Type 0} (xs : List X) (i : ℕ) (x : X) → i < length xs → slice_get (slice_set xs i x) i ≡ Some x
+set_there [] i x h = absurd (omega arith)
+set_there (y ∷ xs) zero x h = refl
+set_there (y ∷ xs) (suc i) x h = set_there xs i x (omega arith)
+
+-- and elsewhere
+pub set_elsewhere : {X : Type 0} (xs : List X) (i j : ℕ) (x : X) → i ≢ j → slice_get (slice_set xs i x) j ≡ slice_get xs j
+set_elsewhere [] i j x h = refl
+set_elsewhere (y ∷ xs) zero zero x h = absurd (h refl)
+set_elsewhere (y ∷ xs) zero (suc j) x h = refl
+set_elsewhere (y ∷ xs) (suc i) zero x h = refl
+set_elsewhere (y ∷ xs) (suc i) (suc j) x h = set_elsewhere xs i j x (λ e. h (ap suc e))

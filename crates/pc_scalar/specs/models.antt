@@ -1,5 +1,9 @@
+pub mod Before
 pub mod Ends
 pub mod Example
 pub mod Folding
+pub mod Known
+pub mod Met
 pub mod Needed
 pub mod Plan
+pub mod Rewriting

@@ -1,16 +1,27 @@
 //! Passes over the flow graph that change one node at a time.
 #![tactic(auto)]
 
+mod before;
 mod clearing;
+mod copies;
+mod copying;
 mod dead;
 mod ends;
 mod fold;
 mod folding;
+mod known;
 mod needed;
 mod plan;
+mod reach;
+mod rewriting;
+mod rule;
 mod tally;
 #[cfg(test)]
 mod tests;
+mod values;
+mod valuing;
 
+pub use copies::Copies;
 pub use dead::Dead;
 pub use fold::Fold;
+pub use values::Values;
