@@ -108,7 +108,8 @@ new_to_either known y None h = (tt, tt)
 -- each name that a path writes is new
 path_new : (front : Front) (known : ℕ → Bool) (names : ℕ → ℤ) → Scoped known (whole front) → AllByRecursion (λ y. IsNew known (dest_of y)) (front_path names front)
 path_new (Issued t o y rest) known names h =
-    (h.1, all_imply (λ z. IsNew (and_dest known y) (dest_of z)) (λ z. IsNew known (dest_of z)) (front_path names rest) (λ z n. (new_to_either known y (dest_of z) n).0) (path_new rest (and_dest known y) names h.2))
+    (h.1, all_imply (λ z. IsNew (and_dest known y) (dest_of z)) (λ z. IsNew known (dest_of z)) (front_path names rest) (λ z n. (new_to_either known y (dest_of z) n).0)
+        (path_new rest (and_dest known y) names h.2))
 path_new (Split t o on p q) known names h =
     on_path (λ y. IsNew known (dest_of y)) (holds (operand_value names on)) (front_path names p) (front_path names q) (path_new p known names h.1) (path_new q known names h.2)
 path_new (Unfinished rest) known names h = tt
@@ -173,7 +174,8 @@ cut_item lengths known σ forms s x walked path rest length prints behind none h
     }
 
 -- on both sides of a test
-cut_at_test : (lengths : List ℕ) (known : ℕ → Bool) (σ : ℕ → ℤ) (forms : ℕ → Form) (s : State) (b : Bool) (wy wn : Walked) (py pn : List Item) (ry rn : Tree) (ly ln : ℕ) (sy sn : ℕ → List ℤ) (Dy Dn : Type 0)
+cut_at_test : (lengths : List ℕ) (known : ℕ → Bool) (σ : ℕ → ℤ) (forms : ℕ → Form) (s : State) (b : Bool) (wy wn : Walked) (py pn : List Item) (ry rn : Tree) (ly ln : ℕ)
+    (sy sn : ℕ → List ℤ) (Dy Dn : Type 0)
     → (IsWhole wy → Dy → Cut lengths known σ forms s wy py ry ly sy) → (IsWhole wn → Dn → Cut lengths known σ forms s wn pn rn ln sn)
     → IsWhole (if b then wy else wn) → Side b Dy Dn
     → Cut lengths known σ forms s (if b then wy else wn) (if b then py else pn) (if b then ry else rn) (if b then ly else ln) (λ n. if b then sy n else sn n)
@@ -185,18 +187,24 @@ pub cut : (lengths : List ℕ) (base : ℕ → Bool) (σ : ℕ → ℤ) (forms :
     → Within base known → Loose forms base front → Scoped known (whole front) → KnownHold known σ forms s → DefinedHold σ forms lengths (whole front) s → IsWhole (walk lengths (whole front) s)
     → Cut lengths known σ forms s (walk lengths (whole front) s) (front_path s.names front) (rest_of s.names front) (behind_length lengths front s) (front_shown lengths front s)
 cut lengths base σ forms (Issued t o x rest) known s within loose scoped holds defines ok =
-    let h : Cut lengths (and_dest known x) σ forms (after_item lengths x s) (walk lengths (whole rest) (after_item lengths x s)) (front_path (after_item lengths x s).names rest) (rest_of (after_item lengths x s).names rest) (behind_length lengths rest (after_item lengths x s)) (front_shown lengths rest (after_item lengths x s)) =
+    let h : Cut lengths (and_dest known x) σ forms (after_item lengths x s) (walk lengths (whole rest) (after_item lengths x s))
+        (front_path (after_item lengths x s).names rest) (rest_of (after_item lengths x s).names rest) (behind_length lengths rest (after_item lengths x s))
+        (front_shown lengths rest (after_item lengths x s)) =
     cut lengths base σ forms rest (and_dest known x) (after_item lengths x s) (λ z is. or_comes (writes (dest_of x) z) (known z) (within z is)) loose.2 scoped.2
     (known_forms_after lengths known σ forms x s holds defines.0) defines.1
     (whole_below (fault_of lengths s (x ∷ [])) (prints_of s (x ∷ [])) (walk lengths (whole rest) (after_item lengths x s)) ok) in
     let same = path_same forms base rest s.names (after_item lengths x s).names loose.2 (λ z is. name-after lengths known x s z scoped.1 (within z is)) in
-    cut_item lengths known σ forms s x (walk lengths (whole rest) (after_item lengths x s)) (front_path s.names rest) (rest_of s.names rest) (behind_length lengths rest (after_item lengths x s)) (front_shown lengths rest (after_item lengths x s))
+    cut_item lengths known σ forms s x (walk lengths (whole rest) (after_item lengths x s)) (front_path s.names rest) (rest_of s.names rest)
+        (behind_length lengths rest (after_item lengths x s)) (front_shown lengths rest (after_item lengths x s))
     (path_behind lengths base known σ forms t o x rest s s.names within loose scoped holds)
     (no_fault_here (fault_of lengths s (x ∷ [])) (printing (prints_of s (x ∷ [])) (walk lengths (whole rest) (after_item lengths x s))) ok)
-    (subst (λ (p : List Item). Cut lengths (and_dest known x) σ forms (after_item lengths x s) (walk lengths (whole rest) (after_item lengths x s)) p (rest_of s.names rest) (behind_length lengths rest (after_item lengths x s)) (front_shown lengths rest (after_item lengths x s))) same.0
-    (subst (λ (r : Tree). Cut lengths (and_dest known x) σ forms (after_item lengths x s) (walk lengths (whole rest) (after_item lengths x s)) (front_path (after_item lengths x s).names rest) r (behind_length lengths rest (after_item lengths x s)) (front_shown lengths rest (after_item lengths x s))) same.1 h))
+    (subst (λ (p : List Item). Cut lengths (and_dest known x) σ forms (after_item lengths x s) (walk lengths (whole rest) (after_item lengths x s)) p
+        (rest_of s.names rest) (behind_length lengths rest (after_item lengths x s)) (front_shown lengths rest (after_item lengths x s))) same.0
+    (subst (λ (r : Tree). Cut lengths (and_dest known x) σ forms (after_item lengths x s) (walk lengths (whole rest) (after_item lengths x s))
+        (front_path (after_item lengths x s).names rest) r (behind_length lengths rest (after_item lengths x s)) (front_shown lengths rest (after_item lengths x s))) same.1 h))
 cut lengths base σ forms (Split t o on p q) known s within loose scoped holds' defines ok =
-    cut_at_test lengths known σ forms s (holds (operand_value s.names on)) (walk lengths (whole p) s) (walk lengths (whole q) s) (front_path s.names p) (front_path s.names q) (rest_of s.names p) (rest_of s.names q)
+    cut_at_test lengths known σ forms s (holds (operand_value s.names on)) (walk lengths (whole p) s) (walk lengths (whole q) s) (front_path s.names p)
+        (front_path s.names q) (rest_of s.names p) (rest_of s.names q)
     (behind_length lengths p s) (behind_length lengths q s) (front_shown lengths p s) (front_shown lengths q s) (DefinedHold σ forms lengths (whole p) s) (DefinedHold σ forms lengths (whole q) s)
     (λ ok' d. cut lengths base σ forms p known s within loose.1 scoped.1 holds' d ok')
     (λ ok' d. cut lengths base σ forms q known s within loose.2 scoped.2 holds' d ok')

@@ -147,7 +147,8 @@ pub entered_forms : (base : ℕ → Bool) (forms forms' : ℕ → Form) (new : O
 entered_forms base forms forms' new comes from to (Lands tag origin x t left reads isnew none same rises) y d = ap (λ (f : ℕ → Form). f y) same
 entered_forms base forms forms' new comes from to (Lands_renamed tag origin name stood t left reads isnew is gives rises) y d = new_forms_of forms forms' (with_dest name stood) new gives y d
 entered_forms base forms forms' new comes from to (Lands_test tag origin on t p q reads none same divides) y d = ap (λ (f : ℕ → Form). f y) same
-entered_forms base forms forms' new comes from to (Lands_once t o on tag origin tag' origin' name stood other c c' p q l m equal reads isnew is gives rises rises') y d = new_forms_of forms forms' (with_dest name stood) new gives y d
+entered_forms base forms forms' new comes from to (Lands_once t o on tag origin tag' origin' name stood other c c' p q l m equal reads isnew is gives rises rises') y d =
+    new_forms_of forms forms' (with_dest name stood) new gives y d
 entered_forms base forms forms' new comes from to (Behind_item t o z c rest rest' may apart enters) y d = entered_forms base forms forms' new c rest rest' enters y d
 entered_forms base forms forms' new comes from to (On_yes t o on c p q p' apart enters) y d = entered_forms base forms forms' new c p p' enters y d
 entered_forms base forms forms' new comes from to (On_no t o on c p q q' apart enters) y d = entered_forms base forms forms' new c q q' enters y d
@@ -168,23 +169,29 @@ pub record Outcome (σ : ℕ → ℤ) (forms forms' : ℕ → Form) (new : Optio
 
 abbrev pub Entered : List ℕ → (ℕ → ℤ) → (ℕ → Form) → (ℕ → Form) → Option ℕ → Front → Front → State → Type 0
 Entered lengths σ forms forms' new from to s =
-    Outcome σ forms forms' new (walk lengths (whole from) s) (walk lengths (whole to) s) (λ values. DefinedHold values forms' lengths (whole to) s) (behind_length lengths from s) (behind_length lengths to s) (front_shown lengths from s) (front_shown lengths to s)
+    Outcome σ forms forms' new (walk lengths (whole from) s) (walk lengths (whole to) s) (λ values. DefinedHold values forms' lengths (whole to) s)
+        (behind_length lengths from s) (behind_length lengths to s) (front_shown lengths from s) (front_shown lengths to s)
 
 -- on both sides of a test
-pub outcome_at_test : (σ : ℕ → ℤ) (forms forms' : ℕ → Form) (new : Option ℕ) (b : Bool) (wy wn wy' wn' : Walked) (Dy Dn : Type 0) (Dy' Dn' : (ℕ → ℤ) → Type 0) (ly ln ly' ln' : ℕ) (py pn py' pn' : ℕ → List ℤ)
+pub outcome_at_test : (σ : ℕ → ℤ) (forms forms' : ℕ → Form) (new : Option ℕ) (b : Bool) (wy wn wy' wn' : Walked) (Dy Dn : Type 0) (Dy' Dn' : (ℕ → ℤ) → Type 0)
+    (ly ln ly' ln' : ℕ) (py pn py' pn' : ℕ → List ℤ)
     → (IsWhole wy → Dy → Outcome σ forms forms' new wy wy' Dy' ly ly' py py') → (IsWhole wn → Dn → Outcome σ forms forms' new wn wn' Dn' ln ln' pn pn')
     → IsWhole (if b then wy else wn) → Side b Dy Dn
-    → Outcome σ forms forms' new (if b then wy else wn) (if b then wy' else wn') (λ v. Side b (Dy' v) (Dn' v)) (if b then ly else ln) (if b then ly' else ln') (λ n. if b then py n else pn n) (λ n. if b then py' n else pn' n)
+    → Outcome σ forms forms' new (if b then wy else wn) (if b then wy' else wn') (λ v. Side b (Dy' v) (Dn' v)) (if b then ly else ln) (if b then ly' else ln')
+        (λ n. if b then py n else pn n) (λ n. if b then py' n else pn' n)
 outcome_at_test σ forms forms' new true wy wn wy' wn' Dy Dn Dy' Dn' ly ln ly' ln' py pn py' pn' f g ok h =
-    let k = f ok h in record { values = k.values; same_forms = k.same_forms; still = record { same = k.still.same; defines = k.still.defines; no_longer = k.still.no_longer; no_later = k.still.no_later } }
+    let k = f ok h in record { values = k.values; same_forms = k.same_forms; still =
+        record { same = k.still.same; defines = k.still.defines; no_longer = k.still.no_longer; no_later = k.still.no_later } }
 outcome_at_test σ forms forms' new false wy wn wy' wn' Dy Dn Dy' Dn' ly ln ly' ln' py pn py' pn' f g ok h =
-    let k = g ok h in record { values = k.values; same_forms = k.same_forms; still = record { same = k.still.same; defines = k.still.defines; no_longer = k.still.no_longer; no_later = k.still.no_later } }
+    let k = g ok h in record { values = k.values; same_forms = k.same_forms; still =
+        record { same = k.still.same; defines = k.still.defines; no_longer = k.still.no_longer; no_later = k.still.no_later } }
 
 -- the side of a test where nothing comes
 untouched : (lengths : List ℕ) (σ : ℕ → ℤ) (forms forms' : ℕ → Form) (new : Option ℕ) (side : Front) (s : State) → SameForms new σ forms σ forms' → NotWritten new (whole side)
     → DefinedHold σ forms lengths (whole side) s → Entered lengths σ forms forms' new side side s
 untouched lengths σ forms forms' new side s same apart d =
-    record { values = σ; same_forms = same; still = record { same = refl; defines = forms_carried lengths new σ forms σ forms' same (whole side) s apart d; no_longer = omega arith; no_later = λ n. Begins-refl _ } }
+    record { values = σ; same_forms = same; still = record { same =
+        refl; defines = forms_carried lengths new σ forms σ forms' same (whole side) s apart d; no_longer = omega arith; no_later = λ n. Begins-refl _ } }
 
 -- an item has the name that it has
 pub same_as : (x : Item) → SameBut x x
@@ -247,9 +254,11 @@ entered lengths base σ forms forms' new known comes from to s (Lands_renamed ta
     }
 entered lengths base σ forms forms' new known comes from to s (Lands_test tag origin on t p q reads none same divides) h ok =
     let w : (b : Bool) → holds (operand_value s.names on) ≡ b
-    → Still (walk lengths t s) (walk lengths (Undecided tag origin on p q) s) (DefinedHold σ forms lengths (Undecided tag origin on p q) s) (walk_length lengths t s) (behind_length lengths (Split tag origin on (Unfinished p) (Unfinished q)) s) (shown lengths t s) (front_shown lengths (Split tag origin on (Unfinished p) (Unfinished q)) s) =
+    → Still (walk lengths t s) (walk lengths (Undecided tag origin on p q) s) (DefinedHold σ forms lengths (Undecided tag origin on p q) s) (walk_length lengths t s)
+        (behind_length lengths (Split tag origin on (Unfinished p) (Unfinished q)) s) (shown lengths t s) (front_shown lengths (Split tag origin on (Unfinished p) (Unfinished q)) s) =
     λ b. elim b as (λ b. holds (operand_value s.names on) ≡ b
-    → Still (walk lengths t s) (walk lengths (Undecided tag origin on p q) s) (DefinedHold σ forms lengths (Undecided tag origin on p q) s) (walk_length lengths t s) (behind_length lengths (Split tag origin on (Unfinished p) (Unfinished q)) s) (shown lengths t s) (front_shown lengths (Split tag origin on (Unfinished p) (Unfinished q)) s)) [
+    → Still (walk lengths t s) (walk lengths (Undecided tag origin on p q) s) (DefinedHold σ forms lengths (Undecided tag origin on p q) s) (walk_length lengths t s)
+        (behind_length lengths (Split tag origin on (Unfinished p) (Unfinished q)) s) (shown lengths t s) (front_shown lengths (Split tag origin on (Unfinished p) (Unfinished q)) s)) [
       | true ↦ λ e. (let k = divided lengths σ forms tag origin on true known t p q s divides e (known_within base known h.within on reads) h.scoped h.defines in record {
         same = ap (λ (c : Bool). if c then walk lengths p s else walk lengths q s) e ∙ k.same;
         defines = subst (λ (c : Bool). Side c (DefinedHold σ forms lengths p s) (DefinedHold σ forms lengths q s)) (sym e) k.defines;
@@ -276,7 +285,8 @@ entered lengths base σ forms forms' new known comes from to s (Lands_once t o o
     let same_forms : SameForms (dest_of x) σ forms g.values forms' = subst (λ (d : Option ℕ). SameForms d σ forms g.values forms') is g.same_forms in
     let k = still_at_test (holds (operand_value s.names on)) (holds (operand_value (after_item lengths x s).names on))
     (walk lengths p s) (walk lengths q s) (walk lengths (Pending tag origin x l) s) (walk lengths (Pending tag origin x m) s)
-    (DefinedHold σ forms lengths p s) (DefinedHold σ forms lengths q s) (DefinedHold g.values forms' lengths l (after_item lengths x s)) (DefinedHold g.values forms' lengths m (after_item lengths x s))
+    (DefinedHold σ forms lengths p s) (DefinedHold σ forms lengths q s) (DefinedHold g.values forms' lengths l (after_item lengths x s))
+        (DefinedHold g.values forms' lengths m (after_item lengths x s))
     (walk_length lengths p s) (walk_length lengths q s) (walk_length lengths l (after_item lengths x s)) (walk_length lengths m (after_item lengths x s))
     (shown lengths p s) (shown lengths q s) (λ n. prints_of s (x ∷ []) ++ shown lengths l (after_item lengths x s) n) (λ n. prints_of s (x ∷ []) ++ shown lengths m (after_item lengths x s) n)
     (ap holds (operand-after lengths known x s on h.new h.scoped.0))
@@ -289,10 +299,13 @@ entered lengths base σ forms forms' new known comes from to s (Lands_once t o o
       values = g.values;
       same_forms = g.same_forms;
       still = record {
-        same = item_before_test (fault_of lengths s (x ∷ [])) (prints_of s (x ∷ [])) (holds (operand_value (after_item lengths x s).names on)) (walk lengths l (after_item lengths x s)) (walk lengths m (after_item lengths x s)) ∙ k.same;
+        same = item_before_test (fault_of lengths s (x ∷ [])) (prints_of s (x ∷ [])) (holds (operand_value (after_item lengths x s).names on))
+            (walk lengths l (after_item lengths x s)) (walk lengths m (after_item lengths x s)) ∙ k.same;
         defines = (g.writes_form, k.defines);
         no_longer = k.no_longer;
-        no_later = λ n. subst (λ (y : List ℤ). Begins (if holds (operand_value s.names on) then shown lengths p s n else shown lengths q s n) y) (prints_before_test (prints_of s (x ∷ [])) (holds (operand_value (after_item lengths x s).names on)) (shown lengths l (after_item lengths x s) n) (shown lengths m (after_item lengths x s) n)) (k.no_later n);
+        no_later = λ n. subst (λ (y : List ℤ). Begins (if holds (operand_value s.names on) then shown lengths p s n else shown lengths q s n) y)
+            (prints_before_test (prints_of s (x ∷ [])) (holds (operand_value (after_item lengths x s).names on)) (shown lengths l (after_item lengths x s) n)
+            (shown lengths m (after_item lengths x s) n)) (k.no_later n);
       };
     }
 entered lengths base σ forms forms' new known comes from to s (Behind_item t o y c rest rest' may apart enters) h ok =

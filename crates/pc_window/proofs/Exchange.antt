@@ -209,14 +209,21 @@ pub walk-exchanged : (lengths : List ℕ) (tag origin tag' origin' : ℕ) (y x :
     → walk lengths (Pending tag' origin' x (Pending tag origin y rest)) s ≡ walk lengths (Pending tag origin y (Pending tag' origin' x rest)) s
 walk-exchanged lengths tag origin tag' origin' y x rest s h ok =
     let equal : walk lengths (Pending tag origin y (Pending tag' origin' x rest)) s
-    ≡ unless_fault (fault_of lengths s (y ∷ [])) (printing (prints_of s (y ∷ [])) (unless_fault (fault_of lengths s (x ∷ [])) (printing (prints_of s (x ∷ [])) (walk lengths rest (after_item lengths y (after_item lengths x s)))))) =
-    ap (λ (f : Option MachineFault). unless_fault (fault_of lengths s (y ∷ [])) (printing (prints_of s (y ∷ [])) (unless_fault f (printing (prints_of (after_item lengths y s) (x ∷ [])) (walk lengths rest (after_item lengths x (after_item lengths y s))))))) h.second.fault
-    ∙ ap (λ (p : List ℤ). unless_fault (fault_of lengths s (y ∷ [])) (printing (prints_of s (y ∷ [])) (unless_fault (fault_of lengths s (x ∷ [])) (printing p (walk lengths rest (after_item lengths x (after_item lengths y s))))))) h.second.prints
-    ∙ ap (λ (t : State). unless_fault (fault_of lengths s (y ∷ [])) (printing (prints_of s (y ∷ [])) (unless_fault (fault_of lengths s (x ∷ [])) (printing (prints_of s (x ∷ [])) (walk lengths rest t))))) (states-exchanged lengths s y x h) in
+    ≡ unless_fault (fault_of lengths s (y ∷ [])) (printing (prints_of s (y ∷ []))
+        (unless_fault (fault_of lengths s (x ∷ [])) (printing (prints_of s (x ∷ [])) (walk lengths rest (after_item lengths y (after_item lengths x s)))))) =
+    ap (λ (f : Option MachineFault). unless_fault (fault_of lengths s (y ∷ []))
+        (printing (prints_of s (y ∷ [])) (unless_fault f (printing (prints_of (after_item lengths y s) (x ∷ [])) (walk lengths rest (after_item lengths x (after_item lengths y s))))))) h.second.fault
+    ∙ ap (λ (p : List ℤ). unless_fault (fault_of lengths s (y ∷ [])) (printing (prints_of s (y ∷ []))
+        (unless_fault (fault_of lengths s (x ∷ [])) (printing p (walk lengths rest (after_item lengths x (after_item lengths y s))))))) h.second.prints
+    ∙ ap (λ (t : State). unless_fault (fault_of lengths s (y ∷ [])) (printing (prints_of s (y ∷ []))
+        (unless_fault (fault_of lengths s (x ∷ [])) (printing (prints_of s (x ∷ [])) (walk lengths rest t))))) (states-exchanged lengths s y x h) in
     let turned : walk lengths (Pending tag' origin' x (Pending tag origin y rest)) s
-    ≡ unless_fault (fault_of lengths s (x ∷ [])) (printing (prints_of s (x ∷ [])) (unless_fault (fault_of lengths s (y ∷ [])) (printing (prints_of s (y ∷ [])) (walk lengths rest (after_item lengths y (after_item lengths x s)))))) =
-    ap (λ (f : Option MachineFault). unless_fault (fault_of lengths s (x ∷ [])) (printing (prints_of s (x ∷ [])) (unless_fault f (printing (prints_of (after_item lengths x s) (y ∷ [])) (walk lengths rest (after_item lengths y (after_item lengths x s))))))) h.first.fault
-    ∙ ap (λ (p : List ℤ). unless_fault (fault_of lengths s (x ∷ [])) (printing (prints_of s (x ∷ [])) (unless_fault (fault_of lengths s (y ∷ [])) (printing p (walk lengths rest (after_item lengths y (after_item lengths x s))))))) h.first.prints in
+    ≡ unless_fault (fault_of lengths s (x ∷ [])) (printing (prints_of s (x ∷ []))
+        (unless_fault (fault_of lengths s (y ∷ [])) (printing (prints_of s (y ∷ [])) (walk lengths rest (after_item lengths y (after_item lengths x s)))))) =
+    ap (λ (f : Option MachineFault). unless_fault (fault_of lengths s (x ∷ []))
+        (printing (prints_of s (x ∷ [])) (unless_fault f (printing (prints_of (after_item lengths x s) (y ∷ [])) (walk lengths rest (after_item lengths y (after_item lengths x s))))))) h.first.fault
+    ∙ ap (λ (p : List ℤ). unless_fault (fault_of lengths s (x ∷ [])) (printing (prints_of s (x ∷ []))
+        (unless_fault (fault_of lengths s (y ∷ [])) (printing p (walk lengths rest (after_item lengths y (after_item lengths x s))))))) h.first.prints in
     turned
     ∙ outcome-exchanged (fault_of lengths s (y ∷ [])) (fault_of lengths s (x ∷ [])) (prints_of s (y ∷ [])) (prints_of s (x ∷ [])) (walk lengths rest (after_item lengths y (after_item lengths x s)))
     (prints-one s s y x h.one_effect) (subst IsWhole equal ok)

@@ -76,7 +76,8 @@ pub record SameDivide (tag origin tag' origin' : ℕ) (on on' : Operand) (p q p'
   pub yes_sides : p ≡ p'
   pub no_sides : q ≡ q'
 
-divide_same : (tag origin tag' origin' : ℕ) (on on' : Operand) (from p q p' q' : Tree) → DividesTree tag origin on from p q → DividesTree tag' origin' on' from p' q' → SameDivide tag origin tag' origin' on on' p q p' q'
+divide_same : (tag origin tag' origin' : ℕ) (on on' : Operand) (from p q p' q' : Tree) → DividesTree tag origin on from p q → DividesTree tag' origin' on' from p' q'
+    → SameDivide tag origin tag' origin' on on' p q p' q'
 divide_same tag origin tag' origin' on on' from p q p' q' (Root_test a b) (Root_test a' b') = record { tags = refl; origins = refl; tests = refl; yes_sides = refl; no_sides = refl }
 divide_same tag origin tag' origin' on on' from p q p' q' (Past t o y rest a b divides) (Past t' o' y' rest' a' b' divides') =
     let k = divide_same tag origin tag' origin' on on' rest a b a' b' divides divides' in
@@ -94,7 +95,8 @@ with_dest_same n m (More d) e = let same : n ≡ m = cc in ap (λ (k : ℕ). Mor
 
 -- ---- one seat, one entry
 
-seat_within : (known : ℕ → Bool) (forms forms' : ℕ → Form) (new : Option ℕ) (comes : Option Item) (from to : Front) → (e : EntersFront known forms forms' new comes from to) → (seat_of e).2 < tree_size (whole from)
+seat_within : (known : ℕ → Bool) (forms forms' : ℕ → Form) (new : Option ℕ) (comes : Option Item) (from to : Front)
+    → (e : EntersFront known forms forms' new comes from to) → (seat_of e).2 < tree_size (whole from)
 seat_within known forms forms' new comes from to (Lands tag origin x t left reads isnew none same rises) = risen_within forms tag origin x x false t left rises
 seat_within known forms forms' new comes from to (Lands_renamed tag origin name stood t left reads isnew is gives rises) = risen_within forms tag origin stood (with_dest name stood) true t left rises
 seat_within known forms forms' new comes from to (Lands_test tag origin on t p q reads none same divides) = divided_within tag origin on t p q divides
@@ -105,7 +107,8 @@ seat_within known forms forms' new comes from to (On_yes t o on c p q p' apart e
 seat_within known forms forms' new comes from to (On_no t o on c p q q' apart enters) = let a = seat_within known forms forms' new c q q' enters in omega arith
 
 -- what comes from right behind a leaf is no twin
-no_twin : (known : ℕ → Bool) (forms forms' : ℕ → Form) (new : Option ℕ) (comes : Option Item) (t : Tree) (to : Front) → (e : EntersFront known forms forms' new comes (Unfinished t) to) → (seat_of e).3 ≡ 1
+no_twin : (known : ℕ → Bool) (forms forms' : ℕ → Form) (new : Option ℕ) (comes : Option Item) (t : Tree) (to : Front)
+    → (e : EntersFront known forms forms' new comes (Unfinished t) to) → (seat_of e).3 ≡ 1
 no_twin known forms forms' new comes t to (Lands tag origin x t' left reads isnew none same rises) = refl
 no_twin known forms forms' new comes t to (Lands_renamed tag origin name stood t' left reads isnew is gives rises) = refl
 no_twin known forms forms' new comes t to (Lands_test tag origin on t' p q reads none same divides) = refl
@@ -113,11 +116,13 @@ no_twin known forms forms' new comes t to (Lands_test tag origin on t' p q reads
 abbrev SameEntry : Option Item → Option Item → Front → Front → Type 0
 SameEntry comes comes' to to' = (comes ≡ comes') × (to ≡ to')
 
-landed : (tag origin tag' origin' : ℕ) (x x' : Item) (left left' : Tree) → tag ≡ tag' → origin ≡ origin' → x ≡ x' → left ≡ left' → SameEntry (Some x) (Some x') (Issued tag origin x (Unfinished left)) (Issued tag' origin' x' (Unfinished left'))
+landed : (tag origin tag' origin' : ℕ) (x x' : Item) (left left' : Tree) → tag ≡ tag' → origin ≡ origin' → x ≡ x' → left ≡ left'
+    → SameEntry (Some x) (Some x') (Issued tag origin x (Unfinished left)) (Issued tag' origin' x' (Unfinished left'))
 landed tag origin tag' origin' x x' left left' a b c d = (ap Some c, λ i. Issued (a i) (b i) (c i) (Unfinished (d i)))
 
 -- names that two items get, where one new name is given
-same_name : (new new' : Option ℕ) (name name' : ℕ) (stood stood' : Item) → new ≡ dest_of (with_dest name stood) → new' ≡ dest_of (with_dest name' stood') → new ≡ new' → stood ≡ stood' → with_dest name stood ≡ with_dest name' stood'
+same_name : (new new' : Option ℕ) (name name' : ℕ) (stood stood' : Item) → new ≡ dest_of (with_dest name stood) → new' ≡ dest_of (with_dest name' stood') → new ≡ new'
+    → stood ≡ stood' → with_dest name stood ≡ with_dest name' stood'
 same_name new new' name name' stood stood' p q e same =
     with_dest_same name name' stood (sym p ∙ e ∙ q ∙ ap (λ (x : Item). dest_of (with_dest name' x)) (sym same)) ∙ ap (λ (x : Item). with_dest name' x) same
 
@@ -131,7 +136,8 @@ dest_kind n m (Read d) = refl
 dest_kind n m (More d) = refl
 
 -- both get the next name, or neither gets one
-same_next : (next : ℕ) (new new' : Option ℕ) (name name' : ℕ) (stood stood' : Item) → new ≡ dest_of (with_dest name stood) → new' ≡ dest_of (with_dest name' stood') → stood ≡ stood' → IsNext next new → IsNext next new' → new ≡ new'
+same_next : (next : ℕ) (new new' : Option ℕ) (name name' : ℕ) (stood stood' : Item) → new ≡ dest_of (with_dest name stood) → new' ≡ dest_of (with_dest name' stood')
+    → stood ≡ stood' → IsNext next new → IsNext next new' → new ≡ new'
 same_next next new new' name name' stood stood' p q same u u' =
     by_kind new new' (ap (λ (d : Option ℕ). is_none d) p ∙ dest_kind name name' stood ∙ ap (λ (x : Item). is_none (dest_of (with_dest name' x))) same ∙ sym (ap (λ (d : Option ℕ). is_none d) q)) u u'
   where
@@ -144,27 +150,35 @@ same_next next new new' name name' stood stood' p q same u u' =
 enters_same : (known : ℕ → Bool) (forms f g : ℕ → Form) (new new' : Option ℕ) (comes comes' : Option Item) (from to to' : Front)
     → (e : EntersFront known forms f new comes from to) → (e' : EntersFront known forms g new' comes' from to')
     → (seat_of e).2 ≡ (seat_of e').2 → (seat_of e).3 ≡ (seat_of e').3 → (seat_of e).4 ≡ (seat_of e').4 → (next : ℕ) → IsNext next new → IsNext next new' → (new ≡ new') × SameEntry comes comes' to to'
-enters_same known forms f g new new' comes comes' from to to' (Lands tag origin x t left reads isnew none same rises) (Lands tag' origin' x' t' left' reads' isnew' none' same' rises') p q r next u u' =
+enters_same known forms f g new new' comes comes' from to to' (Lands tag origin x t left reads isnew none same rises)
+    (Lands tag' origin' x' t' left' reads' isnew' none' same' rises') p q r next u u' =
     let k = rise_same forms tag origin tag' origin' x x x' x' false false t left left' rises rises' p in
     (none ∙ sym none', landed tag origin tag' origin' x x' left left' k.tags k.origins k.items (k.lefts (ap dest_of k.items)))
-enters_same known forms f g new new' comes comes' from to to' (Lands tag origin x t left reads isnew none same rises) (Lands_renamed tag' origin' name stood t' left' reads' isnew' is gives rises') p q r next u u' =
+enters_same known forms f g new new' comes comes' from to to' (Lands tag origin x t left reads isnew none same rises)
+    (Lands_renamed tag' origin' name stood t' left' reads' isnew' is gives rises') p q r next u u' =
     absurd (let k = rise_same forms tag origin tag' origin' x x stood (with_dest name stood) false true t left left' rises rises' p in let h = k.both_cross in cc)
 enters_same known forms f g new new' comes comes' from to to' (Lands tag origin x t left reads isnew none same rises) (Lands_test tag' origin' on t' a b reads' none' same' divides) p q r next u u' =
     absurd (rise_or_divide forms tag origin tag' origin' x x on false t left a b rises divides p)
-enters_same known forms f g new new' comes comes' from to to' (Lands_renamed tag origin name stood t left reads isnew is gives rises) (Lands tag' origin' x' t' left' reads' isnew' none' same' rises') p q r next u u' =
+enters_same known forms f g new new' comes comes' from to to' (Lands_renamed tag origin name stood t left reads isnew is gives rises)
+    (Lands tag' origin' x' t' left' reads' isnew' none' same' rises') p q r next u u' =
     absurd (let k = rise_same forms tag origin tag' origin' stood (with_dest name stood) x' x' true false t left left' rises rises' p in let h = k.both_cross in cc)
-enters_same known forms f g new new' comes comes' from to to' (Lands_renamed tag origin name stood t left reads isnew is gives rises) (Lands_renamed tag' origin' name' stood' t' left' reads' isnew' is' gives' rises') p q r next u u' =
+enters_same known forms f g new new' comes comes' from to to' (Lands_renamed tag origin name stood t left reads isnew is gives rises)
+    (Lands_renamed tag' origin' name' stood' t' left' reads' isnew' is' gives' rises') p q r next u u' =
     let k = rise_same forms tag origin tag' origin' stood (with_dest name stood) stood' (with_dest name' stood') true true t left left' rises rises' p in
     let n = same_next next new new' name name' stood stood' is is' k.items u u' in
     let x = same_name new new' name name' stood stood' is is' n k.items in
     (n, landed tag origin tag' origin' (with_dest name stood) (with_dest name' stood') left left' k.tags k.origins x (k.lefts (ap dest_of x)))
-enters_same known forms f g new new' comes comes' from to to' (Lands_renamed tag origin name stood t left reads isnew is gives rises) (Lands_test tag' origin' on t' a b reads' none' same' divides) p q r next u u' =
+enters_same known forms f g new new' comes comes' from to to' (Lands_renamed tag origin name stood t left reads isnew is gives rises)
+    (Lands_test tag' origin' on t' a b reads' none' same' divides) p q r next u u' =
     absurd (rise_or_divide forms tag origin tag' origin' stood (with_dest name stood) on true t left a b rises divides p)
-enters_same known forms f g new new' comes comes' from to to' (Lands_test tag origin on t a b reads none same divides) (Lands tag' origin' x' t' left' reads' isnew' none' same' rises') p q r next u u' =
+enters_same known forms f g new new' comes comes' from to to' (Lands_test tag origin on t a b reads none same divides)
+    (Lands tag' origin' x' t' left' reads' isnew' none' same' rises') p q r next u u' =
     absurd (rise_or_divide forms tag' origin' tag origin x' x' on false t left' a b rises' divides (sym p))
-enters_same known forms f g new new' comes comes' from to to' (Lands_test tag origin on t a b reads none same divides) (Lands_renamed tag' origin' name stood t' left' reads' isnew' is gives rises') p q r next u u' =
+enters_same known forms f g new new' comes comes' from to to' (Lands_test tag origin on t a b reads none same divides)
+    (Lands_renamed tag' origin' name stood t' left' reads' isnew' is gives rises') p q r next u u' =
     absurd (rise_or_divide forms tag' origin' tag origin stood (with_dest name stood) on true t left' a b rises' divides (sym p))
-enters_same known forms f g new new' comes comes' from to to' (Lands_test tag origin on t a b reads none same divides) (Lands_test tag' origin' on' t' a' b' reads' none' same' divides') p q r next u u' =
+enters_same known forms f g new new' comes comes' from to to' (Lands_test tag origin on t a b reads none same divides)
+    (Lands_test tag' origin' on' t' a' b' reads' none' same' divides') p q r next u u' =
     let k = divide_same tag origin tag' origin' on on' t a b a' b' divides divides' in
     (none ∙ sym none', (refl, λ i. Split (k.tags i) (k.origins i) (k.tests i) (Unfinished (k.yes_sides i)) (Unfinished (k.no_sides i))))
 enters_same known forms f g new new' comes comes' from to to' (Behind_item t o y c rest rest1 may apart enters) (Behind_item t' o' y' c' rest' rest2 may' apart' enters') p q r next u u' =
@@ -180,13 +194,17 @@ enters_same known forms f g new new' comes comes' from to to' (On_yes t o on c a
     absurd (let k = seat_within known forms f new c a a1 enters in omega arith)
 enters_same known forms f g new new' comes comes' from to to' (On_no t o on c a b b1 apart enters) (On_yes t' o' on' c' a' b' a2 apart' enters') p q r next u u' =
     absurd (let k = seat_within known forms g new' c' a a2 enters' in omega arith)
-enters_same known forms f g new new' comes comes' from to to' (Lands_once t o on tag origin tag1 origin1 name stood other c1 c2 a b l m equal reads isnew is gives rises rises1) (On_yes t' o' on' c' a' b' a2 apart' enters') p q r next u u' =
+enters_same known forms f g new new' comes comes' from to to' (Lands_once t o on tag origin tag1 origin1 name stood other c1 c2 a b l m equal reads isnew is gives rises
+    rises1) (On_yes t' o' on' c' a' b' a2 apart' enters') p q r next u u' =
     absurd (let k = no_twin known forms g new' c' (_) a2 enters' in omega arith)
-enters_same known forms f g new new' comes comes' from to to' (Lands_once t o on tag origin tag1 origin1 name stood other c1 c2 a b l m equal reads isnew is gives rises rises1) (On_no t' o' on' c' a' b' b2 apart' enters') p q r next u u' =
+enters_same known forms f g new new' comes comes' from to to' (Lands_once t o on tag origin tag1 origin1 name stood other c1 c2 a b l m equal reads isnew is gives rises
+    rises1) (On_no t' o' on' c' a' b' b2 apart' enters') p q r next u u' =
     absurd (let k = no_twin known forms g new' c' (_) b2 enters' in omega arith)
-enters_same known forms f g new new' comes comes' from to to' (On_yes t o on c a b a1 apart enters) (Lands_once t' o' on' tag origin tag1 origin1 name stood other c1 c2 a' b' l m equal reads isnew is gives rises rises1) p q r next u u' =
+enters_same known forms f g new new' comes comes' from to to' (On_yes t o on c a b a1 apart enters)
+    (Lands_once t' o' on' tag origin tag1 origin1 name stood other c1 c2 a' b' l m equal reads isnew is gives rises rises1) p q r next u u' =
     absurd (let k = no_twin known forms f new c (_) a1 enters in omega arith)
-enters_same known forms f g new new' comes comes' from to to' (On_no t o on c a b b1 apart enters) (Lands_once t' o' on' tag origin tag1 origin1 name stood other c1 c2 a' b' l m equal reads isnew is gives rises rises1) p q r next u u' =
+enters_same known forms f g new new' comes comes' from to to' (On_no t o on c a b b1 apart enters)
+    (Lands_once t' o' on' tag origin tag1 origin1 name stood other c1 c2 a' b' l m equal reads isnew is gives rises rises1) p q r next u u' =
     absurd (let k = no_twin known forms f new c (_) b1 enters in omega arith)
 enters_same known forms f g new new' comes comes' from to to' (Lands_once t o on tag origin tag1 origin1 name stood other c1 c2 a b l m equal reads isnew is gives rises rises1)
     (Lands_once t' o' on' tag' origin' tag2 origin2 name' stood' other' c3 c4 a' b' l' m' equal' reads' isnew' is' gives' rises' rises2) p q r next u u' =

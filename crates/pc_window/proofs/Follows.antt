@@ -21,7 +21,8 @@ use Rattle.pc_window.specs.WindowRun.{follow}
 use Rattle.pc_window.specs.Opening.{Supply, changed, with_name, at_home, Brought, Moves_home, Gets_name, Stays_plain, brought, Grafted, graft_item, homes_at, graft}
 use Rattle.pc_window.proofs.Items.{Alike-prints, Alike-fault}
 use Rattle.pc_window.proofs.Live.{run_same}
-use Rattle.pc_window.proofs.Grafts.{HomesBelow, Does_same, brought_same, Extends, Extends-refl, Extends-trans, with_name-extends, HomesBelow-later, HomesBelow-changed, HomesBelow-new, at_home_below, after_gives, after_plain, after_copy, stepped, one_more, at_home_value}
+use Rattle.pc_window.proofs.Grafts.{HomesBelow, Does_same, brought_same, Extends, Extends-refl, Extends-trans, with_name-extends, HomesBelow-later, HomesBelow-changed}
+use Rattle.pc_window.proofs.Grafts.{HomesBelow-new, at_home_below, after_gives, after_plain, after_copy, stepped, one_more, at_home_value}
 
 -- the home of a live variable is among the homes of a stub
 pub home_of-homes_at : (homes : ℕ → Operand) (vs : List ℕ) (x : ℕ) → list_any (nat_eq x) vs ≡ true → home_of (homes_at homes vs) x ≡ homes x
@@ -113,7 +114,8 @@ module _ (table : Table) (keeps : TableKeeps table) (loop : Option ℕ) (tag : �
   unfolding FollowsRun
   followed_item origin item rest names homes s below (Moves_home variable from) g follows =
       subst (λ (i : Item). Later table (walk table.arrays (graft table loop tag rest names (changed homes variable from)).tree s) (Does origin i rest) (state_at homes s)) (sym g.item_is)
-      (subst (λ (o : Operand). Later table (walk table.arrays (graft table loop tag rest names (changed homes variable o)).tree s) (Does origin (Copy variable g.source) rest) (state_at homes s)) (sym g.from_is)
+      (subst (λ (o : Operand). Later table (walk table.arrays (graft table loop tag rest names (changed homes variable o)).tree s)
+        (Does origin (Copy variable g.source) rest) (state_at homes s)) (sym g.from_is)
       (followed_copy origin variable g.source rest names homes s below follows))
   followed_item origin item rest names homes s below (Gets_name variable given form) g follows =
       let names' = with_name names form in

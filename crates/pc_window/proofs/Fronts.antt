@@ -44,7 +44,8 @@ touch_known known (Print v) h = tt
 touch_known known (Read d) h = tt
 touch_known known (More d) h = tt
 
-unspoilt_same : (known : ℕ → Bool) (forms forms' : ℕ → Form) → SameKnownForms known forms forms' → (a b : Option Touch) → TouchKnown known a → TouchKnown known b → Unspoilt forms a b → Unspoilt forms' a b
+unspoilt_same : (known : ℕ → Bool) (forms forms' : ℕ → Form) → SameKnownForms known forms forms' → (a b : Option Touch) → TouchKnown known a → TouchKnown known b
+    → Unspoilt forms a b → Unspoilt forms' a b
 unspoilt_same known forms forms' same (Some a) (Some b) ha hb h = λ arrays stores.
     subst (λ (f : Form). NeverEqual f (operand_form forms' b.index)) (sym (operand_form_same known forms forms' same a.index ha))
     (subst (λ (f : Form). NeverEqual (operand_form forms a.index) f) (sym (operand_form_same known forms forms' same b.index hb)) (h arrays stores))
@@ -108,7 +109,8 @@ pub loose_entered : (known : ℕ → Bool) (forms forms' : ℕ → Form) (new : 
 loose_entered known forms forms' new comes from to (Lands tag origin x t left reads isnew none same rises) h = (reads, tt, tt)
 loose_entered known forms forms' new comes from to (Lands_renamed tag origin name stood t left reads isnew is gives rises) h = (reads, tt, tt)
 loose_entered known forms forms' new comes from to (Lands_test tag origin on t p q reads none same divides) h = (reads, tt, tt)
-loose_entered known forms forms' new comes from to (Lands_once t o on tag origin tag' origin' name stood other c c' p q l m equal reads isnew is gives rises rises') h = (reads, (tt, tt), (h.0, tt, tt))
+loose_entered known forms forms' new comes from to (Lands_once t o on tag origin tag' origin' name stood other c c' p q l m equal reads isnew is gives rises rises') h =
+    (reads, (tt, tt), (h.0, tt, tt))
 loose_entered known forms forms' new comes from to (Behind_item t o y c rest rest' may apart enters) h =
     let below : Loose forms' known rest' = loose_entered known forms forms' new c rest rest' enters h.2 in (
       h.0,

@@ -17,7 +17,8 @@ use Rattle.pc_window.specs.Tree.{Tree, Pending, Undecided}
 use Rattle.pc_window.specs.Hold.{operand_form, DefinedMeans, DefinedHold, Side}
 use Rattle.pc_window.proofs.Forms.{combine-below, TermsBelow-later, Means-agree}
 use Rattle.pc_linear.proofs.Forms.{combine_means, variable_means}
-use Rattle.pc_window.proofs.Grafts.{Does_same, brought_same, HomesBelow, HomesBelow-later, HomesBelow-new, HomesBelow-changed, at_home_below, Extends, Extends-refl, Extends-trans, with_name-extends, nat_eq-same, nat_eq-less}
+use Rattle.pc_window.proofs.Grafts.{Does_same, brought_same, HomesBelow, HomesBelow-later, HomesBelow-new, HomesBelow-changed, at_home_below, Extends, Extends-refl, Extends-trans}
+use Rattle.pc_window.proofs.Grafts.{with_name-extends, nat_eq-same, nat_eq-less}
 use Rattle.pc_window.proofs.Follows.{graft-extends}
 
 -- an operand has the value of its form
@@ -135,7 +136,8 @@ MeansIn lengths σ forms s (Stays_plain given) = Unit
 pub brought-means : (lengths : List ℕ) (σ : ℕ → ℤ) (names : Supply) (homes : ℕ → Operand) (s : State) (item : Item) → HomesMean σ names.forms s.names homes
     → MeansIn lengths σ names.forms s (brought names homes item)
 brought-means lengths σ names homes s (Bin op dest left right) h =
-    combine_means σ op (operand_form names.forms (at_home homes left)) (operand_form names.forms (at_home homes right)) (operand_value s.names (at_home homes left)) (operand_value s.names (at_home homes right))
+    combine_means σ op (operand_form names.forms (at_home homes left)) (operand_form names.forms (at_home homes right)) (operand_value s.names (at_home homes left))
+        (operand_value s.names (at_home homes right))
     (at_home_means σ names.forms s.names homes left h) (at_home_means σ names.forms s.names homes right h)
 brought-means lengths σ names homes s (Copy dest from) h = at_home_means σ names.forms s.names homes from h
 brought-means lengths σ names homes s (Load dest array index) h = tt

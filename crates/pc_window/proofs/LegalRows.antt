@@ -45,7 +45,8 @@ pair P Q R f (x ∷ xs) p q = (f x p.0 q.0, pair P Q R f xs p.1 q.1)
 -- each item of each path
 paths_items : (P : Item → Type 0) (left : Tree → Left) (front : Front) → AllItems P front → AllPaths (AllByRecursion P) left front
 paths_items P left (Issued t o x rest) h =
-    map_of_all (AllByRecursion P) (λ path. x ∷ path) (paths_of (front_row left rest)) (all_imply (AllByRecursion P) (λ path. AllByRecursion P (x ∷ path)) (paths_of (front_row left rest)) (λ path k. (h.0, k)) (paths_items P left rest h.1))
+    map_of_all (AllByRecursion P) (λ path. x ∷ path) (paths_of (front_row left rest))
+        (all_imply (AllByRecursion P) (λ path. AllByRecursion P (x ∷ path)) (paths_of (front_row left rest)) (λ path k. (h.0, k)) (paths_items P left rest h.1))
 paths_items P left (Split t o on p q) h = all_both (AllByRecursion P) (paths_of (front_row left p)) (paths_of (front_row left q)) (paths_items P left p h.0) (paths_items P left q h.1)
 paths_items P left (Unfinished rest) h = (tt, tt)
 

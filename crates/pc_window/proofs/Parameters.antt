@@ -54,7 +54,8 @@ item_known known (More d) z e h = absurd (cc)
 
 some_home_known : (known : ℕ → Bool) (homes : List Home) (z : ℕ) → homes_use homes z ≡ true → HomesKnown known homes → known z ≡ true
 some_home_known known [] z e all = absurd (cc)
-some_home_known known (home ∷ homes) z e all = or_cases (reads_name home.value z) (homes_use homes z) (known z ≡ true) e (λ h. read_known known home.value z h all.0) (λ h. some_home_known known homes z h all.1)
+some_home_known known (home ∷ homes) z e all =
+    or_cases (reads_name home.value z) (homes_use homes z) (known z ≡ true) e (λ h. read_known known home.value z h all.0) (λ h. some_home_known known homes z h all.1)
 
 -- the parameters are known
 pub parameters_known : (tree : Tree) (known : ℕ → Bool) → Scoped known tree → Fewer (uses tree) known
@@ -79,17 +80,20 @@ known_read known' (Name x) f = f x (eq-eqb x x refl)
 known_read known' (Lit value) f = tt
 
 pub known_reads : (known' : ℕ → Bool) (x : Item) → ((z : ℕ) → reads x z ≡ true → known' z ≡ true) → ReadsKnown known' x
-known_reads known' (Bin op d l r) f = (known_read known' l (λ z e. f z (or_first (reads_name l z) (reads_name r z) e)), (known_read known' r (λ z e. f z (or_comes (reads_name l z) (reads_name r z) e)), tt))
+known_reads known' (Bin op d l r) f = (known_read known' l (λ z e. f z (or_first (reads_name l z) (reads_name r z) e)),
+    (known_read known' r (λ z e. f z (or_comes (reads_name l z) (reads_name r z) e)), tt))
 known_reads known' (Copy d from) f = (known_read known' from f, tt)
 known_reads known' (Load d a i) f = (known_read known' i f, tt)
-known_reads known' (Store a i v) f = (known_read known' i (λ z e. f z (or_first (reads_name i z) (reads_name v z) e)), (known_read known' v (λ z e. f z (or_comes (reads_name i z) (reads_name v z) e)), tt))
+known_reads known' (Store a i v) f = (known_read known' i (λ z e. f z (or_first (reads_name i z) (reads_name v z) e)),
+    (known_read known' v (λ z e. f z (or_comes (reads_name i z) (reads_name v z) e)), tt))
 known_reads known' (Print v) f = (known_read known' v f, tt)
 known_reads known' (Read d) f = tt
 known_reads known' (More d) f = tt
 
 pub known_homes : (known' : ℕ → Bool) (homes : List Home) → ((z : ℕ) → homes_use homes z ≡ true → known' z ≡ true) → HomesKnown known' homes
 known_homes known' [] f = tt
-known_homes known' (home ∷ homes) f = (known_read known' home.value (λ z e. f z (or_first (reads_name home.value z) (homes_use homes z) e)), known_homes known' homes (λ z e. f z (or_comes (reads_name home.value z) (homes_use homes z) e)))
+known_homes known' (home ∷ homes) f = (known_read known' home.value (λ z e. f z (or_first (reads_name home.value z) (homes_use homes z) e)),
+    known_homes known' homes (λ z e. f z (or_comes (reads_name home.value z) (homes_use homes z) e)))
 
 new_fewer : (known' known : ℕ → Bool) → Fewer known' known → (d : Option ℕ) → IsNew known d → IsNew known' d
 new_fewer known' known fewer None h = tt

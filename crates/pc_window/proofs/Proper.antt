@@ -10,7 +10,8 @@ use Rattle.pc_word.specs.Items.{dest_of, is_memory}
 use Rattle.pc_word.specs.Commit.{writes}
 use Rattle.pc_window.specs.Opening.{Supply, with_name, OperandBelow, ItemBelow, StubBelow, Grafted, opened, is_inside, TreeBelow, FormsBelow, FormBelow, TermsBelow}
 use Rattle.pc_window.specs.Filled.{given_supply, IsNext, Jump, Full, Goes_on, WithinLimits, Filled, Loose}
-use Rattle.pc_window.specs.Jump.{Rises, Root, Past_item, Past_yes, Past_no, DividesTree, Root_test, Past, combined, EntersFront, Lands, Lands_renamed, Lands_test, Lands_once, Behind_item, On_yes, On_no}
+use Rattle.pc_window.specs.Jump.{Rises, Root, Past_item, Past_yes, Past_no, DividesTree, Root_test, Past, combined, EntersFront, Lands, Lands_renamed, Lands_test, Lands_once}
+use Rattle.pc_window.specs.Jump.{Behind_item, On_yes, On_no}
 use Rattle.pc_window.proofs.GraftForms.{with_name-below}
 use Rattle.pc_window.proofs.Tidying.{tidied_sound, not_true}
 use Rattle.pc_linear.specs.Form.{Form}
@@ -141,7 +142,8 @@ loose_one forms known Stop_exit h = tt
 loose_one forms known (Trap_exit kind line) h = tt
 
 -- a tree whose names are as they must be becomes a proper window
-pub becomes_proper : (tree : Tree) (names : Supply) (limits : Limits) (inside : Option ℕ) (known : ℕ → Bool) → TreeBelow names.next tree → FormsBelow names → Positive limits → Scoped known tree → IsProper (window_of tree names limits inside)
+pub becomes_proper : (tree : Tree) (names : Supply) (limits : Limits) (inside : Option ℕ) (known : ℕ → Bool) → TreeBelow names.next tree → FormsBelow names
+    → Positive limits → Scoped known tree → IsProper (window_of tree names limits inside)
 becomes_proper tree names limits inside known names_below forms_below room scoped =
     let own = scoped_parameters tree known scoped in
     let same = sym (whole_front_of tree) in
@@ -189,7 +191,8 @@ rebases_proper w v is p =
     let names = supply_of w in
     let kept = rebased-kept (whole w.front) names p.forms_below p.names_below in
     subst (λ (u : Window). IsProper u) (sym is)
-    (becomes_proper (whole w.front) (rebased (whole w.front) names) w.limits w.inside (uses (whole w.front)) (subst (λ (n : ℕ). TreeBelow n (whole w.front)) (sym kept.0) p.names_below) kept.1 p.room p.window.scoped)
+    (becomes_proper (whole w.front) (rebased (whole w.front) names) w.limits w.inside (uses (whole w.front))
+        (subst (λ (n : ℕ). TreeBelow n (whole w.front)) (sym kept.0) p.names_below) kept.1 p.room p.window.scoped)
 
 -- ---- names and forms in filling
 
@@ -298,9 +301,12 @@ rises_item n forms tag origin stood x crosses from left (Past_item t o y c rest 
 rises_item n forms tag origin stood x crosses from left (Past_yes t o on c p q l is unwritten rises) b = rises_item n forms tag origin stood x c p l rises b.1
 rises_item n forms tag origin stood x crosses from left (Past_no t o on c p q l is unwritten rises) b = rises_item n forms tag origin stood x c q l rises b.2
 
-rises_below : (n m : ℕ) (forms : ℕ → Form) (tag origin : ℕ) (stood x : Item) (crosses : Bool) (from left : Tree) → n ≤ m → NameBelow m (dest_of x) → Rises forms tag origin stood x crosses from left → TreeBelow n from → TreeBelow m left
-rises_below n m forms tag origin stood x crosses from left le d (Root rest unwritten) b = mapped_below n m (renamed (dest_of stood) (dest_of x)) le (renamed_below n m (dest_of stood) (dest_of x) le d) rest b.1
-rises_below n m forms tag origin stood x crosses from left le d (Past_item t o y c rest l clear apart rises) b = (item_later n m y le b.0, rises_below n m forms tag origin stood x c rest l le d rises b.1)
+rises_below : (n m : ℕ) (forms : ℕ → Form) (tag origin : ℕ) (stood x : Item) (crosses : Bool) (from left : Tree) → n ≤ m → NameBelow m (dest_of x)
+    → Rises forms tag origin stood x crosses from left → TreeBelow n from → TreeBelow m left
+rises_below n m forms tag origin stood x crosses from left le d (Root rest unwritten) b =
+    mapped_below n m (renamed (dest_of stood) (dest_of x)) le (renamed_below n m (dest_of stood) (dest_of x) le d) rest b.1
+rises_below n m forms tag origin stood x crosses from left le d (Past_item t o y c rest l clear apart rises) b =
+    (item_later n m y le b.0, rises_below n m forms tag origin stood x c rest l le d rises b.1)
 rises_below n m forms tag origin stood x crosses from left le d (Past_yes t o on c p q l is unwritten rises) b =
     (OperandBelow-later n m on le b.0, rises_below n m forms tag origin stood x c p l le d rises b.1, TreeBelow-later n m q le b.2)
 rises_below n m forms tag origin stood x crosses from left le d (Past_no t o on c p q l is unwritten rises) b =
@@ -310,7 +316,8 @@ divides_below : (n : ℕ) (tag origin : ℕ) (on : Operand) (from p q : Tree) �
 divides_below n tag origin on from p q (Root_test p' q') b = b
 divides_below n tag origin on from p q (Past t o y rest p' q' divides) b = let k = divides_below n tag origin on rest p' q' divides b.1 in (k.0, (b.0, k.1), (b.0, k.2))
 
-enters_below : (n m : ℕ) (known : ℕ → Bool) (forms forms' : ℕ → Form) (new : Option ℕ) (comes : Option Item) (from to : Front) → n ≤ m → NameBelow m new → EntersFront known forms forms' new comes from to
+enters_below : (n m : ℕ) (known : ℕ → Bool) (forms forms' : ℕ → Form) (new : Option ℕ) (comes : Option Item) (from to : Front) → n ≤ m → NameBelow m new
+    → EntersFront known forms forms' new comes from to
     → TreeBelow n (whole from) → TreeBelow m (whole to)
 enters_below n m known forms forms' new comes from to le d (Lands tag origin x t left reads isnew none same rises) b =
     let i = rises_item n forms tag origin x x false t left rises b in
@@ -318,23 +325,27 @@ enters_below n m known forms forms' new comes from to le d (Lands tag origin x t
     (j, rises_below n m forms tag origin x x false t left le (dest_below m x j) rises b)
 enters_below n m known forms forms' new comes from to le d (Lands_renamed tag origin name stood t left reads isnew is gives rises) b =
     let e = subst (NameBelow m) is d in
-    (named_below n m name stood le (rises_item n forms tag origin stood (with_dest name stood) true t left rises b) e, rises_below n m forms tag origin stood (with_dest name stood) true t left le e rises b)
+    (named_below n m name stood le (rises_item n forms tag origin stood (with_dest name stood) true t left rises b) e,
+        rises_below n m forms tag origin stood (with_dest name stood) true t left le e rises b)
 enters_below n m known forms forms' new comes from to le d (Lands_test tag origin on t p q reads none same divides) b =
     let k = divides_below n tag origin on t p q divides b in
     (OperandBelow-later n m on le k.0, TreeBelow-later n m p le k.1, TreeBelow-later n m q le k.2)
 enters_below n m known forms forms' new comes from to le d (Lands_once t o on tag origin tag' origin' name stood other c c' p q l k equal reads isnew is gives rises rises') b =
     let e = subst (NameBelow m) is d in (
       named_below n m name stood le (rises_item n forms tag origin stood (with_dest name stood) c p l rises b.1) e,
-      (OperandBelow-later n m on le b.0, rises_below n m forms tag origin stood (with_dest name stood) c p l le e rises b.1, rises_below n m forms tag' origin' other (with_dest name stood) c' q k le e rises' b.2),
+      (OperandBelow-later n m on le b.0, rises_below n m forms tag origin stood (with_dest name stood) c p l le e rises b.1,
+        rises_below n m forms tag' origin' other (with_dest name stood) c' q k le e rises' b.2),
     )
-enters_below n m known forms forms' new comes from to le d (Behind_item t o y c rest rest' may apart enters) b = (item_later n m y le b.0, enters_below n m known forms forms' new c rest rest' le d enters b.1)
+enters_below n m known forms forms' new comes from to le d (Behind_item t o y c rest rest' may apart enters) b =
+    (item_later n m y le b.0, enters_below n m known forms forms' new c rest rest' le d enters b.1)
 enters_below n m known forms forms' new comes from to le d (On_yes t o on c p q p' apart enters) b =
     (OperandBelow-later n m on le b.0, enters_below n m known forms forms' new c p p' le d enters b.1, TreeBelow-later n m (whole q) le b.2)
 enters_below n m known forms forms' new comes from to le d (On_no t o on c p q q' apart enters) b =
     (OperandBelow-later n m on le b.0, TreeBelow-later n m (whole p) le b.1, enters_below n m known forms forms' new c q q' le d enters b.2)
 
 -- where a name is given, an item comes
-given_comes : (known : ℕ → Bool) (forms forms' : ℕ → Form) (new : Option ℕ) (comes : Option Item) (from to : Front) → EntersFront known forms forms' new comes from to → (new ≡ None) ⊎ (comes ≡ None → ⊥)
+given_comes : (known : ℕ → Bool) (forms forms' : ℕ → Form) (new : Option ℕ) (comes : Option Item) (from to : Front) → EntersFront known forms forms' new comes from to
+    → (new ≡ None) ⊎ (comes ≡ None → ⊥)
 given_comes known forms forms' new comes from to (Lands tag origin x t left reads isnew none same rises) = inl none
 given_comes known forms forms' new comes from to (Lands_renamed tag origin name stood t left reads isnew is gives rises) = inr (λ e. cc)
 given_comes known forms forms' new comes from to (Lands_test tag origin on t p q reads none same divides) = inl none
@@ -354,7 +365,8 @@ jump_below known w v jump b =
     record {
       names_below = enters_below w.next v.next known w.forms v.forms jump.new jump.comes w.front v.front
           (subst (λ (n : Supply). w.next ≤ n.next) (sym jump.names) (given_next (supply_of w) jump.new jump.comes))
-          (subst (λ (n : Supply). NameBelow n.next jump.new) (sym jump.names) (new_name_below (supply_of w) jump.new jump.comes jump.next (given_comes known w.forms v.forms jump.new jump.comes w.front v.front jump.enters)))
+          (subst (λ (n : Supply). NameBelow n.next jump.new) (sym jump.names)
+            (new_name_below (supply_of w) jump.new jump.comes jump.next (given_comes known w.forms v.forms jump.new jump.comes w.front v.front jump.enters)))
           jump.enters b.names_below;
       forms_below = subst (λ (n : Supply). FormsBelow n) (sym jump.names) (given_below (supply_of w) jump.new jump.comes b.forms_below);
     }

@@ -18,8 +18,10 @@ use Rattle.pc_linear.specs.Combine.{variable_form}
 use Rattle.pc_window.specs.Names.{IsKnown, IsNew, ReadsKnown, and_dest, Scoped, Unwritten, NotWritten}
 use Rattle.pc_window.specs.Rename.{with_dest, mapped, renamed}
 use Rattle.pc_window.specs.Conflict.{Touch, touch_of, Disjoint, Unspoilt, NoConflict, MayFollow}
-use Rattle.pc_window.specs.Jump.{combined, Without, NewForm, is_quiet, Rises, Root, Past_item, Past_yes, Past_no, DividesTree, Root_test, Past, MayComeBehind, EntersFront, Lands, Lands_renamed, Lands_test, Lands_once, Behind_item, On_yes, On_no}
-use Rattle.pc_window.specs.Ready.{CanRise, Stands_here, Stands_below, Stands_on_yes, Stands_on_no, CanDivide, Divides_here, Divides_below, MayStandBehind, IsReadyAt, Item_ready, Test_ready, Ready_below, Ready_on_yes, Ready_on_no, NotBehind}
+use Rattle.pc_window.specs.Jump.{combined, Without, NewForm, is_quiet, Rises, Root, Past_item, Past_yes, Past_no, DividesTree, Root_test, Past, MayComeBehind, EntersFront, Lands}
+use Rattle.pc_window.specs.Jump.{Lands_renamed, Lands_test, Lands_once, Behind_item, On_yes, On_no}
+use Rattle.pc_window.specs.Ready.{CanRise, Stands_here, Stands_below, Stands_on_yes, Stands_on_no, CanDivide, Divides_here, Divides_below, MayStandBehind, IsReadyAt, Item_ready}
+use Rattle.pc_window.specs.Ready.{Test_ready, Ready_below, Ready_on_yes, Ready_on_no, NotBehind}
 use Rattle.pc_window.specs.Laws.{ReadyJumps, JumpsWereReady, FirstJumpsAreFirst}
 use Rattle.pc_window.proofs.Rising.{SameBut}
 use Rattle.pc_window.proofs.Entering.{same_as}
@@ -112,7 +114,8 @@ new_first known y (Some e) h = let k = neither (writes (dest_of y) e) (known e) 
     neither true b e = absurd (cc)
 
 -- an item before which no test stands writes a new name
-rise_new : (forms : ℕ → Form) (x : Item) (tag origin place : ℕ) (crosses : Bool) (from : Tree) (known : ℕ → Bool) → CanRise forms x tag origin place crosses from → crosses ≡ false → Scoped known from → IsNew known (dest_of x)
+rise_new : (forms : ℕ → Form) (x : Item) (tag origin place : ℕ) (crosses : Bool) (from : Tree) (known : ℕ → Bool) → CanRise forms x tag origin place crosses from
+    → crosses ≡ false → Scoped known from → IsNew known (dest_of x)
 rise_new forms x tag origin place crosses from known (Stands_here rest) e h = h.1
 rise_new forms x tag origin place crosses from known (Stands_below t o y p c rest clear can) e h = (new_first known y (dest_of x) (rise_new forms x tag origin p c rest (and_dest known y) can e h.2)).0
 rise_new forms x tag origin place crosses from known (Stands_on_yes t o on n c p q is can) e h = absurd (cc)
@@ -127,7 +130,8 @@ pub record Risen (forms : ℕ → Form) (stood x : Item) (tag origin place : ℕ
   pub at : risen_place rises ≡ place
 
 -- with its own name where no test stands before it
-rise_kept : (forms : ℕ → Form) (x : Item) (tag origin place : ℕ) (crosses : Bool) (from : Tree) (known : ℕ → Bool) → CanRise forms x tag origin place crosses from → crosses ≡ false → Scoped known from → Risen forms x x tag origin place crosses from
+rise_kept : (forms : ℕ → Form) (x : Item) (tag origin place : ℕ) (crosses : Bool) (from : Tree) (known : ℕ → Bool) → CanRise forms x tag origin place crosses from
+    → crosses ≡ false → Scoped known from → Risen forms x x tag origin place crosses from
 rise_kept forms x tag origin place crosses from known (Stands_here rest) e h =
     record { left = mapped (renamed (dest_of x) (dest_of x)) rest; rises = Root rest (not_written_known x rest known h.2); at = refl }
 rise_kept forms x tag origin place crosses from known (Stands_below t o y p c rest clear can) e h =
@@ -144,7 +148,8 @@ rise_kept forms x tag origin place crosses from known (Stands_on_no t o on n c p
 pub not_written_named : (n : ℕ) (x : Item) (tree : Tree) → Unwritten n tree → NotWritten (dest_of (with_dest n x)) tree
 not_written_named n x tree h = dest_named n x (λ d. NotWritten d tree) h tt
 
-rise_renamed : (forms : ℕ → Form) (m : ℕ) (x : Item) (tag origin place : ℕ) (crosses : Bool) (from : Tree) → CanRise forms x tag origin place crosses from → Unwritten m from → Risen forms x (with_dest m x) tag origin place crosses from
+rise_renamed : (forms : ℕ → Form) (m : ℕ) (x : Item) (tag origin place : ℕ) (crosses : Bool) (from : Tree) → CanRise forms x tag origin place crosses from
+    → Unwritten m from → Risen forms x (with_dest m x) tag origin place crosses from
 rise_renamed forms m x tag origin place crosses from (Stands_here rest) h =
     record { left = mapped (renamed (dest_of x) (dest_of (with_dest m x))) rest; rises = Root rest (not_written_named m x rest h.1); at = refl }
 rise_renamed forms m x tag origin place crosses from (Stands_below t o y p c rest clear can) h =
@@ -170,10 +175,12 @@ rise_renamed forms m x tag origin place crosses from (Stands_on_no t o on n c p 
     }
 
 -- and what rises could
-could_rise : (forms : ℕ → Form) (tag origin : ℕ) (stood x : Item) (crosses : Bool) (from left : Tree) → (rises : Rises forms tag origin stood x crosses from left) → SameBut stood x → CanRise forms stood tag origin (risen_place rises) crosses from
+could_rise : (forms : ℕ → Form) (tag origin : ℕ) (stood x : Item) (crosses : Bool) (from left : Tree) → (rises : Rises forms tag origin stood x crosses from left)
+    → SameBut stood x → CanRise forms stood tag origin (risen_place rises) crosses from
 could_rise forms tag origin stood x crosses from left (Root rest unwritten) same = Stands_here rest
 could_rise forms tag origin stood x crosses from left (Past_item t o y c rest left' clear apart rises) same =
-    Stands_below t o y (risen_place rises) c rest (clear_alike forms y x stood (alike_turned stood x (subst (Alike stood) (sym same.is) (alike same.name stood))) clear) (could_rise forms tag origin stood x c rest left' rises same)
+    Stands_below t o y (risen_place rises) c rest (clear_alike forms y x stood (alike_turned stood x (subst (Alike stood) (sym same.is) (alike same.name stood))) clear)
+        (could_rise forms tag origin stood x c rest left' rises same)
 could_rise forms tag origin stood x crosses from left (Past_yes t o on c p q left' is unwritten rises) same =
     Stands_on_yes t o on (risen_place rises) c p q (sym (subst (Alike stood) (sym same.is) (alike same.name stood)).quiet ∙ is) (could_rise forms tag origin stood x c p left' rises same)
 could_rise forms tag origin stood x crosses from left (Past_no t o on c p q left' is unwritten rises) same =
@@ -240,7 +247,8 @@ new_below_all : (known : ℕ → Bool) (y : Item) (comes : Option Item) → NewT
 new_below_all known y (Some x) h = (new_first known y (dest_of x) h).0
 new_below_all known y None h = tt
 
-may_come : (known : ℕ → Bool) (forms : ℕ → Form) (y : Item) (what comes : Option Item) → SameThing what comes → MayStandBehind forms y what → NewToAll (and_dest known y) comes → MayComeBehind forms y comes
+may_come : (known : ℕ → Bool) (forms : ℕ → Form) (y : Item) (what comes : Option Item) → SameThing what comes → MayStandBehind forms y what
+    → NewToAll (and_dest known y) comes → MayComeBehind forms y comes
 may_come known forms y (Some x) (Some z) same may new = (follows_alike forms y x z same may, (new_first known y (dest_of z) new).1)
 may_come known forms y None None same may new = tt
 may_come known forms y (Some x) None same may new = absurd same
@@ -293,7 +301,8 @@ comes_renamed base known forms n variable tag origin place x from within unknown
 
 -- what is ready comes into the front
 pub ready_comes : (base : ℕ → Bool) (forms : ℕ → Form) (n variable : ℕ) → ((y : ℕ) → Without variable (forms y))
-    → (tag origin : ℕ) (known : ℕ → Bool) (place : ℕ) (what : Option Item) (from : Front) → IsReadyAt base forms tag origin place what from → ((z : ℕ) → base z ≡ true → known z ≡ true) → known n ≡ false → Unwritten n (whole from) → Scoped known (whole from)
+    → (tag origin : ℕ) (known : ℕ → Bool) (place : ℕ) (what : Option Item) (from : Front) → IsReadyAt base forms tag origin place what from
+        → ((z : ℕ) → base z ≡ true → known z ≡ true) → known n ≡ false → Unwritten n (whole from) → Scoped known (whole from)
     → Comes base known forms n variable tag origin place what from
 ready_comes base forms n variable without tag origin known place what from (Item_ready x m true t reads can) within unknown unwritten scoped =
     comes_renamed base known forms n variable tag origin m x t within unknown unwritten without reads can
@@ -402,7 +411,9 @@ ready_jumps known w is fresh r =
     ready_comes known w.forms w.next w.next_variable fresh.without r.tag r.origin known r.place r.what w.front r.ready (λ z h. h) fresh.unknown fresh.unwritten is.scoped in
     let given = given_supply (supply_of w) k.new k.comes in (
       record { front = k.to; forms = k.forms_after; next = given.next; next_variable = given.next_variable; limits = w.limits; inside = w.inside },
-      record { new = k.new; comes = k.comes; enters = k.enters; next = fresh_name w.next (IsNext w.next) k.new k.fresh tt refl; names = λ i. record { forms = k.given i; next = given.next; next_variable = given.next_variable }; twins = k.twins; room = room_same w.limits w.front r.what k.comes k.same r.room; limits = refl; inside = refl },
+      record { new = k.new; comes = k.comes; enters = k.enters; next = fresh_name w.next (IsNext w.next) k.new k.fresh tt refl; names =
+        λ i. record { forms = k.given i; next = given.next; next_variable = given.next_variable }; twins =
+        k.twins; room = room_same w.limits w.front r.what k.comes k.same r.room; limits = refl; inside = refl },
       (k.from_tag, k.from_origin, k.from_place),
     )
 
@@ -422,7 +433,8 @@ may_stand forms y None None same may = tt
 may_stand forms y (Some x) None same may = absurd same
 may_stand forms y None (Some z) same may = absurd same
 
-cast_place : {base : ℕ → Bool} {forms : ℕ → Form} {tag origin m n : ℕ} {what : Option Item} {front : Front} → m ≡ n → IsReadyAt base forms tag origin m what front → IsReadyAt base forms tag origin n what front
+cast_place : {base : ℕ → Bool} {forms : ℕ → Form} {tag origin m n : ℕ} {what : Option Item} {front : Front} → m ≡ n → IsReadyAt base forms tag origin m what front
+    → IsReadyAt base forms tag origin n what front
 cast_place {base = base} {forms = forms} {tag = tag} {origin = origin} {what = what} {front = front} e h = subst (λ (k : ℕ). IsReadyAt base forms tag origin k what front) e h
 
 pub comes_ready : (base : ℕ → Bool) (forms forms' : ℕ → Form) (new : Option ℕ) (comes : Option Item) (from to : Front)
@@ -431,12 +443,15 @@ comes_ready base forms forms' new comes from to (Lands tag origin x t left reads
     record { what = Some x; ready = Item_ready x (risen_place rises) false t reads (could_rise forms tag origin x x false t left rises (same_as x)); same = alike_same x }
 comes_ready base forms forms' new comes from to (Lands_renamed tag origin name x t left reads isnew is gives rises) =
     let back = alike_turned x (with_dest name x) (alike name x) in
-    record { what = Some x; ready = Item_ready x (risen_place rises) true t (reads_alike base (with_dest name x) x back reads) (could_rise forms tag origin x (with_dest name x) true t left rises (record { name = name; is = refl })); same = back }
+    record { what = Some x; ready = Item_ready x (risen_place rises) true t (reads_alike base (with_dest name x) x back reads)
+        (could_rise forms tag origin x (with_dest name x) true t left rises (record { name = name; is = refl })); same = back }
 comes_ready base forms forms' new comes from to (Lands_test tag origin on t p q reads none same divides) =
     record { what = None; ready = Test_ready on (divided_place divides) t reads (could_divide tag origin on t p q divides); same = tt }
 comes_ready base forms forms' new comes from to (Lands_once t o on tag origin tag' origin' name x other c c' p q l m equal reads isnew is gives rises rises') =
     let back = alike_turned x (with_dest name x) (alike name x) in
-    record { what = Some x; ready = Ready_on_yes t o on (risen_place rises) (Some x) (Unfinished p) (Unfinished q) (Item_ready x (risen_place rises) c p (reads_alike base (with_dest name x) x back reads) (could_rise forms tag origin x (with_dest name x) c p l rises (record { name = name; is = refl }))); same = back }
+    record { what = Some x; ready = Ready_on_yes t o on (risen_place rises) (Some x) (Unfinished p) (Unfinished q)
+        (Item_ready x (risen_place rises) c p (reads_alike base (with_dest name x) x back reads)
+        (could_rise forms tag origin x (with_dest name x) c p l rises (record { name = name; is = refl }))); same = back }
 comes_ready base forms forms' new comes from to (Behind_item t o y c rest rest' may apart enters) =
     let k : WasReady base forms (seat_of enters).0 (seat_of enters).1 (seat_of enters).2 c rest = comes_ready base forms forms' new c rest rest' enters in
     record { what = k.what; ready = cast_place (omega arith) (Ready_below t o y (seat_of enters).2 k.what rest (may_stand forms y c k.what k.same may) k.ready); same = k.same }
@@ -450,7 +465,8 @@ comes_ready base forms forms' new comes from to (On_no t o on c p q q' apart ent
 pub jumps_were_ready : JumpsWereReady
 jumps_were_ready known w v jump =
     let k = comes_ready known w.forms v.forms jump.new jump.comes w.front v.front jump.enters in (
-      record { tag = (seat_of jump.enters).0; origin = (seat_of jump.enters).1; place = (seat_of jump.enters).2; what = k.what; ready = k.ready; room = room_same w.limits w.front jump.comes k.what k.same jump.room },
+      record { tag = (seat_of jump.enters).0; origin =
+        (seat_of jump.enters).1; place = (seat_of jump.enters).2; what = k.what; ready = k.ready; room = room_same w.limits w.front jump.comes k.what k.same jump.room },
       (refl, refl, refl),
     )
 

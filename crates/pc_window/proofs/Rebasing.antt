@@ -18,7 +18,8 @@ use Rattle.pc_linear.specs.Combine.{plus, variable_form}
 use Rattle.pc_window.specs.Opening.{FormBelow, Supply, changed, OperandBelow, ItemBelow, StubBelow, TreeBelow, FormsBelow}
 use Rattle.pc_window.specs.Tree.{Home, Tree, Pending, Undecided, Exit, Stop_exit, Trap_exit}
 use Rattle.pc_window.specs.Hold.{DefinedMeans, DefinedHold, TreeHolds}
-use Rattle.pc_window.specs.Rebasing.{with_form, with_variable, settled, rewritten_by, rewritten, rewrite_all, one_variable_more, make_base, Turned, first_base, first_turn, first_turns, free_terms, second_choice, second_turn, second_turns, rebased, all_names}
+use Rattle.pc_window.specs.Rebasing.{with_form, with_variable, settled, rewritten_by, rewritten, rewrite_all, one_variable_more, make_base, Turned, first_base, first_turn}
+use Rattle.pc_window.specs.Rebasing.{first_turns, free_terms, second_choice, second_turn, second_turns, rebased, all_names}
 use Rattle.pc_window.specs.Names.{parameters_of, name_in, names_read, names_in_homes, without_name, free_uses, first_uses}
 use Rattle.pc_linear.proofs.Words.{wrap_zero, wrap_same, add_same, times_same, one_times, minus_one, distribute_left}
 use Rattle.pc_linear.proofs.Forms.{plus-number, means_number}
@@ -54,7 +55,8 @@ cancel_left : (a k b : ℤ) → (a +ℤ (k *ℤ (pos 1 +ℤ b))) ≈ (a +ℤ (k 
 cancel_left a k b h =
     let c = neg_ℤ (a +ℤ (k *ℤ (pos 0 +ℤ b))) in
     let both = add_same (a +ℤ (k *ℤ (pos 1 +ℤ b))) (a +ℤ (k *ℤ (pos 0 +ℤ b))) c c h refl in
-    ap (int_wrap w32) (sym (ap (λ (z : ℤ). (a +ℤ z) +ℤ neg_ℤ (a +ℤ (k *ℤ (pos 0 +ℤ b)))) (distribute_left (pos 1) b k) ∙ ap (λ (z : ℤ). (a +ℤ ((k *ℤ pos 1) +ℤ (k *ℤ b))) +ℤ neg_ℤ (a +ℤ z)) (distribute_left (pos 0) b k) ∙ rest (k *ℤ b)))
+    ap (int_wrap w32) (sym (ap (λ (z : ℤ). (a +ℤ z) +ℤ neg_ℤ (a +ℤ (k *ℤ (pos 0 +ℤ b)))) (distribute_left (pos 1) b k)
+        ∙ ap (λ (z : ℤ). (a +ℤ ((k *ℤ pos 1) +ℤ (k *ℤ b))) +ℤ neg_ℤ (a +ℤ z)) (distribute_left (pos 0) b k) ∙ rest (k *ℤ b)))
     ∙ both ∙ ap (int_wrap w32) (none (a +ℤ (k *ℤ (pos 0 +ℤ b))))
   where
     none : (z : ℤ) → z +ℤ neg_ℤ z ≡ pos 0
@@ -161,15 +163,18 @@ Stage-form next old m σ names n f s below means =
       values = s.values;
       goes_on = s.goes_on;
       carries = λ x lt value h. to_test x value (nat_eq n x) refl
-          (λ e. let is = nat_eq-tells n x e in let here : n < next = omega arith in Means-agree m σ s.values f value s.goes_on.same below (means here value (subst (λ (z : ℕ). Means σ (old z) value) (sym is) h)))
+          (λ e. let is = nat_eq-tells n x e in let here : n < next =
+            omega arith in Means-agree m σ s.values f value s.goes_on.same below (means here value (subst (λ (z : ℕ). Means σ (old z) value) (sym is) h)))
           (s.carries x lt value h);
     }
   where
-    by_test : (x : ℕ) (b : Bool) → (nat_eq n x ≡ true → FormBelow names.next_variable f) → FormBelow names.next_variable (names.forms x) → nat_eq n x ≡ b → FormBelow names.next_variable (if b then f else names.forms x)
+    by_test : (x : ℕ) (b : Bool) → (nat_eq n x ≡ true → FormBelow names.next_variable f) → FormBelow names.next_variable (names.forms x) → nat_eq n x ≡ b
+        → FormBelow names.next_variable (if b then f else names.forms x)
     by_test x true p q e = p e
     by_test x false p q e = q
 
-    to_test : (x : ℕ) (value : ℤ) (b : Bool) → nat_eq n x ≡ b → (nat_eq n x ≡ true → Means s.values f value) → Means s.values (names.forms x) value → Means s.values (if b then f else names.forms x) value
+    to_test : (x : ℕ) (value : ℤ) (b : Bool) → nat_eq n x ≡ b → (nat_eq n x ≡ true → Means s.values f value) → Means s.values (names.forms x) value
+        → Means s.values (if b then f else names.forms x) value
     to_test x value true e p q = p e
     to_test x value false e p q = q
 
@@ -338,7 +343,8 @@ module _ (n : ℕ) where
   free_uses-below (Pending tag origin item rest) b =
       AllBelow-append n (names_read item) (without_name (dest_of item) (free_uses rest)) (names_read-below item b.0) (without_name-below (dest_of item) (free_uses rest) (free_uses-below rest b.1))
   free_uses-below (Undecided tag origin on one other) b =
-      AllBelow-append n (name_in on) (free_uses one ++ free_uses other) (name_in-below on b.0) (AllBelow-append n (free_uses one) (free_uses other) (free_uses-below one b.1) (free_uses-below other b.2))
+      AllBelow-append n (name_in on) (free_uses one ++ free_uses other) (name_in-below on b.0)
+        (AllBelow-append n (free_uses one) (free_uses other) (free_uses-below one b.1) (free_uses-below other b.2))
   free_uses-below (Exit region tag homes) b = homes-names-below homes b
   free_uses-below Stop_exit b = tt
   free_uses-below (Trap_exit kind line) b = tt
@@ -356,7 +362,8 @@ module _ (n : ℕ) where
 abbrev pub Carries : ℕ → (ℕ → ℤ) → (ℕ → Form) → (ℕ → ℤ) → (ℕ → Form) → Type 0
 Carries n σ old τ new = (x : ℕ) → x < n → (value : ℤ) → Means σ (old x) value → Means τ (new x) value
 
-carried_item : (n : ℕ) (σ τ : ℕ → ℤ) (old new : ℕ → Form) (item : Item) (value : ℤ) → Carries n σ old τ new → ItemBelow n item → DefinedMeans σ old (dest_of item) value → DefinedMeans τ new (dest_of item) value
+carried_item : (n : ℕ) (σ τ : ℕ → ℤ) (old new : ℕ → Form) (item : Item) (value : ℤ) → Carries n σ old τ new → ItemBelow n item → DefinedMeans σ old (dest_of item) value
+    → DefinedMeans τ new (dest_of item) value
 carried_item n σ τ old new (Bin op dest left right) value c b h = c dest b.0 value h
 carried_item n σ τ old new (Copy dest from) value c b h = c dest b.0 value h
 carried_item n σ τ old new (Load dest array index) value c b h = c dest b.0 value h
@@ -365,7 +372,8 @@ carried_item n σ τ old new (Print word) value c b h = tt
 carried_item n σ τ old new (Read dest) value c b h = c dest b value h
 carried_item n σ τ old new (More dest) value c b h = c dest b value h
 
-carried_defined : (n : ℕ) (σ τ : ℕ → ℤ) (old new : ℕ → Form) (lengths : List ℕ) (tree : Tree) (s : State) → Carries n σ old τ new → TreeBelow n tree → DefinedHold σ old lengths tree s → DefinedHold τ new lengths tree s
+carried_defined : (n : ℕ) (σ τ : ℕ → ℤ) (old new : ℕ → Form) (lengths : List ℕ) (tree : Tree) (s : State) → Carries n σ old τ new → TreeBelow n tree
+    → DefinedHold σ old lengths tree s → DefinedHold τ new lengths tree s
 carried_defined n σ τ old new lengths (Pending tag origin item rest) s c b h =
     (carried_item n σ τ old new item (value_of lengths s item) c b.0 h.0, carried_defined n σ τ old new lengths rest (state_after lengths s (item ∷ [])) c b.1 h.1)
 carried_defined n σ τ old new lengths (Undecided tag origin on one other) s c b h =
@@ -376,7 +384,8 @@ carried_defined n σ τ old new lengths Stop_exit s c b h = tt
 carried_defined n σ τ old new lengths (Trap_exit kind line) s c b h = tt
 
 -- forms that hold still hold after rebasing
-pub rebased_holds : (tree : Tree) (names : Supply) (lengths : List ℕ) (s : State) → FormsBelow names → TreeBelow names.next tree → TreeHolds names.forms lengths tree s → TreeHolds (rebased tree names).forms lengths tree s
+pub rebased_holds : (tree : Tree) (names : Supply) (lengths : List ℕ) (s : State) → FormsBelow names → TreeBelow names.next tree → TreeHolds names.forms lengths tree s
+    → TreeHolds (rebased tree names).forms lengths tree s
 rebased_holds tree names lengths s b lt h =
     let stage = rebased-stage tree names h.0 b (parameters-below names.next tree lt) in (
       stage.values,

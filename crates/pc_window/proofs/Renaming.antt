@@ -49,7 +49,8 @@ does_same : (lengths : List ℕ) (f : Operand → Operand) (names names' : ℕ �
     → AllByRecursion (λ o. operand_value names' (f o) ≡ operand_value names o) (operands_of x)
     → DoesSame lengths (record { names = names; cells = cells; input = input }) (record { names = names'; cells = cells; input = input }) x (map_operands f x)
 does_same lengths f names names' cells input (Bin op dest left right) h =
-    record { dest = refl; value = ap (λ (v : ℤ). word_apply op v (operand_value names' (f right))) h.0 ∙ ap (λ (v : ℤ). word_apply op (operand_value names left) v) h.1.0; stores = refl; prints = refl; reads = refl; fault = refl }
+    record { dest = refl; value = ap (λ (v : ℤ). word_apply op v (operand_value names' (f right))) h.0
+        ∙ ap (λ (v : ℤ). word_apply op (operand_value names left) v) h.1.0; stores = refl; prints = refl; reads = refl; fault = refl }
 does_same lengths f names names' cells input (Copy dest from) h = record { dest = refl; value = h.0; stores = refl; prints = refl; reads = refl; fault = refl }
 does_same lengths f names names' cells input (Load dest array index) h =
     record { dest = refl; value = ap (λ (v : ℤ). element_at (cells array) (place_in (slice_index lengths array) v)) h.0; stores = refl; prints = refl; reads = refl; fault = refl }
@@ -110,7 +111,8 @@ known-after known x (Name z) is = by_dest (dest_of x) z is
     by_dest : (dest : Option ℕ) (z : ℕ) → (writes dest z || known z) ≡ true
         → (((e : ℕ) → dest ≡ Some e → Name z ≡ Name e → ⊥) × (known z ≡ true)) ⊎ ((e : ℕ) × (dest ≡ Some e) × (Name z ≡ Name e))
     by_dest None z is = inl ((λ e h p. absurd (cc)), is)
-    by_dest (Some d) z is = elim (nat_eq d z) as (λ b. nat_eq d z ≡ b → (b || known z) ≡ true → (((e : ℕ) → Some d ≡ Some e → Name z ≡ Name e → ⊥) × (known z ≡ true)) ⊎ ((e : ℕ) × (Some d ≡ Some e) × (Name z ≡ Name e))) [
+    by_dest (Some d) z is = elim (nat_eq d z) as (λ b. nat_eq d z ≡ b → (b || known z) ≡ true
+        → (((e : ℕ) → Some d ≡ Some e → Name z ≡ Name e → ⊥) × (known z ≡ true)) ⊎ ((e : ℕ) × (Some d ≡ Some e) × (Name z ≡ Name e))) [
       | true ↦ λ same h. inr (d, refl, ap Name (sym (eqb-true d z same)))
       | false ↦ λ differ h. inl ((λ e p q. absurd (let same : d ≡ z = cc in let h : nat_eq d z ≡ true = eq-eqb d z same in cc)), h)
     ] refl is
@@ -211,7 +213,8 @@ mapped-walks lengths f known (Pending tag origin x rest) s t scoped h keeps =
       forms = λ σ forms d. (writes_same σ forms (dest_of x) (dest_of y) (value_of lengths s x) (value_of lengths t y) does.dest does.value d.0, below.forms σ forms d.1);
     }
   where
-    item_shows : (n : ℕ) → ((m : ℕ) → shown lengths (mapped f rest) (after_item lengths (map_operands f x) t) m ≡ shown lengths rest (after_item lengths x s) m) → prints_of t (map_operands f x ∷ []) ≡ prints_of s (x ∷ [])
+    item_shows : (n : ℕ) → ((m : ℕ) → shown lengths (mapped f rest) (after_item lengths (map_operands f x) t) m ≡ shown lengths rest (after_item lengths x s) m)
+        → prints_of t (map_operands f x ∷ []) ≡ prints_of s (x ∷ [])
         → shown lengths (mapped f (Pending tag origin x rest)) t n ≡ shown lengths (Pending tag origin x rest) s n
     item_shows zero next prints = refl
     item_shows (suc n) next prints = λ i. prints i ++ next n i

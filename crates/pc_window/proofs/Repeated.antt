@@ -49,7 +49,8 @@ unwinds-sound table loop window a b (unwinds_once g h k e u) s =
     let at = once_is table loop window g h e in
     unwinds-sound table loop window h k u (unwound-sound table loop at.least g h at.is s)
 
-pub unwinds_agrees : (table : Table) → TableKeeps table → (loop : Option ℕ) (window : ℕ) (g k : Grafted) → Unwinds table loop window g k → Sound g → (s : State) → Agree (free_run table k.tree s) (free_run table g.tree s)
+pub unwinds_agrees : (table : Table) → TableKeeps table → (loop : Option ℕ) (window : ℕ) (g k : Grafted) → Unwinds table loop window g k → Sound g → (s : State)
+    → Agree (free_run table k.tree s) (free_run table g.tree s)
 unwinds_agrees table keeps loop window a b (unwinds_no_more g e) sound s = Agree-refl (free_run table g.tree s)
 unwinds_agrees table keeps loop window a b (unwinds_once g h k e u) sound s =
     let at = once_is table loop window g h e in

@@ -51,7 +51,8 @@ becomes_kept table w tree names limits inside s pace back holds =
 
 -- ---- unwinding
 
-unwinds_pace : (table : Table) → TableKeeps table → (loop : Option ℕ) (window : ℕ) (g k : Grafted) → Unwinds table loop window g k → Sound g → (s : State) → KeepsPace (tree_run table g.tree s) (tree_run table k.tree s)
+unwinds_pace : (table : Table) → TableKeeps table → (loop : Option ℕ) (window : ℕ) (g k : Grafted) → Unwinds table loop window g k → Sound g → (s : State)
+    → KeepsPace (tree_run table g.tree s) (tree_run table k.tree s)
 unfolding IsUnwound
 unwinds_pace table keeps loop window a b (unwinds_no_more g e) sound s n = Answers-refl (tree_run table g.tree s n)
 unwinds_pace table keeps loop window a b (unwinds_once g h k e u) sound s n =

@@ -31,7 +31,8 @@ size_divided tag origin on from p q (Past t o y rest p' q' divides) = let a = si
 most_entered : (known : ℕ → Bool) (forms forms' : ℕ → Form) (new : Option ℕ) (n : ℕ) (comes : Option Item) (from to : Front)
     → EntersFront known forms forms' new comes from to → MostBehind n from → MostBehind n to
 most_entered known forms forms' new n comes from to (Lands tag origin x t left reads isnew none same rises) h = let a = size_risen forms tag origin x x _ t left rises in omega arith
-most_entered known forms forms' new n comes from to (Lands_renamed tag origin name stood t left reads isnew is gives rises) h = let a = size_risen forms tag origin stood _ _ t left rises in omega arith
+most_entered known forms forms' new n comes from to (Lands_renamed tag origin name stood t left reads isnew is gives rises) h =
+    let a = size_risen forms tag origin stood _ _ t left rises in omega arith
 most_entered known forms forms' new n comes from to (Lands_test tag origin on t p q reads none same divides) h =
     let a = size_divided tag origin on t p q divides in let b = a.0 in let c = a.1 in (omega arith, omega arith)
 most_entered known forms forms' new n comes from to (Lands_once t o on tag origin tag' origin' name stood other c c' p q l m equal reads isnew is gives rises rises') h =

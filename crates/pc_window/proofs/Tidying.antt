@@ -184,7 +184,8 @@ Tidy-keeps lengths tag origin item new old t = record {
     still_new None h = tt
     still_new (Some x) h = not_true (defines new x) (λ e. let p = t.defines_less x e in absurd (cc))
 
-Tidy-drops : (lengths : List ℕ) (tag origin : ℕ) (item : Item) (dest : ℕ) (new old : Tree) → OnlyWrites lengths item dest → uses new dest ≡ false → Tidy lengths new old → Tidy lengths new (Pending tag origin item old)
+Tidy-drops : (lengths : List ℕ) (tag origin : ℕ) (item : Item) (dest : ℕ) (new old : Tree) → OnlyWrites lengths item dest → uses new dest ≡ false → Tidy lengths new old
+    → Tidy lengths new (Pending tag origin item old)
 Tidy-drops lengths tag origin item dest new old o u t = record {
   walks = λ s.
       sym (walk_agrees lengths new (state_after lengths s (item ∷ [])) s (unused_agrees lengths item dest new s o u))
@@ -197,7 +198,8 @@ Tidy-drops lengths tag origin item dest new old o u t = record {
       omega arith;
   no_later = later;
   fewer = λ x h. needed_above (reads item x) (writes (dest_of item) x) (uses old x) (other x h (writes (dest_of item) x) refl) (t.fewer x h);
-  still_holds = λ σ forms s h. defined_agrees σ forms lengths new (state_after lengths s (item ∷ [])) s (unused_agrees lengths item dest new s o u) (t.still_holds σ forms (state_after lengths s (item ∷ [])) h.1);
+  still_holds = λ σ forms s h. defined_agrees σ forms lengths new (state_after lengths s (item ∷ [])) s (unused_agrees lengths item dest new s o u)
+    (t.still_holds σ forms (state_after lengths s (item ∷ [])) h.1);
   below = λ n h. t.below n h.1;
   defines_less = λ x h. or_second (writes (dest_of item) x) (defines old x) (t.defines_less x h);
   once = λ h. t.once h.1;
@@ -223,9 +225,11 @@ Tidy-drops lengths tag origin item dest new old o u t = record {
 -- ---- the tidied tree
 
 Tidy-refl : (lengths : List ℕ) (tree : Tree) → Tidy lengths tree tree
-Tidy-refl lengths tree = record { walks = λ s. refl; no_longer = λ s. omega arith; no_later = λ s n. Begins-refl _; fewer = λ x h. h; still_holds = λ σ forms s h. h; below = λ n h. h; defines_less = λ x h. h; once = λ h. h }
+Tidy-refl lengths tree = record { walks =
+    λ s. refl; no_longer = λ s. omega arith; no_later = λ s n. Begins-refl _; fewer = λ x h. h; still_holds = λ σ forms s h. h; below = λ n h. h; defines_less = λ x h. h; once = λ h. h }
 
-Tidy-if : (lengths : List ℕ) (dest tag origin : ℕ) (item : Item) (new old : Tree) → OnlyWrites lengths item dest → Tidy lengths new old → Tidy lengths (kept_if_used dest tag origin item new) (Pending tag origin item old)
+Tidy-if : (lengths : List ℕ) (dest tag origin : ℕ) (item : Item) (new old : Tree) → OnlyWrites lengths item dest → Tidy lengths new old
+    → Tidy lengths (kept_if_used dest tag origin item new) (Pending tag origin item old)
 Tidy-if lengths dest tag origin item new old o t = by_test (uses new dest) refl
   where
     by_test : (b : Bool) → uses new dest ≡ b → Tidy lengths (if b then Pending tag origin item new else new) (Pending tag origin item old)
@@ -244,7 +248,8 @@ Tidy-above lengths tag origin (Read dest) new old t = Tidy-keeps lengths tag ori
 Tidy-above lengths tag origin (More dest) new old t =
     Tidy-if lengths dest tag origin (More dest) new old (record { no_fault = λ s. refl; prints_none = λ s. refl; writes_it = refl; leaves = λ s. refl }) t
 
-Tidy-test : (lengths : List ℕ) (tag origin : ℕ) (on : Operand) (one one' other other' : Tree) → Tidy lengths one one' → Tidy lengths other other' → Tidy lengths (Undecided tag origin on one other) (Undecided tag origin on one' other')
+Tidy-test : (lengths : List ℕ) (tag origin : ℕ) (on : Operand) (one one' other other' : Tree) → Tidy lengths one one' → Tidy lengths other other'
+    → Tidy lengths (Undecided tag origin on one other) (Undecided tag origin on one' other')
 Tidy-test lengths tag origin on one one' other other' p q = record {
   walks = λ s. (λ i. side_of (operand_value s.names on) (p.walks s i) (q.walks s i));
   no_longer = λ s. no_longer (holds (operand_value s.names on)) _ _ _ _ (p.no_longer s) (q.no_longer s);

@@ -101,7 +101,8 @@ ReadsSame s t item = AllByRecursion (SameValue s t) (operands_of item)
 -- what an item reads alone decides what it does
 pub unmoved_of : (lengths : List ℕ) (s t : State) (x : Item) → ReadsSame s t x → LoadsSame lengths s t x → (is_effect x ≡ true → t.input ≡ s.input) → Unmoved lengths s t x
 unmoved_of lengths s t (Bin op dest left right) reads loads input =
-    record { value = ap (λ (v : ℤ). word_apply op v (operand_value t.names right)) reads.0 ∙ ap (λ (v : ℤ). word_apply op (operand_value s.names left) v) reads.1.0; stores = refl; prints = refl; fault = refl }
+    record { value = ap (λ (v : ℤ). word_apply op v (operand_value t.names right)) reads.0
+        ∙ ap (λ (v : ℤ). word_apply op (operand_value s.names left) v) reads.1.0; stores = refl; prints = refl; fault = refl }
 unmoved_of lengths s t (Copy dest from) reads loads input = record { value = reads.0; stores = refl; prints = refl; fault = refl }
 unmoved_of lengths s t (Load dest array index) reads loads input =
     record { value = ap (loaded lengths t array) reads.0 ∙ loads; stores = refl; prints = refl; fault = refl }
@@ -125,7 +126,8 @@ loads-after lengths known σ forms s holds (Store b j w) (Load dest a i) yknown 
     element-kept (s.cells a) (nat_eq b a) (place_in (slice_index lengths b) (operand_value s.names j)) (operand_value s.names w) (place_in (slice_index lengths a) (operand_value s.names i))
     (λ p same there meets. let is : b ≡ a = eqb-true b a same in
     forms-differ known σ forms s holds j i yknown.0 xknown.0 (apart is refl)
-    (place_in-same (slice_index lengths a) (operand_value s.names j) (operand_value s.names i) p (subst (λ (c : ℕ). place_in (slice_index lengths c) (operand_value s.names j) ≡ Some p) is there) meets))
+    (place_in-same (slice_index lengths a) (operand_value s.names j) (operand_value s.names i) p
+        (subst (λ (c : ℕ). place_in (slice_index lengths c) (operand_value s.names j) ≡ Some p) is there) meets))
   where
     element-kept : (cells : ℕ → ℤ) (same : Bool) (place : Option ℕ) (word : ℤ) (other : Option ℕ)
         → ((p : ℕ) → same ≡ true → place ≡ Some p → other ≡ Some p → ⊥)

@@ -47,7 +47,8 @@ counted-after table out (Finishes printed end) (suc k) = refl
 
 counted-grows : (table : Table) (w : Walked) (k m : ℕ) → k ≤ m → Answers (counted table w k) (counted table w m) (counted table w k).end
 counted-grows table (Leaves printed region s) k m le =
-    Answers-after printed (region_run table (Next region) s k) (region_run table (Next region) s m) (region_run table (Next region) s k).end (run_from-answers (region_step table) k m (place_at table (Next region) s) le)
+    Answers-after printed (region_run table (Next region) s k) (region_run table (Next region) s m) (region_run table (Next region) s k).end
+        (run_from-answers (region_step table) k m (place_at table (Next region) s) le)
 counted-grows table (Finishes printed end) zero zero le = Begins-refl printed
 counted-grows table (Finishes printed end) zero (suc m) le = Begins-refl printed
 counted-grows table (Finishes printed end) (suc k) (suc m) le = (refl, refl)
@@ -68,7 +69,8 @@ module _ (table : Table) where
   item_whole item rest s (Some fault) never next = absurd (never 0 fault refl)
   item_whole item rest s None never next = printing_whole (prints_of s (item ∷ [])) (walk table.arrays rest (after_item table.arrays item s)) (next never)
 
-  test_whole : (on_yes on_no : Tree) (s : State) (b : Bool) → NeverFaults (tree_run table (if b then on_yes else on_no) s) → (NeverFaults (tree_run table on_yes s) → IsWhole (walk table.arrays on_yes s))
+  test_whole : (on_yes on_no : Tree) (s : State) (b : Bool) → NeverFaults (tree_run table (if b then on_yes else on_no) s)
+    → (NeverFaults (tree_run table on_yes s) → IsWhole (walk table.arrays on_yes s))
       → (NeverFaults (tree_run table on_no s) → IsWhole (walk table.arrays on_no s)) → IsWhole (if b then walk table.arrays on_yes s else walk table.arrays on_no s)
   test_whole on_yes on_no s true never p q = p never
   test_whole on_yes on_no s false never p q = q never
@@ -101,7 +103,8 @@ module _ (table : Table) where
   led n item rest s (Some fault) = refl
   led n item rest s None = refl
 
-  pub entered : (n : ℕ) (b : Bool) (on_yes on_no : Tree) (s : State) → run_from (window_step table) n (enter table (if b then on_yes else on_no) s) ≡ seen_side b (tree_run table on_yes s n) (tree_run table on_no s n)
+  pub entered : (n : ℕ) (b : Bool) (on_yes on_no : Tree) (s : State) → run_from (window_step table) n (enter table (if b then on_yes else on_no) s)
+    ≡ seen_side b (tree_run table on_yes s n) (tree_run table on_no s n)
   entered n true on_yes on_no s = refl
   entered n false on_yes on_no s = refl
 
@@ -116,7 +119,8 @@ module _ (table : Table) where
   tree_early (Pending tag origin item rest) s zero ok le = refl
   tree_early (Pending tag origin item rest) s (suc n) ok le =
       led n item rest s (fault_of table.arrays s (item ∷ []))
-      ∙ item_early item s (walk table.arrays rest (after_item table.arrays item s)) (fault_of table.arrays s (item ∷ [])) (tree_run table rest (after_item table.arrays item s) n) (shown table.arrays rest (after_item table.arrays item s) n) ok
+      ∙ item_early item s (walk table.arrays rest (after_item table.arrays item s)) (fault_of table.arrays s (item ∷ []))
+        (tree_run table rest (after_item table.arrays item s) n) (shown table.arrays rest (after_item table.arrays item s) n) ok
       (λ ok'. tree_early rest (after_item table.arrays item s) n ok' (omega arith))
   tree_early (Undecided tag origin on on_yes on_no) s zero ok le = refl
   tree_early (Undecided tag origin on on_yes on_no) s (suc n) ok le =
@@ -134,7 +138,8 @@ module _ (table : Table) where
   pub front_early : (front : Front) (s : State) (n : ℕ) → IsWhole (walk table.arrays (whole front) s) → n ≤ behind_length table.arrays front s
       → front_run table front s n ≡ record { printed = front_shown table.arrays front s n; end = None }
   front_early (Issued tag origin item rest) s n ok le =
-      item_early item s (walk table.arrays (whole rest) (after_item table.arrays item s)) (fault_of table.arrays s (item ∷ [])) (front_run table rest (after_item table.arrays item s) n) (front_shown table.arrays rest (after_item table.arrays item s) n) ok
+      item_early item s (walk table.arrays (whole rest) (after_item table.arrays item s)) (fault_of table.arrays s (item ∷ []))
+        (front_run table rest (after_item table.arrays item s) n) (front_shown table.arrays rest (after_item table.arrays item s) n) ok
       (λ ok'. front_early rest (after_item table.arrays item s) n ok' le)
   front_early (Split tag origin on p q) s n ok le =
       test_early (holds (operand_value s.names on)) n (front_run table p s n) (front_run table q s n) (front_shown table.arrays p s n) (front_shown table.arrays q s n)
@@ -147,7 +152,8 @@ module _ (table : Table) where
   item_late : (item : Item) (s : State) (w : Walked) (f : Option MachineFault) (x : Seen) (k : ℕ) → IsWhole (done_first f (prints_of s (item ∷ [])) w)
       → (IsWhole w → x ≡ counted table w k) → seen_first f (prints_of s (item ∷ [])) x ≡ counted table (done_first f (prints_of s (item ∷ [])) w) k
   item_late item s w (Some fault) x k ok next = absurd ok
-  item_late item s w None x k ok next = ap (λ (seen : Seen). after_printing (prints_of s (item ∷ [])) seen) (next (whole_printing (prints_of s (item ∷ [])) w ok)) ∙ counted-after table (prints_of s (item ∷ [])) w k
+  item_late item s w None x k ok next = ap (λ (seen : Seen). after_printing (prints_of s (item ∷ [])) seen) (next (whole_printing (prints_of s (item ∷ [])) w ok))
+    ∙ counted-after table (prints_of s (item ∷ [])) w k
     where
       whole_printing : (out : List ℤ) (w : Walked) → IsWhole (printing out w) → IsWhole w
       whole_printing out (Leaves printed region s) h = tt
@@ -158,7 +164,8 @@ module _ (table : Table) where
   test_late true n x y w v k m r ok e p q = p ok e
   test_late false n x y w v k m r ok e p q = q ok e
 
-  pub tree_late : (tree : Tree) (s : State) (n r : ℕ) → IsWhole (walk table.arrays tree s) → n ≡ walk_length table.arrays tree s + r → tree_run table tree s n ≡ counted table (walk table.arrays tree s) r
+  pub tree_late : (tree : Tree) (s : State) (n r : ℕ) → IsWhole (walk table.arrays tree s) → n ≡ walk_length table.arrays tree s + r
+    → tree_run table tree s n ≡ counted table (walk table.arrays tree s) r
   tree_late (Pending tag origin item rest) s zero r ok e = absurd (omega arith)
   tree_late (Pending tag origin item rest) s (suc n) r ok e =
       led n item rest s (fault_of table.arrays s (item ∷ []))
@@ -213,7 +220,8 @@ module _ (table : Table) where
   tree_shows (Pending tag origin item rest) s zero ok = Begins-none _
   tree_shows (Pending tag origin item rest) s (suc n) ok =
       subst (λ (x : Seen). Begins (shown table.arrays (Pending tag origin item rest) s (suc n)) x.printed) (sym (led n item rest s (fault_of table.arrays s (item ∷ []))))
-      (item_shows item s (walk table.arrays rest (after_item table.arrays item s)) (fault_of table.arrays s (item ∷ [])) (tree_run table rest (after_item table.arrays item s) n) (shown table.arrays rest (after_item table.arrays item s) n) ok
+      (item_shows item s (walk table.arrays rest (after_item table.arrays item s)) (fault_of table.arrays s (item ∷ []))
+        (tree_run table rest (after_item table.arrays item s) n) (shown table.arrays rest (after_item table.arrays item s) n) ok
       (λ ok'. tree_shows rest (after_item table.arrays item s) n ok'))
   tree_shows (Undecided tag origin on on_yes on_no) s zero ok = Begins-none _
   tree_shows (Undecided tag origin on on_yes on_no) s (suc n) ok =
@@ -226,7 +234,8 @@ module _ (table : Table) where
 
   front_shows : (front : Front) (s : State) (n : ℕ) → IsWhole (walk table.arrays (whole front) s) → Begins (front_shown table.arrays front s n) (front_run table front s n).printed
   front_shows (Issued tag origin item rest) s n ok =
-      item_shows item s (walk table.arrays (whole rest) (after_item table.arrays item s)) (fault_of table.arrays s (item ∷ [])) (front_run table rest (after_item table.arrays item s) n) (front_shown table.arrays rest (after_item table.arrays item s) n) ok
+      item_shows item s (walk table.arrays (whole rest) (after_item table.arrays item s)) (fault_of table.arrays s (item ∷ []))
+        (front_run table rest (after_item table.arrays item s) n) (front_shown table.arrays rest (after_item table.arrays item s) n) ok
       (λ ok'. front_shows rest (after_item table.arrays item s) n ok')
   front_shows (Split tag origin on p q) s n ok =
       test_shows (holds (operand_value s.names on)) (front_run table p s n) (front_run table q s n) (front_shown table.arrays p s n) (front_shown table.arrays q s n)
@@ -260,11 +269,13 @@ module _ (table : Table) where
       by_length true e =
           let lt = is_less (behind_length table.arrays f s) n e in
           let le = h.no_longer in
-          let here : front_run table f s n ≡ counted table (walk table.arrays (whole f) s) (n - behind_length table.arrays f s) = front_late f s n (n - behind_length table.arrays f s) ok (omega arith) in
+          let here : front_run table f s n ≡ counted table (walk table.arrays (whole f) s) (n - behind_length table.arrays f s) =
+            front_late f s n (n - behind_length table.arrays f s) ok (omega arith) in
           let there : front_run table g s n ≡ counted table (walk table.arrays (whole f) s) (n - behind_length table.arrays g s) =
           front_late g s n (n - behind_length table.arrays g s) ok' (omega arith) ∙ ap (λ (w : Walked). counted table w (n - behind_length table.arrays g s)) h.same in
           subst (λ (x : Seen). Answers x (front_run table g s n) x.end) (sym here)
-          (subst (λ (y : Seen). Answers (counted table (walk table.arrays (whole f) s) (n - behind_length table.arrays f s)) y (counted table (walk table.arrays (whole f) s) (n - behind_length table.arrays f s)).end) (sym there)
+          (subst (λ (y : Seen). Answers (counted table (walk table.arrays (whole f) s) (n - behind_length table.arrays f s)) y
+            (counted table (walk table.arrays (whole f) s) (n - behind_length table.arrays f s)).end) (sym there)
           (counted-grows table (walk table.arrays (whole f) s) (n - behind_length table.arrays f s) (n - behind_length table.arrays g s) (omega arith)))
 
   -- ---- more units show no less
@@ -279,7 +290,8 @@ module _ (table : Table) where
 
   pub front_grows : (front : Front) (s : State) (n m : ℕ) → n ≤ m → Answers (front_run table front s n) (front_run table front s m) (front_run table front s n).end
   front_grows (Issued tag origin item rest) s n m le =
-      first_answers (fault_of table.arrays s (item ∷ [])) (prints_of s (item ∷ [])) (front_run table rest (after_item table.arrays item s) n) (front_run table rest (after_item table.arrays item s) m) (front_grows rest (after_item table.arrays item s) n m le)
+      first_answers (fault_of table.arrays s (item ∷ [])) (prints_of s (item ∷ [])) (front_run table rest (after_item table.arrays item s) n)
+        (front_run table rest (after_item table.arrays item s) m) (front_grows rest (after_item table.arrays item s) n m le)
   front_grows (Split tag origin on p q) s n m le =
       side_answers (holds (operand_value s.names on)) (front_run table p s n) (front_run table q s n) (front_run table p s m) (front_run table q s m) (front_grows p s n m le) (front_grows q s n m le)
   front_grows (Unfinished tree) s n m le = run_from-answers (window_step table) n m (enter table tree s) le

@@ -7,7 +7,8 @@ use Rattle.pc_word.specs.Items.{is_memory}
 use Rattle.pc_window.specs.Tree.{Tree, Front, Issued, Split, Unfinished, whole, tree_size}
 use Rattle.pc_linear.specs.Form.{Form}
 use Rattle.pc_window.specs.Names.{Scoped, IsKnown, ReadsKnown}
-use Rattle.pc_window.specs.Jump.{Rises, Root, Past_item, Past_yes, Past_no, DividesTree, Root_test, Past, EntersFront, Lands, Lands_renamed, Lands_test, Lands_once, Behind_item, On_yes, On_no, combined}
+use Rattle.pc_window.specs.Jump.{Rises, Root, Past_item, Past_yes, Past_no, DividesTree, Root_test, Past, EntersFront, Lands, Lands_renamed, Lands_test, Lands_once, Behind_item}
+use Rattle.pc_window.specs.Jump.{On_yes, On_no, combined}
 use Rattle.pc_window.specs.WindowRun.{Window, supply_of}
 use Rattle.pc_window.specs.Opening.{Supply, with_name}
 use Rattle.pc_window.specs.Conflict.{MayFollow}

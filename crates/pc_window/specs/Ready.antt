@@ -33,7 +33,8 @@ MayStandBehind forms y None = Unit {0}
 
 -- an item, or a test, that stands behind the front is ready: of this tag and origin, at this place of the window
 pub data IsReadyAt (known : ℕ → Bool) (forms : ℕ → Form) (tag origin : ℕ) : (place : ℕ) → Option Item → Front → Type 0 where
-  Item_ready : (x : Item) (place : ℕ) (crosses : Bool) (from : Tree) → ReadsKnown known x → CanRise forms x tag origin place crosses from → IsReadyAt known forms tag origin place (Some x) (Unfinished from)
+  Item_ready : (x : Item) (place : ℕ) (crosses : Bool) (from : Tree) → ReadsKnown known x → CanRise forms x tag origin place crosses from
+    → IsReadyAt known forms tag origin place (Some x) (Unfinished from)
   Test_ready : (on : Operand) (place : ℕ) (from : Tree) → IsKnown known on → CanDivide on tag origin place from → IsReadyAt known forms tag origin place None (Unfinished from)
   Ready_below : (t o : ℕ) (y : Item) (place : ℕ) (what : Option Item) (rest : Front) → MayStandBehind forms y what
       → IsReadyAt known forms tag origin place what rest → IsReadyAt known forms tag origin (suc place) what (Issued t o y rest)
