@@ -127,7 +127,7 @@ module _ (table : Table) (w : Window) (s : State) where
       (λ n. runs n ∙ ap (λ (x : Seen). after_printing (prints_of s path) x) (beyond_is_region table n (place_at table (Next region) (home_state next homes))))
 
   left_ends : (end : End) (tree : Tree) → CutAt tree → tree_run table tree next 0 ≡ record { printed = []; end = None }
-    → ((n : ℕ) → tree_run table tree next (suc n) ≡ record { printed = []; end = Some end })
+      → ((n : ℕ) → tree_run table tree next (suc n) ≡ record { printed = []; end = Some end })
       → Agree (front_run table w.front s) (λ n. after_printing (prints_of s path) (ended_run [] end n))
   left_ends end tree runs starts ends =
       Agree-trans (front_run table w.front s) (λ n. after_printing (prints_of s path) (tree_run table tree next n)) (λ n. after_printing (prints_of s path) (ended_run [] end n))
@@ -161,7 +161,7 @@ module _ (table : Table) (w : Window) (s : State) where
   row_cut : (left : Tree → Left) → fault_of table.arrays s path ≡ None → LeftCut table w s (prints_of s path) next (left rest) → TakenCut table w s (row_step table.arrays (front_row left w.front) s)
   row_cut left none h =
       subst (λ (items : List Item). TakenCut table w s (commit_of table.arrays s items (leaf_of s.names (front_row left w.front)) (fault_of table.arrays s items)))
-        (sym (row_items left w.front s.names))
+      (sym (row_items left w.front s.names))
       (subst (λ (l : Left). TakenCut table w s (commit_of table.arrays s path l (fault_of table.arrays s path))) (sym (row_leaf left w.front s.names))
       (subst (λ (f : Option MachineFault). TakenCut table w s (commit_of table.arrays s path (left rest) f)) (sym none) h))
 
@@ -184,8 +184,8 @@ cuts_keep table w row is proper s forms never =
     let known = uses (whole w.front) in
     let ok = never_whole table (whole w.front) s never in
     let c : Cut table.arrays known forms.0 w.forms s (walk table.arrays (whole w.front) s) (front_path s.names w.front) (rest_of s.names w.front)
-        (behind_length table.arrays w.front s) (front_shown table.arrays w.front s) =
-    cut table.arrays known forms.0 w.forms w.front known s (λ x k. k) proper.window.loose proper.window.scoped forms.1.parameters forms.1.defined ok in
+    (behind_length table.arrays w.front s) (front_shown table.arrays w.front s) =
+    cut table.arrays known forms.0 w.forms w.front known s (λ x k. k) proper.window.independent proper.window.scoped forms.1.parameters forms.1.defined ok in
     subst (λ (r : Row Left). TakenCut table w s (row_step table.arrays r s)) (sym is)
     (front_cut table w s forms.0 c.no_fault (cut_runs table w s known forms.0 ok c)
     (record { parameters = λ x u. c.of_known x (parameters_known (rest_of s.names w.front) (and_dests known (front_path s.names w.front)) c.scoped x u); defined = c.defines }) w.front refl)
@@ -194,9 +194,9 @@ cuts_keep table w row is proper s forms never =
 pub rows_do_paths : RowsDoWhatTheirPathsDo
 rows_do_paths lengths w s proper forms ok =
     let path = front_path s.names w.front in
-    let c = cut lengths (uses (whole w.front)) forms.0 w.forms w.front (uses (whole w.front)) s (λ x k. k) proper.window.loose proper.window.scoped forms.1.parameters forms.1.defined ok in
+    let c = cut lengths (uses (whole w.front)) forms.0 w.forms w.front (uses (whole w.front)) s (λ x k. k) proper.window.independent proper.window.scoped forms.1.parameters forms.1.defined ok in
     ap (λ (items : List Item). outcome_walk lengths (commit_of lengths s items (leaf_of s.names (front_row (λ (tree : Tree). tree) w.front)) (fault_of lengths s items)))
-        (row_items (λ tree. tree) w.front s.names)
+    (row_items (λ tree. tree) w.front s.names)
     ∙ ap (λ (tree : Tree). outcome_walk lengths (commit_of lengths s path tree (fault_of lengths s path))) (row_leaf (λ tree. tree) w.front s.names)
     ∙ ap (λ (f : Option MachineFault). outcome_walk lengths (commit_of lengths s path (rest_of s.names w.front) f)) c.no_fault
     ∙ sym c.same

@@ -18,7 +18,7 @@ use Rattle.pc_linear.specs.Form.{Form}
 use Rattle.pc_window.specs.Hold.{Side, DefinedHold, KnownHold}
 use Rattle.pc_window.specs.Names.{IsKnown, ReadsKnown, IsNew, and_dest, Scoped}
 use Rattle.pc_window.specs.Conflict.{MayFollow}
-use Rattle.pc_window.specs.Filled.{AllItems, Loose}
+use Rattle.pc_window.specs.Filled.{AllItems, Independent}
 use Rattle.pc_window.proofs.Undisturbed.{unmoved, name-after}
 use Rattle.pc_window.proofs.Exchange.{stores_apart}
 use Rattle.pc_window.proofs.Renaming.{if_same}
@@ -65,18 +65,18 @@ same_operand : (base : ℕ → Bool) (names names' : ℕ → ℤ) → ((x : ℕ)
 same_operand base names names' same (Name x) is = same x is
 same_operand base names names' same (Lit value) is = refl
 
-path_same : (forms : ℕ → Form) (base : ℕ → Bool) (front : Front) (names names' : ℕ → ℤ) → Loose forms base front → ((x : ℕ) → base x ≡ true → names' x ≡ names x)
+path_same : (forms : ℕ → Form) (base : ℕ → Bool) (front : Front) (names names' : ℕ → ℤ) → Independent forms base front → ((x : ℕ) → base x ≡ true → names' x ≡ names x)
     → (front_path names' front ≡ front_path names front) × (rest_of names' front ≡ rest_of names front)
-path_same forms base (Issued t o x rest) names names' loose same =
-    let h = path_same forms base rest names names' loose.2 same in (ap (λ (l : List Item). x ∷ l) h.0, h.1)
-path_same forms base (Split t o on p q) names names' loose same =
-    let at_yes = path_same forms base p names names' loose.1 same in
-    let at_no = path_same forms base q names names' loose.2 same in
-    let test = ap holds (same_operand base names names' same on loose.0) in (
+path_same forms base (Issued t o x rest) names names' independent same =
+    let h = path_same forms base rest names names' independent.2 same in (ap (λ (l : List Item). x ∷ l) h.0, h.1)
+path_same forms base (Split t o on p q) names names' independent same =
+    let at_yes = path_same forms base p names names' independent.1 same in
+    let at_no = path_same forms base q names names' independent.2 same in
+    let test = ap holds (same_operand base names names' same on independent.0) in (
       if_same (holds (operand_value names on)) (holds (operand_value names' on)) _ _ _ _ test at_yes.0 at_no.0,
       if_same (holds (operand_value names on)) (holds (operand_value names' on)) _ _ _ _ test at_yes.1 at_no.1,
     )
-path_same forms base (Unfinished rest) names names' loose same = (refl, refl)
+path_same forms base (Unfinished rest) names names' independent same = (refl, refl)
 
 -- ---- what stands on the path
 
@@ -91,7 +91,7 @@ path_follows forms x (Split t o on p q) names h =
     on_path (MayFollow forms x) (holds (operand_value names on)) (front_path names p) (front_path names q) (path_follows forms x p names h.0) (path_follows forms x q names h.1)
 path_follows forms x (Unfinished rest) names h = tt
 
-path_reads : (forms : ℕ → Form) (base : ℕ → Bool) (front : Front) (names : ℕ → ℤ) → Loose forms base front → AllByRecursion (ReadsKnown base) (front_path names front)
+path_reads : (forms : ℕ → Form) (base : ℕ → Bool) (front : Front) (names : ℕ → ℤ) → Independent forms base front → AllByRecursion (ReadsKnown base) (front_path names front)
 path_reads forms base (Issued t o y rest) names h = (h.0, path_reads forms base rest names h.2)
 path_reads forms base (Split t o on p q) names h =
     on_path (ReadsKnown base) (holds (operand_value names on)) (front_path names p) (front_path names q) (path_reads forms base p names h.1) (path_reads forms base q names h.2)
@@ -107,9 +107,11 @@ new_to_either known y None h = (tt, tt)
 
 -- each name that a path writes is new
 path_new : (front : Front) (known : ℕ → Bool) (names : ℕ → ℤ) → Scoped known (whole front) → AllByRecursion (λ y. IsNew known (dest_of y)) (front_path names front)
-path_new (Issued t o y rest) known names h =
-    (h.1, all_imply (λ z. IsNew (and_dest known y) (dest_of z)) (λ z. IsNew known (dest_of z)) (front_path names rest) (λ z n. (new_to_either known y (dest_of z) n).0)
-        (path_new rest (and_dest known y) names h.2))
+path_new (Issued t o y rest) known names h = (
+  h.1,
+  all_imply (λ z. IsNew (and_dest known y) (dest_of z)) (λ z. IsNew known (dest_of z)) (front_path names rest) (λ z n. (new_to_either known y (dest_of z) n).0)
+      (path_new rest (and_dest known y) names h.2),
+)
 path_new (Split t o on p q) known names h =
     on_path (λ y. IsNew known (dest_of y)) (holds (operand_value names on)) (front_path names p) (front_path names q) (path_new p known names h.1) (path_new q known names h.2)
 path_new (Unfinished rest) known names h = tt
@@ -121,16 +123,16 @@ all_three P Q R S f (y ∷ path) p q r = (f y p.0 q.0 r.0, all_three P Q R S f p
 
 -- so all that stand behind an item on the path stand behind it in the row
 path_behind : (lengths : List ℕ) (base known : ℕ → Bool) (σ : ℕ → ℤ) (forms : ℕ → Form) (t o : ℕ) (x : Item) (rest : Front) (s : State) (names : ℕ → ℤ)
-    → Within base known → Loose forms base (Issued t o x rest) → Scoped known (whole (Issued t o x rest)) → KnownHold known σ forms s
+    → Within base known → Independent forms base (Issued t o x rest) → Scoped known (whole (Issued t o x rest)) → KnownHold known σ forms s
     → AllBehind lengths s x (front_path names rest)
-path_behind lengths base known σ forms t o x rest s names within loose scoped holds =
+path_behind lengths base known σ forms t o x rest s names within independent scoped holds =
     all_three (MayFollow forms x) (ReadsKnown base) (λ y. IsNew (and_dest known x) (dest_of y)) (Behind_in_row lengths s x)
     (λ y follows reads new. record {
-      unmoved = unmoved lengths known σ forms s holds x y (reads_within base known within x loose.0) (reads_within base known within y reads) scoped.1 follows;
+      unmoved = unmoved lengths known σ forms s holds x y (reads_within base known within x independent.0) (reads_within base known within y reads) scoped.1 follows;
       dests = dests_apart (dest_of x) (dest_of y) (new_to_either known x (dest_of y) new).1;
-      stores = stores_apart lengths known σ forms s holds x y (reads_within base known within x loose.0) (reads_within base known within y reads) follows.unspoilt;
+      stores = stores_apart lengths known σ forms s holds x y (reads_within base known within x independent.0) (reads_within base known within y reads) follows.no_store_dependence;
     })
-    (front_path names rest) (path_follows forms x rest names loose.1) (path_reads forms base rest names loose.2) (path_new rest (and_dest known x) names scoped.2)
+    (front_path names rest) (path_follows forms x rest names independent.1) (path_reads forms base rest names independent.2) (path_new rest (and_dest known x) names scoped.2)
 
 -- ---- the front
 
@@ -184,32 +186,32 @@ cut_at_test lengths known σ forms s false wy wn py pn ry rn ly ln sy sn Dy Dn f
 
 -- the front is cut off
 pub cut : (lengths : List ℕ) (base : ℕ → Bool) (σ : ℕ → ℤ) (forms : ℕ → Form) (front : Front) (known : ℕ → Bool) (s : State)
-    → Within base known → Loose forms base front → Scoped known (whole front) → KnownHold known σ forms s → DefinedHold σ forms lengths (whole front) s → IsWhole (walk lengths (whole front) s)
+    → Within base known → Independent forms base front → Scoped known (whole front) → KnownHold known σ forms s → DefinedHold σ forms lengths (whole front) s → IsWhole (walk lengths (whole front) s)
     → Cut lengths known σ forms s (walk lengths (whole front) s) (front_path s.names front) (rest_of s.names front) (behind_length lengths front s) (front_shown lengths front s)
-cut lengths base σ forms (Issued t o x rest) known s within loose scoped holds defines ok =
+cut lengths base σ forms (Issued t o x rest) known s within independent scoped holds defines ok =
     let h : Cut lengths (and_dest known x) σ forms (after_item lengths x s) (walk lengths (whole rest) (after_item lengths x s))
-        (front_path (after_item lengths x s).names rest) (rest_of (after_item lengths x s).names rest) (behind_length lengths rest (after_item lengths x s))
-        (front_shown lengths rest (after_item lengths x s)) =
-    cut lengths base σ forms rest (and_dest known x) (after_item lengths x s) (λ z is. or_comes (writes (dest_of x) z) (known z) (within z is)) loose.2 scoped.2
+    (front_path (after_item lengths x s).names rest) (rest_of (after_item lengths x s).names rest) (behind_length lengths rest (after_item lengths x s))
+    (front_shown lengths rest (after_item lengths x s)) =
+    cut lengths base σ forms rest (and_dest known x) (after_item lengths x s) (λ z is. or_comes (writes (dest_of x) z) (known z) (within z is)) independent.2 scoped.2
     (known_forms_after lengths known σ forms x s holds defines.0) defines.1
     (whole_below (fault_of lengths s (x ∷ [])) (prints_of s (x ∷ [])) (walk lengths (whole rest) (after_item lengths x s)) ok) in
-    let same = path_same forms base rest s.names (after_item lengths x s).names loose.2 (λ z is. name-after lengths known x s z scoped.1 (within z is)) in
+    let same = path_same forms base rest s.names (after_item lengths x s).names independent.2 (λ z is. name-after lengths known x s z scoped.1 (within z is)) in
     cut_item lengths known σ forms s x (walk lengths (whole rest) (after_item lengths x s)) (front_path s.names rest) (rest_of s.names rest)
-        (behind_length lengths rest (after_item lengths x s)) (front_shown lengths rest (after_item lengths x s))
-    (path_behind lengths base known σ forms t o x rest s s.names within loose scoped holds)
+    (behind_length lengths rest (after_item lengths x s)) (front_shown lengths rest (after_item lengths x s))
+    (path_behind lengths base known σ forms t o x rest s s.names within independent scoped holds)
     (no_fault_here (fault_of lengths s (x ∷ [])) (printing (prints_of s (x ∷ [])) (walk lengths (whole rest) (after_item lengths x s))) ok)
     (subst (λ (p : List Item). Cut lengths (and_dest known x) σ forms (after_item lengths x s) (walk lengths (whole rest) (after_item lengths x s)) p
-        (rest_of s.names rest) (behind_length lengths rest (after_item lengths x s)) (front_shown lengths rest (after_item lengths x s))) same.0
+    (rest_of s.names rest) (behind_length lengths rest (after_item lengths x s)) (front_shown lengths rest (after_item lengths x s))) same.0
     (subst (λ (r : Tree). Cut lengths (and_dest known x) σ forms (after_item lengths x s) (walk lengths (whole rest) (after_item lengths x s))
-        (front_path (after_item lengths x s).names rest) r (behind_length lengths rest (after_item lengths x s)) (front_shown lengths rest (after_item lengths x s))) same.1 h))
-cut lengths base σ forms (Split t o on p q) known s within loose scoped holds' defines ok =
+    (front_path (after_item lengths x s).names rest) r (behind_length lengths rest (after_item lengths x s)) (front_shown lengths rest (after_item lengths x s))) same.1 h))
+cut lengths base σ forms (Split t o on p q) known s within independent scoped holds' defines ok =
     cut_at_test lengths known σ forms s (holds (operand_value s.names on)) (walk lengths (whole p) s) (walk lengths (whole q) s) (front_path s.names p)
-        (front_path s.names q) (rest_of s.names p) (rest_of s.names q)
+    (front_path s.names q) (rest_of s.names p) (rest_of s.names q)
     (behind_length lengths p s) (behind_length lengths q s) (front_shown lengths p s) (front_shown lengths q s) (DefinedHold σ forms lengths (whole p) s) (DefinedHold σ forms lengths (whole q) s)
-    (λ ok' d. cut lengths base σ forms p known s within loose.1 scoped.1 holds' d ok')
-    (λ ok' d. cut lengths base σ forms q known s within loose.2 scoped.2 holds' d ok')
+    (λ ok' d. cut lengths base σ forms p known s within independent.1 scoped.1 holds' d ok')
+    (λ ok' d. cut lengths base σ forms q known s within independent.2 scoped.2 holds' d ok')
     ok defines
-cut lengths base σ forms (Unfinished rest) known s within loose scoped holds defines ok = record {
+cut lengths base σ forms (Unfinished rest) known s within independent scoped holds defines ok = record {
   no_fault = refl;
   same = printing_nothing (walk lengths rest s);
   shows = λ n. refl;

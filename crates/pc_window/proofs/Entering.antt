@@ -170,7 +170,7 @@ pub record Outcome (σ : ℕ → ℤ) (forms forms' : ℕ → Form) (new : Optio
 abbrev pub Entered : List ℕ → (ℕ → ℤ) → (ℕ → Form) → (ℕ → Form) → Option ℕ → Front → Front → State → Type 0
 Entered lengths σ forms forms' new from to s =
     Outcome σ forms forms' new (walk lengths (whole from) s) (walk lengths (whole to) s) (λ values. DefinedHold values forms' lengths (whole to) s)
-        (behind_length lengths from s) (behind_length lengths to s) (front_shown lengths from s) (front_shown lengths to s)
+    (behind_length lengths from s) (behind_length lengths to s) (front_shown lengths from s) (front_shown lengths to s)
 
 -- on both sides of a test
 pub outcome_at_test : (σ : ℕ → ℤ) (forms forms' : ℕ → Form) (new : Option ℕ) (b : Bool) (wy wn wy' wn' : Walked) (Dy Dn : Type 0) (Dy' Dn' : (ℕ → ℤ) → Type 0)
@@ -178,20 +178,37 @@ pub outcome_at_test : (σ : ℕ → ℤ) (forms forms' : ℕ → Form) (new : Op
     → (IsWhole wy → Dy → Outcome σ forms forms' new wy wy' Dy' ly ly' py py') → (IsWhole wn → Dn → Outcome σ forms forms' new wn wn' Dn' ln ln' pn pn')
     → IsWhole (if b then wy else wn) → Side b Dy Dn
     → Outcome σ forms forms' new (if b then wy else wn) (if b then wy' else wn') (λ v. Side b (Dy' v) (Dn' v)) (if b then ly else ln) (if b then ly' else ln')
-        (λ n. if b then py n else pn n) (λ n. if b then py' n else pn' n)
+    (λ n. if b then py n else pn n) (λ n. if b then py' n else pn' n)
 outcome_at_test σ forms forms' new true wy wn wy' wn' Dy Dn Dy' Dn' ly ln ly' ln' py pn py' pn' f g ok h =
-    let k = f ok h in record { values = k.values; same_forms = k.same_forms; still =
-        record { same = k.still.same; defines = k.still.defines; no_longer = k.still.no_longer; no_later = k.still.no_later } }
+    let k = f ok h in record {
+      values = k.values;
+      same_forms = k.same_forms;
+      still =
+          record { same = k.still.same; defines = k.still.defines; no_longer = k.still.no_longer; no_later = k.still.no_later };
+    }
 outcome_at_test σ forms forms' new false wy wn wy' wn' Dy Dn Dy' Dn' ly ln ly' ln' py pn py' pn' f g ok h =
-    let k = g ok h in record { values = k.values; same_forms = k.same_forms; still =
-        record { same = k.still.same; defines = k.still.defines; no_longer = k.still.no_longer; no_later = k.still.no_later } }
+    let k = g ok h in record {
+      values = k.values;
+      same_forms = k.same_forms;
+      still =
+          record { same = k.still.same; defines = k.still.defines; no_longer = k.still.no_longer; no_later = k.still.no_later };
+    }
 
 -- the side of a test where nothing comes
 untouched : (lengths : List ℕ) (σ : ℕ → ℤ) (forms forms' : ℕ → Form) (new : Option ℕ) (side : Front) (s : State) → SameForms new σ forms σ forms' → NotWritten new (whole side)
     → DefinedHold σ forms lengths (whole side) s → Entered lengths σ forms forms' new side side s
 untouched lengths σ forms forms' new side s same apart d =
-    record { values = σ; same_forms = same; still = record { same =
-        refl; defines = forms_carried lengths new σ forms σ forms' same (whole side) s apart d; no_longer = omega arith; no_later = λ n. Begins-refl _ } }
+    record {
+      values = σ;
+      same_forms = same;
+      still = record {
+        same =
+            refl;
+        defines = forms_carried lengths new σ forms σ forms' same (whole side) s apart d;
+        no_longer = omega arith;
+        no_later = λ n. Begins-refl _;
+      };
+    }
 
 -- an item has the name that it has
 pub same_as : (x : Item) → SameBut x x
@@ -255,10 +272,10 @@ entered lengths base σ forms forms' new known comes from to s (Lands_renamed ta
 entered lengths base σ forms forms' new known comes from to s (Lands_test tag origin on t p q reads none same divides) h ok =
     let w : (b : Bool) → holds (operand_value s.names on) ≡ b
     → Still (walk lengths t s) (walk lengths (Undecided tag origin on p q) s) (DefinedHold σ forms lengths (Undecided tag origin on p q) s) (walk_length lengths t s)
-        (behind_length lengths (Split tag origin on (Unfinished p) (Unfinished q)) s) (shown lengths t s) (front_shown lengths (Split tag origin on (Unfinished p) (Unfinished q)) s) =
+    (behind_length lengths (Split tag origin on (Unfinished p) (Unfinished q)) s) (shown lengths t s) (front_shown lengths (Split tag origin on (Unfinished p) (Unfinished q)) s) =
     λ b. elim b as (λ b. holds (operand_value s.names on) ≡ b
     → Still (walk lengths t s) (walk lengths (Undecided tag origin on p q) s) (DefinedHold σ forms lengths (Undecided tag origin on p q) s) (walk_length lengths t s)
-        (behind_length lengths (Split tag origin on (Unfinished p) (Unfinished q)) s) (shown lengths t s) (front_shown lengths (Split tag origin on (Unfinished p) (Unfinished q)) s)) [
+    (behind_length lengths (Split tag origin on (Unfinished p) (Unfinished q)) s) (shown lengths t s) (front_shown lengths (Split tag origin on (Unfinished p) (Unfinished q)) s)) [
       | true ↦ λ e. (let k = divided lengths σ forms tag origin on true known t p q s divides e (known_within base known h.within on reads) h.scoped h.defines in record {
         same = ap (λ (c : Bool). if c then walk lengths p s else walk lengths q s) e ∙ k.same;
         defines = subst (λ (c : Bool). Side c (DefinedHold σ forms lengths p s) (DefinedHold σ forms lengths q s)) (sym e) k.defines;
@@ -286,7 +303,7 @@ entered lengths base σ forms forms' new known comes from to s (Lands_once t o o
     let k = still_at_test (holds (operand_value s.names on)) (holds (operand_value (after_item lengths x s).names on))
     (walk lengths p s) (walk lengths q s) (walk lengths (Pending tag origin x l) s) (walk lengths (Pending tag origin x m) s)
     (DefinedHold σ forms lengths p s) (DefinedHold σ forms lengths q s) (DefinedHold g.values forms' lengths l (after_item lengths x s))
-        (DefinedHold g.values forms' lengths m (after_item lengths x s))
+    (DefinedHold g.values forms' lengths m (after_item lengths x s))
     (walk_length lengths p s) (walk_length lengths q s) (walk_length lengths l (after_item lengths x s)) (walk_length lengths m (after_item lengths x s))
     (shown lengths p s) (shown lengths q s) (λ n. prints_of s (x ∷ []) ++ shown lengths l (after_item lengths x s) n) (λ n. prints_of s (x ∷ []) ++ shown lengths m (after_item lengths x s) n)
     (ap holds (operand-after lengths known x s on h.new h.scoped.0))

@@ -15,7 +15,7 @@ use Rattle.pc_window.proofs.Shown.{shown}
 use Rattle.pc_linear.specs.Form.{Form}
 use Rattle.pc_window.specs.Hold.{KnownHold}
 use Rattle.pc_window.specs.Names.{ReadsKnown}
-use Rattle.pc_window.specs.Conflict.{Touch, touch_of, Disjoint, Unspoilt, NoConflict, MayFollow}
+use Rattle.pc_window.specs.Conflict.{Touch, touch_of, NoDependence, NoStoreDependence, NoConflict, MayFollow}
 use Rattle.pc_window.proofs.Undisturbed.{Unmoved, forms-differ, place_in-same}
 
 -- ---- conflicts go both ways
@@ -34,22 +34,22 @@ and_turned false true e = refl
 and_turned true false e = refl
 and_turned true true e = e
 
-unspoilt_first : (forms : ℕ → Form) (a b : Option Touch) → Disjoint forms a b → Unspoilt forms a b
-unspoilt_first forms (Some a) (Some b) h = λ same stores. h same (or_first a.stores b.stores stores)
-unspoilt_first forms (Some a) None h = tt
-unspoilt_first forms None b h = tt
+store_dependence_first : (forms : ℕ → Form) (a b : Option Touch) → NoDependence forms a b → NoStoreDependence forms a b
+store_dependence_first forms (Some a) (Some b) h = λ same stores. h same (or_first a.stores b.stores stores)
+store_dependence_first forms (Some a) None h = tt
+store_dependence_first forms None b h = tt
 
-unspoilt_second : (forms : ℕ → Form) (a b : Option Touch) → Disjoint forms a b → Unspoilt forms b a
-unspoilt_second forms (Some a) (Some b) h = λ same stores σ equal. h (sym same) (or_comes a.stores b.stores stores) σ (sym equal)
-unspoilt_second forms (Some a) None h = tt
-unspoilt_second forms None (Some b) h = tt
-unspoilt_second forms None None h = tt
+store_dependence_second : (forms : ℕ → Form) (a b : Option Touch) → NoDependence forms a b → NoStoreDependence forms b a
+store_dependence_second forms (Some a) (Some b) h = λ same stores σ equal. h (sym same) (or_comes a.stores b.stores stores) σ (sym equal)
+store_dependence_second forms (Some a) None h = tt
+store_dependence_second forms None (Some b) h = tt
+store_dependence_second forms None None h = tt
 
 pub follows_first : (forms : ℕ → Form) (y x : Item) → NoConflict forms y x → MayFollow forms y x
-follows_first forms y x h = record { unspoilt = unspoilt_first forms (touch_of y) (touch_of x) h.disjoint; one_effect = h.one_effect }
+follows_first forms y x h = record { no_store_dependence = store_dependence_first forms (touch_of y) (touch_of x) h.no_dependence; one_effect = h.one_effect }
 
 pub follows_second : (forms : ℕ → Form) (y x : Item) → NoConflict forms y x → MayFollow forms x y
-follows_second forms y x h = record { unspoilt = unspoilt_second forms (touch_of y) (touch_of x) h.disjoint; one_effect = and_turned (is_effect y) (is_effect x) h.one_effect }
+follows_second forms y x h = record { no_store_dependence = store_dependence_second forms (touch_of y) (touch_of x) h.no_dependence; one_effect = and_turned (is_effect y) (is_effect x) h.one_effect }
 
 -- ---- two stores
 
@@ -60,7 +60,7 @@ StoresApart (one ∷ left) right = AllByRecursion (λ other. (a p : ℕ) → is_
 
 -- stores of items that may follow one another
 pub stores_apart : (lengths : List ℕ) (known : ℕ → Bool) (σ : ℕ → ℤ) (forms : ℕ → Form) (s : State) → KnownHold known σ forms s
-    → (y x : Item) → ReadsKnown known y → ReadsKnown known x → Unspoilt forms (touch_of y) (touch_of x)
+    → (y x : Item) → ReadsKnown known y → ReadsKnown known x → NoStoreDependence forms (touch_of y) (touch_of x)
     → StoresApart (stores_of lengths s (y ∷ [])) (stores_of lengths s (x ∷ []))
 stores_apart lengths known σ forms s holds (Store b j w) (Store a i v) yknown xknown apart = (
   (
@@ -210,20 +210,20 @@ pub walk-exchanged : (lengths : List ℕ) (tag origin tag' origin' : ℕ) (y x :
 walk-exchanged lengths tag origin tag' origin' y x rest s h ok =
     let equal : walk lengths (Pending tag origin y (Pending tag' origin' x rest)) s
     ≡ unless_fault (fault_of lengths s (y ∷ [])) (printing (prints_of s (y ∷ []))
-        (unless_fault (fault_of lengths s (x ∷ [])) (printing (prints_of s (x ∷ [])) (walk lengths rest (after_item lengths y (after_item lengths x s)))))) =
+    (unless_fault (fault_of lengths s (x ∷ [])) (printing (prints_of s (x ∷ [])) (walk lengths rest (after_item lengths y (after_item lengths x s)))))) =
     ap (λ (f : Option MachineFault). unless_fault (fault_of lengths s (y ∷ []))
-        (printing (prints_of s (y ∷ [])) (unless_fault f (printing (prints_of (after_item lengths y s) (x ∷ [])) (walk lengths rest (after_item lengths x (after_item lengths y s))))))) h.second.fault
+    (printing (prints_of s (y ∷ [])) (unless_fault f (printing (prints_of (after_item lengths y s) (x ∷ [])) (walk lengths rest (after_item lengths x (after_item lengths y s))))))) h.second.fault
     ∙ ap (λ (p : List ℤ). unless_fault (fault_of lengths s (y ∷ [])) (printing (prints_of s (y ∷ []))
-        (unless_fault (fault_of lengths s (x ∷ [])) (printing p (walk lengths rest (after_item lengths x (after_item lengths y s))))))) h.second.prints
+    (unless_fault (fault_of lengths s (x ∷ [])) (printing p (walk lengths rest (after_item lengths x (after_item lengths y s))))))) h.second.prints
     ∙ ap (λ (t : State). unless_fault (fault_of lengths s (y ∷ [])) (printing (prints_of s (y ∷ []))
-        (unless_fault (fault_of lengths s (x ∷ [])) (printing (prints_of s (x ∷ [])) (walk lengths rest t))))) (states-exchanged lengths s y x h) in
+    (unless_fault (fault_of lengths s (x ∷ [])) (printing (prints_of s (x ∷ [])) (walk lengths rest t))))) (states-exchanged lengths s y x h) in
     let turned : walk lengths (Pending tag' origin' x (Pending tag origin y rest)) s
     ≡ unless_fault (fault_of lengths s (x ∷ [])) (printing (prints_of s (x ∷ []))
-        (unless_fault (fault_of lengths s (y ∷ [])) (printing (prints_of s (y ∷ [])) (walk lengths rest (after_item lengths y (after_item lengths x s)))))) =
+    (unless_fault (fault_of lengths s (y ∷ [])) (printing (prints_of s (y ∷ [])) (walk lengths rest (after_item lengths y (after_item lengths x s)))))) =
     ap (λ (f : Option MachineFault). unless_fault (fault_of lengths s (x ∷ []))
-        (printing (prints_of s (x ∷ [])) (unless_fault f (printing (prints_of (after_item lengths x s) (y ∷ [])) (walk lengths rest (after_item lengths y (after_item lengths x s))))))) h.first.fault
+    (printing (prints_of s (x ∷ [])) (unless_fault f (printing (prints_of (after_item lengths x s) (y ∷ [])) (walk lengths rest (after_item lengths y (after_item lengths x s))))))) h.first.fault
     ∙ ap (λ (p : List ℤ). unless_fault (fault_of lengths s (x ∷ [])) (printing (prints_of s (x ∷ []))
-        (unless_fault (fault_of lengths s (y ∷ [])) (printing p (walk lengths rest (after_item lengths y (after_item lengths x s))))))) h.first.prints in
+    (unless_fault (fault_of lengths s (y ∷ [])) (printing p (walk lengths rest (after_item lengths y (after_item lengths x s))))))) h.first.prints in
     turned
     ∙ outcome-exchanged (fault_of lengths s (y ∷ [])) (fault_of lengths s (x ∷ [])) (prints_of s (y ∷ [])) (prints_of s (x ∷ [])) (walk lengths rest (after_item lengths y (after_item lengths x s)))
     (prints-one s s y x h.one_effect) (subst IsWhole equal ok)

@@ -38,8 +38,8 @@ done_gains : (table : Table) (tag origin : ℕ) (item : Item) (rest : Front) (s 
     → GainsUnit (tree_run table (whole (Issued tag origin item rest)) s) (front_run table (Issued tag origin item rest) s)
 done_gains table tag origin item rest s next n =
     answers_as (tree_run table (whole (Issued tag origin item rest)) s (suc n))
-        (seen_first (fault_of table.arrays s (item ∷ [])) (prints_of s (item ∷ [])) (tree_run table (whole rest) (after_item table.arrays item s) n))
-        (front_run table (Issued tag origin item rest) s n)
+    (seen_first (fault_of table.arrays s (item ∷ [])) (prints_of s (item ∷ [])) (tree_run table (whole rest) (after_item table.arrays item s) n))
+    (front_run table (Issued tag origin item rest) s n)
     (led table n item (whole rest) s (fault_of table.arrays s (item ∷ [])))
     (first_answers table (fault_of table.arrays s (item ∷ [])) (prints_of s (item ∷ []))
     (tree_run table (whole rest) (after_item table.arrays item s) n) (front_run table rest (after_item table.arrays item s) n) (next n))
@@ -49,7 +49,7 @@ split_gains : (table : Table) (tag origin : ℕ) (on : Operand) (on_yes on_no : 
     → GainsUnit (tree_run table (whole (Split tag origin on on_yes on_no)) s) (front_run table (Split tag origin on on_yes on_no) s)
 split_gains table tag origin on on_yes on_no s p q n =
     answers_as (tree_run table (whole (Split tag origin on on_yes on_no)) s (suc n))
-        (seen_side (holds (operand_value s.names on)) (tree_run table (whole on_yes) s n) (tree_run table (whole on_no) s n)) (front_run table (Split tag origin on on_yes on_no) s n)
+    (seen_side (holds (operand_value s.names on)) (tree_run table (whole on_yes) s n) (tree_run table (whole on_no) s n)) (front_run table (Split tag origin on on_yes on_no) s n)
     (entered table n (holds (operand_value s.names on)) (whole on_yes) (whole on_no) s)
     (side_answers table (holds (operand_value s.names on)) (tree_run table (whole on_yes) s n) (tree_run table (whole on_no) s n) (front_run table on_yes s n) (front_run table on_no s n) (p n) (q n))
 
@@ -62,7 +62,7 @@ front_pace table (Issued tag origin item rest) s (suc n) =
 front_pace table (Split tag origin on on_yes on_no) s zero = ((front_run table (Split tag origin on on_yes on_no) s 0).printed, refl)
 front_pace table (Split tag origin on on_yes on_no) s (suc n) =
     answer_of_answer (tree_run table (whole (Split tag origin on on_yes on_no)) s (suc n)) (front_run table (Split tag origin on on_yes on_no) s n)
-        (front_run table (Split tag origin on on_yes on_no) s (suc n))
+    (front_run table (Split tag origin on on_yes on_no) s (suc n))
     (split_gains table tag origin on on_yes on_no s (front_pace table on_yes s) (front_pace table on_no s) n) (front_grows table (Split tag origin on on_yes on_no) s n (suc n) (omega arith))
 front_pace table (Unfinished tree) s n = Answers-refl (tree_run table tree s n)
 
@@ -86,7 +86,7 @@ first_follows table item rest s None n next =
 side_follows : (table : Table) (b : Bool) (on_yes on_no : Front) (s : State) (n : ℕ) → Follows (front_run table on_yes s) (tree_run table (whole on_yes) s)
     → Follows (front_run table on_no s) (tree_run table (whole on_no) s)
     → (m : ℕ) × Answers (seen_side b (front_run table on_yes s n) (front_run table on_no s n))
-        (run_from (window_step table) m (enter table (if b then whole on_yes else whole on_no) s)) (seen_side b (front_run table on_yes s n) (front_run table on_no s n)).end
+    (run_from (window_step table) m (enter table (if b then whole on_yes else whole on_no) s)) (seen_side b (front_run table on_yes s n) (front_run table on_no s n)).end
 side_follows table true on_yes on_no s n p q = p n
 side_follows table false on_yes on_no s n p q = q n
 

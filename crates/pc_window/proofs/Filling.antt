@@ -23,7 +23,7 @@ use Rattle.pc_window.proofs.Undisturbed.{new-known}
 use Rattle.pc_window.proofs.Rising.{SameForms}
 use Rattle.pc_window.proofs.Entering.{Entered, entered}
 use Rattle.pc_window.proofs.Scopes.{scoped_entered, enters_new}
-use Rattle.pc_window.proofs.Fronts.{loose_entered, within_entered}
+use Rattle.pc_window.proofs.Fronts.{independent_entered, within_entered}
 use Rattle.pc_window.proofs.Parameters.{parameters_known}
 use Rattle.pc_window.proofs.Units.{never_whole, NoSlower, NoSlower-pace, NoSlower-back}
 
@@ -59,7 +59,7 @@ pub jump_window : (known : ℕ → Bool) (w v : Window) → Jump known w v → I
 jump_window known w v jump is = record {
   scoped = scoped_entered known w.forms v.forms jump.new known jump.comes w.front v.front jump.enters (λ x k. k)
       (enters_new known w.forms v.forms jump.new jump.comes w.front v.front jump.enters).0 is.scoped;
-  loose = loose_entered known w.forms v.forms jump.new jump.comes w.front v.front jump.enters is.loose;
+  independent = independent_entered known w.forms v.forms jump.new jump.comes w.front v.front jump.enters is.independent;
   within = subst (λ (l : Limits). WithinLimits l v.front) (sym jump.limits)
       (within_entered known w.forms v.forms jump.new w.limits jump.comes w.front v.front jump.enters jump.room is.within);
 }

@@ -15,7 +15,7 @@ use Rattle.pc_window.specs.Tree.{Tree, Pending, Undecided, Front, Issued, Split,
 use Rattle.pc_window.specs.Rename.{mapped, renamed, with_dest}
 use Rattle.pc_window.specs.WindowRun.{Window, supply_of}
 use Rattle.pc_window.specs.Jump.{Rises, Root, Past_item, Past_yes, Past_no, DividesTree, Root_test, Past, EntersFront, Lands, Lands_renamed, Lands_test, Lands_once, Behind_item, On_yes, On_no}
-use Rattle.pc_window.specs.Filled.{Seat, risen_place, divided_place, seat_of, InOrder, given_supply, IsNext, Jump, IsFirstJump, Filled, Full, Goes_on}
+use Rattle.pc_window.specs.Filled.{Priority, risen_place, divided_place, priority_of, InOrder, given_supply, IsNext, Jump, IsFirstJump, Filled, Full, Goes_on}
 
 -- ---- places
 
@@ -93,22 +93,22 @@ with_dest_same n m (Print v) e = refl
 with_dest_same n m (Read d) e = let same : n ≡ m = cc in ap (λ (k : ℕ). Read k) same
 with_dest_same n m (More d) e = let same : n ≡ m = cc in ap (λ (k : ℕ). More k) same
 
--- ---- one seat, one entry
+-- ---- one priority, one entry
 
-seat_within : (known : ℕ → Bool) (forms forms' : ℕ → Form) (new : Option ℕ) (comes : Option Item) (from to : Front)
-    → (e : EntersFront known forms forms' new comes from to) → (seat_of e).2 < tree_size (whole from)
-seat_within known forms forms' new comes from to (Lands tag origin x t left reads isnew none same rises) = risen_within forms tag origin x x false t left rises
-seat_within known forms forms' new comes from to (Lands_renamed tag origin name stood t left reads isnew is gives rises) = risen_within forms tag origin stood (with_dest name stood) true t left rises
-seat_within known forms forms' new comes from to (Lands_test tag origin on t p q reads none same divides) = divided_within tag origin on t p q divides
-seat_within known forms forms' new comes from to (Lands_once t o on tag origin tag' origin' name stood other c c' p q l m equal reads isnew is gives rises rises') =
+priority_within : (known : ℕ → Bool) (forms forms' : ℕ → Form) (new : Option ℕ) (comes : Option Item) (from to : Front)
+    → (e : EntersFront known forms forms' new comes from to) → (priority_of e).2 < tree_size (whole from)
+priority_within known forms forms' new comes from to (Lands tag origin x t left reads isnew none same rises) = risen_within forms tag origin x x false t left rises
+priority_within known forms forms' new comes from to (Lands_renamed tag origin name stood t left reads isnew is gives rises) = risen_within forms tag origin stood (with_dest name stood) true t left rises
+priority_within known forms forms' new comes from to (Lands_test tag origin on t p q reads none same divides) = divided_within tag origin on t p q divides
+priority_within known forms forms' new comes from to (Lands_once t o on tag origin tag' origin' name stood other c c' p q l m equal reads isnew is gives rises rises') =
     let a = risen_within forms tag origin stood (with_dest name stood) c p l rises in omega arith
-seat_within known forms forms' new comes from to (Behind_item t o y c rest rest' may apart enters) = let a = seat_within known forms forms' new c rest rest' enters in omega arith
-seat_within known forms forms' new comes from to (On_yes t o on c p q p' apart enters) = let a = seat_within known forms forms' new c p p' enters in omega arith
-seat_within known forms forms' new comes from to (On_no t o on c p q q' apart enters) = let a = seat_within known forms forms' new c q q' enters in omega arith
+priority_within known forms forms' new comes from to (Behind_item t o y c rest rest' may apart enters) = let a = priority_within known forms forms' new c rest rest' enters in omega arith
+priority_within known forms forms' new comes from to (On_yes t o on c p q p' apart enters) = let a = priority_within known forms forms' new c p p' enters in omega arith
+priority_within known forms forms' new comes from to (On_no t o on c p q q' apart enters) = let a = priority_within known forms forms' new c q q' enters in omega arith
 
 -- what comes from right behind a leaf is no twin
 no_twin : (known : ℕ → Bool) (forms forms' : ℕ → Form) (new : Option ℕ) (comes : Option Item) (t : Tree) (to : Front)
-    → (e : EntersFront known forms forms' new comes (Unfinished t) to) → (seat_of e).3 ≡ 1
+    → (e : EntersFront known forms forms' new comes (Unfinished t) to) → (priority_of e).3 ≡ 1
 no_twin known forms forms' new comes t to (Lands tag origin x t' left reads isnew none same rises) = refl
 no_twin known forms forms' new comes t to (Lands_renamed tag origin name stood t' left reads isnew is gives rises) = refl
 no_twin known forms forms' new comes t to (Lands_test tag origin on t' p q reads none same divides) = refl
@@ -149,7 +149,7 @@ same_next next new new' name name' stood stood' p q same u u' =
 
 enters_same : (known : ℕ → Bool) (forms f g : ℕ → Form) (new new' : Option ℕ) (comes comes' : Option Item) (from to to' : Front)
     → (e : EntersFront known forms f new comes from to) → (e' : EntersFront known forms g new' comes' from to')
-    → (seat_of e).2 ≡ (seat_of e').2 → (seat_of e).3 ≡ (seat_of e').3 → (seat_of e).4 ≡ (seat_of e').4 → (next : ℕ) → IsNext next new → IsNext next new' → (new ≡ new') × SameEntry comes comes' to to'
+    → (priority_of e).2 ≡ (priority_of e').2 → (priority_of e).3 ≡ (priority_of e').3 → (priority_of e).4 ≡ (priority_of e').4 → (next : ℕ) → IsNext next new → IsNext next new' → (new ≡ new') × SameEntry comes comes' to to'
 enters_same known forms f g new new' comes comes' from to to' (Lands tag origin x t left reads isnew none same rises)
     (Lands tag' origin' x' t' left' reads' isnew' none' same' rises') p q r next u u' =
     let k = rise_same forms tag origin tag' origin' x x x' x' false false t left left' rises rises' p in
@@ -191,9 +191,9 @@ enters_same known forms f g new new' comes comes' from to to' (On_no t o on c a 
     let k = enters_same known forms f g new new' c c' b b1 b2 enters enters' (omega arith) q r next u u' in
     (k.0, (k.1.0, ap (λ (f : Front). Split t o on a f) k.1.1))
 enters_same known forms f g new new' comes comes' from to to' (On_yes t o on c a b a1 apart enters) (On_no t' o' on' c' a' b' b2 apart' enters') p q r next u u' =
-    absurd (let k = seat_within known forms f new c a a1 enters in omega arith)
+    absurd (let k = priority_within known forms f new c a a1 enters in omega arith)
 enters_same known forms f g new new' comes comes' from to to' (On_no t o on c a b b1 apart enters) (On_yes t' o' on' c' a' b' a2 apart' enters') p q r next u u' =
-    absurd (let k = seat_within known forms g new' c' a a2 enters' in omega arith)
+    absurd (let k = priority_within known forms g new' c' a a2 enters' in omega arith)
 enters_same known forms f g new new' comes comes' from to to' (Lands_once t o on tag origin tag1 origin1 name stood other c1 c2 a b l m equal reads isnew is gives rises
     rises1) (On_yes t' o' on' c' a' b' a2 apart' enters') p q r next u u' =
     absurd (let k = no_twin known forms g new' c' (_) a2 enters' in omega arith)
@@ -219,25 +219,25 @@ enters_same known forms f g new new' comes comes' from to to' (Lands_once t o on
 
 -- ---- the first
 
-seats_same : (a b : Seat) → InOrder a b → InOrder b a → (a.2 ≡ b.2) × (a.3 ≡ b.3) × (a.4 ≡ b.4)
-seats_same a b (inl p) (inl q) = absurd (omega arith)
-seats_same a b (inl p) (inr (q, more)) = absurd (omega arith)
-seats_same a b (inr (p, more)) (inl q) = absurd (omega arith)
-seats_same a b (inr (p, inl u)) (inr (q, inl v)) = absurd (omega arith)
-seats_same a b (inr (p, inl u)) (inr (q, inr (v, more))) = absurd (omega arith)
-seats_same a b (inr (p, inr (u, more))) (inr (q, inl v)) = absurd (omega arith)
-seats_same a b (inr (p, inr (u, inl c))) (inr (q, inr (v, inl d))) = absurd (omega arith)
-seats_same a b (inr (p, inr (u, inl c))) (inr (q, inr (v, inr (d, more)))) = absurd (omega arith)
-seats_same a b (inr (p, inr (u, inr (c, more)))) (inr (q, inr (v, inl d))) = absurd (omega arith)
-seats_same a b (inr (p, inr (u, inr (c, inl e)))) (inr (q, inr (v, inr (d, inl f)))) = absurd (omega arith)
-seats_same a b (inr (p, inr (u, inr (c, inl e)))) (inr (q, inr (v, inr (d, inr (f, more))))) = absurd (omega arith)
-seats_same a b (inr (p, inr (u, inr (c, inr (e, more))))) (inr (q, inr (v, inr (d, inl f)))) = absurd (omega arith)
-seats_same a b (inr (p, inr (u, inr (c, inr (e, h))))) (inr (q, inr (v, inr (d, inr (f, k))))) = (c, e, omega arith)
+priorities_same : (a b : Priority) → InOrder a b → InOrder b a → (a.2 ≡ b.2) × (a.3 ≡ b.3) × (a.4 ≡ b.4)
+priorities_same a b (inl p) (inl q) = absurd (omega arith)
+priorities_same a b (inl p) (inr (q, more)) = absurd (omega arith)
+priorities_same a b (inr (p, more)) (inl q) = absurd (omega arith)
+priorities_same a b (inr (p, inl u)) (inr (q, inl v)) = absurd (omega arith)
+priorities_same a b (inr (p, inl u)) (inr (q, inr (v, more))) = absurd (omega arith)
+priorities_same a b (inr (p, inr (u, more))) (inr (q, inl v)) = absurd (omega arith)
+priorities_same a b (inr (p, inr (u, inl c))) (inr (q, inr (v, inl d))) = absurd (omega arith)
+priorities_same a b (inr (p, inr (u, inl c))) (inr (q, inr (v, inr (d, more)))) = absurd (omega arith)
+priorities_same a b (inr (p, inr (u, inr (c, more)))) (inr (q, inr (v, inl d))) = absurd (omega arith)
+priorities_same a b (inr (p, inr (u, inr (c, inl e)))) (inr (q, inr (v, inr (d, inl f)))) = absurd (omega arith)
+priorities_same a b (inr (p, inr (u, inr (c, inl e)))) (inr (q, inr (v, inr (d, inr (f, more))))) = absurd (omega arith)
+priorities_same a b (inr (p, inr (u, inr (c, inr (e, more))))) (inr (q, inr (v, inr (d, inl f)))) = absurd (omega arith)
+priorities_same a b (inr (p, inr (u, inr (c, inr (e, h))))) (inr (q, inr (v, inr (d, inr (f, k))))) = (c, e, omega arith)
 
 -- there is one first jump
 pub first_jump_one : (known : ℕ → Bool) (w v u : Window) (jump : Jump known w v) (other : Jump known w u) → IsFirstJump known w v jump → IsFirstJump known w u other → v ≡ u
 first_jump_one known w v u jump other first second =
-    let s = seats_same (seat_of jump.enters) (seat_of other.enters) (first u other) (second v jump) in
+    let s = priorities_same (priority_of jump.enters) (priority_of other.enters) (first u other) (second v jump) in
     let k = enters_same known w.forms v.forms u.forms jump.new other.new jump.comes other.comes w.front v.front u.front jump.enters other.enters s.0 s.1 s.2 w.next jump.next other.next in
     let names : supply_of v ≡ supply_of u = jump.names ∙ (λ i. given_supply (supply_of w) (k.0 i) (k.1.0 i)) ∙ sym other.names in
     let limits = jump.limits ∙ sym other.limits in

@@ -115,7 +115,7 @@ module _ (table : Table) (keeps : TableKeeps table) (loop : Option ℕ) (tag : �
   followed_item origin item rest names homes s below (Moves_home variable from) g follows =
       subst (λ (i : Item). Later table (walk table.arrays (graft table loop tag rest names (changed homes variable from)).tree s) (Does origin i rest) (state_at homes s)) (sym g.item_is)
       (subst (λ (o : Operand). Later table (walk table.arrays (graft table loop tag rest names (changed homes variable o)).tree s)
-        (Does origin (Copy variable g.source) rest) (state_at homes s)) (sym g.from_is)
+      (Does origin (Copy variable g.source) rest) (state_at homes s)) (sym g.from_is)
       (followed_copy origin variable g.source rest names homes s below follows))
   followed_item origin item rest names homes s below (Gets_name variable given form) g follows =
       let names' = with_name names form in

@@ -22,7 +22,7 @@ use Rattle.pc_window.proofs.Units.{beyond_is_region, led, entered}
 follow-grows : (table : Table) (w : Walked) (n m : ℕ) → n ≤ m → Answers (follow table w n) (follow table w m) (follow table w n).end
 follow-grows table (Leaves printed region s) n m le =
     Answers-after printed (region_run table (Next region) s n) (region_run table (Next region) s m) (region_run table (Next region) s n).end
-        (run_from-answers (region_step table) n m (place_at table (Next region) s) le)
+    (run_from-answers (region_step table) n m (place_at table (Next region) s) le)
 follow-grows table (Finishes printed end) n m le = (refl, refl)
 
 module _ (table : Table) where
@@ -43,23 +43,23 @@ module _ (table : Table) where
   forth (Pending tag origin item rest) s (suc n) =
       subst (λ (x : Seen). Answers x (free_run table (Pending tag origin item rest) s (suc n)) x.end) (sym (led table n item rest s (fault_of table.arrays s (item ∷ []))))
       (item_forth item s (walk table.arrays rest (after_item table.arrays item s)) (fault_of table.arrays s (item ∷ []))
-        (tree_run table rest (after_item table.arrays item s) n) n (forth rest (after_item table.arrays item s) n))
+      (tree_run table rest (after_item table.arrays item s) n) n (forth rest (after_item table.arrays item s) n))
   forth (Undecided tag origin on on_yes on_no) s zero = ((free_run table (Undecided tag origin on on_yes on_no) s 0).printed, refl)
   forth (Undecided tag origin on on_yes on_no) s (suc n) =
       subst (λ (x : Seen). Answers x (free_run table (Undecided tag origin on on_yes on_no) s (suc n)) x.end) (sym (entered table n (holds (operand_value s.names on)) on_yes on_no s))
       (test_forth (holds (operand_value s.names on)) (tree_run table on_yes s n) (tree_run table on_no s n) (walk table.arrays on_yes s) (walk table.arrays on_no s) n
-        (forth on_yes s n) (forth on_no s n))
+      (forth on_yes s n) (forth on_no s n))
   forth (Exit region tag homes) s n = Answers-equal (tree_run table (Exit region tag homes) s n) (free_run table (Exit region tag homes) s n)
-    (beyond_is_region table n (place_at table (Next region) (home_state s homes)))
+      (beyond_is_region table n (place_at table (Next region) (home_state s homes)))
   forth Stop_exit s zero = ([], refl)
   forth Stop_exit s (suc n) = (refl, refl)
   forth (Trap_exit kind line) s zero = ([], refl)
   forth (Trap_exit kind line) s (suc n) = (refl, refl)
 
   item_back : (item : Item) (rest : Tree) (s : State) (w : Walked) (f : Option MachineFault) (n : ℕ)
-    → (m : ℕ) × Answers (follow table w n) (tree_run table rest (after_item table.arrays item s) m) (follow table w n).end
+      → (m : ℕ) × Answers (follow table w n) (tree_run table rest (after_item table.arrays item s) m) (follow table w n).end
       → (m : ℕ) × Answers (follow table (done_first f (prints_of s (item ∷ [])) w) n)
-        (seen_of (lead_on (commit_of table.arrays s (item ∷ []) rest f) (enter table)) (run_from (window_step table) m)) (follow table (done_first f (prints_of s (item ∷ [])) w) n).end
+      (seen_of (lead_on (commit_of table.arrays s (item ∷ []) rest f) (enter table)) (run_from (window_step table) m)) (follow table (done_first f (prints_of s (item ∷ [])) w) n).end
   item_back item rest s w (Some fault) n h = (0, (refl, refl))
   item_back item rest s w None n h =
       let t = after_item table.arrays item s in (
@@ -71,7 +71,7 @@ module _ (table : Table) where
   test_back : (b : Bool) (on_yes on_no : Tree) (s : State) (n : ℕ) → (m : ℕ) × Answers (free_run table on_yes s n) (tree_run table on_yes s m) (free_run table on_yes s n).end
       → (m : ℕ) × Answers (free_run table on_no s n) (tree_run table on_no s m) (free_run table on_no s n).end
       → (m : ℕ) × Answers (follow table (if b then walk table.arrays on_yes s else walk table.arrays on_no s) n)
-        (run_from (window_step table) m (enter table (if b then on_yes else on_no) s)) (follow table (if b then walk table.arrays on_yes s else walk table.arrays on_no s) n).end
+      (run_from (window_step table) m (enter table (if b then on_yes else on_no) s)) (follow table (if b then walk table.arrays on_yes s else walk table.arrays on_no s) n).end
   test_back true on_yes on_no s n p q = p
   test_back false on_yes on_no s n p q = q
 
@@ -82,8 +82,11 @@ module _ (table : Table) where
   back (Undecided tag origin on on_yes on_no) s n =
       let m = test_back (holds (operand_value s.names on)) on_yes on_no s n (back on_yes s n) (back on_no s n) in
       (suc m.0, m.1)
-  back (Exit region tag homes) s n = (n, Answers-equal (free_run table (Exit region tag homes) s n) (tree_run table (Exit region tag homes) s n)
-    (sym (beyond_is_region table n (place_at table (Next region) (home_state s homes)))))
+  back (Exit region tag homes) s n = (
+    n,
+    Answers-equal (free_run table (Exit region tag homes) s n) (tree_run table (Exit region tag homes) s n)
+        (sym (beyond_is_region table n (place_at table (Next region) (home_state s homes)))),
+  )
   back Stop_exit s n = (1, (refl, refl))
   back (Trap_exit kind line) s n = (1, (refl, refl))
 

@@ -12,9 +12,9 @@ use Rattle.pc_linear.specs.Form.{Form}
 use Rattle.pc_linear.specs.Equality.{NeverEqual}
 use Rattle.pc_window.specs.Hold.{operand_form}
 use Rattle.pc_window.specs.Names.{IsKnown, ReadsKnown}
-use Rattle.pc_window.specs.Conflict.{Touch, touch_of, Unspoilt, MayFollow}
+use Rattle.pc_window.specs.Conflict.{Touch, touch_of, NoStoreDependence, MayFollow}
 use Rattle.pc_window.specs.Jump.{MayComeBehind, EntersFront, Lands, Lands_renamed, Lands_test, Lands_once, Behind_item, On_yes, On_no}
-use Rattle.pc_window.specs.Filled.{AllItems, Loose, item_count, memory_count, test_count, HasSpace, WithinLimits}
+use Rattle.pc_window.specs.Filled.{AllItems, Independent, item_count, memory_count, test_count, HasSpace, WithinLimits}
 use Rattle.pc_window.proofs.Undisturbed.{new-known}
 use Rattle.pc_window.proofs.Entering.{entered_forms}
 use Rattle.pc_window.proofs.Scopes.{enters_new}
@@ -44,17 +44,17 @@ touch_known known (Print v) h = tt
 touch_known known (Read d) h = tt
 touch_known known (More d) h = tt
 
-unspoilt_same : (known : ℕ → Bool) (forms forms' : ℕ → Form) → SameKnownForms known forms forms' → (a b : Option Touch) → TouchKnown known a → TouchKnown known b
-    → Unspoilt forms a b → Unspoilt forms' a b
-unspoilt_same known forms forms' same (Some a) (Some b) ha hb h = λ arrays stores.
+store_dependence_same : (known : ℕ → Bool) (forms forms' : ℕ → Form) → SameKnownForms known forms forms' → (a b : Option Touch) → TouchKnown known a → TouchKnown known b
+    → NoStoreDependence forms a b → NoStoreDependence forms' a b
+store_dependence_same known forms forms' same (Some a) (Some b) ha hb h = λ arrays stores.
     subst (λ (f : Form). NeverEqual f (operand_form forms' b.index)) (sym (operand_form_same known forms forms' same a.index ha))
     (subst (λ (f : Form). NeverEqual (operand_form forms a.index) f) (sym (operand_form_same known forms forms' same b.index hb)) (h arrays stores))
-unspoilt_same known forms forms' same (Some a) None ha hb h = tt
-unspoilt_same known forms forms' same None b ha hb h = tt
+store_dependence_same known forms forms' same (Some a) None ha hb h = tt
+store_dependence_same known forms forms' same None b ha hb h = tt
 
 follows_same : (known : ℕ → Bool) (forms forms' : ℕ → Form) → SameKnownForms known forms forms' → (y x : Item) → ReadsKnown known y → ReadsKnown known x → MayFollow forms y x → MayFollow forms' y x
 follows_same known forms forms' same y x hy hx h = record {
-  unspoilt = unspoilt_same known forms forms' same (touch_of y) (touch_of x) (touch_known known y hy) (touch_known known x hx) h.unspoilt;
+  no_store_dependence = store_dependence_same known forms forms' same (touch_of y) (touch_of x) (touch_known known y hy) (touch_known known x hx) h.no_store_dependence;
   one_effect = h.one_effect;
 }
 
@@ -64,21 +64,21 @@ all_items_both P Q R f (Issued t o x rest) p q = (f x p.0 q.0, all_items_both P 
 all_items_both P Q R f (Split t o on yes_side no_side) p q = (all_items_both P Q R f yes_side p.0 q.0, all_items_both P Q R f no_side p.1 q.1)
 all_items_both P Q R f (Unfinished rest) p q = tt
 
-loose_reads : (forms : ℕ → Form) (known : ℕ → Bool) (front : Front) → Loose forms known front → AllItems (ReadsKnown known) front
-loose_reads forms known (Issued t o x rest) h = (h.0, loose_reads forms known rest h.2)
-loose_reads forms known (Split t o on p q) h = (loose_reads forms known p h.1, loose_reads forms known q h.2)
-loose_reads forms known (Unfinished rest) h = tt
+independent_reads : (forms : ℕ → Form) (known : ℕ → Bool) (front : Front) → Independent forms known front → AllItems (ReadsKnown known) front
+independent_reads forms known (Issued t o x rest) h = (h.0, independent_reads forms known rest h.2)
+independent_reads forms known (Split t o on p q) h = (independent_reads forms known p h.1, independent_reads forms known q h.2)
+independent_reads forms known (Unfinished rest) h = tt
 
 all_follow_same : (known : ℕ → Bool) (forms forms' : ℕ → Form) → SameKnownForms known forms forms' → (y : Item) → ReadsKnown known y → (front : Front) → AllItems (ReadsKnown known) front
     → AllItems (MayFollow forms y) front → AllItems (MayFollow forms' y) front
 all_follow_same known forms forms' same y hy front reads h =
     all_items_both (ReadsKnown known) (MayFollow forms y) (MayFollow forms' y) (λ x r f. follows_same known forms forms' same y x hy r f) front reads h
 
-loose_same : (known : ℕ → Bool) (forms forms' : ℕ → Form) → SameKnownForms known forms forms' → (front : Front) → Loose forms known front → Loose forms' known front
-loose_same known forms forms' same (Issued t o x rest) h =
-    (h.0, all_follow_same known forms forms' same x h.0 rest (loose_reads forms known rest h.2) h.1, loose_same known forms forms' same rest h.2)
-loose_same known forms forms' same (Split t o on p q) h = (h.0, loose_same known forms forms' same p h.1, loose_same known forms forms' same q h.2)
-loose_same known forms forms' same (Unfinished rest) h = tt
+independent_same : (known : ℕ → Bool) (forms forms' : ℕ → Form) → SameKnownForms known forms forms' → (front : Front) → Independent forms known front → Independent forms' known front
+independent_same known forms forms' same (Issued t o x rest) h =
+    (h.0, all_follow_same known forms forms' same x h.0 rest (independent_reads forms known rest h.2) h.1, independent_same known forms forms' same rest h.2)
+independent_same known forms forms' same (Split t o on p q) h = (h.0, independent_same known forms forms' same p h.1, independent_same known forms forms' same q h.2)
+independent_same known forms forms' same (Unfinished rest) h = tt
 
 -- what holds of each item and of what comes holds of each item afterwards
 abbrev pub ComesWith : (Item → Type 0) → Option Item → Type 0
@@ -104,24 +104,24 @@ known_forms : (known : ℕ → Bool) (forms forms' : ℕ → Form) (new : Option
 known_forms known forms forms' new comes from to enters x is =
     entered_forms known forms forms' new comes from to enters x (new-known known new x (enters_new known forms forms' new comes from to enters).1 is)
 
-pub loose_entered : (known : ℕ → Bool) (forms forms' : ℕ → Form) (new : Option ℕ) (comes : Option Item) (from to : Front)
-    → EntersFront known forms forms' new comes from to → Loose forms known from → Loose forms' known to
-loose_entered known forms forms' new comes from to (Lands tag origin x t left reads isnew none same rises) h = (reads, tt, tt)
-loose_entered known forms forms' new comes from to (Lands_renamed tag origin name stood t left reads isnew is gives rises) h = (reads, tt, tt)
-loose_entered known forms forms' new comes from to (Lands_test tag origin on t p q reads none same divides) h = (reads, tt, tt)
-loose_entered known forms forms' new comes from to (Lands_once t o on tag origin tag' origin' name stood other c c' p q l m equal reads isnew is gives rises rises') h =
+pub independent_entered : (known : ℕ → Bool) (forms forms' : ℕ → Form) (new : Option ℕ) (comes : Option Item) (from to : Front)
+    → EntersFront known forms forms' new comes from to → Independent forms known from → Independent forms' known to
+independent_entered known forms forms' new comes from to (Lands tag origin x t left reads isnew none same rises) h = (reads, tt, tt)
+independent_entered known forms forms' new comes from to (Lands_renamed tag origin name stood t left reads isnew is gives rises) h = (reads, tt, tt)
+independent_entered known forms forms' new comes from to (Lands_test tag origin on t p q reads none same divides) h = (reads, tt, tt)
+independent_entered known forms forms' new comes from to (Lands_once t o on tag origin tag' origin' name stood other c c' p q l m equal reads isnew is gives rises rises') h =
     (reads, (tt, tt), (h.0, tt, tt))
-loose_entered known forms forms' new comes from to (Behind_item t o y c rest rest' may apart enters) h =
-    let below : Loose forms' known rest' = loose_entered known forms forms' new c rest rest' enters h.2 in (
+independent_entered known forms forms' new comes from to (Behind_item t o y c rest rest' may apart enters) h =
+    let below : Independent forms' known rest' = independent_entered known forms forms' new c rest rest' enters h.2 in (
       h.0,
-      all_follow_same known forms forms' (known_forms known forms forms' new c rest rest' enters) y h.0 rest' (loose_reads forms' known rest' below)
+      all_follow_same known forms forms' (known_forms known forms forms' new c rest rest' enters) y h.0 rest' (independent_reads forms' known rest' below)
           (all_entered (MayFollow forms y) known forms forms' new c rest rest' enters (comes_follow forms y c may) h.1),
       below,
     )
-loose_entered known forms forms' new comes from to (On_yes t o on c p q p' apart enters) h =
-    (h.0, loose_entered known forms forms' new c p p' enters h.1, loose_same known forms forms' (known_forms known forms forms' new c p p' enters) q h.2)
-loose_entered known forms forms' new comes from to (On_no t o on c p q q' apart enters) h =
-    (h.0, loose_same known forms forms' (known_forms known forms forms' new c q q' enters) p h.1, loose_entered known forms forms' new c q q' enters h.2)
+independent_entered known forms forms' new comes from to (On_yes t o on c p q p' apart enters) h =
+    (h.0, independent_entered known forms forms' new c p p' enters h.1, independent_same known forms forms' (known_forms known forms forms' new c p p' enters) q h.2)
+independent_entered known forms forms' new comes from to (On_no t o on c p q q' apart enters) h =
+    (h.0, independent_same known forms forms' (known_forms known forms forms' new c q q' enters) p h.1, independent_entered known forms forms' new c q q' enters h.2)
 
 -- ---- the limits
 

@@ -1,5 +1,5 @@
 -- Forms hold on the walk of a grafted tree, once each new form variable has its value.
-use Rattle.std.proofs.Common.{◌≡◌, ℕ, suc, ◌<◌, ◌≤◌, List, [], ◌∷◌, Option, Some, None, refl, sym, ◌∙◌, ap, subst, arith, ◌⊎◌}
+use Rattle.std.proofs.Common.{◌≡◌, ℕ, suc, ◌<◌, ◌≤◌, List, [], ◌∷◌, Option, Some, None, refl, sym, ◌∙◌, ap, subst, arith}
 use Rattle.std.specs.Prelude.{IfSome, ℤ, Bool, true, false, if◌then◌else◌, nat_eq}
 use Rattle.pc_word.specs.declared.item.Item.{Item}
 use Rattle.pc_word.specs.declared.item.Item.TheVariants.{Bin, Copy, Load, Store, Print, Read, More}
@@ -69,10 +69,6 @@ new_name_means σ names value None r =
     (variable_means (changed σ names.next_variable value) names.next_variable value (changed_same σ names.next_variable value))
 new_name_means σ names value (Some f) r = subst (λ (g : Form). Means σ g value) (sym (changed_same names.forms names.next f)) r
 
--- forms of names stay below, with one more name
-split_last : (x n : ℕ) → x < suc n → (x ≡ n) ⊎ (x < n)
-split_last x n h = grind arith
-
 pub with_name-below : (names : Supply) (form : Option Form) → IfSome form (FormBelow names.next_variable) → FormsBelow names → FormsBelow (with_name names form)
 with_name-below names None r b = record { form = λ x. by_test x (nat_eq names.next x) }
   where
@@ -137,7 +133,7 @@ pub brought-means : (lengths : List ℕ) (σ : ℕ → ℤ) (names : Supply) (ho
     → MeansIn lengths σ names.forms s (brought names homes item)
 brought-means lengths σ names homes s (Bin op dest left right) h =
     combine_means σ op (operand_form names.forms (at_home homes left)) (operand_form names.forms (at_home homes right)) (operand_value s.names (at_home homes left))
-        (operand_value s.names (at_home homes right))
+    (operand_value s.names (at_home homes right))
     (at_home_means σ names.forms s.names homes left h) (at_home_means σ names.forms s.names homes right h)
 brought-means lengths σ names homes s (Copy dest from) h = at_home_means σ names.forms s.names homes from h
 brought-means lengths σ names homes s (Load dest array index) h = tt

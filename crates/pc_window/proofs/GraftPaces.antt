@@ -38,7 +38,7 @@ module _ (table : Table) (keeps : TableKeeps table) (loop : Option ℕ) (tag : �
   by_fault : (item given : Item) (rest : TableTree) (below : Tree) (s t : State) (n : ℕ) (f : Option MachineFault) → prints_of s (given ∷ []) ≡ prints_of t (item ∷ [])
       → PacedAt table rest (state_after table.arrays t (item ∷ [])) below (state_after table.arrays s (given ∷ [])) n
       → Answers (seen_of (lead_on (commit_of table.arrays t (item ∷ []) rest f) (place_at table)) (run_from (region_step table) n))
-        (seen_of (lead_on (commit_of table.arrays s (given ∷ []) below f) (enter table)) (run_from (window_step table) n))
+      (seen_of (lead_on (commit_of table.arrays s (given ∷ []) below f) (enter table)) (run_from (window_step table) n))
       (seen_of (lead_on (commit_of table.arrays t (item ∷ []) rest f) (place_at table)) (run_from (region_step table) n)).end
   by_fault item given rest below s t n (Some fault) prints h = (refl, refl)
   by_fault item given rest below s t n None prints h =
@@ -47,9 +47,9 @@ module _ (table : Table) (keeps : TableKeeps table) (loop : Option ℕ) (tag : �
       subst (λ (p : List ℤ). Answers (after_printing (prints_of t (item ∷ [])) x) (after_printing p y) x.end) (sym prints) (Answers-after (prints_of t (item ∷ [])) x y x.end h)
 
   paced_item : (origin : ℕ) (item given : Item) (rest : TableTree) (below : Tree) (s t : State)
-    → fault_of table.arrays s (given ∷ []) ≡ fault_of table.arrays t (item ∷ []) → prints_of s (given ∷ []) ≡ prints_of t (item ∷ [])
+      → fault_of table.arrays s (given ∷ []) ≡ fault_of table.arrays t (item ∷ []) → prints_of s (given ∷ []) ≡ prints_of t (item ∷ [])
       → ((n : ℕ) → PacedAt table rest (state_after table.arrays t (item ∷ [])) below (state_after table.arrays s (given ∷ [])) n) → (n : ℕ)
-        → PacedAt table (Does origin item rest) t (Pending tag origin given below) s n
+      → PacedAt table (Does origin item rest) t (Pending tag origin given below) s n
   paced_item origin item given rest below s t fault prints next zero = ([], refl)
   paced_item origin item given rest below s t fault prints next (suc n) =
       let x = region_run table (Does origin item rest) t (suc n) in
@@ -87,7 +87,7 @@ module _ (table : Table) (keeps : TableKeeps table) (loop : Option ℕ) (tag : �
       paced_item origin item given rest tree s (state_at homes s)
       (Alike-fault table.arrays s given (state_at homes s) item g.alike) (Alike-prints s given (state_at homes s) item g.alike)
       (λ m. subst (λ (t : State). PacedAt table rest t tree s' m) (after_gives table.arrays names homes s item variable given below g)
-        (pace names' homes' s' (HomesBelow-new names form homes variable below) m)) n
+      (pace names' homes' s' (HomesBelow-new names form homes variable below) m)) n
   paced_brought origin item rest names homes s below (Stays_plain given) g pace n =
       let s' = state_after table.arrays s (given ∷ []) in
       let tree = (graft table loop tag rest names homes).tree in
@@ -111,7 +111,7 @@ module _ (table : Table) (keeps : TableKeeps table) (loop : Option ℕ) (tag : �
   graft_pace (Asks origin on on_yes on_no) names homes s below (suc n) =
       let after = (graft table loop tag on_yes names homes).names in
       by_test (holds (operand_value (state_at homes s).names on)) (holds (operand_value s.names (at_home homes on))) on_yes on_no
-        (graft table loop tag on_yes names homes).tree (graft table loop tag on_no after homes).tree s (state_at homes s) n
+      (graft table loop tag on_yes names homes).tree (graft table loop tag on_no after homes).tree s (state_at homes s) n
       (ap holds (at_home_value homes s on)) (graft_pace on_yes names homes s below n)
       (graft_pace on_no after homes s (HomesBelow-later names.next after.next homes (graft-extends table loop tag on_yes names homes).next below) n)
   graft_pace (Next region) names homes s below n =
@@ -132,5 +132,5 @@ module _ (table : Table) (keeps : TableKeeps table) (loop : Option ℕ) (tag : �
   region_pace region names homes s below n =
       let tree = (graft table loop tag (region_tree table region) names homes).tree in
       subst (λ (r : TableTree). Answers (run_from (region_step table) n (record { tree = r; state = state_at homes s })) (tree_run table tree s n)
-        (run_from (region_step table) n (record { tree = r; state = state_at homes s })).end)
+      (run_from (region_step table) n (record { tree = r; state = state_at homes s })).end)
       (keeps.begins region) (graft_pace (region_tree table region) names homes s below n)

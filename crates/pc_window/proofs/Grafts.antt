@@ -201,7 +201,7 @@ module _ (lengths : List ℕ) (names : Supply) (homes : ℕ → Operand) (s : St
       (λ v.
       ap (λ (d : Option ℕ). operand_value (λ x. if writes d x then value_of lengths s given else s.names x) (changed homes variable (Name names.next) v)) g.new
       ∙ new_home_value (nat_eq variable v) names.next (value_of lengths s given) (value_of lengths (state_at homes s) item) s.names (homes v) (below v)
-        (Alike-value lengths s given (state_at homes s) item g.alike)
+      (Alike-value lengths s given (state_at homes s) item g.alike)
       ∙ ap (λ (d : Option ℕ). if writes d v then value_of lengths (state_at homes s) item else operand_value s.names (homes v)) (sym g.dest))
       (Alike-after lengths s given (state_at homes s) item g.alike)
 

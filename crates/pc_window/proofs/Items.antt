@@ -1,13 +1,13 @@
 -- What one item does by itself depends on the values of its operands alone, and not on names.
-use Rattle.std.proofs.Common.{◌≡◌, ℕ, List, [], ◌∷◌, Option, refl, sym, ◌∙◌, arith}
-use Rattle.std.specs.Prelude.{ℤ, pos, Bool, true, false, if◌then◌else◌, nat_eq, ◌||◌}
+use Rattle.std.proofs.Common.{◌≡◌, ℕ, List, [], ◌∷◌, refl, sym, ◌∙◌, arith}
+use Rattle.std.specs.Prelude.{ℤ, pos, Bool, true, false, nat_eq, ◌||◌}
 use Rattle.pc_word.specs.declared.item.Item.{Item}
 use Rattle.pc_word.specs.declared.item.Item.TheVariants.{Bin, Copy, Load, Store, Print, Read, More}
 use Rattle.pc_word.specs.declared.item.Operand.{Operand}
 use Rattle.pc_word.specs.declared.item.Operand.TheVariants.{Name, Lit}
 use Rattle.pc_word.specs.State.{State}
 use Rattle.pc_word.specs.Items.{operand_value, value_of}
-use Rattle.pc_word.specs.Commit.{prints_of, fault_of, state_after, writes}
+use Rattle.pc_word.specs.Commit.{prints_of, fault_of, state_after}
 use Rattle.pc_table.specs.TableKeeps.{reads, reads_name}
 
 -- an item with the values of its operands in their place, and no name
@@ -113,7 +113,3 @@ same_evaluated names others (Store array index value) h = λ d. Store array (Lit
 same_evaluated names others (Print value) h = λ d. Print (Lit (same_operand names others value h d))
 same_evaluated names others (Read dest) h = refl
 same_evaluated names others (More dest) h = refl
-
--- the value of a name after an item
-abbrev pub after_name : Option ℕ → ℤ → (ℕ → ℤ) → ℕ → ℤ
-after_name dest value names x = if writes dest x then value else names x

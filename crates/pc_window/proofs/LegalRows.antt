@@ -11,7 +11,7 @@ use Rattle.pc_window.specs.Tree.{Tree, Front, Issued, Split, Unfinished, whole}
 use Rattle.pc_window.specs.Names.{IsNew, and_dest, Scoped, uses}
 use Rattle.pc_window.specs.Conflict.{MayFollow}
 use Rattle.pc_window.specs.WindowRun.{Window}
-use Rattle.pc_window.specs.Filled.{AllItems, Loose, item_count, memory_count, test_count, IsWindow}
+use Rattle.pc_window.specs.Filled.{AllItems, Independent, item_count, memory_count, test_count, IsWindow}
 use Rattle.pc_word.specs.Row.{Row, items_of, tests_of, paths_of}
 use Rattle.pc_window.specs.Kept.{Left}
 use Rattle.pc_window.specs.Steps.{left_of, left_at_root, front_row, cut_row}
@@ -46,7 +46,7 @@ pair P Q R f (x ∷ xs) p q = (f x p.0 q.0, pair P Q R f xs p.1 q.1)
 paths_items : (P : Item → Type 0) (left : Tree → Left) (front : Front) → AllItems P front → AllPaths (AllByRecursion P) left front
 paths_items P left (Issued t o x rest) h =
     map_of_all (AllByRecursion P) (λ path. x ∷ path) (paths_of (front_row left rest))
-        (all_imply (AllByRecursion P) (λ path. AllByRecursion P (x ∷ path)) (paths_of (front_row left rest)) (λ path k. (h.0, k)) (paths_items P left rest h.1))
+    (all_imply (AllByRecursion P) (λ path. AllByRecursion P (x ∷ path)) (paths_of (front_row left rest)) (λ path k. (h.0, k)) (paths_items P left rest h.1))
 paths_items P left (Split t o on p q) h = all_both (AllByRecursion P) (paths_of (front_row left p)) (paths_of (front_row left q)) (paths_items P left p h.0) (paths_items P left q h.1)
 paths_items P left (Unfinished rest) h = (tt, tt)
 
@@ -92,7 +92,7 @@ no_effect forms x (y ∷ path) h is =
     only true b e k = e
     only false b e k = absurd (cc)
 
-paths_one_effect : (forms : ℕ → Form) (known : ℕ → Bool) (left : Tree → Left) (front : Front) → Loose forms known front → AllPaths (λ path. count_by is_effect path ≤ 1) left front
+paths_one_effect : (forms : ℕ → Form) (known : ℕ → Bool) (left : Tree → Left) (front : Front) → Independent forms known front → AllPaths (λ path. count_by is_effect path ≤ 1) left front
 paths_one_effect forms known left (Issued t o x rest) h =
     map_of_all (λ path. count_by is_effect path ≤ 1) (λ path. x ∷ path) (paths_of (front_row left rest))
     (pair (AllByRecursion (MayFollow forms x)) (λ path. count_by is_effect path ≤ 1) (λ path. count_by is_effect (x ∷ path) ≤ 1)
@@ -116,7 +116,7 @@ front_legal w left is = record {
   memory = (let a = row_memory left w.front in let b = is.within.memory in omega arith);
   once = all_imply (Writes_new (uses (whole w.front))) (λ path. IsDistinct nat_eq (filter_map dest_of path)) (paths_of (front_row left w.front)) (λ path k. k.once)
       (paths_write_once left w.front (uses (whole w.front)) is.scoped);
-  one_effect = paths_one_effect w.forms (uses (whole w.front)) left w.front is.loose;
+  one_effect = paths_one_effect w.forms (uses (whole w.front)) left w.front is.independent;
 }
 
 pub rows_are_legal : RowsAreLegal

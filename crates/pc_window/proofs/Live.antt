@@ -72,15 +72,15 @@ module _ (table : Table) (keeps : TableKeeps table) where
       (λ w. h x (needed_above (reads item x) (writes (dest_of item) x) (needs table rest x) w (arrive_needs rest x p))))
       (Alike-after table.arrays s item t item alike))
       ∙ ap (λ (f : Option MachineFault). seen_of (lead_on (commit_of table.arrays t (item ∷ []) rest f) (place_at table)) (run_from (region_step table) n))
-        (Alike-fault table.arrays s item t item alike)
+      (Alike-fault table.arrays s item t item alike)
   run_same (suc n) (Asks origin on on_yes on_no) s t h b =
       let value : operand_value s.names on ≡ operand_value t.names on = same_operand s.names t.names on (λ x p. h x (or_first (reads_name on x) (needs table on_yes x || needs table on_no x) p)) in
       ap (λ (out : Seen). after_printing [] out)
       (side_same (holds (operand_value s.names on)) on_yes on_no s t (run_from (region_step table) n)
       (run_same n (arrive table on_yes) s t (λ x p. h x (or_second (reads_name on x) (needs table on_yes x || needs table on_no x)
-        (or_first (needs table on_yes x) (needs table on_no x) (arrive_needs on_yes x p)))) b)
+      (or_first (needs table on_yes x) (needs table on_no x) (arrive_needs on_yes x p)))) b)
       (run_same n (arrive table on_no) s t (λ x p. h x (or_second (reads_name on x) (needs table on_yes x || needs table on_no x)
-        (or_second (needs table on_yes x) (needs table on_no x) (arrive_needs on_no x p)))) b))
+      (or_second (needs table on_yes x) (needs table on_no x) (arrive_needs on_no x p)))) b))
       ∙ ap (λ (z : ℤ). after_printing [] (run_from (region_step table) n (place_at table (side_of z on_yes on_no) t))) value
   run_same (suc n) (Next region) s t h b = ap (λ (out : Seen). after_printing [] out) (run_same n (region_tree table region) s t (λ x p. h x (arrive_needs (Next region) x p)) b)
   run_same (suc n) Stops_here s t h b = refl

@@ -82,8 +82,13 @@ untouched lengths σ forms forms' new side s same apart d =
     record {
       values = σ;
       same_forms = λ y e v m. subst (λ (f : Form). Means σ f v) (sym (same y e)) m;
-      still = record { same = refl; defines = forms_carried lengths new σ forms σ forms' (λ y e v m. subst (λ (f : Form). Means σ f v) (sym (same y e)) m) side s apart
-        d; no_longer = omega arith; no_later = λ n. Begins-none [] };
+      still = record {
+        same = refl;
+        defines = forms_carried lengths new σ forms σ forms' (λ y e v m. subst (λ (f : Form). Means σ f v) (sym (same y e)) m) side s apart
+            d;
+        no_longer = omega arith;
+        no_later = λ n. Begins-none [];
+      };
     }
 
 pub moved : (lengths : List ℕ) (σ : ℕ → ℤ) (forms forms' : ℕ → Form) (new : Option ℕ) (known : ℕ → Bool) (from to : Tree) (s : State)

@@ -91,7 +91,7 @@ opened_holds table loop region s =
     let after = (opened table loop region).names in
     let held = graft_holds table loop 0 tree first_supply first_home s s.names after first_names-below first_home-below (first_home-means s) (Extends-refl after) in
     let means = HomesMean-later first_supply after s.names held.values s.names s.names first_home (graft-extends table loop 0 tree first_supply first_home) held.goes_on
-        first_names-below (λ x h. refl) first_home-below (first_home-means s) in (
+    first_names-below (λ x h. refl) first_home-below (first_home-means s) in (
       held.values,
       record {
         parameters = λ x h.

@@ -10,7 +10,7 @@ use Rattle.pc_word.specs.Items.{dest_of}
 use Rattle.pc_word.specs.Commit.{writes}
 use Rattle.pc_linear.specs.Form.{Form}
 use Rattle.pc_window.specs.Tree.{Home, Tree, Pending, Undecided, Exit, Stop_exit, Trap_exit, Front, Issued, Split, Unfinished, whole}
-use Rattle.pc_window.specs.Filled.{Loose}
+use Rattle.pc_window.specs.Filled.{Independent}
 use Rattle.pc_window.proofs.Undisturbed.{new-known}
 use Rattle.pc_window.specs.Names.{IsKnown, ReadsKnown, IsNew, and_dest, HomesKnown, Scoped, homes_use, uses}
 use Rattle.pc_table.specs.TableKeeps.{reads, reads_name}
@@ -80,20 +80,26 @@ known_read known' (Name x) f = f x (eq-eqb x x refl)
 known_read known' (Lit value) f = tt
 
 pub known_reads : (known' : ℕ → Bool) (x : Item) → ((z : ℕ) → reads x z ≡ true → known' z ≡ true) → ReadsKnown known' x
-known_reads known' (Bin op d l r) f = (known_read known' l (λ z e. f z (or_first (reads_name l z) (reads_name r z) e)),
-    (known_read known' r (λ z e. f z (or_comes (reads_name l z) (reads_name r z) e)), tt))
+known_reads known' (Bin op d l r) f = (
+  known_read known' l (λ z e. f z (or_first (reads_name l z) (reads_name r z) e)),
+  (known_read known' r (λ z e. f z (or_comes (reads_name l z) (reads_name r z) e)), tt),
+)
 known_reads known' (Copy d from) f = (known_read known' from f, tt)
 known_reads known' (Load d a i) f = (known_read known' i f, tt)
-known_reads known' (Store a i v) f = (known_read known' i (λ z e. f z (or_first (reads_name i z) (reads_name v z) e)),
-    (known_read known' v (λ z e. f z (or_comes (reads_name i z) (reads_name v z) e)), tt))
+known_reads known' (Store a i v) f = (
+  known_read known' i (λ z e. f z (or_first (reads_name i z) (reads_name v z) e)),
+  (known_read known' v (λ z e. f z (or_comes (reads_name i z) (reads_name v z) e)), tt),
+)
 known_reads known' (Print v) f = (known_read known' v f, tt)
 known_reads known' (Read d) f = tt
 known_reads known' (More d) f = tt
 
 pub known_homes : (known' : ℕ → Bool) (homes : List Home) → ((z : ℕ) → homes_use homes z ≡ true → known' z ≡ true) → HomesKnown known' homes
 known_homes known' [] f = tt
-known_homes known' (home ∷ homes) f = (known_read known' home.value (λ z e. f z (or_first (reads_name home.value z) (homes_use homes z) e)),
-    known_homes known' homes (λ z e. f z (or_comes (reads_name home.value z) (homes_use homes z) e)))
+known_homes known' (home ∷ homes) f = (
+  known_read known' home.value (λ z e. f z (or_first (reads_name home.value z) (homes_use homes z) e)),
+  known_homes known' homes (λ z e. f z (or_comes (reads_name home.value z) (homes_use homes z) e)),
+)
 
 new_fewer : (known' known : ℕ → Bool) → Fewer known' known → (d : Option ℕ) → IsNew known d → IsNew known' d
 new_fewer known' known fewer None h = tt
@@ -130,20 +136,20 @@ scoped_parameters tree known h = scoped_fewer tree (uses tree) known (parameters
 
 -- ---- a front that does not hang on itself needs only parameters to be known
 
-loose_by : (forms : ℕ → Form) (known base base' : ℕ → Bool) (front : Front) → ((z : ℕ) → base z ≡ true → known z ≡ true) → ((z : ℕ) → base z ≡ true → uses (whole front) z ≡ true → base' z ≡ true)
-    → Scoped known (whole front) → Loose forms base front → Loose forms base' front
-loose_by forms known base base' (Issued t o x rest) within enough scoped loose = (
-  known_reads base' x (λ z e. enough z (item_known base x z e loose.0) (or_first (reads x z) _ e)),
-  loose.1,
-  loose_by forms (and_dest known x) base base' rest (λ z e. or_comes (writes (dest_of x) z) (known z) (within z e))
-      (λ z b u. enough z b (or_comes (reads x z) _ (let w = new-known known (dest_of x) z scoped.1 (within z b) in rw (w, u) refl))) scoped.2 loose.2,
+independent_by : (forms : ℕ → Form) (known base base' : ℕ → Bool) (front : Front) → ((z : ℕ) → base z ≡ true → known z ≡ true) → ((z : ℕ) → base z ≡ true → uses (whole front) z ≡ true → base' z ≡ true)
+    → Scoped known (whole front) → Independent forms base front → Independent forms base' front
+independent_by forms known base base' (Issued t o x rest) within enough scoped independent = (
+  known_reads base' x (λ z e. enough z (item_known base x z e independent.0) (or_first (reads x z) _ e)),
+  independent.1,
+  independent_by forms (and_dest known x) base base' rest (λ z e. or_comes (writes (dest_of x) z) (known z) (within z e))
+      (λ z b u. enough z b (or_comes (reads x z) _ (let w = new-known known (dest_of x) z scoped.1 (within z b) in rw (w, u) refl))) scoped.2 independent.2,
 )
-loose_by forms known base base' (Split t o on p q) within enough scoped loose = (
-  known_read base' on (λ z e. enough z (read_known base on z e loose.0) (or_first (reads_name on z) _ e)),
-  loose_by forms known base base' p within (λ z b u. enough z b (or_comes (reads_name on z) _ (or_first (uses (whole p) z) (uses (whole q) z) u))) scoped.1 loose.1,
-  loose_by forms known base base' q within (λ z b u. enough z b (or_comes (reads_name on z) _ (or_comes (uses (whole p) z) (uses (whole q) z) u))) scoped.2 loose.2,
+independent_by forms known base base' (Split t o on p q) within enough scoped independent = (
+  known_read base' on (λ z e. enough z (read_known base on z e independent.0) (or_first (reads_name on z) _ e)),
+  independent_by forms known base base' p within (λ z b u. enough z b (or_comes (reads_name on z) _ (or_first (uses (whole p) z) (uses (whole q) z) u))) scoped.1 independent.1,
+  independent_by forms known base base' q within (λ z b u. enough z b (or_comes (reads_name on z) _ (or_comes (uses (whole p) z) (uses (whole q) z) u))) scoped.2 independent.2,
 )
-loose_by forms known base base' (Unfinished rest) within enough scoped loose = tt
+independent_by forms known base base' (Unfinished rest) within enough scoped independent = tt
 
-pub loose_parameters : (forms : ℕ → Form) (known : ℕ → Bool) (front : Front) → Scoped known (whole front) → Loose forms known front → Loose forms (uses (whole front)) front
-loose_parameters forms known front scoped loose = loose_by forms known known (uses (whole front)) front (λ z e. e) (λ z b u. u) scoped loose
+pub independent_parameters : (forms : ℕ → Form) (known : ℕ → Bool) (front : Front) → Scoped known (whole front) → Independent forms known front → Independent forms (uses (whole front)) front
+independent_parameters forms known front scoped independent = independent_by forms known known (uses (whole front)) front (λ z e. e) (λ z b u. u) scoped independent

@@ -1,6 +1,6 @@
 -- Every step of a search keeps windows proper.
 use Rattle.std.proofs.Common.{◌≡◌, ℕ, ◌+◌, ◌<◌, ◌≤◌, ◌⊎◌, List, [], ◌∷◌, Option, Some, None, refl, sym, ◌∙◌, ap, subst, arith, inl, inr}
-use Rattle.std.specs.Prelude.{IfSome, Bool, true, false, not, ◌&&◌, ◌||◌, if◌then◌else◌, nat_eq}
+use Rattle.std.specs.Prelude.{IfSome, Bool, true, false, ◌||◌, if◌then◌else◌, nat_eq}
 use Rattle.pc_word.specs.declared.item.Item.{Item}
 use Rattle.pc_word.specs.declared.item.Item.TheVariants.{Bin, Copy, Load, Store, Print, Read, More}
 use Rattle.pc_word.specs.declared.item.Operand.{Operand}
@@ -9,7 +9,7 @@ use Rattle.pc_word.specs.declared.item.Limits.{Limits}
 use Rattle.pc_word.specs.Items.{dest_of, is_memory}
 use Rattle.pc_word.specs.Commit.{writes}
 use Rattle.pc_window.specs.Opening.{Supply, with_name, OperandBelow, ItemBelow, StubBelow, Grafted, opened, is_inside, TreeBelow, FormsBelow, FormBelow, TermsBelow}
-use Rattle.pc_window.specs.Filled.{given_supply, IsNext, Jump, Full, Goes_on, WithinLimits, Filled, Loose}
+use Rattle.pc_window.specs.Filled.{given_supply, IsNext, Jump, Full, Goes_on, WithinLimits, Filled, Independent}
 use Rattle.pc_window.specs.Jump.{Rises, Root, Past_item, Past_yes, Past_no, DividesTree, Root_test, Past, combined, EntersFront, Lands, Lands_renamed, Lands_test, Lands_once}
 use Rattle.pc_window.specs.Jump.{Behind_item, On_yes, On_no}
 use Rattle.pc_window.proofs.GraftForms.{with_name-below}
@@ -38,7 +38,7 @@ use Rattle.pc_word.specs.Row.{Row}
 use Rattle.pc_window.proofs.Undisturbed.{new-known}
 use Rattle.pc_window.proofs.Uses.{or_is, nat_eq-tells}
 use Rattle.pc_window.proofs.Live.{or_first, or_second, needed_above}
-use Rattle.pc_window.proofs.Parameters.{known_read, known_reads, known_homes, scoped_parameters, loose_parameters}
+use Rattle.pc_window.proofs.Parameters.{known_read, known_reads, known_homes, scoped_parameters, independent_parameters}
 use Rattle.pc_window.proofs.Repeated.{unwinds-sound}
 use Rattle.pc_window.proofs.Filling.{filling_window, filling_limits}
 use Rattle.pc_window.proofs.CutRows.{whole_front_of}
@@ -49,10 +49,6 @@ use Rattle.std.specs.List.{AllByRecursion}
 or_neither : (a b : Bool) → (a || b) ≡ false → (a ≡ false) × (b ≡ false)
 or_neither false b e = (refl, e)
 or_neither true b e = absurd (cc)
-
-and_second : (a b : Bool) → a ≡ false → b ≡ true → (not a && b) ≡ true
-and_second true b p q = absurd (cc)
-and_second false b p q = q
 
 -- what is known is defined nowhere in a tree
 abbrev Elsewhere : (ℕ → Bool) → Tree → Type 0
@@ -134,12 +130,12 @@ within_one limits (Exit region tag homes) r = record { items = omega arith; memo
 within_one limits Stop_exit r = record { items = omega arith; memory = omega arith; tests = omega arith }
 within_one limits (Trap_exit kind line) r = record { items = omega arith; memory = omega arith; tests = omega arith }
 
-loose_one : (forms : ℕ → Form) (known : ℕ → Bool) (tree : Tree) → Scoped known tree → Loose forms known (front_of tree)
-loose_one forms known (Pending t o x rest) h = (h.0, tt, tt)
-loose_one forms known (Undecided t o on p q) h = (h.0, tt, tt)
-loose_one forms known (Exit region tag homes) h = tt
-loose_one forms known Stop_exit h = tt
-loose_one forms known (Trap_exit kind line) h = tt
+independent_one : (forms : ℕ → Form) (known : ℕ → Bool) (tree : Tree) → Scoped known tree → Independent forms known (front_of tree)
+independent_one forms known (Pending t o x rest) h = (h.0, tt, tt)
+independent_one forms known (Undecided t o on p q) h = (h.0, tt, tt)
+independent_one forms known (Exit region tag homes) h = tt
+independent_one forms known Stop_exit h = tt
+independent_one forms known (Trap_exit kind line) h = tt
 
 -- a tree whose names are as they must be becomes a proper window
 pub becomes_proper : (tree : Tree) (names : Supply) (limits : Limits) (inside : Option ℕ) (known : ℕ → Bool) → TreeBelow names.next tree → FormsBelow names
@@ -150,7 +146,7 @@ becomes_proper tree names limits inside known names_below forms_below room scope
     record {
       window = record {
         scoped = subst (λ (t : Tree). Scoped (uses t) t) same own;
-        loose = subst (λ (t : Tree). Loose names.forms (uses t) (front_of tree)) same (loose_one names.forms (uses tree) tree own);
+        independent = subst (λ (t : Tree). Independent names.forms (uses t) (front_of tree)) same (independent_one names.forms (uses tree) tree own);
         within = within_one limits tree room;
       };
       room = room;
@@ -192,7 +188,7 @@ rebases_proper w v is p =
     let kept = rebased-kept (whole w.front) names p.forms_below p.names_below in
     subst (λ (u : Window). IsProper u) (sym is)
     (becomes_proper (whole w.front) (rebased (whole w.front) names) w.limits w.inside (uses (whole w.front))
-        (subst (λ (n : ℕ). TreeBelow n (whole w.front)) (sym kept.0) p.names_below) kept.1 p.room p.window.scoped)
+    (subst (λ (n : ℕ). TreeBelow n (whole w.front)) (sym kept.0) p.names_below) kept.1 p.room p.window.scoped)
 
 -- ---- names and forms in filling
 
@@ -324,17 +320,21 @@ enters_below n m known forms forms' new comes from to le d (Lands tag origin x t
     let j = item_later n m x le i in
     (j, rises_below n m forms tag origin x x false t left le (dest_below m x j) rises b)
 enters_below n m known forms forms' new comes from to le d (Lands_renamed tag origin name stood t left reads isnew is gives rises) b =
-    let e = subst (NameBelow m) is d in
-    (named_below n m name stood le (rises_item n forms tag origin stood (with_dest name stood) true t left rises b) e,
-        rises_below n m forms tag origin stood (with_dest name stood) true t left le e rises b)
+    let e = subst (NameBelow m) is d in (
+      named_below n m name stood le (rises_item n forms tag origin stood (with_dest name stood) true t left rises b) e,
+      rises_below n m forms tag origin stood (with_dest name stood) true t left le e rises b,
+    )
 enters_below n m known forms forms' new comes from to le d (Lands_test tag origin on t p q reads none same divides) b =
     let k = divides_below n tag origin on t p q divides b in
     (OperandBelow-later n m on le k.0, TreeBelow-later n m p le k.1, TreeBelow-later n m q le k.2)
 enters_below n m known forms forms' new comes from to le d (Lands_once t o on tag origin tag' origin' name stood other c c' p q l k equal reads isnew is gives rises rises') b =
     let e = subst (NameBelow m) is d in (
       named_below n m name stood le (rises_item n forms tag origin stood (with_dest name stood) c p l rises b.1) e,
-      (OperandBelow-later n m on le b.0, rises_below n m forms tag origin stood (with_dest name stood) c p l le e rises b.1,
-        rises_below n m forms tag' origin' other (with_dest name stood) c' q k le e rises' b.2),
+      (
+        OperandBelow-later n m on le b.0,
+        rises_below n m forms tag origin stood (with_dest name stood) c p l le e rises b.1,
+        rises_below n m forms tag' origin' other (with_dest name stood) c' q k le e rises' b.2,
+      ),
     )
 enters_below n m known forms forms' new comes from to le d (Behind_item t o y c rest rest' may apart enters) b =
     (item_later n m y le b.0, enters_below n m known forms forms' new c rest rest' le d enters b.1)
@@ -366,7 +366,7 @@ jump_below known w v jump b =
       names_below = enters_below w.next v.next known w.forms v.forms jump.new jump.comes w.front v.front
           (subst (λ (n : Supply). w.next ≤ n.next) (sym jump.names) (given_next (supply_of w) jump.new jump.comes))
           (subst (λ (n : Supply). NameBelow n.next jump.new) (sym jump.names)
-            (new_name_below (supply_of w) jump.new jump.comes jump.next (given_comes known w.forms v.forms jump.new jump.comes w.front v.front jump.enters)))
+          (new_name_below (supply_of w) jump.new jump.comes jump.next (given_comes known w.forms v.forms jump.new jump.comes w.front v.front jump.enters)))
           jump.enters b.names_below;
       forms_below = subst (λ (n : Supply). FormsBelow n) (sym jump.names) (given_below (supply_of w) jump.new jump.comes b.forms_below);
     }
@@ -381,7 +381,7 @@ fills_proper w v filled p =
     let is = filling_window known w v filled p.window in
     let below = filled_below known w v filled (record { names_below = p.names_below; forms_below = p.forms_below }) in
     record {
-      window = record { scoped = scoped_parameters (whole v.front) known is.scoped; loose = loose_parameters v.forms known v.front is.scoped is.loose; within = is.within };
+      window = record { scoped = scoped_parameters (whole v.front) known is.scoped; independent = independent_parameters v.forms known v.front is.scoped is.independent; within = is.within };
       room = subst (λ (l : Limits). Positive l) (sym (filling_limits known w v filled)) p.room;
       names_below = below.names_below;
       forms_below = below.forms_below;

@@ -9,7 +9,7 @@ use Rattle.pc_word.specs.declared.item.Limits.{Limits}
 use Rattle.pc_word.specs.declared.item.Operand.{Operand}
 use Rattle.pc_word.specs.Items.{dest_of, is_effect, is_memory, operands_of}
 use Rattle.pc_word.specs.Commit.{writes}
-use Rattle.pc_window.specs.Filled.{given_supply, IsNext, HasSpace, TwinsAlike, risen_place, divided_place, seat_of, Seat, InOrder}
+use Rattle.pc_window.specs.Filled.{given_supply, IsNext, HasSpace, TwinsAlike, risen_place, divided_place, priority_of, Priority, InOrder}
 use Rattle.pc_window.specs.Opening.{with_name, changed}
 use Rattle.pc_window.specs.WindowRun.{supply_of}
 use Rattle.pc_window.specs.Tree.{Tree, Pending, Undecided, Exit, Stop_exit, Trap_exit, Front, Issued, Split, Unfinished, whole, tree_size}
@@ -17,7 +17,7 @@ use Rattle.pc_linear.specs.Form.{Form}
 use Rattle.pc_linear.specs.Combine.{variable_form}
 use Rattle.pc_window.specs.Names.{IsKnown, IsNew, ReadsKnown, and_dest, Scoped, Unwritten, NotWritten}
 use Rattle.pc_window.specs.Rename.{with_dest, mapped, renamed}
-use Rattle.pc_window.specs.Conflict.{Touch, touch_of, Disjoint, Unspoilt, NoConflict, MayFollow}
+use Rattle.pc_window.specs.Conflict.{Touch, touch_of, NoDependence, NoStoreDependence, NoConflict, MayFollow}
 use Rattle.pc_window.specs.Jump.{combined, Without, NewForm, is_quiet, Rises, Root, Past_item, Past_yes, Past_no, DividesTree, Root_test, Past, MayComeBehind, EntersFront, Lands}
 use Rattle.pc_window.specs.Jump.{Lands_renamed, Lands_test, Lands_once, Behind_item, On_yes, On_no}
 use Rattle.pc_window.specs.Ready.{CanRise, Stands_here, Stands_below, Stands_on_yes, Stands_on_no, CanDivide, Divides_here, Divides_below, MayStandBehind, IsReadyAt, Item_ready}
@@ -58,13 +58,13 @@ dest_named n (More d) P some none = some
 
 pub clear_alike : (forms : ℕ → Form) (y x z : Item) → Alike x z → NoConflict forms y x → NoConflict forms y z
 clear_alike forms y x z a h = record {
-  disjoint = subst (λ (t : Option Touch). Disjoint forms (touch_of y) t) (sym a.touch) h.disjoint;
+  no_dependence = subst (λ (t : Option Touch). NoDependence forms (touch_of y) t) (sym a.touch) h.no_dependence;
   one_effect = ap (λ (b : Bool). is_effect y && b) a.effect ∙ h.one_effect;
 }
 
 follows_alike : (forms : ℕ → Form) (y x z : Item) → Alike x z → MayFollow forms y x → MayFollow forms y z
 follows_alike forms y x z a h = record {
-  unspoilt = subst (λ (t : Option Touch). Unspoilt forms (touch_of y) t) (sym a.touch) h.unspoilt;
+  no_store_dependence = subst (λ (t : Option Touch). NoStoreDependence forms (touch_of y) t) (sym a.touch) h.no_store_dependence;
   one_effect = ap (λ (b : Bool). is_effect y && b) a.effect ∙ h.one_effect;
 }
 
@@ -180,7 +180,7 @@ could_rise : (forms : ℕ → Form) (tag origin : ℕ) (stood x : Item) (crosses
 could_rise forms tag origin stood x crosses from left (Root rest unwritten) same = Stands_here rest
 could_rise forms tag origin stood x crosses from left (Past_item t o y c rest left' clear apart rises) same =
     Stands_below t o y (risen_place rises) c rest (clear_alike forms y x stood (alike_turned stood x (subst (Alike stood) (sym same.is) (alike same.name stood))) clear)
-        (could_rise forms tag origin stood x c rest left' rises same)
+    (could_rise forms tag origin stood x c rest left' rises same)
 could_rise forms tag origin stood x crosses from left (Past_yes t o on c p q left' is unwritten rises) same =
     Stands_on_yes t o on (risen_place rises) c p q (sym (subst (Alike stood) (sym same.is) (alike same.name stood)).quiet ∙ is) (could_rise forms tag origin stood x c p left' rises same)
 could_rise forms tag origin stood x crosses from left (Past_no t o on c p q left' is unwritten rises) same =
@@ -222,9 +222,9 @@ pub record Comes (base known : ℕ → Bool) (forms : ℕ → Form) (n variable 
   pub to : Front
   pub enters : EntersFront base forms forms_after new comes from to
   pub twins : TwinsAlike enters
-  pub from_tag : tag ≡ (seat_of enters).0
-  pub from_origin : origin ≡ (seat_of enters).1
-  pub from_place : place ≡ (seat_of enters).2
+  pub from_tag : tag ≡ (priority_of enters).0
+  pub from_origin : origin ≡ (priority_of enters).1
+  pub from_place : place ≡ (priority_of enters).2
   pub same : SameThing what comes
   pub new_to : NewToAll known comes
   pub fresh : (new ≡ None) ⊎ (new ≡ Some n)
@@ -302,7 +302,7 @@ comes_renamed base known forms n variable tag origin place x from within unknown
 -- what is ready comes into the front
 pub ready_comes : (base : ℕ → Bool) (forms : ℕ → Form) (n variable : ℕ) → ((y : ℕ) → Without variable (forms y))
     → (tag origin : ℕ) (known : ℕ → Bool) (place : ℕ) (what : Option Item) (from : Front) → IsReadyAt base forms tag origin place what from
-        → ((z : ℕ) → base z ≡ true → known z ≡ true) → known n ≡ false → Unwritten n (whole from) → Scoped known (whole from)
+    → ((z : ℕ) → base z ≡ true → known z ≡ true) → known n ≡ false → Unwritten n (whole from) → Scoped known (whole from)
     → Comes base known forms n variable tag origin place what from
 ready_comes base forms n variable without tag origin known place what from (Item_ready x m true t reads can) within unknown unwritten scoped =
     comes_renamed base known forms n variable tag origin m x t within unknown unwritten without reads can
@@ -411,9 +411,19 @@ ready_jumps known w is fresh r =
     ready_comes known w.forms w.next w.next_variable fresh.without r.tag r.origin known r.place r.what w.front r.ready (λ z h. h) fresh.unknown fresh.unwritten is.scoped in
     let given = given_supply (supply_of w) k.new k.comes in (
       record { front = k.to; forms = k.forms_after; next = given.next; next_variable = given.next_variable; limits = w.limits; inside = w.inside },
-      record { new = k.new; comes = k.comes; enters = k.enters; next = fresh_name w.next (IsNext w.next) k.new k.fresh tt refl; names =
-        λ i. record { forms = k.given i; next = given.next; next_variable = given.next_variable }; twins =
-        k.twins; room = room_same w.limits w.front r.what k.comes k.same r.room; limits = refl; inside = refl },
+      record {
+        new = k.new;
+        comes = k.comes;
+        enters = k.enters;
+        next = fresh_name w.next (IsNext w.next) k.new k.fresh tt refl;
+        names =
+            λ i. record { forms = k.given i; next = given.next; next_variable = given.next_variable };
+        twins =
+            k.twins;
+        room = room_same w.limits w.front r.what k.comes k.same r.room;
+        limits = refl;
+        inside = refl;
+      },
       (k.from_tag, k.from_origin, k.from_place),
     )
 
@@ -438,40 +448,55 @@ cast_place : {base : ℕ → Bool} {forms : ℕ → Form} {tag origin m n : ℕ}
 cast_place {base = base} {forms = forms} {tag = tag} {origin = origin} {what = what} {front = front} e h = subst (λ (k : ℕ). IsReadyAt base forms tag origin k what front) e h
 
 pub comes_ready : (base : ℕ → Bool) (forms forms' : ℕ → Form) (new : Option ℕ) (comes : Option Item) (from to : Front)
-    → (enters : EntersFront base forms forms' new comes from to) → WasReady base forms (seat_of enters).0 (seat_of enters).1 (seat_of enters).2 comes from
+    → (enters : EntersFront base forms forms' new comes from to) → WasReady base forms (priority_of enters).0 (priority_of enters).1 (priority_of enters).2 comes from
 comes_ready base forms forms' new comes from to (Lands tag origin x t left reads isnew none same rises) =
     record { what = Some x; ready = Item_ready x (risen_place rises) false t reads (could_rise forms tag origin x x false t left rises (same_as x)); same = alike_same x }
 comes_ready base forms forms' new comes from to (Lands_renamed tag origin name x t left reads isnew is gives rises) =
     let back = alike_turned x (with_dest name x) (alike name x) in
-    record { what = Some x; ready = Item_ready x (risen_place rises) true t (reads_alike base (with_dest name x) x back reads)
-        (could_rise forms tag origin x (with_dest name x) true t left rises (record { name = name; is = refl })); same = back }
+    record {
+      what = Some x;
+      ready = Item_ready x (risen_place rises) true t (reads_alike base (with_dest name x) x back reads)
+          (could_rise forms tag origin x (with_dest name x) true t left rises (record { name = name; is = refl }));
+      same = back;
+    }
 comes_ready base forms forms' new comes from to (Lands_test tag origin on t p q reads none same divides) =
     record { what = None; ready = Test_ready on (divided_place divides) t reads (could_divide tag origin on t p q divides); same = tt }
 comes_ready base forms forms' new comes from to (Lands_once t o on tag origin tag' origin' name x other c c' p q l m equal reads isnew is gives rises rises') =
     let back = alike_turned x (with_dest name x) (alike name x) in
-    record { what = Some x; ready = Ready_on_yes t o on (risen_place rises) (Some x) (Unfinished p) (Unfinished q)
-        (Item_ready x (risen_place rises) c p (reads_alike base (with_dest name x) x back reads)
-        (could_rise forms tag origin x (with_dest name x) c p l rises (record { name = name; is = refl }))); same = back }
+    record {
+      what = Some x;
+      ready = Ready_on_yes t o on (risen_place rises) (Some x) (Unfinished p) (Unfinished q)
+          (Item_ready x (risen_place rises) c p (reads_alike base (with_dest name x) x back reads)
+          (could_rise forms tag origin x (with_dest name x) c p l rises (record { name = name; is = refl })));
+      same = back;
+    }
 comes_ready base forms forms' new comes from to (Behind_item t o y c rest rest' may apart enters) =
-    let k : WasReady base forms (seat_of enters).0 (seat_of enters).1 (seat_of enters).2 c rest = comes_ready base forms forms' new c rest rest' enters in
-    record { what = k.what; ready = cast_place (omega arith) (Ready_below t o y (seat_of enters).2 k.what rest (may_stand forms y c k.what k.same may) k.ready); same = k.same }
+    let k : WasReady base forms (priority_of enters).0 (priority_of enters).1 (priority_of enters).2 c rest = comes_ready base forms forms' new c rest rest' enters in
+    record { what = k.what; ready = cast_place (omega arith) (Ready_below t o y (priority_of enters).2 k.what rest (may_stand forms y c k.what k.same may) k.ready); same = k.same }
 comes_ready base forms forms' new comes from to (On_yes t o on c p q p' apart enters) =
-    let k : WasReady base forms (seat_of enters).0 (seat_of enters).1 (seat_of enters).2 c p = comes_ready base forms forms' new c p p' enters in
-    record { what = k.what; ready = cast_place (omega arith) (Ready_on_yes t o on (seat_of enters).2 k.what p q k.ready); same = k.same }
+    let k : WasReady base forms (priority_of enters).0 (priority_of enters).1 (priority_of enters).2 c p = comes_ready base forms forms' new c p p' enters in
+    record { what = k.what; ready = cast_place (omega arith) (Ready_on_yes t o on (priority_of enters).2 k.what p q k.ready); same = k.same }
 comes_ready base forms forms' new comes from to (On_no t o on c p q q' apart enters) =
-    let k : WasReady base forms (seat_of enters).0 (seat_of enters).1 (seat_of enters).2 c q = comes_ready base forms forms' new c q q' enters in
-    record { what = k.what; ready = cast_place (omega arith) (Ready_on_no t o on (seat_of enters).2 k.what p q k.ready); same = k.same }
+    let k : WasReady base forms (priority_of enters).0 (priority_of enters).1 (priority_of enters).2 c q = comes_ready base forms forms' new c q q' enters in
+    record { what = k.what; ready = cast_place (omega arith) (Ready_on_no t o on (priority_of enters).2 k.what p q k.ready); same = k.same }
 
 pub jumps_were_ready : JumpsWereReady
 jumps_were_ready known w v jump =
     let k = comes_ready known w.forms v.forms jump.new jump.comes w.front v.front jump.enters in (
-      record { tag = (seat_of jump.enters).0; origin =
-        (seat_of jump.enters).1; place = (seat_of jump.enters).2; what = k.what; ready = k.ready; room = room_same w.limits w.front jump.comes k.what k.same jump.room },
+      record {
+        tag = (priority_of jump.enters).0;
+        origin =
+            (priority_of jump.enters).1;
+        place = (priority_of jump.enters).2;
+        what = k.what;
+        ready = k.ready;
+        room = room_same w.limits w.front jump.comes k.what k.same jump.room;
+      },
       (refl, refl, refl),
     )
 
--- the order of seats is that of tag, origin and place first
-in_order_places : (a b : Seat) (tag origin place : ℕ) → InOrder a b → tag ≡ b.0 → origin ≡ b.1 → place ≡ b.2 → NotBehind a.0 a.1 a.2 tag origin place
+-- the order of priorities is that of tag, origin and place first
+in_order_places : (a b : Priority) (tag origin place : ℕ) → InOrder a b → tag ≡ b.0 → origin ≡ b.1 → place ≡ b.2 → NotBehind a.0 a.1 a.2 tag origin place
 in_order_places a b tag origin place (inl less) p q r = inl (omega arith)
 in_order_places a b tag origin place (inr (same, inl less)) p q r = inr (same ∙ sym p, inl (omega arith))
 in_order_places a b tag origin place (inr (same, inr (same', inl less))) p q r = inr (same ∙ sym p, inr (same' ∙ sym q, omega arith))
@@ -480,4 +505,4 @@ in_order_places a b tag origin place (inr (same, inr (same', inr (same'', last))
 pub first_jumps_first : FirstJumpsAreFirst
 first_jumps_first known w v is fresh jump first r =
     let k = ready_jumps known w is fresh r in
-    in_order_places (seat_of jump.enters) (seat_of k.1.enters) r.tag r.origin r.place (first k.0 k.1) k.2.0 k.2.1 k.2.2
+    in_order_places (priority_of jump.enters) (priority_of k.1.enters) r.tag r.origin r.place (first k.0 k.1) k.2.0 k.2.1 k.2.2

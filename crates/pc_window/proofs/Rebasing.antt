@@ -56,7 +56,7 @@ cancel_left a k b h =
     let c = neg_ℤ (a +ℤ (k *ℤ (pos 0 +ℤ b))) in
     let both = add_same (a +ℤ (k *ℤ (pos 1 +ℤ b))) (a +ℤ (k *ℤ (pos 0 +ℤ b))) c c h refl in
     ap (int_wrap w32) (sym (ap (λ (z : ℤ). (a +ℤ z) +ℤ neg_ℤ (a +ℤ (k *ℤ (pos 0 +ℤ b)))) (distribute_left (pos 1) b k)
-        ∙ ap (λ (z : ℤ). (a +ℤ ((k *ℤ pos 1) +ℤ (k *ℤ b))) +ℤ neg_ℤ (a +ℤ z)) (distribute_left (pos 0) b k) ∙ rest (k *ℤ b)))
+    ∙ ap (λ (z : ℤ). (a +ℤ ((k *ℤ pos 1) +ℤ (k *ℤ b))) +ℤ neg_ℤ (a +ℤ z)) (distribute_left (pos 0) b k) ∙ rest (k *ℤ b)))
     ∙ both ∙ ap (int_wrap w32) (none (a +ℤ (k *ℤ (pos 0 +ℤ b))))
   where
     none : (z : ℤ) → z +ℤ neg_ℤ z ≡ pos 0
@@ -164,7 +164,7 @@ Stage-form next old m σ names n f s below means =
       goes_on = s.goes_on;
       carries = λ x lt value h. to_test x value (nat_eq n x) refl
           (λ e. let is = nat_eq-tells n x e in let here : n < next =
-            omega arith in Means-agree m σ s.values f value s.goes_on.same below (means here value (subst (λ (z : ℕ). Means σ (old z) value) (sym is) h)))
+          omega arith in Means-agree m σ s.values f value s.goes_on.same below (means here value (subst (λ (z : ℕ). Means σ (old z) value) (sym is) h)))
           (s.carries x lt value h);
     }
   where
@@ -344,7 +344,7 @@ module _ (n : ℕ) where
       AllBelow-append n (names_read item) (without_name (dest_of item) (free_uses rest)) (names_read-below item b.0) (without_name-below (dest_of item) (free_uses rest) (free_uses-below rest b.1))
   free_uses-below (Undecided tag origin on one other) b =
       AllBelow-append n (name_in on) (free_uses one ++ free_uses other) (name_in-below on b.0)
-        (AllBelow-append n (free_uses one) (free_uses other) (free_uses-below one b.1) (free_uses-below other b.2))
+      (AllBelow-append n (free_uses one) (free_uses other) (free_uses-below one b.1) (free_uses-below other b.2))
   free_uses-below (Exit region tag homes) b = homes-names-below homes b
   free_uses-below Stop_exit b = tt
   free_uses-below (Trap_exit kind line) b = tt

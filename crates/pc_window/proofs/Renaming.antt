@@ -49,8 +49,15 @@ does_same : (lengths : List ℕ) (f : Operand → Operand) (names names' : ℕ �
     → AllByRecursion (λ o. operand_value names' (f o) ≡ operand_value names o) (operands_of x)
     → DoesSame lengths (record { names = names; cells = cells; input = input }) (record { names = names'; cells = cells; input = input }) x (map_operands f x)
 does_same lengths f names names' cells input (Bin op dest left right) h =
-    record { dest = refl; value = ap (λ (v : ℤ). word_apply op v (operand_value names' (f right))) h.0
-        ∙ ap (λ (v : ℤ). word_apply op (operand_value names left) v) h.1.0; stores = refl; prints = refl; reads = refl; fault = refl }
+    record {
+      dest = refl;
+      value = ap (λ (v : ℤ). word_apply op v (operand_value names' (f right))) h.0
+          ∙ ap (λ (v : ℤ). word_apply op (operand_value names left) v) h.1.0;
+      stores = refl;
+      prints = refl;
+      reads = refl;
+      fault = refl;
+    }
 does_same lengths f names names' cells input (Copy dest from) h = record { dest = refl; value = h.0; stores = refl; prints = refl; reads = refl; fault = refl }
 does_same lengths f names names' cells input (Load dest array index) h =
     record { dest = refl; value = ap (λ (v : ℤ). element_at (cells array) (place_in (slice_index lengths array) v)) h.0; stores = refl; prints = refl; reads = refl; fault = refl }
@@ -113,9 +120,9 @@ known-after known x (Name z) is = by_dest (dest_of x) z is
     by_dest None z is = inl ((λ e h p. absurd (cc)), is)
     by_dest (Some d) z is = elim (nat_eq d z) as (λ b. nat_eq d z ≡ b → (b || known z) ≡ true
         → (((e : ℕ) → Some d ≡ Some e → Name z ≡ Name e → ⊥) × (known z ≡ true)) ⊎ ((e : ℕ) × (Some d ≡ Some e) × (Name z ≡ Name e))) [
-      | true ↦ λ same h. inr (d, refl, ap Name (sym (eqb-true d z same)))
-      | false ↦ λ differ h. inl ((λ e p q. absurd (let same : d ≡ z = cc in let h : nat_eq d z ≡ true = eq-eqb d z same in cc)), h)
-    ] refl is
+          | true ↦ λ same h. inr (d, refl, ap Name (sym (eqb-true d z same)))
+          | false ↦ λ differ h. inl ((λ e p q. absurd (let same : d ≡ z = cc in let h : nat_eq d z ≡ true = eq-eqb d z same in cc)), h)
+        ] refl is
 
 -- a written name is new
 new-name : (known : ℕ → Bool) (dest : Option ℕ) (e : ℕ) → IsNew known dest → dest ≡ Some e → known e ≡ false

@@ -275,9 +275,9 @@ renamed-keeps known stood x rest new e unknown written = kept (dest_of stood) (d
     kept (Some m) None new unknown = (refl, λ o p. p)
     kept (Some m) (Some n) new unknown = elim (nat_eq m e) as (λ b. (b || known e) ≡ false
         → (Name (if b then n else e) ≡ Name e) × ((o : Operand) → renamed (Some m) (Some n) o ≡ Name e → o ≡ Name e)) [
-      | true ↦ λ k. absurd (cc)
-      | false ↦ λ k. (refl, only)
-    ] unknown
+          | true ↦ λ k. absurd (cc)
+          | false ↦ λ k. (refl, only)
+        ] unknown
       where
         only : (o : Operand) → renamed (Some m) (Some n) o ≡ Name e → o ≡ Name e
         only (Lit value) p = absurd (cc)
@@ -305,7 +305,7 @@ exchangeable lengths known σ forms s holds y x yreads xreads ynew xnew clear ap
   second = unmoved lengths known σ forms s holds y x yreads xreads ynew (follows_first forms y x clear);
   first = unmoved lengths known σ forms s holds x y xreads yreads xnew (follows_second forms y x clear);
   dests = dests_apart (dest_of y) (dest_of x) apart;
-  stores = stores_apart lengths known σ forms s holds y x yreads xreads (follows_first forms y x clear).unspoilt;
+  stores = stores_apart lengths known σ forms s holds y x yreads xreads (follows_first forms y x clear).no_store_dependence;
   one_effect = clear.one_effect;
 }
 
@@ -313,7 +313,7 @@ exchangeable lengths known σ forms s holds y x yreads xreads ynew xnew clear ap
 pub risen : (lengths : List ℕ) (σ : ℕ → ℤ) (forms : ℕ → Form) (σ' : ℕ → ℤ) (forms' : ℕ → Form) (tag origin : ℕ) (stood x : Item) (known : ℕ → Bool) (crosses : Bool) (from left : Tree) (s : State)
     → Rises forms tag origin stood x crosses from left → Ready lengths known σ forms σ' forms' stood x from s → IsWhole (walk lengths from s)
     → Still (walk lengths from s) (walk lengths (Pending tag origin x left) s) (DefinedHold σ' forms' lengths left (after_item lengths x s)) (walk_length lengths from s)
-        (walk_length lengths left (after_item lengths x s))
+    (walk_length lengths left (after_item lengths x s))
     (shown lengths from s) (λ n. prints_of s (x ∷ []) ++ shown lengths left (after_item lengths x s) n)
 risen lengths σ forms σ' forms' tag origin stood x known crosses from left s (Root rest unwritten) r ok =
     let does : Renames lengths s stood x = renames lengths s stood x r.same_but in
@@ -339,7 +339,7 @@ risen lengths σ forms σ' forms' tag origin stood x known crosses from left s (
 risen lengths σ forms σ' forms' tag origin stood x known crosses from left s (Past_item t o y c rest left' clear apart rises) r ok =
     let step : Exchangeable lengths s y x = exchangeable lengths known σ forms s r.of_known y x r.scoped.0 r.reads r.scoped.1 r.new clear apart in
     let w : Still (walk lengths rest (after_item lengths y s)) (walk lengths (Pending tag origin x left') (after_item lengths y s))
-        (DefinedHold σ' forms' lengths left' (after_item lengths x (after_item lengths y s)))
+    (DefinedHold σ' forms' lengths left' (after_item lengths x (after_item lengths y s)))
     (walk_length lengths rest (after_item lengths y s)) (walk_length lengths left' (after_item lengths x (after_item lengths y s)))
     (shown lengths rest (after_item lengths y s)) (λ n. prints_of (after_item lengths y s) (x ∷ []) ++ shown lengths left' (after_item lengths x (after_item lengths y s)) n) =
     risen lengths σ forms σ' forms' tag origin stood x (and_dest known y) c rest left' (after_item lengths y s) rises
@@ -363,7 +363,7 @@ risen lengths σ forms σ' forms' tag origin stood x known crosses from left s (
         subst (DefinedHold σ' forms' lengths left') states w.defines,
       );
       no_longer = let e : walk_length lengths left' (after_item lengths x (after_item lengths y s))
-        ≡ walk_length lengths left' (after_item lengths y (after_item lengths x s)) = ap (walk_length lengths left') states in
+          ≡ walk_length lengths left' (after_item lengths y (after_item lengths x s)) = ap (walk_length lengths left') states in
           let l = w.no_longer in omega arith;
       no_later = λ n. past n step w.no_later;
     }
@@ -383,18 +383,27 @@ risen lengths σ forms σ' forms' tag origin stood x known crosses from left s (
     let w = still_at_test (holds (operand_value s.names on)) (holds (operand_value (after_item lengths x s).names on))
     (walk lengths on_yes s) (walk lengths on_no s) (walk lengths left' (after_item lengths x s)) (walk lengths on_no (after_item lengths x s))
     (DefinedHold σ forms lengths on_yes s) (DefinedHold σ forms lengths on_no s) (DefinedHold σ' forms' lengths left' (after_item lengths x s))
-        (DefinedHold σ' forms' lengths on_no (after_item lengths x s))
+    (DefinedHold σ' forms' lengths on_no (after_item lengths x s))
     (walk_length lengths on_yes s) (walk_length lengths on_no s) (walk_length lengths left' (after_item lengths x s)) (walk_length lengths on_no (after_item lengths x s))
     (shown lengths on_yes s) (shown lengths on_no s) (shown lengths left' (after_item lengths x s)) (shown lengths on_no (after_item lengths x s))
     (ap holds (operand-after lengths known x s on r.new r.scoped.0))
     (λ ok' d. let k = risen lengths σ forms σ' forms' tag origin stood x known c on_yes left' s rises
     (record { scoped = r.scoped.1; reads = r.reads; new = r.new; same_but = r.same_but; same_forms = r.same_forms; of_known = r.of_known; defines = d }) ok' in
     record { same = sym (quiet_walk lengths tag origin x left' s is) ∙ k.same; defines = k.defines; no_longer = k.no_longer; no_later = λ n. quiet_shown lengths s x is _ _ (k.no_later n) })
-    (λ ok' d. record { same = at_no.same; defines = at_no.forms σ' forms' (forms_carried lengths (dest_of x) σ forms σ' forms' r.same_forms on_no s unwritten d);
-        no_longer = let e = at_no.as_long in omega arith; no_later = λ n. Begins-equal _ _ (sym (at_no.shows n)) })
+    (λ ok' d. record {
+      same = at_no.same;
+      defines = at_no.forms σ' forms' (forms_carried lengths (dest_of x) σ forms σ' forms' r.same_forms on_no s unwritten d);
+      no_longer = let e = at_no.as_long in omega arith;
+      no_later = λ n. Begins-equal _ _ (sym (at_no.shows n));
+    })
     ok r.defines in
-    record { same = quiet_walk lengths tag origin x (Undecided t o on left' on_no) s is ∙ w.same; defines =
-        w.defines; no_longer = let l = w.no_longer in omega arith; no_later = λ n. past n w.no_later }
+    record {
+      same = quiet_walk lengths tag origin x (Undecided t o on left' on_no) s is ∙ w.same;
+      defines =
+          w.defines;
+      no_longer = let l = w.no_longer in omega arith;
+      no_later = λ n. past n w.no_later;
+    }
   where
     past : (n : ℕ) → ((m : ℕ) → Begins (if holds (operand_value s.names on) then shown lengths on_yes s m else shown lengths on_no s m)
         (if holds (operand_value (after_item lengths x s).names on) then shown lengths left' (after_item lengths x s) m else shown lengths on_no (after_item lengths x s) m))
@@ -406,18 +415,27 @@ risen lengths σ forms σ' forms' tag origin stood x known crosses from left s (
     let w = still_at_test (holds (operand_value s.names on)) (holds (operand_value (after_item lengths x s).names on))
     (walk lengths on_yes s) (walk lengths on_no s) (walk lengths on_yes (after_item lengths x s)) (walk lengths left' (after_item lengths x s))
     (DefinedHold σ forms lengths on_yes s) (DefinedHold σ forms lengths on_no s) (DefinedHold σ' forms' lengths on_yes (after_item lengths x s))
-        (DefinedHold σ' forms' lengths left' (after_item lengths x s))
+    (DefinedHold σ' forms' lengths left' (after_item lengths x s))
     (walk_length lengths on_yes s) (walk_length lengths on_no s) (walk_length lengths on_yes (after_item lengths x s)) (walk_length lengths left' (after_item lengths x s))
     (shown lengths on_yes s) (shown lengths on_no s) (shown lengths on_yes (after_item lengths x s)) (shown lengths left' (after_item lengths x s))
     (ap holds (operand-after lengths known x s on r.new r.scoped.0))
-    (λ ok' d. record { same = at_yes.same; defines = at_yes.forms σ' forms' (forms_carried lengths (dest_of x) σ forms σ' forms' r.same_forms on_yes s unwritten d);
-        no_longer = let e = at_yes.as_long in omega arith; no_later = λ n. Begins-equal _ _ (sym (at_yes.shows n)) })
+    (λ ok' d. record {
+      same = at_yes.same;
+      defines = at_yes.forms σ' forms' (forms_carried lengths (dest_of x) σ forms σ' forms' r.same_forms on_yes s unwritten d);
+      no_longer = let e = at_yes.as_long in omega arith;
+      no_later = λ n. Begins-equal _ _ (sym (at_yes.shows n));
+    })
     (λ ok' d. let k = risen lengths σ forms σ' forms' tag origin stood x known c on_no left' s rises
     (record { scoped = r.scoped.2; reads = r.reads; new = r.new; same_but = r.same_but; same_forms = r.same_forms; of_known = r.of_known; defines = d }) ok' in
     record { same = sym (quiet_walk lengths tag origin x left' s is) ∙ k.same; defines = k.defines; no_longer = k.no_longer; no_later = λ n. quiet_shown lengths s x is _ _ (k.no_later n) })
     ok r.defines in
-    record { same = quiet_walk lengths tag origin x (Undecided t o on on_yes left') s is ∙ w.same; defines =
-        w.defines; no_longer = let l = w.no_longer in omega arith; no_later = λ n. past n w.no_later }
+    record {
+      same = quiet_walk lengths tag origin x (Undecided t o on on_yes left') s is ∙ w.same;
+      defines =
+          w.defines;
+      no_longer = let l = w.no_longer in omega arith;
+      no_later = λ n. past n w.no_later;
+    }
   where
     past : (n : ℕ) → ((m : ℕ) → Begins (if holds (operand_value s.names on) then shown lengths on_yes s m else shown lengths on_no s m)
         (if holds (operand_value (after_item lengths x s).names on) then shown lengths on_yes (after_item lengths x s) m else shown lengths left' (after_item lengths x s) m))
@@ -447,11 +465,11 @@ pick false p q = q
 pub divided : (lengths : List ℕ) (σ : ℕ → ℤ) (forms : ℕ → Form) (tag origin : ℕ) (on : Operand) (b : Bool) (known : ℕ → Bool) (from on_yes on_no : Tree) (s : State)
     → DividesTree tag origin on from on_yes on_no → holds (operand_value s.names on) ≡ b → IsKnown known on → Scoped known from → DefinedHold σ forms lengths from s
     → Still (walk lengths from s) (walk lengths (pick b on_yes on_no) s) (DefinedHold σ forms lengths (pick b on_yes on_no) s) (walk_length lengths from s)
-        (walk_length lengths (pick b on_yes on_no) s) (shown lengths from s) (shown lengths (pick b on_yes on_no) s)
+    (walk_length lengths (pick b on_yes on_no) s) (shown lengths from s) (shown lengths (pick b on_yes on_no) s)
 divided lengths σ forms tag origin on b known from on_yes on_no s (Root_test p q) is reads scoped defines =
     elim b as (λ b. holds (operand_value s.names on) ≡ b
     → Still (walk lengths (Undecided tag origin on p q) s) (walk lengths (pick b p q) s) (DefinedHold σ forms lengths (pick b p q) s)
-        (walk_length lengths (Undecided tag origin on p q) s) (walk_length lengths (pick b p q) s) (shown lengths (Undecided tag origin on p q) s) (shown lengths (pick b p q) s)) [
+    (walk_length lengths (Undecided tag origin on p q) s) (walk_length lengths (pick b p q) s) (shown lengths (Undecided tag origin on p q) s) (shown lengths (pick b p q) s)) [
       | true ↦ λ e. record {
         same = sym (ap (λ (c : Bool). if c then walk lengths p s else walk lengths q s) e);
         defines = subst (λ (c : Bool). Side c (DefinedHold σ forms lengths p s) (DefinedHold σ forms lengths q s)) e defines;
@@ -474,15 +492,25 @@ divided lengths σ forms tag origin on b known from on_yes on_no s (Past t o y r
     let w = divided lengths σ forms tag origin on b (and_dest known y) rest p q (after_item lengths y s) divides
     (ap holds (operand-after lengths known y s on scoped.1 reads) ∙ is) (still_known known y on reads) scoped.2 defines.1 in
     elim b as (λ b. Still (walk lengths rest (after_item lengths y s)) (walk lengths (pick b p q) (after_item lengths y s))
-        (DefinedHold σ forms lengths (pick b p q) (after_item lengths y s)) (walk_length lengths rest (after_item lengths y s))
-        (walk_length lengths (pick b p q) (after_item lengths y s)) (shown lengths rest (after_item lengths y s)) (shown lengths (pick b p q) (after_item lengths y s))
+    (DefinedHold σ forms lengths (pick b p q) (after_item lengths y s)) (walk_length lengths rest (after_item lengths y s))
+    (walk_length lengths (pick b p q) (after_item lengths y s)) (shown lengths rest (after_item lengths y s)) (shown lengths (pick b p q) (after_item lengths y s))
     → Still (walk lengths (Pending t o y rest) s) (walk lengths (pick b (Pending t o y p) (Pending t o y q)) s)
-        (DefinedHold σ forms lengths (pick b (Pending t o y p) (Pending t o y q)) s) (walk_length lengths (Pending t o y rest) s)
-        (walk_length lengths (pick b (Pending t o y p) (Pending t o y q)) s) (shown lengths (Pending t o y rest) s) (shown lengths (pick b (Pending t o y p) (Pending t o y q)) s)) [
-      | true ↦ λ w. record { same = ap (λ (u : Walked). unless_fault (fault_of lengths s (y ∷ [])) (printing (prints_of s (y ∷ [])) u)) w.same; defines =
-        (defines.0, w.defines); no_longer = (let l = w.no_longer in omega arith); no_later = λ n. later p n w.no_later }
-      | false ↦ λ w. record { same = ap (λ (u : Walked). unless_fault (fault_of lengths s (y ∷ [])) (printing (prints_of s (y ∷ [])) u)) w.same; defines =
-        (defines.0, w.defines); no_longer = (let l = w.no_longer in omega arith); no_later = λ n. later q n w.no_later }
+    (DefinedHold σ forms lengths (pick b (Pending t o y p) (Pending t o y q)) s) (walk_length lengths (Pending t o y rest) s)
+    (walk_length lengths (pick b (Pending t o y p) (Pending t o y q)) s) (shown lengths (Pending t o y rest) s) (shown lengths (pick b (Pending t o y p) (Pending t o y q)) s)) [
+      | true ↦ λ w. record {
+        same = ap (λ (u : Walked). unless_fault (fault_of lengths s (y ∷ [])) (printing (prints_of s (y ∷ [])) u)) w.same;
+        defines =
+            (defines.0, w.defines);
+        no_longer = (let l = w.no_longer in omega arith);
+        no_later = λ n. later p n w.no_later;
+      }
+      | false ↦ λ w. record {
+        same = ap (λ (u : Walked). unless_fault (fault_of lengths s (y ∷ [])) (printing (prints_of s (y ∷ [])) u)) w.same;
+        defines =
+            (defines.0, w.defines);
+        no_longer = (let l = w.no_longer in omega arith);
+        no_later = λ n. later q n w.no_later;
+      }
     ] w
   where
     later : (side : Tree) (n : ℕ) → ((m : ℕ) → Begins (shown lengths rest (after_item lengths y s) m) (shown lengths side (after_item lengths y s) m))

@@ -177,9 +177,9 @@ meet-append : (xs ys : List Stored) → StoresApart xs ys → some_meet xs ≡ f
 meet-append [] ys apart h k = k
 meet-append (x ∷ xs) ys apart h k = elim (list_any (meets_at x.array x.place) xs) as (λ b. list_any (meets_at x.array x.place) xs ≡ b → (b || some_meet xs) ≡ false
     → (list_any (meets_at x.array x.place) (xs ++ ys) || some_meet (xs ++ ys)) ≡ false) [
-  | true ↦ λ e g. absurd (cc)
-  | false ↦ λ e g. rw (any-append (meets_at x.array x.place) xs ys e (meets-none x ys apart.0), meet-append xs ys apart.1 g k) refl
-] refl h
+      | true ↦ λ e g. absurd (cc)
+      | false ↦ λ e g. rw (any-append (meets_at x.array x.place) xs ys e (meets-none x ys apart.0), meet-append xs ys apart.1 g k) refl
+    ] refl h
 
 -- reads of an item and of others
 past-behind : (lengths : List ℕ) (s : State) (x : Item) (path : List Item) → reads_past_end s (x ∷ []) ≡ false → reads_past_end (after_item lengths x s) path ≡ false
@@ -198,7 +198,7 @@ pub no-fault-behind : (lengths : List ℕ) (s : State) (x : Item) (path : List I
 no-fault-behind lengths s x path h none none' =
     let one = none_of_three (list_any is_outside (stores_of lengths s (x ∷ []))) (some_meet (stores_of lengths s (x ∷ []))) (reads_past_end s (x ∷ [])) none in
     let others = none_of_three (list_any is_outside (stores_of lengths (after_item lengths x s) path)) (some_meet (stores_of lengths (after_item lengths x s) path))
-        (reads_past_end (after_item lengths x s) path) none' in
+    (reads_past_end (after_item lengths x s) path) none' in
     let behind = stores-behind lengths s x path h in
     let all = sym (stores-front lengths s x path) in
     three_none (list_any is_outside (stores_of lengths s (x ∷ path))) (some_meet (stores_of lengths s (x ∷ path))) (reads_past_end s (x ∷ path))

@@ -179,9 +179,11 @@ pub scoped_entered : (base : ℕ → Bool) (forms forms' : ℕ → Form) (new : 
     → EntersFront base forms forms' new comes from to → Within base known → NewTo known comes → Scoped known (whole from) → Scoped known (whole to)
 scoped_entered base forms forms' new known comes from to (Lands tag origin x t left reads isnew none same rises) within isnew' scoped =
     (reads_within base known within x reads, isnew', scoped_risen forms tag origin x x false t left known rises (same_as x) scoped isnew')
-scoped_entered base forms forms' new known comes from to (Lands_renamed tag origin name stood t left reads isnew is gives rises) within isnew' scoped =
-    (reads_within base known within (with_dest name stood) reads, isnew',
-        scoped_risen forms tag origin stood (with_dest name stood) true t left known rises (record { name = name; is = refl }) scoped isnew')
+scoped_entered base forms forms' new known comes from to (Lands_renamed tag origin name stood t left reads isnew is gives rises) within isnew' scoped = (
+  reads_within base known within (with_dest name stood) reads,
+  isnew',
+  scoped_risen forms tag origin stood (with_dest name stood) true t left known rises (record { name = name; is = refl }) scoped isnew',
+)
 scoped_entered base forms forms' new known comes from to (Lands_test tag origin on t p q reads none same divides) within isnew' scoped =
     let h = scoped_divided tag origin on t p q known divides scoped in (known_within base known within on reads, h.0, h.1)
 scoped_entered base forms forms' new known comes from to (Lands_once t o on tag origin tag' origin' name stood other c c' p q l m equal reads isnew is gives rises rises') within isnew' scoped =
@@ -194,9 +196,12 @@ scoped_entered base forms forms' new known comes from to (Lands_once t o on tag 
         scoped_risen forms tag' origin' other x c' q m known rises' (record { name = name; is = sym equal }) scoped.2 isnew',
       ),
     )
-scoped_entered base forms forms' new known comes from to (Behind_item t o y c rest rest' may apart enters) within isnew' scoped =
-    (scoped.0, scoped.1, scoped_entered base forms forms' new (and_dest known y) c rest rest' enters (λ z is. or_comes (writes (dest_of y) z) (known z) (within z is))
-        (new_below forms known y c may isnew') scoped.2)
+scoped_entered base forms forms' new known comes from to (Behind_item t o y c rest rest' may apart enters) within isnew' scoped = (
+  scoped.0,
+  scoped.1,
+  scoped_entered base forms forms' new (and_dest known y) c rest rest' enters (λ z is. or_comes (writes (dest_of y) z) (known z) (within z is))
+      (new_below forms known y c may isnew') scoped.2,
+)
 scoped_entered base forms forms' new known comes from to (On_yes t o on c p q p' apart enters) within isnew' scoped =
     (scoped.0, scoped_entered base forms forms' new known c p p' enters within isnew' scoped.1, scoped.2)
 scoped_entered base forms forms' new known comes from to (On_no t o on c p q q' apart enters) within isnew' scoped =

@@ -55,13 +55,17 @@ GivenBelow n names (Stays_plain given) = ItemBelow n given
 
 brought-given : (n : ℕ) (names : Supply) (homes : ℕ → Operand) (item : Item) → names.next ≤ n → HomesBelow names.next homes → GivenBelow n names (brought names homes item)
 brought-given n names homes (Bin op dest left right) le h =
-    λ lt. (lt, OperandBelow-later names.next n (at_home homes left) le (at_home_below names.next homes left h),
-        OperandBelow-later names.next n (at_home homes right) le (at_home_below names.next homes right h))
+    λ lt. (
+      lt,
+      OperandBelow-later names.next n (at_home homes left) le (at_home_below names.next homes left h),
+      OperandBelow-later names.next n (at_home homes right) le (at_home_below names.next homes right h),
+    )
 brought-given n names homes (Copy dest from) le h = at_home_below names.next homes from h
 brought-given n names homes (Load dest array index) le h = λ lt. (lt, OperandBelow-later names.next n (at_home homes index) le (at_home_below names.next homes index h))
-brought-given n names homes (Store array index value) le h =
-    (OperandBelow-later names.next n (at_home homes index) le (at_home_below names.next homes index h),
-        OperandBelow-later names.next n (at_home homes value) le (at_home_below names.next homes value h))
+brought-given n names homes (Store array index value) le h = (
+  OperandBelow-later names.next n (at_home homes index) le (at_home_below names.next homes index h),
+  OperandBelow-later names.next n (at_home homes value) le (at_home_below names.next homes value h),
+)
 brought-given n names homes (Print value) le h = OperandBelow-later names.next n (at_home homes value) le (at_home_below names.next homes value h)
 brought-given n names homes (Read dest) le h = λ lt. lt
 brought-given n names homes (More dest) le h = λ lt. lt
@@ -84,7 +88,7 @@ module _ (table : Table) (loop : Option ℕ) (tag : ℕ) where
   graft_item-tree origin (Stays_plain given) names homes rest n g h next le = (g, next names homes h le)
 
   pub graft-tree : (tree : TableTree) (names : Supply) (homes : ℕ → Operand) (n : ℕ) → HomesBelow names.next homes
-    → (graft table loop tag tree names homes).names.next ≤ n → TreeBelow n (graft table loop tag tree names homes).tree
+      → (graft table loop tag tree names homes).names.next ≤ n → TreeBelow n (graft table loop tag tree names homes).tree
   graft-tree (Does origin item rest) names homes n h le =
       let more = (graft-extends table loop tag (Does origin item rest) names homes).next in
       let before : names.next ≤ n = omega arith in

@@ -199,7 +199,7 @@ Tidy-drops lengths tag origin item dest new old o u t = record {
   no_later = later;
   fewer = λ x h. needed_above (reads item x) (writes (dest_of item) x) (uses old x) (other x h (writes (dest_of item) x) refl) (t.fewer x h);
   still_holds = λ σ forms s h. defined_agrees σ forms lengths new (state_after lengths s (item ∷ [])) s (unused_agrees lengths item dest new s o u)
-    (t.still_holds σ forms (state_after lengths s (item ∷ [])) h.1);
+      (t.still_holds σ forms (state_after lengths s (item ∷ [])) h.1);
   below = λ n h. t.below n h.1;
   defines_less = λ x h. or_second (writes (dest_of item) x) (defines old x) (t.defines_less x h);
   once = λ h. t.once h.1;
@@ -225,8 +225,17 @@ Tidy-drops lengths tag origin item dest new old o u t = record {
 -- ---- the tidied tree
 
 Tidy-refl : (lengths : List ℕ) (tree : Tree) → Tidy lengths tree tree
-Tidy-refl lengths tree = record { walks =
-    λ s. refl; no_longer = λ s. omega arith; no_later = λ s n. Begins-refl _; fewer = λ x h. h; still_holds = λ σ forms s h. h; below = λ n h. h; defines_less = λ x h. h; once = λ h. h }
+Tidy-refl lengths tree = record {
+  walks =
+      λ s. refl;
+  no_longer = λ s. omega arith;
+  no_later = λ s n. Begins-refl _;
+  fewer = λ x h. h;
+  still_holds = λ σ forms s h. h;
+  below = λ n h. h;
+  defines_less = λ x h. h;
+  once = λ h. h;
+}
 
 Tidy-if : (lengths : List ℕ) (dest tag origin : ℕ) (item : Item) (new old : Tree) → OnlyWrites lengths item dest → Tidy lengths new old
     → Tidy lengths (kept_if_used dest tag origin item new) (Pending tag origin item old)
@@ -291,19 +300,11 @@ tidied_tidy lengths (Exit region tag homes) = Tidy-refl lengths (Exit region tag
 tidied_tidy lengths Stop_exit = Tidy-refl lengths Stop_exit
 tidied_tidy lengths (Trap_exit kind line) = Tidy-refl lengths (Trap_exit kind line)
 
--- a tidied tree walks as before
-pub tidied_walks : (lengths : List ℕ) (tree : Tree) (s : State) → walk lengths (tidied tree) s ≡ walk lengths tree s
-tidied_walks lengths tree s = (tidied_tidy lengths tree).walks s
-
 -- forms that held still hold
 pub tidied_holds : (forms : ℕ → Form) (lengths : List ℕ) (tree : Tree) (s : State) → TreeHolds forms lengths tree s → TreeHolds forms lengths (tidied tree) s
 tidied_holds forms lengths tree s h =
     let t = tidied_tidy lengths tree in
     (h.0, record { parameters = λ x u. h.1.parameters x (t.fewer x u); defined = t.still_holds h.0 forms s h.1.defined })
-
--- and names stay below
-pub tidied_below : (n : ℕ) (tree : Tree) → TreeBelow n tree → TreeBelow n (tidied tree)
-tidied_below n tree h = (tidied_tidy [] tree).below n h
 
 -- and so does all else that is kept of names
 pub tidied_sound : (tree : Tree) (names : Supply) → Sound (record { tree = tree; names = names }) → Sound (record { tree = tidied tree; names = names })

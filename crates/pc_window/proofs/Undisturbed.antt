@@ -19,7 +19,7 @@ use Rattle.pc_linear.specs.Form.{Form, Means}
 use Rattle.pc_linear.specs.Equality.{NeverEqual}
 use Rattle.pc_window.specs.Hold.{operand_form, KnownHold}
 use Rattle.pc_window.specs.Names.{IsKnown, ReadsKnown, IsNew}
-use Rattle.pc_window.specs.Conflict.{touch_of, Unspoilt, MayFollow}
+use Rattle.pc_window.specs.Conflict.{touch_of, NoStoreDependence, MayFollow}
 use Rattle.pc_table.specs.TableKeeps.{reads}
 
 -- what an item does is the same in two states
@@ -101,8 +101,13 @@ ReadsSame s t item = AllByRecursion (SameValue s t) (operands_of item)
 -- what an item reads alone decides what it does
 pub unmoved_of : (lengths : List ℕ) (s t : State) (x : Item) → ReadsSame s t x → LoadsSame lengths s t x → (is_effect x ≡ true → t.input ≡ s.input) → Unmoved lengths s t x
 unmoved_of lengths s t (Bin op dest left right) reads loads input =
-    record { value = ap (λ (v : ℤ). word_apply op v (operand_value t.names right)) reads.0
-        ∙ ap (λ (v : ℤ). word_apply op (operand_value s.names left) v) reads.1.0; stores = refl; prints = refl; fault = refl }
+    record {
+      value = ap (λ (v : ℤ). word_apply op v (operand_value t.names right)) reads.0
+          ∙ ap (λ (v : ℤ). word_apply op (operand_value s.names left) v) reads.1.0;
+      stores = refl;
+      prints = refl;
+      fault = refl;
+    }
 unmoved_of lengths s t (Copy dest from) reads loads input = record { value = reads.0; stores = refl; prints = refl; fault = refl }
 unmoved_of lengths s t (Load dest array index) reads loads input =
     record { value = ap (loaded lengths t array) reads.0 ∙ loads; stores = refl; prints = refl; fault = refl }
@@ -121,13 +126,13 @@ unmoved_of lengths s t (More dest) reads loads input =
 
 -- a load behind an item that spoils no element of it
 loads-after : (lengths : List ℕ) (known : ℕ → Bool) (σ : ℕ → ℤ) (forms : ℕ → Form) (s : State) → KnownHold known σ forms s
-    → (y x : Item) → ReadsKnown known y → ReadsKnown known x → Unspoilt forms (touch_of y) (touch_of x) → LoadsSame lengths s (after_item lengths y s) x
+    → (y x : Item) → ReadsKnown known y → ReadsKnown known x → NoStoreDependence forms (touch_of y) (touch_of x) → LoadsSame lengths s (after_item lengths y s) x
 loads-after lengths known σ forms s holds (Store b j w) (Load dest a i) yknown xknown apart =
     element-kept (s.cells a) (nat_eq b a) (place_in (slice_index lengths b) (operand_value s.names j)) (operand_value s.names w) (place_in (slice_index lengths a) (operand_value s.names i))
     (λ p same there meets. let is : b ≡ a = eqb-true b a same in
     forms-differ known σ forms s holds j i yknown.0 xknown.0 (apart is refl)
     (place_in-same (slice_index lengths a) (operand_value s.names j) (operand_value s.names i) p
-        (subst (λ (c : ℕ). place_in (slice_index lengths c) (operand_value s.names j) ≡ Some p) is there) meets))
+    (subst (λ (c : ℕ). place_in (slice_index lengths c) (operand_value s.names j) ≡ Some p) is there) meets))
   where
     element-kept : (cells : ℕ → ℤ) (same : Bool) (place : Option ℕ) (word : ℤ) (other : Option ℕ)
         → ((p : ℕ) → same ≡ true → place ≡ Some p → other ≡ Some p → ⊥)
@@ -173,5 +178,5 @@ pub unmoved : (lengths : List ℕ) (known : ℕ → Bool) (σ : ℕ → ℤ) (fo
 unmoved lengths known σ forms s holds y x yknown xknown new follows =
     unmoved_of lengths s (after_item lengths y s) x
     (all_imply (IsKnown known) (SameValue s (after_item lengths y s)) (operands_of x) (λ o is. operand-after lengths known y s o new is) xknown)
-    (loads-after lengths known σ forms s holds y x yknown xknown follows.unspoilt)
+    (loads-after lengths known σ forms s holds y x yknown xknown follows.no_store_dependence)
     (λ is. input-after lengths y s (only_one (is_effect y) (is_effect x) follows.one_effect is))

@@ -48,7 +48,7 @@ counted-after table out (Finishes printed end) (suc k) = refl
 counted-grows : (table : Table) (w : Walked) (k m : ℕ) → k ≤ m → Answers (counted table w k) (counted table w m) (counted table w k).end
 counted-grows table (Leaves printed region s) k m le =
     Answers-after printed (region_run table (Next region) s k) (region_run table (Next region) s m) (region_run table (Next region) s k).end
-        (run_from-answers (region_step table) k m (place_at table (Next region) s) le)
+    (run_from-answers (region_step table) k m (place_at table (Next region) s) le)
 counted-grows table (Finishes printed end) zero zero le = Begins-refl printed
 counted-grows table (Finishes printed end) zero (suc m) le = Begins-refl printed
 counted-grows table (Finishes printed end) (suc k) (suc m) le = (refl, refl)
@@ -70,7 +70,7 @@ module _ (table : Table) where
   item_whole item rest s None never next = printing_whole (prints_of s (item ∷ [])) (walk table.arrays rest (after_item table.arrays item s)) (next never)
 
   test_whole : (on_yes on_no : Tree) (s : State) (b : Bool) → NeverFaults (tree_run table (if b then on_yes else on_no) s)
-    → (NeverFaults (tree_run table on_yes s) → IsWhole (walk table.arrays on_yes s))
+      → (NeverFaults (tree_run table on_yes s) → IsWhole (walk table.arrays on_yes s))
       → (NeverFaults (tree_run table on_no s) → IsWhole (walk table.arrays on_no s)) → IsWhole (if b then walk table.arrays on_yes s else walk table.arrays on_no s)
   test_whole on_yes on_no s true never p q = p never
   test_whole on_yes on_no s false never p q = q never
@@ -104,7 +104,7 @@ module _ (table : Table) where
   led n item rest s None = refl
 
   pub entered : (n : ℕ) (b : Bool) (on_yes on_no : Tree) (s : State) → run_from (window_step table) n (enter table (if b then on_yes else on_no) s)
-    ≡ seen_side b (tree_run table on_yes s n) (tree_run table on_no s n)
+      ≡ seen_side b (tree_run table on_yes s n) (tree_run table on_no s n)
   entered n true on_yes on_no s = refl
   entered n false on_yes on_no s = refl
 
@@ -120,7 +120,7 @@ module _ (table : Table) where
   tree_early (Pending tag origin item rest) s (suc n) ok le =
       led n item rest s (fault_of table.arrays s (item ∷ []))
       ∙ item_early item s (walk table.arrays rest (after_item table.arrays item s)) (fault_of table.arrays s (item ∷ []))
-        (tree_run table rest (after_item table.arrays item s) n) (shown table.arrays rest (after_item table.arrays item s) n) ok
+      (tree_run table rest (after_item table.arrays item s) n) (shown table.arrays rest (after_item table.arrays item s) n) ok
       (λ ok'. tree_early rest (after_item table.arrays item s) n ok' (omega arith))
   tree_early (Undecided tag origin on on_yes on_no) s zero ok le = refl
   tree_early (Undecided tag origin on on_yes on_no) s (suc n) ok le =
@@ -139,7 +139,7 @@ module _ (table : Table) where
       → front_run table front s n ≡ record { printed = front_shown table.arrays front s n; end = None }
   front_early (Issued tag origin item rest) s n ok le =
       item_early item s (walk table.arrays (whole rest) (after_item table.arrays item s)) (fault_of table.arrays s (item ∷ []))
-        (front_run table rest (after_item table.arrays item s) n) (front_shown table.arrays rest (after_item table.arrays item s) n) ok
+      (front_run table rest (after_item table.arrays item s) n) (front_shown table.arrays rest (after_item table.arrays item s) n) ok
       (λ ok'. front_early rest (after_item table.arrays item s) n ok' le)
   front_early (Split tag origin on p q) s n ok le =
       test_early (holds (operand_value s.names on)) n (front_run table p s n) (front_run table q s n) (front_shown table.arrays p s n) (front_shown table.arrays q s n)
@@ -153,7 +153,7 @@ module _ (table : Table) where
       → (IsWhole w → x ≡ counted table w k) → seen_first f (prints_of s (item ∷ [])) x ≡ counted table (done_first f (prints_of s (item ∷ [])) w) k
   item_late item s w (Some fault) x k ok next = absurd ok
   item_late item s w None x k ok next = ap (λ (seen : Seen). after_printing (prints_of s (item ∷ [])) seen) (next (whole_printing (prints_of s (item ∷ [])) w ok))
-    ∙ counted-after table (prints_of s (item ∷ [])) w k
+      ∙ counted-after table (prints_of s (item ∷ [])) w k
     where
       whole_printing : (out : List ℤ) (w : Walked) → IsWhole (printing out w) → IsWhole w
       whole_printing out (Leaves printed region s) h = tt
@@ -165,7 +165,7 @@ module _ (table : Table) where
   test_late false n x y w v k m r ok e p q = q ok e
 
   pub tree_late : (tree : Tree) (s : State) (n r : ℕ) → IsWhole (walk table.arrays tree s) → n ≡ walk_length table.arrays tree s + r
-    → tree_run table tree s n ≡ counted table (walk table.arrays tree s) r
+      → tree_run table tree s n ≡ counted table (walk table.arrays tree s) r
   tree_late (Pending tag origin item rest) s zero r ok e = absurd (omega arith)
   tree_late (Pending tag origin item rest) s (suc n) r ok e =
       led n item rest s (fault_of table.arrays s (item ∷ []))
@@ -221,7 +221,7 @@ module _ (table : Table) where
   tree_shows (Pending tag origin item rest) s (suc n) ok =
       subst (λ (x : Seen). Begins (shown table.arrays (Pending tag origin item rest) s (suc n)) x.printed) (sym (led n item rest s (fault_of table.arrays s (item ∷ []))))
       (item_shows item s (walk table.arrays rest (after_item table.arrays item s)) (fault_of table.arrays s (item ∷ []))
-        (tree_run table rest (after_item table.arrays item s) n) (shown table.arrays rest (after_item table.arrays item s) n) ok
+      (tree_run table rest (after_item table.arrays item s) n) (shown table.arrays rest (after_item table.arrays item s) n) ok
       (λ ok'. tree_shows rest (after_item table.arrays item s) n ok'))
   tree_shows (Undecided tag origin on on_yes on_no) s zero ok = Begins-none _
   tree_shows (Undecided tag origin on on_yes on_no) s (suc n) ok =
@@ -235,7 +235,7 @@ module _ (table : Table) where
   front_shows : (front : Front) (s : State) (n : ℕ) → IsWhole (walk table.arrays (whole front) s) → Begins (front_shown table.arrays front s n) (front_run table front s n).printed
   front_shows (Issued tag origin item rest) s n ok =
       item_shows item s (walk table.arrays (whole rest) (after_item table.arrays item s)) (fault_of table.arrays s (item ∷ []))
-        (front_run table rest (after_item table.arrays item s) n) (front_shown table.arrays rest (after_item table.arrays item s) n) ok
+      (front_run table rest (after_item table.arrays item s) n) (front_shown table.arrays rest (after_item table.arrays item s) n) ok
       (λ ok'. front_shows rest (after_item table.arrays item s) n ok')
   front_shows (Split tag origin on p q) s n ok =
       test_shows (holds (operand_value s.names on)) (front_run table p s n) (front_run table q s n) (front_shown table.arrays p s n) (front_shown table.arrays q s n)
@@ -270,12 +270,12 @@ module _ (table : Table) where
           let lt = is_less (behind_length table.arrays f s) n e in
           let le = h.no_longer in
           let here : front_run table f s n ≡ counted table (walk table.arrays (whole f) s) (n - behind_length table.arrays f s) =
-            front_late f s n (n - behind_length table.arrays f s) ok (omega arith) in
+          front_late f s n (n - behind_length table.arrays f s) ok (omega arith) in
           let there : front_run table g s n ≡ counted table (walk table.arrays (whole f) s) (n - behind_length table.arrays g s) =
           front_late g s n (n - behind_length table.arrays g s) ok' (omega arith) ∙ ap (λ (w : Walked). counted table w (n - behind_length table.arrays g s)) h.same in
           subst (λ (x : Seen). Answers x (front_run table g s n) x.end) (sym here)
           (subst (λ (y : Seen). Answers (counted table (walk table.arrays (whole f) s) (n - behind_length table.arrays f s)) y
-            (counted table (walk table.arrays (whole f) s) (n - behind_length table.arrays f s)).end) (sym there)
+          (counted table (walk table.arrays (whole f) s) (n - behind_length table.arrays f s)).end) (sym there)
           (counted-grows table (walk table.arrays (whole f) s) (n - behind_length table.arrays f s) (n - behind_length table.arrays g s) (omega arith)))
 
   -- ---- more units show no less
@@ -291,7 +291,7 @@ module _ (table : Table) where
   pub front_grows : (front : Front) (s : State) (n m : ℕ) → n ≤ m → Answers (front_run table front s n) (front_run table front s m) (front_run table front s n).end
   front_grows (Issued tag origin item rest) s n m le =
       first_answers (fault_of table.arrays s (item ∷ [])) (prints_of s (item ∷ [])) (front_run table rest (after_item table.arrays item s) n)
-        (front_run table rest (after_item table.arrays item s) m) (front_grows rest (after_item table.arrays item s) n m le)
+      (front_run table rest (after_item table.arrays item s) m) (front_grows rest (after_item table.arrays item s) n m le)
   front_grows (Split tag origin on p q) s n m le =
       side_answers (holds (operand_value s.names on)) (front_run table p s n) (front_run table q s n) (front_run table p s m) (front_run table q s m) (front_grows p s n m le) (front_grows q s n m le)
   front_grows (Unfinished tree) s n m le = run_from-answers (window_step table) n m (enter table tree s) le

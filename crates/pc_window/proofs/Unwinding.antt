@@ -66,16 +66,16 @@ pub data Unwound (table : Table) (loop : Option ℕ) (names after : Supply) : Tr
       → (graft table loop tag (region_tree table region) names (home_of homes)).names ≡ after → Unwound table loop names after (Exit region tag homes) tree
   below : (tag origin : ℕ) (item : Item) {rest new : Tree} → Unwound table loop names after rest new → Unwound table loop names after (Pending tag origin item rest) (Pending tag origin item new)
   at_yes : (tag origin : ℕ) (on : Operand) {one new : Tree} (other : Tree) → Unwound table loop names after one new
-    → Unwound table loop names after (Undecided tag origin on one other) (Undecided tag origin on new other)
+      → Unwound table loop names after (Undecided tag origin on one other) (Undecided tag origin on new other)
   at_no : (tag origin : ℕ) (on : Operand) (one : Tree) {other new : Tree} → Unwound table loop names after other new
-    → Unwound table loop names after (Undecided tag origin on one other) (Undecided tag origin on one new)
+      → Unwound table loop names after (Undecided tag origin on one other) (Undecided tag origin on one new)
 
 module _ (table : Table) (loop : Option ℕ) (least : ℕ) (names : Supply) where
   unfoldable pub IsUnwound : Tree → Grafted → Type 0
   IsUnwound t g = Unwound table loop names g.names t g.tree
 
   item_unwound : (tag origin : ℕ) (item : Item) (rest : Tree) (r : Option Grafted) (g : Grafted) → ((h : Grafted) → r ≡ Some h → IsUnwound rest h)
-    → under_item tag origin item r ≡ Some g → IsUnwound (Pending tag origin item rest) g
+      → under_item tag origin item r ≡ Some g → IsUnwound (Pending tag origin item rest) g
   unfolding IsUnwound
   item_unwound tag origin item rest None g next e = absurd (cc)
   item_unwound tag origin item rest (Some h) g next e =
@@ -83,7 +83,7 @@ module _ (table : Table) (loop : Option ℕ) (least : ℕ) (names : Supply) wher
       subst (λ (k : Grafted). Unwound table loop names k.names (Pending tag origin item rest) k.tree) same (below tag origin item (next h refl))
 
   test_unwound : (tag origin : ℕ) (on : Operand) (one other : Tree) (r q : Option Grafted) (g : Grafted) → ((h : Grafted) → r ≡ Some h → IsUnwound one h)
-    → ((h : Grafted) → q ≡ Some h → IsUnwound other h)
+      → ((h : Grafted) → q ≡ Some h → IsUnwound other h)
       → under_test tag origin on one other r q ≡ Some g → IsUnwound (Undecided tag origin on one other) g
   unfolding IsUnwound
   test_unwound tag origin on one other (Some h) q g next next' e =
@@ -146,10 +146,10 @@ module _ (table : Table) (keeps : TableKeeps table) (loop : Option ℕ) (names a
       LaterWalk-item table (fault_of table.arrays s (item ∷ [])) (prints_of s (item ∷ [])) (walk table.arrays new s') (walk table.arrays rest s') (unwound_later u b.1 s')
   unwound_later (at_yes tag origin on {one = one} {new = new} other u) b s =
       LaterWalk-side table (holds (operand_value s.names on)) (walk table.arrays new s) (walk table.arrays one s) (walk table.arrays other s) (walk table.arrays other s)
-        (unwound_later u b.1 s) (LaterWalk-refl table (walk table.arrays other s))
+      (unwound_later u b.1 s) (LaterWalk-refl table (walk table.arrays other s))
   unwound_later (at_no tag origin on one {other = other} {new = new} u) b s =
       LaterWalk-side table (holds (operand_value s.names on)) (walk table.arrays one s) (walk table.arrays one s) (walk table.arrays new s) (walk table.arrays other s)
-        (LaterWalk-refl table (walk table.arrays one s)) (unwound_later u b.2 s)
+      (LaterWalk-refl table (walk table.arrays one s)) (unwound_later u b.2 s)
 
 follow-grows : (table : Table) (w : Walked) → Grows (follow table w)
 follow-grows table (Leaves printed region s) =
@@ -255,7 +255,7 @@ defined_later names later σ τ lengths (Pending tag origin item rest) s more go
 )
 defined_later names later σ τ lengths (Undecided tag origin on one other) s more goes b lt h =
     Side-map (holds (operand_value s.names on)) (DefinedHold σ names.forms lengths one s) (DefinedHold σ names.forms lengths other s)
-        (DefinedHold τ later.forms lengths one s) (DefinedHold τ later.forms lengths other s)
+    (DefinedHold τ later.forms lengths one s) (DefinedHold τ later.forms lengths other s)
     (λ p. defined_later names later σ τ lengths one s more goes b lt.1 p) (λ p. defined_later names later σ τ lengths other s more goes b lt.2 p) h
 defined_later names later σ τ lengths (Exit region tag homes) s more goes b lt h = tt
 defined_later names later σ τ lengths Stop_exit s more goes b lt h = tt
@@ -327,7 +327,7 @@ module _ (table : Table) (loop : Option ℕ) (names after : Supply) (fb : FormsB
   unwound_held (at_stub region tag homes tree is kept) b s σ h =
       let grafted = graft table loop tag (region_tree table region) names (home_of homes) in
       let held = graft_holds table loop tag (region_tree table region) names (home_of homes) s σ grafted.names fb (homes-below names.next homes b)
-        (stub_means σ names.forms region tag homes s h.parameters) (Extends-refl grafted.names) in
+      (stub_means σ names.forms region tag homes s h.parameters) (Extends-refl grafted.names) in
       subst (λ (u : Tree). Held names.next_variable σ after.forms table.arrays u s) is
       (subst (λ (a : Supply). Held names.next_variable σ a.forms table.arrays grafted.tree s) kept held)
   unwound_held (below tag origin item {rest = rest} {new = new} u) b s σ h =

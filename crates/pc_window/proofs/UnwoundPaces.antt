@@ -21,7 +21,7 @@ use Rattle.pc_window.proofs.GraftPaces.{PacedAt, region_pace}
 test_pace : (table : Table) (b : Bool) (one other one' other' : Tree) (s : State) (n : ℕ)
     → Answers (tree_run table one s n) (tree_run table one' s n) (tree_run table one s n).end → Answers (tree_run table other s n) (tree_run table other' s n) (tree_run table other s n).end
     → Answers (run_from (window_step table) n (enter table (if b then one else other) s)) (run_from (window_step table) n (enter table (if b then one' else other') s))
-        (run_from (window_step table) n (enter table (if b then one else other) s)).end
+    (run_from (window_step table) n (enter table (if b then one else other) s)).end
 test_pace table true one other one' other' s n p q = p
 test_pace table false one other one' other' s n p q = q
 
@@ -35,15 +35,15 @@ unwound_pace table keeps loop names after (below tag origin item {rest = rest} {
 unwound_pace table keeps loop names after (below tag origin item {rest = rest} {new = new} u) b s (suc n) =
     subst (λ (x : Seen). Answers x (tree_run table (Pending tag origin item new) s (suc n)) x.end) (sym (led table n item rest s (fault_of table.arrays s (item ∷ []))))
     (subst (λ (y : Seen). Answers (seen_first (fault_of table.arrays s (item ∷ [])) (prints_of s (item ∷ [])) (tree_run table rest (after_item table.arrays item s) n)) y
-        (seen_first (fault_of table.arrays s (item ∷ [])) (prints_of s (item ∷ [])) (tree_run table rest (after_item table.arrays item s) n)).end)
-        (sym (led table n item new s (fault_of table.arrays s (item ∷ []))))
+    (seen_first (fault_of table.arrays s (item ∷ [])) (prints_of s (item ∷ [])) (tree_run table rest (after_item table.arrays item s) n)).end)
+    (sym (led table n item new s (fault_of table.arrays s (item ∷ []))))
     (first_answers table (fault_of table.arrays s (item ∷ [])) (prints_of s (item ∷ [])) (tree_run table rest (after_item table.arrays item s) n)
     (tree_run table new (after_item table.arrays item s) n) (unwound_pace table keeps loop names after u b.1 (after_item table.arrays item s) n)))
 unwound_pace table keeps loop names after (at_yes tag origin on {one = one} {new = new} other u) b s zero = ([], refl)
 unwound_pace table keeps loop names after (at_yes tag origin on {one = one} {new = new} other u) b s (suc n) =
     test_pace table (holds (operand_value s.names on)) one other new other s n (unwound_pace table keeps loop names after u b.1 s n)
-        (Answers-equal (tree_run table other s n) (tree_run table other s n) refl)
+    (Answers-equal (tree_run table other s n) (tree_run table other s n) refl)
 unwound_pace table keeps loop names after (at_no tag origin on one {other = other} {new = new} u) b s zero = ([], refl)
 unwound_pace table keeps loop names after (at_no tag origin on one {other = other} {new = new} u) b s (suc n) =
     test_pace table (holds (operand_value s.names on)) one other one new s n (Answers-equal (tree_run table one s n) (tree_run table one s n) refl)
-        (unwound_pace table keeps loop names after u b.2 s n)
+    (unwound_pace table keeps loop names after u b.2 s n)

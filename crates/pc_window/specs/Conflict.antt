@@ -14,6 +14,7 @@ pub record Touch : Type 0 where
   pub index : Operand
   pub stores : Bool
 
+-- what an item touches: nothing, unless it is a load or store
 abbrev pub touch_of : Item → Option Touch
 touch_of (Bin op dest left right) = None
 touch_of (Copy dest from) = None
@@ -24,25 +25,25 @@ touch_of (Read dest) = None
 touch_of (More dest) = None
 
 -- the two may be exchanged: where they touch one array and one of them stores, the forms of their indexes are never equal
-abbrev pub Disjoint : (ℕ → Form) → Option Touch → Option Touch → Type 0
-Disjoint forms (Some a) (Some b) =
+abbrev pub NoDependence : (ℕ → Form) → Option Touch → Option Touch → Type 0
+NoDependence forms (Some a) (Some b) =
     a.array ≡ b.array → (a.stores || b.stores) ≡ true → NeverEqual (operand_form forms a.index) (operand_form forms b.index)
-Disjoint forms (Some a) None = Unit {0}
-Disjoint forms None touch = Unit {0}
+NoDependence forms (Some a) None = Unit {0}
+NoDependence forms None touch = Unit {0}
 
 -- the second may stand behind the first in one row: the same, but that a store may stand behind a load
-abbrev pub Unspoilt : (ℕ → Form) → Option Touch → Option Touch → Type 0
-Unspoilt forms (Some a) (Some b) =
+abbrev pub NoStoreDependence : (ℕ → Form) → Option Touch → Option Touch → Type 0
+NoStoreDependence forms (Some a) (Some b) =
     a.array ≡ b.array → a.stores ≡ true → NeverEqual (operand_form forms a.index) (operand_form forms b.index)
-Unspoilt forms (Some a) None = Unit {0}
-Unspoilt forms None touch = Unit {0}
+NoStoreDependence forms (Some a) None = Unit {0}
+NoStoreDependence forms None touch = Unit {0}
 
 -- two items do not conflict
 pub record NoConflict (forms : ℕ → Form) (first second : Item) : Type 0 where
-  pub disjoint : Disjoint forms (touch_of first) (touch_of second)
+  pub no_dependence : NoDependence forms (touch_of first) (touch_of second)
   pub one_effect : (is_effect first && is_effect second) ≡ false
 
 -- an item does not conflict with one before it in its row, or it is a store behind a load
 pub record MayFollow (forms : ℕ → Form) (first second : Item) : Type 0 where
-  pub unspoilt : Unspoilt forms (touch_of first) (touch_of second)
+  pub no_store_dependence : NoStoreDependence forms (touch_of first) (touch_of second)
   pub one_effect : (is_effect first && is_effect second) ≡ false

@@ -40,6 +40,7 @@ DefinedHold σ forms lengths (Trap_exit kind line) s = Unit {0}
 abbrev pub KnownHold : (ℕ → Bool) → (ℕ → ℤ) → (ℕ → Form) → State → Type 0
 KnownHold known σ forms s = (x : ℕ) → known x ≡ true → Means σ (forms x) (s.names x)
 
+-- each parameter has the value of its form
 abbrev pub ParametersHold : (ℕ → ℤ) → (ℕ → Form) → Tree → State → Type 0
 ParametersHold σ forms tree s = KnownHold (uses tree) σ forms s
 

@@ -96,7 +96,7 @@ pub data EntersFront (known : ℕ → Bool) (forms forms' : ℕ → Form) (new :
       → new ≡ dest_of (with_dest name stood) → GivesForm forms forms' (with_dest name stood) new
       → Rises forms tag origin stood (with_dest name stood) crosses on_yes yes_left → Rises forms tag' origin' other (with_dest name stood) crosses' on_no no_left
       → EntersFront known forms forms' new (Some (with_dest name stood)) (Split t o on (Unfinished on_yes) (Unfinished on_no))
-        (Issued tag origin (with_dest name stood) (Split t o on (Unfinished yes_left) (Unfinished no_left)))
+      (Issued tag origin (with_dest name stood) (Split t o on (Unfinished yes_left) (Unfinished no_left)))
   -- the path above
   Behind_item : (t o : ℕ) (y : Item) (comes : Option Item) (rest rest' : Front) → MayComeBehind forms y comes → IsNew (writes (dest_of y)) new
       → EntersFront known forms forms' new comes rest rest' → EntersFront known forms forms' new comes (Issued t o y rest) (Issued t o y rest')

@@ -53,6 +53,7 @@ pub record RestKept (table : Table) (w : Window) (s : State) (printed : List ℤ
   pub back : Follows (λ n. after_printing printed (window_run table rest new n)) (window_run table w s)
   pub forms : FormsHold table rest new
 
+-- what is left goes on as the window before did: a window is a unit ahead, and else the runs agree
 abbrev pub LeftKept : Table → Window → State → List ℤ → State → Left → Type 0
 LeftKept table w s printed new (Rest rest) = RestKept table w s printed new rest
 LeftKept table w s printed new left = Agree (window_run table w s) (λ n. after_printing printed (left_run table left new n))
@@ -62,6 +63,7 @@ abbrev pub TakenKept : Table → Window → State → RowOutcome Left → Type 0
 TakenKept table w s (Faults fault) = ⊥
 TakenKept table w s (Commits printed new left) = LeftKept table w s printed new left
 
+-- so does a row, on each state where forms hold and the run never faults
 abbrev pub RowKeeps : Table → Window → Row Left → Type 0
 RowKeeps table w row = (s : State) → FormsHold table w s → NeverFaults (window_run table w s) → TakenKept table w s (row_step table.arrays row s)
 
@@ -88,6 +90,7 @@ pub record FilledIn (table : Table) (w v : Window) (s : State) : Type 0 where
   pub forms : FormsHold table v s
   pub bare : IsBare (whole w.front) → IsBare (whole v.front)
 
+-- so does filling, on each state where forms hold and the run never faults
 abbrev pub FillKeeps : Table → Window → Window → Type 0
 FillKeeps table w v = (s : State) → FormsHold table w s → NeverFaults (window_run table w s) → FilledIn table w v s
 
@@ -97,6 +100,7 @@ pub record RestCut (table : Table) (w : Window) (s : State) (printed : List ℤ)
   pub forms : FormsHold table rest new
   pub items : IsBare (whole w.front) → ⊥
 
+-- what was printed, and what is left, are the run of the front and of what stands behind it
 abbrev pub LeftCut : Table → Window → State → List ℤ → State → Left → Type 0
 LeftCut table w s printed new (Rest rest) = RestCut table w s printed new rest
 LeftCut table w s printed new left = Agree (front_run table w.front s) (λ n. after_printing printed (left_run table left new n))
@@ -106,6 +110,7 @@ abbrev pub TakenCut : Table → Window → State → RowOutcome Left → Type 0
 TakenCut table w s (Faults fault) = ⊥
 TakenCut table w s (Commits printed new left) = LeftCut table w s printed new left
 
+-- so does the row of a cut, on each state where forms hold and the run never faults
 abbrev pub CutKeeps : Table → Window → Row Left → Type 0
 CutKeeps table w row = (s : State) → FormsHold table w s → NeverFaults (window_run table w s) → TakenCut table w s (row_step table.arrays row s)
 
@@ -122,6 +127,7 @@ HasFront (Issued tag origin item rest) = Unit {0}
 HasFront (Split tag origin on on_yes on_no) = Unit {0}
 HasFront (Unfinished rest) = ⊥
 
+-- a row has an item or a test
 abbrev pub HasItems : {L : Type 0} → Row L → Type 0
 HasItems (Then item rest) = Unit {0}
 HasItems (Either on on_yes on_no) = Unit {0}

@@ -9,12 +9,12 @@ use Rattle.pc_linear.specs.Form.{Form}
 use Rattle.pc_table.specs.Table.{Table}
 use Rattle.pc_table.specs.TableKeeps.{TableKeeps}
 use Rattle.pc_window.specs.Tree.{Tree, whole}
-use Rattle.pc_window.specs.Names.{IsNew, Scoped}
+use Rattle.pc_window.specs.Names.{uses, IsNew, Scoped}
 use Rattle.pc_window.specs.Walk.{IsWhole, walk, outcome_walk}
 use Rattle.pc_window.specs.Hold.{HoldFor, TreeHolds}
 use Rattle.pc_window.specs.WindowRun.{Window}
 use Rattle.pc_window.specs.Tidying.{tidied, IsTidy}
-use Rattle.pc_window.specs.Filled.{IsWindow, Jump, IsFirstJump, seat_of, Filled, MostBehind, front_size}
+use Rattle.pc_window.specs.Filled.{IsWindow, Jump, IsFirstJump, priority_of, Filled, MostBehind, front_size}
 use Rattle.pc_window.specs.Ready.{HasFresh, ReadyPlace, BringsFrom, NotBehind}
 use Rattle.pc_window.specs.Move.{Moves}
 use Rattle.pc_window.specs.Kept.{Left, WindowKeeps, FillKeeps, CutKeeps, RowKeeps, IsRooted, OpensAlike, HasFront, HasItems}
@@ -48,6 +48,7 @@ TidyingKeeps = (table : Table) (w v : Window) → Tidies w v → IsProper w → 
 abbrev pub TidiedTreesAreTidy : Type 0
 TidiedTreesAreTidy = (tree : Tree) → IsTidy (tidied tree)
 
+-- a tidied window has its first item or test, if there is one, in its front
 abbrev pub TidiedWindowsAreRooted : Type 0
 TidiedWindowsAreRooted = (w v : Window) → Tidies w v → IsRooted v.front
 
@@ -109,10 +110,15 @@ pub record IsLegal (w : Window) (row : Row Left) : Type 0 where
   pub once : AllByRecursion (λ path. IsDistinct nat_eq (filter_map dest_of path)) (paths_of row)
   pub one_effect : AllByRecursion (λ path. count_by is_effect path ≤ 1) (paths_of row)
 
+-- the row of a proper window is legal
 abbrev pub RowsAreLegal : Type 0
 RowsAreLegal = (table : Table) (w : Window) (row : Row Left) → Cuts table w row → IsProper w → IsLegal w row
 
 -- ---- what is ready, and moves
+
+-- in a proper window, of which the parameters are known, names and form variables are left that are new
+abbrev pub ProperWindowsHaveFreshNames : Type 0
+ProperWindowsHaveFreshNames = (w : Window) → IsProper w → HasFresh (uses (whole w.front)) w
 
 -- what is ready and has room can jump
 abbrev pub ReadyJumps : Type 0
@@ -125,7 +131,7 @@ JumpsWereReady = (known : ℕ → Bool) (w v : Window) (jump : Jump known w v) �
 -- the first jump brings what is first in the order of all that is ready and has room
 abbrev pub FirstJumpsAreFirst : Type 0
 FirstJumpsAreFirst = (known : ℕ → Bool) (w v : Window) → IsWindow known w → HasFresh known w → (jump : Jump known w v) → IsFirstJump known w v jump
-    → (r : ReadyPlace known w) → NotBehind (seat_of jump.enters).0 (seat_of jump.enters).1 (seat_of jump.enters).2 r.tag r.origin r.place
+    → (r : ReadyPlace known w) → NotBehind (priority_of jump.enters).0 (priority_of jump.enters).1 (priority_of jump.enters).2 r.tag r.origin r.place
 
 -- a move anywhere in a window keeps the walk and forms, and names
 abbrev pub MovesKeep : Type 0

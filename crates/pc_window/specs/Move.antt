@@ -26,6 +26,7 @@ abbrev pub IsUnused : Option ℕ → Tree → Type 0
 IsUnused (Some name) rest = uses rest name ≡ false
 IsUnused None rest = Unit {0}
 
+-- one move leads from a tree to a tree, where these names are known above it
 pub data Moves (forms forms' : ℕ → Form) (new : Option ℕ) : (ℕ → Bool) → Tree → Tree → Type 0 where
   -- an item or test comes into a node from behind its leaves
   Into_node : (known : ℕ → Bool) (comes : Option Item) (from to : Front) → EntersFront known forms forms' new comes from to → Moves forms forms' new known (whole from) (whole to)

@@ -45,6 +45,7 @@ IsNew known None = Unit {0}
 abbrev pub and_dest : (ℕ → Bool) → Item → ℕ → Bool
 and_dest known item x = writes (dest_of item) x || known x
 
+-- each home is known
 abbrev pub HomesKnown : (ℕ → Bool) → List Home → Type 0
 HomesKnown known homes = AllByRecursion (λ home. IsKnown known home.value) homes
 
@@ -76,6 +77,7 @@ abbrev pub name_in : Operand → List ℕ
 name_in (Name x) = x ∷ []
 name_in (Lit value) = []
 
+-- the names that an item reads, in order
 abbrev pub names_read : Item → List ℕ
 names_read (Bin op dest left right) = name_in left ++ name_in right
 names_read (Copy dest from) = name_in from
@@ -85,6 +87,7 @@ names_read (Print value) = name_in value
 names_read (Read dest) = []
 names_read (More dest) = []
 
+-- the names that homes read, in order
 abbrev pub names_in_homes : List Home → List ℕ
 names_in_homes [] = []
 names_in_homes (home ∷ homes) = name_in home.value ++ names_in_homes homes

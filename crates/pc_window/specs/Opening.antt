@@ -45,6 +45,7 @@ pub data Brought : Type 0 where
   Gets_name : (variable : ℕ) → (item : Item) → (form : Option Form) → Brought
   Stays_plain : (item : Item) → Brought
 
+-- what becomes of an item, at these homes
 abbrev pub brought : Supply → (ℕ → Operand) → Item → Brought
 brought names homes (Bin op dest left right) =
     Gets_name dest (Bin op names.next (at_home homes left) (at_home homes right))
@@ -65,6 +66,7 @@ pub record Grafted : Type 0 where
 abbrev pub below_item : ℕ → ℕ → Item → Grafted → Grafted
 below_item tag origin item g = record { tree = Pending tag origin item g.tree; names = g.names }
 
+-- what becomes of an item, and then the rest, with the names and homes as they are then
 abbrev pub graft_item : ℕ → ℕ → Brought → Supply → (ℕ → Operand) → (Supply → (ℕ → Operand) → Grafted) → Grafted
 graft_item tag origin (Moves_home variable from) names homes rest = rest names (changed homes variable from)
 graft_item tag origin (Gets_name variable item form) names homes rest =
@@ -87,10 +89,12 @@ same_loop (Some loop) (Some other) = nat_eq loop other
 same_loop None other = false
 same_loop (Some loop) None = false
 
+-- the loop whose header a region is
 abbrev pub headed_loop : Option TableRegion → Option ℕ
 headed_loop None = None
 headed_loop (Some region) = region.heads
 
+-- the innermost loop that a region stands in
 abbrev pub inner_loop : Option TableRegion → Option ℕ
 inner_loop None = None
 inner_loop (Some region) = region.inside
@@ -115,6 +119,7 @@ graft table loop tag (Traps_here kind line) names homes = record { tree = Trap_e
 abbrev pub first_form : ℕ → Form
 first_form v = if nat_lt v 96 then variable_form v else constant_form (pos 0)
 
+-- the names before anything is opened
 abbrev pub first_supply : Supply
 first_supply = record { forms = first_form; next = 96; next_variable = 96 }
 
@@ -122,6 +127,7 @@ first_supply = record { forms = first_form; next = 96; next_variable = 96 }
 abbrev pub first_home : ℕ → Operand
 first_home v = if nat_lt v 96 then Name v else Lit (pos 0)
 
+-- a region's tree, opened: at tag 0, each variable at its first home
 abbrev pub opened : Table → Option ℕ → ℕ → Grafted
 opened table loop region = graft table loop 0 (region_tree table region) first_supply first_home
 
@@ -136,6 +142,7 @@ abbrev pub under_item : ℕ → ℕ → Item → Option Grafted → Option Graft
 under_item tag origin item None = None
 under_item tag origin item (Some g) = Some (below_item tag origin item g)
 
+-- the same with a test above: of two sides the first that was changed
 abbrev pub under_test : ℕ → ℕ → Operand → Tree → Tree → Option Grafted → Option Grafted → Option Grafted
 under_test tag origin on on_yes on_no (Some g) other = Some (record { tree = Undecided tag origin on g.tree on_no; names = g.names })
 under_test tag origin on on_yes on_no None (Some g) = Some (record { tree = Undecided tag origin on on_yes g.tree; names = g.names })
@@ -177,6 +184,7 @@ ItemBelow n (Print value) = OperandBelow n value
 ItemBelow n (Read dest) = dest < n
 ItemBelow n (More dest) = dest < n
 
+-- the names that the homes of a stub read are below a number
 abbrev pub StubBelow : ℕ → List Home → Type 0
 StubBelow n [] = Unit
 StubBelow n (home ∷ homes) = OperandBelow n home.value × StubBelow n homes

@@ -8,7 +8,7 @@ use Rattle.pc_window.specs.Names.{IsKnown, ReadsKnown, Unwritten}
 use Rattle.pc_window.specs.Conflict.{NoConflict, MayFollow}
 use Rattle.pc_window.specs.Jump.{is_quiet, Without}
 use Rattle.pc_window.specs.WindowRun.{Window}
-use Rattle.pc_window.specs.Filled.{HasSpace, Jump, seat_of}
+use Rattle.pc_window.specs.Filled.{HasSpace, Jump, priority_of}
 
 -- an item of this tag and origin stands at a preorder place of a tree; no item before it conflicts with it; and a test stands
 -- before it (the Bool) only where it is quiet
@@ -34,7 +34,7 @@ MayStandBehind forms y None = Unit {0}
 -- an item, or a test, that stands behind the front is ready: of this tag and origin, at this place of the window
 pub data IsReadyAt (known : ℕ → Bool) (forms : ℕ → Form) (tag origin : ℕ) : (place : ℕ) → Option Item → Front → Type 0 where
   Item_ready : (x : Item) (place : ℕ) (crosses : Bool) (from : Tree) → ReadsKnown known x → CanRise forms x tag origin place crosses from
-    → IsReadyAt known forms tag origin place (Some x) (Unfinished from)
+      → IsReadyAt known forms tag origin place (Some x) (Unfinished from)
   Test_ready : (on : Operand) (place : ℕ) (from : Tree) → IsKnown known on → CanDivide on tag origin place from → IsReadyAt known forms tag origin place None (Unfinished from)
   Ready_below : (t o : ℕ) (y : Item) (place : ℕ) (what : Option Item) (rest : Front) → MayStandBehind forms y what
       → IsReadyAt known forms tag origin place what rest → IsReadyAt known forms tag origin (suc place) what (Issued t o y rest)
@@ -60,7 +60,7 @@ pub record ReadyPlace (known : ℕ → Bool) (w : Window) : Type 0 where
 
 -- a jump brings what was ready there
 abbrev pub BringsFrom : {known : ℕ → Bool} {w v : Window} → Jump known w v → ReadyPlace known w → Type 0
-BringsFrom jump r = (r.tag ≡ (seat_of jump.enters).0) × (r.origin ≡ (seat_of jump.enters).1) × (r.place ≡ (seat_of jump.enters).2)
+BringsFrom jump r = (r.tag ≡ (priority_of jump.enters).0) × (r.origin ≡ (priority_of jump.enters).1) × (r.place ≡ (priority_of jump.enters).2)
 
 -- one place is not behind another, in the order of tag, origin, preorder place
 abbrev pub NotBehind : (tag origin place : ℕ) → (tag' origin' place' : ℕ) → Type 0

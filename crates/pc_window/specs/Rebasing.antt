@@ -38,6 +38,7 @@ rewritten_by (pos zero) difference f = f
 rewritten_by (pos (suc k)) difference f = plus f (pos (suc k)) difference
 rewritten_by (negsuc k) difference f = plus f (negsuc k) difference
 
+-- the same by the factor that a variable has in the form
 abbrev pub rewritten : ℕ → Form → Form → Form
 rewritten x difference f = rewritten_by (int_wrap w32 (factor_of f.terms x)) difference f
 
@@ -73,11 +74,13 @@ first_base bases [] = None
 first_base bases (t ∷ []) = new_base bases t
 first_base bases (t ∷ u ∷ ts) = None
 
+-- the first turn of a parameter: it becomes a base, or it is left for the second
 abbrev pub first_turn : List ℕ → ℕ → Option ℕ → Turned → Turned
 first_turn all p None turned = record { names = turned.names; bases = turned.bases; left = turned.left ++ (p ∷ []) }
 first_turn all p (Some x) turned =
     record { names = make_base all p x turned.names; bases = turned.names.next_variable ∷ turned.bases; left = turned.left }
 
+-- the first turns of these parameters, in order
 abbrev pub first_turns : List ℕ → List ℕ → Turned → Turned
 first_turns all [] turned = turned
 first_turns all (p ∷ ps) turned = first_turns all ps (first_turn all p (first_base turned.bases (turned.names.forms p).terms) turned)
@@ -93,14 +96,17 @@ second_choice all p None turned = record { names = with_variable turned.names p;
 second_choice all p (Some x) turned =
     record { names = make_base all p x turned.names; bases = turned.names.next_variable ∷ turned.bases; left = turned.left }
 
+-- the second turn of a parameter, by the terms of its form whose variables are no bases: nothing, where there is none
 abbrev pub second_turn : List ℕ → ℕ → List Term → Turned → Turned
 second_turn all p [] turned = turned
 second_turn all p (t ∷ ts) turned = second_choice all p (first_base turned.bases (t ∷ ts)) turned
 
+-- the second turns of these parameters, in order
 abbrev pub second_turns : List ℕ → List ℕ → Turned → Turned
 second_turns all [] turned = turned
 second_turns all (p ∷ ps) turned = second_turns all ps (second_turn all p (free_terms turned.bases (turned.names.forms p).terms) turned)
 
+-- the names of a tree: parameters, and then definitions in preorder
 abbrev pub all_names : Tree → List ℕ
 all_names tree = parameters_of tree ++ definitions_of tree
 

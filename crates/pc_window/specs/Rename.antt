@@ -16,6 +16,7 @@ map_operands f (Print value) = Print (f value)
 map_operands f (Read dest) = Read dest
 map_operands f (More dest) = More dest
 
+-- homes that read other operands
 abbrev pub map_homes : (Operand → Operand) → List Home → List Home
 map_homes f [] = []
 map_homes f (home ∷ homes) = record { variable = home.variable; value = f home.value } ∷ map_homes f homes

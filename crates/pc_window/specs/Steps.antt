@@ -32,20 +32,25 @@ grafted_of w = record { tree = whole w.front; names = supply_of w }
 abbrev pub loop_of : Table → ℕ → Option ℕ
 loop_of table region = headed_loop (slice_get table.regions region)
 
+-- the window that a region is opened as
 abbrev pub opened_window : Table → Limits → ℕ → Window
 opened_window table limits region = window_of (opened table (loop_of table region) region).tree (opened table (loop_of table region) region).names limits (loop_of table region)
 
+-- a region opens as a window
 abbrev pub Opens : Table → Limits → ℕ → Window → Type 0
 Opens table limits region w = w ≡ opened_window table limits region
 
+-- a window unwinds to another, with this window number
 pub record UnwindsTo (table : Table) (number : ℕ) (w v : Window) : Type 0 where
   pub unwound : Grafted
   pub unwinds : Unwinds table w.inside number (grafted_of w) unwound
   pub is : v ≡ window_of unwound.tree unwound.names w.limits w.inside
 
+-- a window tidied is another
 abbrev pub Tidies : Window → Window → Type 0
 Tidies w v = v ≡ with_tree w (tidied (whole w.front))
 
+-- a window rebased is another
 abbrev pub Rebases : Window → Window → Type 0
 Rebases w v = v ≡ window_of (whole w.front) (rebased (whole w.front) (supply_of w)) w.limits w.inside
 
@@ -79,6 +84,7 @@ abbrev pub cut_row : Table → Window → Front → Row Left
 cut_row table w (Unfinished rest) = At_leaf (left_at_root table w rest)
 cut_row table w front = front_row (left_of table w) front
 
+-- a window whose front is cut off is this row
 abbrev pub Cuts : Table → Window → Row Left → Type 0
 Cuts table w row = row ≡ cut_row table w w.front
 
@@ -105,6 +111,7 @@ LeftIs P (Gone region homes) = Unit {0}
 LeftIs P Finished = Unit {0}
 LeftIs P (Trapped_at kind line) = Unit {0}
 
+-- what holds of each window that is left at a leaf of a row
 abbrev pub EachLeft : (Window → Type 0) → Row Left → Type 0
 EachLeft P (Then item rest) = EachLeft P rest
 EachLeft P (Either on on_yes on_no) = EachLeft P on_yes × EachLeft P on_no

@@ -9,6 +9,7 @@ use Rattle.pc_window.specs.Names.{uses}
 abbrev pub kept_if_used : ℕ → ℕ → ℕ → Item → Tree → Tree
 kept_if_used dest tag origin item rest = if uses rest dest then Pending tag origin item rest else rest
 
+-- the same for an item of any kind
 abbrev pub above : ℕ → ℕ → Item → Tree → Tree
 above tag origin (Bin op dest left right) rest = kept_if_used dest tag origin (Bin op dest left right) rest
 above tag origin (Copy dest from) rest = Pending tag origin (Copy dest from) rest

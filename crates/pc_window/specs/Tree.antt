@@ -59,5 +59,6 @@ home_of (home ∷ homes) v = if nat_eq home.variable v then home.value else home
 abbrev pub state_at : (ℕ → Operand) → State → State
 state_at homes s = record { names = λ v. operand_value s.names (homes v); cells = s.cells; input = s.input }
 
+-- the same for homes in a list
 abbrev pub home_state : State → List Home → State
 home_state s homes = state_at (home_of homes) s

@@ -26,10 +26,12 @@ least_tag (Exit region tag homes) = Some tag
 least_tag Stop_exit = None
 least_tag (Trap_exit kind line) = None
 
+-- a tag, and 0 where there is none
 abbrev pub or_zero : Option ℕ → ℕ
 or_zero None = 0
 or_zero (Some n) = n
 
+-- the least tag of a tree, and 0 where it has none
 abbrev pub front_tag : Tree → ℕ
 front_tag tree = or_zero (least_tag tree)
 

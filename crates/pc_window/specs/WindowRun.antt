@@ -26,6 +26,7 @@ pub record Window : Type 0 where
   pub limits : Limits
   pub inside : Option ℕ
 
+-- the names of a window
 abbrev pub supply_of : Window → Supply
 supply_of w = record { forms = w.forms; next = w.next; next_variable = w.next_variable }
 
@@ -52,6 +53,7 @@ tree_unit table (Exit region tag homes) s = Goes [] (Beyond (place_at table (Nex
 tree_unit table Stop_exit s = Stops [] Ended
 tree_unit table (Trap_exit kind line) s = Stops [] (Trapped kind line)
 
+-- one unit, in a window or in a region
 abbrev pub window_step : Table → WindowPlace → Step WindowPlace
 window_step table (Within tree s) = tree_unit table tree s
 window_step table (Beyond place) = beyond (region_step table place)
@@ -60,6 +62,7 @@ window_step table (Beyond place) = beyond (region_step table place)
 abbrev pub tree_run : Table → Tree → State → Run
 tree_run table tree s n = run_from (window_step table) n (enter table tree s)
 
+-- the run of a window from a state
 abbrev pub window_run : Table → Window → State → Run
 window_run table w s = tree_run table (whole w.front) s
 
@@ -74,6 +77,7 @@ abbrev pub follow : Table → Walked → Run
 follow table (Leaves printed region s) n = after_printing printed (region_run table (Next region) s n)
 follow table (Finishes printed end) n = record { printed = printed; end = Some end }
 
+-- the run of a tree that costs nothing, and n units behind it
 abbrev pub free_run : Table → Tree → State → Run
 free_run table tree s n = follow table (walk table.arrays tree s) n
 
@@ -82,6 +86,7 @@ abbrev pub seen_first : Option MachineFault → List ℤ → Seen → Seen
 seen_first (Some fault) out seen = record { printed = []; end = Some (Fault fault) }
 seen_first None out seen = after_printing out seen
 
+-- one of two, as a test goes
 abbrev pub seen_side : Bool → Seen → Seen → Seen
 seen_side true x y = x
 seen_side false x y = y

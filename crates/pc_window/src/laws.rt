@@ -3,7 +3,7 @@
 ghost use Rattle.pc_window.specs.Laws.{OpenedWindowsRunAsTheirRegion, OpenedWindowsAreProper, UnwindingKeeps, UnwindingHasOneEnd, TidyingKeeps, TidiedTreesAreTidy};
 ghost use Rattle.pc_window.specs.Laws.{TidiedWindowsAreRooted, RebasingKeeps, FillingKeeps, FillingHasOneEnd, FilledFrontsHaveItems, JumpsFillTheFront, FillingIsBounded};
 ghost use Rattle.pc_window.specs.Laws.{RowsDoWhatTheirPathsDo, CutPartsAreProper, CutsKeep, CutRowsHaveItems, FilledRowsKeep, RowsAreLegal, ReadyJumps, JumpsWereReady};
-ghost use Rattle.pc_window.specs.Laws.{FirstJumpsAreFirst, MovesKeep};
+ghost use Rattle.pc_window.specs.Laws.{FirstJumpsAreFirst, MovesKeep, ProperWindowsHaveFreshNames};
 
 /// From every state an opened window runs as its region does, and its forms hold; it is proper.
 pub fn laws_of_opening()
@@ -44,9 +44,10 @@ pub fn laws_of_cutting()
     ensures legal { RowsAreLegal }
 {}
 
-/// What is ready and has room can jump, and nothing else does; the first jump brings what is first
+/// A proper window has fresh names; what is ready and has room can jump, and nothing else does; the first jump brings what is first
 /// in the order. A move anywhere in a window keeps its walk, its forms and its names.
 pub fn laws_of_moves()
+    ensures fresh { ProperWindowsHaveFreshNames }
     ensures ready { ReadyJumps }
     ensures only_ready { JumpsWereReady }
     ensures first { FirstJumpsAreFirst }
