@@ -47,7 +47,7 @@ and_dests known (item ∷ items) = and_dests (and_dest known item) items
 
 -- ---- the promise
 
--- a walk is that of a path that is done at once, and then of what is left, from the state after_item the path, where names and
+-- a walk is that of a path that is done at once, and then of what is left, from the state after the path, where names and
 -- forms are as they must be; as much is unfinished, and printed as soon
 pub record Cut (lengths : List ℕ) (known : ℕ → Bool) (σ : ℕ → ℤ) (forms : ℕ → Form) (s : State) (walked : Walked) (path : List Item) (rest : Tree) (length : ℕ) (prints : ℕ → List ℤ) : Type 0 where
   pub no_fault : fault_of lengths s path ≡ None

@@ -105,7 +105,7 @@ swapped true false x y z h = refl
 swapped false true x y z h = refl
 swapped false false x y z h = refl
 
--- a store before others that it does not meet may come after_item them
+-- a store before others that it does not meet may come after them
 pub cells-first : (cells : ℕ → ℕ → ℤ) (one : Stored) (stores : List Stored)
     → AllByRecursion (λ other. (a p : ℕ) → is_at one a p ≡ true → is_at other a p ≡ true → ⊥) stores
     → (a p : ℕ) → cells_after cells (one ∷ stores) a p ≡ cells_after (cells_after cells (one ∷ [])) stores a p
@@ -178,7 +178,7 @@ pub record Exchangeable (lengths : List ℕ) (s : State) (y x : Item) : Type 0 w
   pub stores : StoresApart (stores_of lengths s (y ∷ [])) (stores_of lengths s (x ∷ []))
   pub one_effect : (is_effect y && is_effect x) ≡ false
 
--- the state after_item both is the same
+-- the state after both is the same
 pub states-exchanged : (lengths : List ℕ) (s : State) (y x : Item) → Exchangeable lengths s y x
     → after_item lengths x (after_item lengths y s) ≡ after_item lengths y (after_item lengths x s)
 states-exchanged lengths s y x h = state_equal (after_item lengths x (after_item lengths y s)) (after_item lengths y (after_item lengths x s))

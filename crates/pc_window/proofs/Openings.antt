@@ -9,7 +9,7 @@ use Rattle.pc_word.specs.State.{State}
 use Rattle.pc_word.specs.Items.{operand_value}
 use Rattle.pc_linear.specs.Combine.{variable_form, constant_form}
 use Rattle.pc_linear.specs.Form.{Means}
-use Rattle.pc_window.specs.Opening.{FormBelow, Supply, first_form, first_supply, first_home, opened, graft, OperandBelow, FormsBelow}
+use Rattle.pc_window.specs.Opening.{first_new, FormBelow, Supply, first_form, first_supply, first_home, opened, graft, OperandBelow, FormsBelow}
 use Rattle.pc_table.specs.Table.{TableTree, Next, Table, region_tree}
 use Rattle.pc_table.specs.RegionRun.{place_at, region_step, region_run}
 use Rattle.pc_table.specs.TableKeeps.{TableKeeps}
@@ -39,25 +39,25 @@ below_is m n h = grind arith
 
 -- ---- the first names
 
-pub first_home-below : HomesBelow 96 first_home
+pub first_home-below : HomesBelow first_new first_home
 unfolding HomesBelow
-first_home-below v = by_test (nat_lt v 96) refl
+first_home-below v = by_test (nat_lt v first_new) refl
   where
-    by_test : (b : Bool) → nat_lt v 96 ≡ b → OperandBelow 96 (if b then Name v else Lit (pos 0))
-    by_test true e = below_tells v 96 e
+    by_test : (b : Bool) → nat_lt v first_new ≡ b → OperandBelow first_new (if b then Name v else Lit (pos 0))
+    by_test true e = below_tells v first_new e
     by_test false e = tt
 
 pub first_names-below : FormsBelow first_supply
-first_names-below = record { form = λ x. by_test x (nat_lt x 96) refl }
+first_names-below = record { form = λ x. by_test x (nat_lt x first_new) refl }
   where
-    by_test : (x : ℕ) (b : Bool) → nat_lt x 96 ≡ b → FormBelow 96 (if b then variable_form x else constant_form (pos 0))
-    by_test x true e = (below_tells x 96 e, tt)
+    by_test : (x : ℕ) (b : Bool) → nat_lt x first_new ≡ b → FormBelow first_new (if b then variable_form x else constant_form (pos 0))
+    by_test x true e = (below_tells x first_new e, tt)
     by_test x false e = tt
 
 first_home-means : (s : State) → HomesMean s.names first_supply.forms s.names first_home
-first_home-means s = record { home = λ v. by_test v (nat_lt v 96) refl }
+first_home-means s = record { home = λ v. by_test v (nat_lt v first_new) refl }
   where
-    by_test : (v : ℕ) (b : Bool) → nat_lt v 96 ≡ b → OperandMeans s.names first_form s.names (if b then Name v else Lit (pos 0))
+    by_test : (v : ℕ) (b : Bool) → nat_lt v first_new ≡ b → OperandMeans s.names first_form s.names (if b then Name v else Lit (pos 0))
     by_test v true e = subst (λ (c : Bool). Means s.names (if c then variable_form v else constant_form (pos 0)) (s.names v)) (sym e) (variable_means s.names v (s.names v) refl)
     by_test v false e = refl
 
@@ -81,7 +81,7 @@ opened_agrees table keeps loop region s =
     let later = grafted_region table keeps loop 0 region first_supply first_home s first_home-below in
     Agree-later (free_run table (opened table loop region).tree s) (region_run table (Next region) s) later.units (run_from-grows (region_step table) (place_at table (Next region) s))
     (λ n. later.same n ∙ run_same table keeps (later.units + n) (region_tree table region) (state_at first_home s) s
-    (λ x h. ap (λ (b : Bool). operand_value s.names (if b then Name x else Lit (pos 0))) (below_is x 96 (keeps.small region x (keeps.live region x h)))) refl)
+    (λ x h. ap (λ (b : Bool). operand_value s.names (if b then Name x else Lit (pos 0))) (below_is x first_new (keeps.small region x (keeps.live region x h)))) refl)
 
 -- its forms hold on every state
 pub opened_holds : (table : Table) (loop : Option ℕ) (region : ℕ) (s : State) → TreeHolds (opened table loop region).names.forms table.arrays (opened table loop region).tree s

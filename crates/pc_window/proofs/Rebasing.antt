@@ -13,7 +13,7 @@ use Rattle.pc_word.specs.State.{State}
 use Rattle.pc_word.specs.Items.{operand_value, dest_of, value_of}
 use Rattle.pc_word.specs.Commit.{state_after, writes}
 use Rattle.pc_linear.specs.declared.term.Term.{Term}
-use Rattle.pc_linear.specs.Form.{Form, sum_of, ◌≈◌, number_of, says, Means, factor_of}
+use Rattle.pc_linear.specs.Form.{most_terms, Form, sum_of, ◌≈◌, number_of, says, Means, factor_of}
 use Rattle.pc_linear.specs.Combine.{plus, variable_form}
 use Rattle.pc_window.specs.Opening.{FormBelow, Supply, changed, OperandBelow, ItemBelow, StubBelow, TreeBelow, FormsBelow}
 use Rattle.pc_window.specs.Tree.{Home, Tree, Pending, Undecided, Exit, Stop_exit, Trap_exit}
@@ -212,7 +212,7 @@ Stage-variable next old m σ names n s =
 
 Stage-settled : (next : ℕ) (old : ℕ → Form) (m : ℕ) (σ : ℕ → ℤ) (names : Supply) (n : ℕ) (f : Form) → Stage next old m σ names
     → FormBelow m f → (n < next → (value : ℤ) → Means σ (old n) value → Means σ f value) → Stage next old m σ (settled names n f)
-Stage-settled next old m σ names n f s below means = by_length (nat_lt 4 (length f.terms))
+Stage-settled next old m σ names n f s below means = by_length (nat_lt most_terms (length f.terms))
   where
     by_length : (b : Bool) → Stage next old m σ (if b then with_variable names n else with_form names n f)
     by_length true = Stage-variable next old m σ names n s

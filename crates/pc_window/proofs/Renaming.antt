@@ -84,7 +84,7 @@ carried_item lengths f known s t x h reads =
     state_equal (record { names = t.names; cells = s.cells; input = s.input }) t (λ z. refl) (λ a p. ap (λ (c : ℕ → ℕ → ℤ). c a p) (sym h.cells)) (sym h.input) in
     subst at equal (does_same lengths f s.names t.names s.cells s.input x (all_imply (IsKnown known) (Carried f s t) (operands_of x) h.operands reads))
 
--- ---- the states after_item
+-- ---- the states after
 
 -- the map keeps each name that the tree writes, and maps no other to it
 abbrev pub WindowKeeps : (Operand → Operand) → (ℕ → Bool) → Tree → Type 0
@@ -109,7 +109,7 @@ dest-after lengths x t e is =
     ap (λ (dest : Option ℕ). if writes dest e then value_of lengths t x else t.names e) is
     ∙ ap (λ (b : Bool). if b then value_of lengths t x else t.names e) (eq-eqb e e refl)
 
--- an operand that is known after_item an item was written by it, or was known
+-- an operand that is known after an item was written by it, or was known
 pub known-after : (known : ℕ → Bool) (x : Item) (o : Operand) → IsKnown (and_dest known x) o
     → (((e : ℕ) → dest_of x ≡ Some e → o ≡ Name e → ⊥) × IsKnown known o) ⊎ ((e : ℕ) × (dest_of x ≡ Some e) × (o ≡ Name e))
 known-after known x (Lit value) is = inl ((λ e h p. absurd (cc)), tt)

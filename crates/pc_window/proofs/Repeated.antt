@@ -10,7 +10,7 @@ use Rattle.pc_window.specs.WindowRun.{free_run}
 use Rattle.pc_window.specs.Hold.{TreeHolds}
 use Rattle.pc_window.specs.Opening.{Grafted, unwound_at}
 use Rattle.pc_window.proofs.Once.{Sound}
-use Rattle.pc_window.specs.Unwinding.{within_size, unwound_below, unwound_once, Unwinds, unwinds_no_more, unwinds_once, least_inside, front_tag}
+use Rattle.pc_window.specs.Unwinding.{most_unwound, within_size, unwound_below, unwound_once, Unwinds, unwinds_no_more, unwinds_once, least_inside, front_tag}
 use Rattle.pc_window.specs.Tree.{tree_size}
 use Rattle.pc_window.proofs.Unwinding.{unwound_agrees, unwound_holds}
 use Rattle.pc_window.proofs.Soundness.{unwound-sound}
@@ -22,7 +22,7 @@ pub record AtTag (table : Table) (loop : Option ℕ) (g h : Grafted) : Type 0 wh
 
 size_is : (r : Option Grafted) (h : Grafted) → within_size r ≡ Some h → r ≡ Some h
 size_is None h e = absurd (cc)
-size_is (Some g) h e = by_test (nat_lt 2048 (tree_size g.tree)) e
+size_is (Some g) h e = by_test (nat_lt most_unwound (tree_size g.tree)) e
   where
     by_test : (b : Bool) → (if b then None else Some g) ≡ Some h → Some g ≡ Some h
     by_test true e = absurd (cc)
@@ -39,9 +39,9 @@ below_is table loop bound (Some tag) g h e = by_test (nat_lt tag bound) e
 pub once_is : (table : Table) (loop : Option ℕ) (window : ℕ) (g h : Grafted) → unwound_once table loop window g ≡ Some h → AtTag table loop g h
 once_is table loop window g h e = by_test (nat_lt window 2) e
   where
-    by_test : (b : Bool) → (if b then None else unwound_below table loop (min (front_tag g.tree + window) 1000000) (least_inside table loop g.tree) g) ≡ Some h → AtTag table loop g h
+    by_test : (b : Bool) → (if b then None else unwound_below table loop (front_tag g.tree + window) (least_inside table loop g.tree) g) ≡ Some h → AtTag table loop g h
     by_test true e = absurd (cc)
-    by_test false e = below_is table loop (min (front_tag g.tree + window) 1000000) (least_inside table loop g.tree) g h e
+    by_test false e = below_is table loop (front_tag g.tree + window) (least_inside table loop g.tree) g h e
 
 pub unwinds-sound : (table : Table) (loop : Option ℕ) (window : ℕ) (g k : Grafted) → Unwinds table loop window g k → Sound g → Sound k
 unwinds-sound table loop window a b (unwinds_no_more g e) s = s

@@ -96,7 +96,7 @@ apart-behind lengths s x (y ∷ path) h =
     both [] xs ys h k = tt
     both (one ∷ left) xs ys h k = (append_all one xs ys h.0 k.0, both left xs ys h.1 k.1)
 
--- ---- the state after_item
+-- ---- the state after
 
 cells-behind : (lengths : List ℕ) (s : State) (x : Item) (path : List Item) → StoresApart (stores_of lengths s (x ∷ [])) (stores_of lengths s path) → (a p : ℕ)
     → cells_after s.cells (stores_of lengths s (x ∷ path)) a p ≡ cells_after (cells_after s.cells (stores_of lengths s (x ∷ []))) (stores_of lengths s path) a p

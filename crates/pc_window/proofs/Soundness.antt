@@ -9,7 +9,7 @@ use Rattle.pc_linear.specs.Form.{Form}
 use Rattle.pc_table.specs.Table.{TableTree, Does, Asks, Next, Stops_here, Traps_here, Table, region_live, region_tree}
 use Rattle.pc_window.specs.Tree.{Home, Tree, Pending, Undecided, Exit, Stop_exit, Trap_exit, home_of}
 use Rattle.pc_window.proofs.Once.{defines, Undefined, OncePerPath, Sound}
-use Rattle.pc_window.specs.Opening.{Supply, changed, with_name, at_home, Brought, Moves_home, Gets_name, Stays_plain, brought, Grafted, graft_item, homes_at, graft, OperandBelow}
+use Rattle.pc_window.specs.Opening.{first_new, Supply, changed, with_name, at_home, Brought, Moves_home, Gets_name, Stays_plain, brought, Grafted, graft_item, homes_at, graft, OperandBelow}
 use Rattle.pc_window.specs.Opening.{ItemBelow, StubBelow, TreeBelow, FormsBelow, opened, first_supply, first_home, unwound_at}
 use Rattle.pc_window.proofs.Grafts.{HomesBelow, HomesBelow-later, HomesBelow-new, HomesBelow-changed, at_home_below, OperandBelow-later}
 use Rattle.pc_window.proofs.Follows.{graft-extends}
@@ -216,7 +216,7 @@ opened-sound table loop region =
       once = graft-once table loop 0 tree first_supply first_home;
       apart = λ x u. not_true (defines (opened table loop region).tree x) (λ d.
           let home = graft-uses table loop 0 tree first_supply first_home x u in
-          let below = home_is_below 96 first_home home.variable x first_home-below home.is in
+          let below = home_is_below first_new first_home home.variable x first_home-below home.is in
           let from = graft-defines table loop 0 tree first_supply first_home x d in
           absurd (omega arith));
     }

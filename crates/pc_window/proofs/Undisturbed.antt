@@ -39,7 +39,7 @@ new-known known (Some dest) x new is = elim (nat_eq dest x) as (λ b. nat_eq des
   | true ↦ λ e. absurd (let same : dest ≡ x = eqb-true dest x e in let h : true ≡ false = sym is ∙ sym (ap known same) ∙ new in cc)
 ] refl
 
--- a known name has after_item an item the value that it had
+-- a known name has after an item the value that it had
 pub name-after : (lengths : List ℕ) (known : ℕ → Bool) (y : Item) (s : State) (x : ℕ) → IsNew known (dest_of y) → known x ≡ true
     → (after_item lengths y s).names x ≡ s.names x
 name-after lengths known y s x new is = ap (λ (b : Bool). if b then value_of lengths s y else s.names x) (new-known known (dest_of y) x new is)

@@ -31,7 +31,7 @@ beyond_is_region table (suc n) place = goes_on (region_step table place) (λ nex
     goes_on (Goes out next) h = ap (λ (x : Seen). after_printing out x) (h next)
     goes_on (Stops out end) h = refl
 
--- ---- what is left of a walk, k units after_item its last item or test
+-- ---- what is left of a walk, k units after its last item or test
 
 abbrev pub counted : Table → Walked → Run
 counted table (Leaves printed region s) k = after_printing printed (region_run table (Next region) s k)
@@ -147,7 +147,7 @@ module _ (table : Table) where
       (λ ok' le'. front_early p s n ok' le') (λ ok' le'. front_early q s n ok' le')
   front_early (Unfinished rest) s n ok le = tree_early rest s n ok le
 
-  -- ---- late: what comes after_item the last item or test
+  -- ---- late: what comes after the last item or test
 
   item_late : (item : Item) (s : State) (w : Walked) (f : Option MachineFault) (x : Seen) (k : ℕ) → IsWhole (done_first f (prints_of s (item ∷ [])) w)
       → (IsWhole w → x ≡ counted table w k) → seen_first f (prints_of s (item ∷ [])) x ≡ counted table (done_first f (prints_of s (item ∷ [])) w) k

@@ -1,5 +1,6 @@
 -- Opening a region, and unwinding a stub: the region's tree with homes in place of its variables.
-use Rattle.std.specs.Prelude.{ℕ, suc, ◌<◌, pos, Bool, false, if◌then◌else◌, nat_eq, nat_lt, ◌&&◌, List, [], ◌∷◌, Option, Some, None, slice_get}
+use Rattle.std.specs.Prelude.{ℕ, suc, ◌+◌, ◌<◌, pos, Bool, false, if◌then◌else◌, nat_eq, nat_lt, ◌&&◌, List, [], ◌∷◌, Option, Some, None, slice_get}
+use Rattle.pc_word.specs.SourceLimits.{most_scalars, most_temporaries}
 use Rattle.pc_word.specs.declared.item.Item.{Item}
 use Rattle.pc_word.specs.declared.item.Item.TheVariants.{Bin, Copy, Load, Store, Print, Read, More}
 use Rattle.pc_word.specs.declared.item.Operand.{Operand}
@@ -115,17 +116,21 @@ graft table loop tag (Traps_here kind line) names homes = record { tree = Trap_e
 
 -- ---- opening
 
--- at first variable v is the name v, with the form variable v; names and form variables from 96 upwards are new
+-- how many variables there are: the numbers of names and form variables from there on are new
+abbrev pub first_new : ℕ
+first_new = most_scalars + most_temporaries
+
+-- at first variable v is the name v, with the form variable v
 abbrev pub first_form : ℕ → Form
-first_form v = if nat_lt v 96 then variable_form v else constant_form (pos 0)
+first_form v = if nat_lt v first_new then variable_form v else constant_form (pos 0)
 
 -- the names before anything is opened
 abbrev pub first_supply : Supply
-first_supply = record { forms = first_form; next = 96; next_variable = 96 }
+first_supply = record { forms = first_form; next = first_new; next_variable = first_new }
 
 -- the first home of a variable
 abbrev pub first_home : ℕ → Operand
-first_home v = if nat_lt v 96 then Name v else Lit (pos 0)
+first_home v = if nat_lt v first_new then Name v else Lit (pos 0)
 
 -- a region's tree, opened: at tag 0, each variable at its first home
 abbrev pub opened : Table → Option ℕ → ℕ → Grafted

@@ -4,7 +4,7 @@ use Rattle.std.specs.List.{list_any}
 use Rattle.std.specs.Int.{w32, int_wrap}
 use Rattle.std.specs.Ordering.{int_eq}
 use Rattle.pc_linear.specs.declared.term.Term.{Term}
-use Rattle.pc_linear.specs.Form.{Form, factor_of}
+use Rattle.pc_linear.specs.Form.{most_terms, Form, factor_of}
 use Rattle.pc_linear.specs.Combine.{plus, variable_form}
 use Rattle.pc_window.specs.Tree.{Tree}
 use Rattle.pc_window.specs.Names.{parameters_of, definitions_of}
@@ -30,7 +30,7 @@ with_variable names n = record {
 
 -- a name's form given anew, or a new variable in its place where it would have more than four terms
 abbrev pub settled : Supply → ℕ → Form → Supply
-settled names n f = if nat_lt 4 (length f.terms) then with_variable names n else with_form names n f
+settled names n f = if nat_lt most_terms (length f.terms) then with_variable names n else with_form names n f
 
 -- a form in which a variable has a factor, with so many times a difference added, where it has one
 abbrev pub rewritten_by : ℤ → Form → Form → Form

@@ -4,7 +4,7 @@ use Rattle.pc_table.specs.Table.{Table}
 use Rattle.pc_window.specs.Tree.{Tree, Pending, Undecided, Exit, Stop_exit, Trap_exit, tree_size}
 use Rattle.pc_window.specs.Opening.{Grafted, is_inside, unwound_at}
 
--- the lesser_tag of two tags, where there are any
+-- the lesser of two tags, where there are any
 abbrev pub lesser_tag : Option ℕ → Option ℕ → Option ℕ
 lesser_tag None b = b
 lesser_tag (Some a) None = Some a
@@ -35,21 +35,25 @@ or_zero (Some n) = n
 abbrev pub front_tag : Tree → ℕ
 front_tag tree = or_zero (least_tag tree)
 
--- the replacement, unless the tree_size would be above 2048
+-- the items and tests that a window may have after unwinding
+abbrev pub most_unwound : ℕ
+most_unwound = 2048
+
+-- the replacement, unless it is too large
 abbrev pub within_size : Option Grafted → Option Grafted
 within_size None = None
-within_size (Some g) = if nat_lt 2048 (tree_size g.tree) then None else Some g
+within_size (Some g) = if nat_lt most_unwound (tree_size g.tree) then None else Some g
 
 -- one stub unwound, unless its tag is not below the bound
 abbrev pub unwound_below : Table → Option ℕ → ℕ → Option ℕ → Grafted → Option Grafted
 unwound_below table loop bound None g = None
 unwound_below table loop bound (Some tag) g = if nat_lt tag bound then within_size (unwound_at table loop tag g.names g.tree) else None
 
--- the next step of unwinding with a window number, where there is one
+-- the next step of unwinding with a window number, where there is one: the tag of the stub is less than so many above the least tag
 abbrev pub unwound_once : Table → Option ℕ → ℕ → Grafted → Option Grafted
 unwound_once table loop window g =
     if nat_lt window 2 then None
-    else unwound_below table loop (min (front_tag g.tree + window) 1000000) (least_inside table loop g.tree) g
+    else unwound_below table loop (front_tag g.tree + window) (least_inside table loop g.tree) g
 
 -- unwinding leads from one tree to another: step by step, until there is no next step
 pub data Unwinds (table : Table) (loop : Option ℕ) (window : ℕ) : Grafted → Grafted → Type 0 where

@@ -27,12 +27,12 @@ abbrev pub IsWhole : Walked → Type 0
 IsWhole (Leaves printed region state) = Unit {0}
 IsWhole (Finishes printed end) = IsWholeEnd end
 
--- a walk after_item numbers were printed
+-- a walk after numbers were printed
 abbrev pub printing : List ℤ → Walked → Walked
 printing out (Leaves printed region state) = Leaves (out ++ printed) region state
 printing out (Finishes printed end) = Finishes (out ++ printed) end
 
--- a walk after_item an item, which may fault
+-- a walk after an item, which may fault
 abbrev pub unless_fault : Option MachineFault → Walked → Walked
 unless_fault (Some fault) walked = Finishes [] (Fault fault)
 unless_fault None walked = walked
@@ -41,7 +41,7 @@ unless_fault None walked = walked
 abbrev pub done_first : Option MachineFault → List ℤ → Walked → Walked
 done_first fault out walked = unless_fault fault (printing out walked)
 
--- the state after_item one item that is done by itself
+-- the state after one item that is done by itself
 abbrev pub after_item : List ℕ → Item → State → State
 after_item lengths item s = state_after lengths s (item ∷ [])
 
