@@ -7,7 +7,7 @@ use Rattle.pc_linear.specs.declared.term.Term.{Term}
 use Rattle.pc_linear.specs.Form.{most_terms, Form, factor_of}
 use Rattle.pc_linear.specs.Combine.{plus, variable_form}
 use Rattle.pc_window.specs.Tree.{Tree}
-use Rattle.pc_window.specs.Names.{parameters_of, definitions_of}
+use Rattle.pc_window.specs.Names.{first_uses, parameters_of, definitions_of}
 use Rattle.pc_window.specs.Opening.{Supply, changed}
 
 -- whether a number is in a list
@@ -106,9 +106,9 @@ abbrev pub second_turns : List ℕ → List ℕ → Turned → Turned
 second_turns all [] turned = turned
 second_turns all (p ∷ ps) turned = second_turns all ps (second_turn all p (free_terms turned.bases (turned.names.forms p).terms) turned)
 
--- the names of a tree: parameters, and then definitions in preorder
+-- the names of a tree, each once: parameters in the order of first use, and then definitions in preorder
 abbrev pub all_names : Tree → List ℕ
-all_names tree = parameters_of tree ++ definitions_of tree
+all_names tree = parameters_of tree ++ first_uses (definitions_of tree)
 
 -- after the first turn, the second for those that are left
 abbrev pub after_first : List ℕ → Turned → Supply
