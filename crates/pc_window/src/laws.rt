@@ -1,0 +1,55 @@
+//! Laws of windows. No function here does anything: each one's contract is a law, and that it is
+//! proved is all that it is for.
+ghost use Rattle.pc_window.specs.Laws.{OpenedWindowsRunAsTheirRegion, OpenedWindowsAreProper, UnwindingKeeps, UnwindingHasOneEnd, TidyingKeeps, TidiedTreesAreTidy};
+ghost use Rattle.pc_window.specs.Laws.{TidiedWindowsAreRooted, RebasingKeeps, FillingKeeps, FillingHasOneEnd, FilledFrontsHaveItems, JumpsFillTheFront, FillingIsBounded};
+ghost use Rattle.pc_window.specs.Laws.{RowsDoWhatTheirPathsDo, CutPartsAreProper, CutsKeep, CutRowsHaveItems, FilledRowsKeep, RowsAreLegal, ReadyJumps, JumpsWereReady};
+ghost use Rattle.pc_window.specs.Laws.{FirstJumpsAreFirst, MovesKeep, ProperWindowsHaveFreshNames};
+
+/// From every state an opened window runs as its region does, and its forms hold; it is proper.
+pub fn laws_of_opening()
+    ensures runs { OpenedWindowsRunAsTheirRegion }
+    ensures proper { OpenedWindowsAreProper }
+{}
+
+/// Unwinding, tidying and rebasing keep a window's run, its pace, its forms, and that it is
+/// proper. Unwinding has one end, and what is tidied has nothing more to delete.
+pub fn laws_of_settling()
+    ensures unwinding { UnwindingKeeps }
+    ensures one_end { UnwindingHasOneEnd }
+    ensures tidying { TidyingKeeps }
+    ensures tidy { TidiedTreesAreTidy }
+    ensures rooted { TidiedWindowsAreRooted }
+    ensures rebasing { RebasingKeeps }
+{}
+
+/// Filling keeps what a window does, its pace, its forms, and that it is proper. It has one end:
+/// each jump makes the front greater by one, and below each leaf stands no more than stood below
+/// one before.
+pub fn laws_of_filling()
+    ensures keeps { FillingKeeps }
+    ensures one_end { FillingHasOneEnd }
+    ensures front { FilledFrontsHaveItems }
+    ensures jumps { JumpsFillTheFront }
+    ensures bounded { FillingIsBounded }
+{}
+
+/// The row of a front does at once what its path does in order, and each part of a cut goes on as
+/// the window does. A row keeps the machine's rules for rows.
+pub fn laws_of_cutting()
+    ensures rows { RowsDoWhatTheirPathsDo }
+    ensures proper { CutPartsAreProper }
+    ensures keeps { CutsKeep }
+    ensures items { CutRowsHaveItems }
+    ensures filled { FilledRowsKeep }
+    ensures legal { RowsAreLegal }
+{}
+
+/// A proper window has fresh names; what is ready and has room can jump, and nothing else does; the first jump brings what is first
+/// in the order. A move anywhere in a window keeps its walk, its forms and its names.
+pub fn laws_of_moves()
+    ensures fresh { ProperWindowsHaveFreshNames }
+    ensures ready { ReadyJumps }
+    ensures only_ready { JumpsWereReady }
+    ensures first { FirstJumpsAreFirst }
+    ensures moves { MovesKeep }
+{}
