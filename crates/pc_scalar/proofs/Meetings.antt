@@ -9,7 +9,7 @@ use Rattle.pc_word.proofs.Lists.{set_length, set_at, count_more}
 use Rattle.pc_flow.specs.declared.node.FlowNode.{FlowNode}
 use Rattle.pc_flow.specs.declared.node.FlowNode.TheVariants.{Op, Test, Stop, Trap}
 use Rattle.pc_flow.specs.FlowGraph.{FlowGraph, IsFlow, HasEdge}
-use Rattle.pc_pass.specs.Reachable.{IsReachable, Entry, Behind}
+use Rattle.pc_flow.specs.Reachable.{IsReachableNode, Entry, Behind}
 use Rattle.pc_pass.proofs.Changes.{reachable_there}
 use Rattle.pc_scalar.specs.models.Met.{edges_of, Meets, Known, First, MeetsAll, Nothing_met, Node_met, AreReached}
 use Rattle.pc_scalar.proofs.Tables.{get_front, get_last, get_more, set_there, set_elsewhere}
@@ -17,7 +17,7 @@ use Rattle.pc_scalar.proofs.Tables.{get_front, get_last, get_more, set_there, se
 -- nodes that were met, of which some have had their edges followed
 pub record Meeting (flow : FlowGraph) (flags : List Bool) (met : List ℕ) (done : ℕ) : Type 0 where
   pub as_many : length flags ≡ length flow.nodes
-  pub reached : (at : ℕ) → slice_get flags at ≡ Some true → IsReachable flow at
+  pub reached : (at : ℕ) → slice_get flags at ≡ Some true → IsReachableNode flow at
   pub listed : (at : ℕ) → slice_get flags at ≡ Some true → (i : ℕ) × (slice_get met i ≡ Some at)
   pub flagged : (i at : ℕ) → slice_get met i ≡ Some at → slice_get flags at ≡ Some true
   pub followed : (i at to : ℕ) (node : FlowNode) → i < done → slice_get met i ≡ Some at → slice_get flow.nodes at ≡ Some node → HasEdge node to
@@ -57,7 +57,7 @@ went_none : (flow : FlowGraph) (flags : List Bool) (met : List ℕ) (done : ℕ)
 went_none flow flags met done meeting = record { meeting = meeting; stay = λ at e. e; listed_still = λ i at e. e; lighter = omega arith }
 
 module _ (flow : FlowGraph) (flags : List Bool) (met : List ℕ) (done node : ℕ) (meeting : Meeting flow flags met done) (few : done ≤ length met)
-    (reached : IsReachable flow node) (fresh : slice_get flags node ≡ Some false) where
+    (reached : IsReachableNode flow node) (fresh : slice_get flags node ≡ Some false) where
   abbrev more_flags : List Bool
   more_flags = slice_set flags node true
 
@@ -75,7 +75,7 @@ module _ (flow : FlowGraph) (flags : List Bool) (met : List ℕ) (done node : �
     meeting = record {
       as_many = set_length flags node true ∙ meeting.as_many;
       reached = λ at e. elim (cases_eq node at) [
-        | inl same ↦ subst (IsReachable flow) same reached
+        | inl same ↦ subst (IsReachableNode flow) same reached
         | inr other ↦ meeting.reached at (flagged_before at other e)
       ];
       listed = λ at e. elim (cases_eq node at) [
@@ -98,7 +98,7 @@ module _ (flow : FlowGraph) (flags : List Bool) (met : List ℕ) (done node : �
 
 -- a node was met
 meets_went : (flow : FlowGraph) (flags new : List Bool) (met later : List ℕ) (done node : ℕ) → Meeting flow flags met done → done ≤ length met
-    → IsReachable flow node → Meets flags new met later node → Went flow flags new met later done × (slice_get new node ≡ Some true)
+    → IsReachableNode flow node → Meets flags new met later node → Went flow flags new met later done × (slice_get new node ≡ Some true)
 meets_went flow flags new met later done node meeting few reached (Known flagged same as_before) = (
   subst (λ (l : List ℕ). Went flow flags new met l done) (sym as_before) (subst (λ (f : List Bool). Went flow flags f met met done) (sym same) (went_none flow flags met done meeting)),
   ap (λ (f : List Bool). slice_get f node) same ∙ flagged,
@@ -129,7 +129,7 @@ longer flow flags new met later (suc done) went few =
 
 -- several were met
 pub all_went : (flow : FlowGraph) (nodes : List ℕ) (flags new : List Bool) (met later : List ℕ) (done : ℕ) → Meeting flow flags met done → done ≤ length met
-    → AllByRecursion (IsReachable flow) nodes → MeetsAll nodes flags new met later
+    → AllByRecursion (IsReachableNode flow) nodes → MeetsAll nodes flags new met later
     → Went flow flags new met later done × AllByRecursion (λ to. slice_get new to ≡ Some true) nodes
 all_went flow _ _ _ _ _ done meeting few reached (Nothing_met {flags = flags} {met = met}) = (went_none flow flags met done meeting, tt)
 all_went flow _ _ _ _ _ done meeting few reached (Node_met {node = node} {nodes = nodes} {flags = flags} {mid = mid} {new = new} {met = met} {more = more} {later = later} one rest) =
@@ -145,7 +145,7 @@ edge_among P (Test on on_yes on_no turn) to (inr e) all = subst P e all.1.0
 edge_among P Stop to e all = absurd e
 edge_among P (Trap kind line) to e all = absurd e
 
-edges_reached : (flow : FlowGraph) (at : ℕ) (node : FlowNode) → IsReachable flow at → slice_get flow.nodes at ≡ Some node → AllByRecursion (IsReachable flow) (edges_of node)
+edges_reached : (flow : FlowGraph) (at : ℕ) (node : FlowNode) → IsReachableNode flow at → slice_get flow.nodes at ≡ Some node → AllByRecursion (IsReachableNode flow) (edges_of node)
 edges_reached flow at (Op item next) reached there = (Behind reached there refl, tt)
 edges_reached flow at (Test on on_yes on_no turn) reached there = (Behind reached there (inl refl), (Behind reached there (inr refl), tt))
 edges_reached flow at Stop reached there = tt
@@ -184,7 +184,7 @@ meeting_more flow flags new met later done at node meeting next there all =
 
 -- where the edges of all that were met are followed, all that can be reached were met
 all_reached : (flow : FlowGraph) (flags : List Bool) (met : List ℕ) (done at : ℕ) → Meeting flow flags met done → length met ≤ done
-    → slice_get flags flow.entry ≡ Some true → IsReachable flow at → slice_get flags at ≡ Some true
+    → slice_get flags flow.entry ≡ Some true → IsReachableNode flow at → slice_get flags at ≡ Some true
 all_reached flow flags met done _ meeting end entry Entry = entry
 all_reached flow flags met done _ meeting end entry (Behind {from = from} {at = at} {node = node} before there edge) =
     let listed = meeting.listed from (all_reached flow flags met done from meeting end entry before) in

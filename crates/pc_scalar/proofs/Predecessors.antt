@@ -7,7 +7,7 @@ use Rattle.pc_word.specs.declared.item.Item.{Item}
 use Rattle.pc_flow.specs.declared.node.FlowNode.{FlowNode}
 use Rattle.pc_flow.specs.declared.node.FlowNode.TheVariants.{Op, Test, Stop, Trap}
 use Rattle.pc_flow.specs.FlowGraph.{FlowGraph, IsFlow, HasEdge, NodeFits}
-use Rattle.pc_pass.specs.Reachable.{IsReachable}
+use Rattle.pc_flow.specs.Reachable.{IsReachableNode}
 use Rattle.pc_scalar.specs.declared.before.Predecessor.{Predecessor}
 use Rattle.pc_scalar.specs.declared.before.Predecessor.TheVariants.{Nothing, Only, Several}
 use Rattle.pc_scalar.specs.Chain.{FollowsAlone}
@@ -17,14 +17,14 @@ use Rattle.pc_scalar.specs.models.Before.{joined, noted, OnlyFrom, LeadsAlone, I
 module _ (flow : FlowGraph) (bound : ℕ) where
   -- whether the node with this number leads to another
   abbrev NoEdge : ℕ → Type 0
-  NoEdge to = (node : FlowNode) → IsReachable flow bound → slice_get flow.nodes bound ≡ Some node → HasEdge node to → ⊥
+  NoEdge to = (node : FlowNode) → IsReachableNode flow bound → slice_get flow.nodes bound ≡ Some node → HasEdge node to → ⊥
 
   -- one node more that does not lead there
   quiet : (to : ℕ) (known : Predecessor) → IsBefore flow bound to known → NoEdge to → IsBefore flow (bound + 1) to known
   quiet to Nothing h none = (
     h.0,
     λ other node low reached there edge. elim (cases_eq other bound) [
-      | inl same ↦ none node (subst (IsReachable flow) same reached) (subst (λ (n : ℕ). slice_get flow.nodes n ≡ Some node) same there) edge
+      | inl same ↦ none node (subst (IsReachableNode flow) same reached) (subst (λ (n : ℕ). slice_get flow.nodes n ≡ Some node) same there) edge
       | inr apart ↦ h.1 other node (omega arith) reached there edge
     ],
   )
@@ -33,14 +33,14 @@ module _ (flow : FlowGraph) (bound : ℕ) where
     h.1,
     h.2,
     λ other node low reached there edge. elim (cases_eq other bound) [
-      | inl same ↦ absurd (none node (subst (IsReachable flow) same reached) (subst (λ (n : ℕ). slice_get flow.nodes n ≡ Some node) same there) edge)
+      | inl same ↦ absurd (none node (subst (IsReachableNode flow) same reached) (subst (λ (n : ℕ). slice_get flow.nodes n ≡ Some node) same there) edge)
       | inr apart ↦ h.3 other node (omega arith) reached there edge
     ],
   )
   quiet to Several h none = h
 
   -- an item that leads there
-  one_item : (to : ℕ) (item : Item) (known : Predecessor) → IsReachable flow bound → slice_get flow.nodes bound ≡ Some (Op item to) → IsBefore flow bound to known
+  one_item : (to : ℕ) (item : Item) (known : Predecessor) → IsReachableNode flow bound → slice_get flow.nodes bound ≡ Some (Op item to) → IsBefore flow bound to known
       → IsBefore flow (bound + 1) to (joined bound known)
   one_item to item Nothing reached there h = (
     omega arith,
@@ -59,7 +59,7 @@ module _ (flow : FlowGraph) (bound : ℕ) where
   one_item to item Several reached there h = h
 
   -- a test that leads there
-  one_test : (to : ℕ) (node : FlowNode) → ((item : Item) (next : ℕ) → node ≡ Op item next → ⊥) → IsReachable flow bound → slice_get flow.nodes bound ≡ Some node
+  one_test : (to : ℕ) (node : FlowNode) → ((item : Item) (next : ℕ) → node ≡ Op item next → ⊥) → IsReachableNode flow bound → slice_get flow.nodes bound ≡ Some node
       → HasEdge node to → (from : ℕ) → FollowsAlone flow from to → ⊥
   one_test to node no_item reached there edge from follows =
       let same = follows.only bound node reached there edge in
@@ -68,14 +68,14 @@ module _ (flow : FlowGraph) (bound : ℕ) where
       no_item follows.item to is
 
 -- the node is not reached
-pub note_none : (flow : FlowGraph) (bound : ℕ) (table : List Predecessor) → (IsReachable flow bound → ⊥)
+pub note_none : (flow : FlowGraph) (bound : ℕ) (table : List Predecessor) → (IsReachableNode flow bound → ⊥)
     → ((to : ℕ) → to < length flow.nodes → IsBefore flow bound to (slice_index_or table to Nothing))
     → (to : ℕ) → to < length flow.nodes → IsBefore flow (bound + 1) to (slice_index_or table to Nothing)
 note_none flow bound table never each to low =
     quiet flow bound to (slice_index_or table to Nothing) (each to low) (λ node reached there edge. never reached)
 
 -- its edges are noted
-pub note_node : (flow : FlowGraph) (bound : ℕ) (table : List Predecessor) (node : FlowNode) → length table ≡ length flow.nodes → IsReachable flow bound
+pub note_node : (flow : FlowGraph) (bound : ℕ) (table : List Predecessor) (node : FlowNode) → length table ≡ length flow.nodes → IsReachableNode flow bound
     → slice_get flow.nodes bound ≡ Some node → NodeThere (length table) node
     → ((to : ℕ) → to < length flow.nodes → IsBefore flow bound to (slice_index_or table to Nothing))
     → (to : ℕ) → to < length flow.nodes → IsBefore flow (bound + 1) to (slice_index_or (noted node bound table) to Nothing)

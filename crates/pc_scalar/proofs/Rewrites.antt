@@ -13,7 +13,7 @@ use Rattle.pc_word.proofs.Lists.{set_length, set_at}
 use Rattle.pc_flow.specs.declared.node.FlowNode.{FlowNode}
 use Rattle.pc_flow.specs.declared.node.FlowNode.TheVariants.{Op, Test, Stop, Trap}
 use Rattle.pc_flow.specs.FlowGraph.{FlowGraph, IsFlow, HasEdge, NodeFits, variables}
-use Rattle.pc_pass.specs.Reachable.{IsReachable, Entry, Behind}
+use Rattle.pc_flow.specs.Reachable.{IsReachableNode, Entry, Behind}
 use Rattle.pc_pass.proofs.Changes.{reachable_there, node_there}
 use Rattle.pc_scalar.specs.declared.before.Predecessor.{Predecessor}
 use Rattle.pc_scalar.specs.declared.before.Predecessor.TheVariants.{Nothing, Only, Several}
@@ -169,7 +169,7 @@ rewrites_first flow rule nodes e = record { as_many = ap length e; each = λ at 
 -- ---- heads
 
 -- a node that can be reached is noted
-noted_some : (flow : FlowGraph) (at : ℕ) (known : Predecessor) → IsFlow flow → IsReachable flow at → IsBefore flow (length flow.nodes) at known → known ≡ Nothing → ⊥
+noted_some : (flow : FlowGraph) (at : ℕ) (known : Predecessor) → IsFlow flow → IsReachableNode flow at → IsBefore flow (length flow.nodes) at known → known ≡ Nothing → ⊥
 noted_some flow _ Nothing is Entry h e = h.0 refl
 noted_some flow _ Nothing is (Behind {from = from} {node = node} before there edge) h e = h.1 from node (reachable_there flow from is before) before there edge
 noted_some flow at (Only from) is reached h e = cc
@@ -183,7 +183,7 @@ pub record HasHead (flow : FlowGraph) (table : List Predecessor) (at : ℕ) : Ty
   pub begins : begins (slice_index_or table head Nothing) ≡ true
   pub chain : ChainFrom flow head at
 
-head_at : (flow : FlowGraph) (table : List Predecessor) (at : ℕ) (known : Predecessor) → IsFlow flow → IsReachable flow at → slice_index_or table at Nothing ≡ known
+head_at : (flow : FlowGraph) (table : List Predecessor) (at : ℕ) (known : Predecessor) → IsFlow flow → IsReachableNode flow at → slice_index_or table at Nothing ≡ known
     → IsBefore flow (length flow.nodes) at known → ((from : ℕ) → FollowsAlone flow from at → HasHead flow table from) → HasHead flow table at
 head_at flow table at Nothing is reached e h before = absurd (noted_some flow at Nothing is reached h refl)
 head_at flow table at (Only from) is reached e h before =
@@ -194,12 +194,12 @@ head_at flow table at Several is reached e h before =
     record { head = at; there = reachable_there flow at is reached; alone = h; begins = ap begins e; chain = Begins }
 
 -- each node that can be reached is on a chain
-pub has_head : (flow : FlowGraph) (table : List Predecessor) (at : ℕ) → IsFlow flow → AreBefore flow table → IsReachable flow at → HasHead flow table at
+pub has_head : (flow : FlowGraph) (table : List Predecessor) (at : ℕ) → IsFlow flow → AreBefore flow table → IsReachableNode flow at → HasHead flow table at
 has_head flow table _ is are Entry =
     head_at flow table flow.entry (slice_index_or table flow.entry Nothing) is Entry refl (are.each flow.entry is.begins) (λ from f. absurd (f.not_entry refl))
 has_head flow table _ is are (Behind {from = from} {at = at} {node = node} before there edge) =
     let below = has_head flow table from is are before in
-    let reached : IsReachable flow at = Behind before there edge in
+    let reached : IsReachableNode flow at = Behind before there edge in
     head_at flow table at (slice_index_or table at Nothing) is reached refl (are.each at (reachable_there flow at is reached))
     (λ other f. subst (HasHead flow table) (f.only from node before there edge) below)
 

@@ -18,7 +18,7 @@ use Rattle.pc_flow.specs.declared.node.FlowNode.TheVariants.{Op, Test, Stop, Tra
 use Rattle.pc_flow.specs.FlowGraph.{FlowGraph, IsVariable, ItemFits, IsFlow, HasEdge, NodeFits, KeepsTurn, turn_of, variables}
 use Rattle.pc_live.specs.Live.{is_variable, node_reads}
 use Rattle.pc_pass.specs.Pass.{Keeps}
-use Rattle.pc_pass.specs.Reachable.{IsReachable, Entry, Behind}
+use Rattle.pc_flow.specs.Reachable.{IsReachableNode, Entry, Behind}
 use Rattle.pc_pass.specs.models.Change.{Change, Way, Here, LeadsPast, Becomes, Does, Tests, Stops_too, Traps_too, IsChange}
 use Rattle.pc_pass.proofs.Changes.{change_agrees, node_there, reachable_there}
 use Rattle.pc_scalar.specs.declared.plan.Plan.{Plan}
@@ -89,7 +89,7 @@ module _ (flow : FlowGraph) (rule : Rule) (plan : Plan) (is : IsRewriting flow r
   }
 
   -- what is known behind an item
-  knows_behind : (at to : ℕ) (item : Item) (s t : State) (printed : List ℤ) → IsReachable flow at → slice_get flow.nodes at ≡ Some (Op item to)
+  knows_behind : (at to : ℕ) (item : Item) (s t : State) (printed : List ℤ) → IsReachableNode flow at → slice_get flow.nodes at ≡ Some (Op item to)
       → ((known : List (Option Item)) → KnownAt flow rule at known → KnownHolds known s) → item_step flow.arrays item to s ≡ Commits printed t to
       → (known : List (Option Item)) → KnownAt flow rule to known → KnownHolds known t
   knows_behind at _ item s t printed reached there knows step _ (At_head alone) = none_holds t
@@ -102,7 +102,7 @@ module _ (flow : FlowGraph) (rule : Rule) (plan : Plan) (is : IsRewriting flow r
       (after_holds flow.arrays (rewritten_item rule known item) known to s t printed holds (rewritten_does known s holds flow.arrays rule item to ∙ step))
 
   -- what is known on a side of a test
-  knows_side : (at to : ℕ) (node : FlowNode) (s : State) → IsReachable flow at → slice_get flow.nodes at ≡ Some node → HasEdge node to
+  knows_side : (at to : ℕ) (node : FlowNode) (s : State) → IsReachableNode flow at → slice_get flow.nodes at ≡ Some node → HasEdge node to
       → ((item : Item) (next : ℕ) → node ≡ Op item next → ⊥) → (known : List (Option Item)) → KnownAt flow rule to known → KnownHolds known s
   knows_side at _ node s reached there edge no_item _ (At_head alone) = none_holds s
   knows_side at _ node s reached there edge no_item _ (Behind_item {from = from} {at = to} {item = other} f stands before) =
@@ -111,7 +111,7 @@ module _ (flow : FlowGraph) (rule : Rule) (plan : Plan) (is : IsRewriting flow r
       let is_item : node ≡ Op other to = (cc) in
       absurd (no_item other to is_item)
 
-  node_becomes : (at : ℕ) (known : List (Option Item)) (node : FlowNode) → IsReachable flow at → slice_get flow.nodes at ≡ Some node → KnownAt flow rule at known
+  node_becomes : (at : ℕ) (known : List (Option Item)) (node : FlowNode) → IsReachableNode flow at → slice_get flow.nodes at ≡ Some node → KnownAt flow rule at known
       → Becomes change at node (rewritten rule known node)
   node_becomes at known (Op item to) reached there known_at = Does (record {
     leads = leads_there to;
@@ -184,16 +184,16 @@ module _ (flow : FlowGraph) (rule : Rule) (plan : Plan) (is : IsRewriting flow r
 
   -- ---- the same nodes can be reached
 
-  pub reached_before : (at : ℕ) → IsReachable new at → IsReachable flow at
-  reached_before _ Entry = subst (IsReachable flow) (sym is.entry) Entry
+  pub reached_before : (at : ℕ) → IsReachableNode new at → IsReachableNode flow at
+  reached_before _ Entry = subst (IsReachableNode flow) (sym is.entry) Entry
   reached_before _ (Behind {from = from} {at = at} {node = node} before there edge) =
       let was = reached_before from before in
       let w = is.written from was in
       let same : rewritten rule w.known w.node ≡ node = (let a = w.stands in cc) in
       Behind was w.there (rewritten_edge_from rule w.known w.node at (subst (λ (n : FlowNode). HasEdge n at) (sym same) edge))
 
-  pub reached_after : (at : ℕ) → IsReachable flow at → IsReachable new at
-  reached_after _ Entry = subst (IsReachable new) is.entry Entry
+  pub reached_after : (at : ℕ) → IsReachableNode flow at → IsReachableNode new at
+  reached_after _ Entry = subst (IsReachableNode new) is.entry Entry
   reached_after _ (Behind {from = from} {at = at} {node = node} before there edge) =
       let it = changed_edge from at node there edge in
       Behind (reached_after from before) it.1 it.2

@@ -15,7 +15,7 @@ use Rattle.pc_flow.specs.declared.node.FlowNode.{FlowNode}
 use Rattle.pc_flow.specs.declared.node.FlowNode.TheVariants.{Op, Test, Stop, Trap}
 use Rattle.pc_flow.specs.FlowGraph.{FlowGraph, IsVariable, ItemFits, IsFlow, HasEdge, NodeFits, KeepsTurn, turn_of, variables}
 use Rattle.pc_live.specs.Live.{is_variable}
-use Rattle.pc_pass.specs.Reachable.{IsReachable}
+use Rattle.pc_flow.specs.Reachable.{IsReachableNode}
 use Rattle.pc_scalar.specs.declared.plan.Plan.{Plan}
 use Rattle.pc_scalar.specs.declared.rule.Rule.{Rule}
 use Rattle.pc_scalar.specs.declared.rule.Rule.TheVariants.{CopiedNames, KnownValues}
@@ -216,7 +216,7 @@ module _ (flow : FlowGraph) (rule : Rule) (plan : Plan) (is : IsRewriting flow r
       (subst (λ (i : Item). slice_get (after i w.known) x ≡ Some (Some item)) (sym old.2) (still_there other item (dest_of other) x w.known dest was apart))
 
   -- a node that can be reached fits
-  pub new_fits : (at : ℕ) (node : FlowNode) → IsReachable flow at → slice_get new.nodes at ≡ Some node → NodeFits flow at node
+  pub new_fits : (at : ℕ) (node : FlowNode) → IsReachableNode flow at → slice_get new.nodes at ≡ Some node → NodeFits flow at node
   new_fits at node reached there = let w = is.written at reached in (changed_fits at w.node node w.there there).0
 
   -- what stands writes a variable

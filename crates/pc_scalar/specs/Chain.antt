@@ -8,15 +8,15 @@ use Rattle.pc_flow.specs.declared.node.FlowNode.{FlowNode}
 use Rattle.pc_flow.specs.declared.node.FlowNode.TheVariants.{Op}
 use Rattle.pc_flow.specs.FlowGraph.{FlowGraph, HasEdge}
 use Rattle.pc_live.specs.Live.{is_variable}
-use Rattle.pc_pass.specs.Reachable.{IsReachable}
+use Rattle.pc_flow.specs.Reachable.{IsReachableNode}
 
 -- an item leads to a node that is not the entry, and no other edge from a node that can be reached leads there
 pub record FollowsAlone (flow : FlowGraph) (from at : ℕ) : Type 0 where
-  pub reached : IsReachable flow from
+  pub reached : IsReachableNode flow from
   pub item : Item
   pub there : slice_get flow.nodes from ≡ Some (Op item at)
   pub not_entry : at ≢ flow.entry
-  pub only : (other : ℕ) (node : FlowNode) → IsReachable flow other → slice_get flow.nodes other ≡ Some node → HasEdge node at → other ≡ from
+  pub only : (other : ℕ) (node : FlowNode) → IsReachableNode flow other → slice_get flow.nodes other ≡ Some node → HasEdge node at → other ≡ from
 
 -- whether an item writes or reads a name
 abbrev pub touches : Item → ℕ → Bool

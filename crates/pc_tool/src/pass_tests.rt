@@ -5,7 +5,7 @@ use crate::Who;
 use crate::bench::{NONE_FAILS, call, call_with, shelf_with};
 use pc_flow::Flow;
 use pc_pass::{Pass, PassMemory};
-use pc_scalar::{Dead, Fold};
+use pc_scalar::{Copies, Dead, Fold, Values};
 use std::test::Fail;
 
 /// A sum of literals that is held twice.
@@ -70,6 +70,8 @@ fn objects_behind_passes_do_what_their_sources_mean(rt: HostRuntime) -> Result<(
     let mut shelf = shelf_with(alloc, "a.c", FIVE, 0)?;
     let mut passes: Vec<Box<dyn Pass>> = Vec::new(alloc);
     passes.push(Box::new(alloc, Fold::new(alloc))?)?;
+    passes.push(Box::new(alloc, Copies::new(alloc))?)?;
+    passes.push(Box::new(alloc, Values::new(alloc))?)?;
     passes.push(Box::new(alloc, Dead::new(alloc))?)?;
     let left = call_with(
         alloc,
@@ -80,7 +82,13 @@ fn objects_behind_passes_do_what_their_sources_mean(rt: HostRuntime) -> Result<(
         b"",
         NONE_FAILS,
     )?;
-    assert!(rt; left.is(0, b"nodes 5\nrows 4\npass fold 1\npass dead 0\n", ""));
+    assert!(rt;
+        left.is(
+            0,
+            b"nodes 5\nrows 1\npass fold 1\npass copies 3\npass values 0\npass dead 3\n",
+            ""
+        )
+    );
     let ran = call(alloc, Who::Pvm, "b.tv", &mut shelf, b"", NONE_FAILS)?;
     assert!(rt; ran.is(0, b"5\n", ""));
     Ok(())

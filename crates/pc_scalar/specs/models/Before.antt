@@ -4,7 +4,7 @@ use Rattle.pc_word.specs.declared.item.Item.{Item}
 use Rattle.pc_flow.specs.declared.node.FlowNode.{FlowNode}
 use Rattle.pc_flow.specs.declared.node.FlowNode.TheVariants.{Op, Test, Stop, Trap}
 use Rattle.pc_flow.specs.FlowGraph.{FlowGraph, HasEdge}
-use Rattle.pc_pass.specs.Reachable.{IsReachable}
+use Rattle.pc_flow.specs.Reachable.{IsReachableNode}
 use Rattle.pc_scalar.specs.declared.before.Predecessor.{Predecessor}
 use Rattle.pc_scalar.specs.declared.before.Predecessor.TheVariants.{Nothing, Only, Several}
 use Rattle.pc_scalar.specs.Chain.{FollowsAlone}
@@ -25,11 +25,11 @@ noted (Trap kind line) at table = table
 -- no node with a smaller number, of those that can be reached, leads to a node but this one
 abbrev pub OnlyFrom : FlowGraph → (bound to from : ℕ) → Type 0
 OnlyFrom flow bound to from =
-    (other : ℕ) (node : FlowNode) → other < bound → IsReachable flow other → slice_get flow.nodes other ≡ Some node → HasEdge node to → other ≡ from
+    (other : ℕ) (node : FlowNode) → other < bound → IsReachableNode flow other → slice_get flow.nodes other ≡ Some node → HasEdge node to → other ≡ from
 
 -- the item of a node that can be reached leads there
 pub record LeadsAlone (flow : FlowGraph) (to from : ℕ) : Type 0 where
-  pub reached : IsReachable flow from
+  pub reached : IsReachableNode flow from
   pub item : Item
   pub there : slice_get flow.nodes from ≡ Some (Op item to)
 
@@ -37,7 +37,7 @@ pub record LeadsAlone (flow : FlowGraph) (to from : ℕ) : Type 0 where
 abbrev pub IsBefore : FlowGraph → (bound to : ℕ) → Predecessor → Type 0
 IsBefore flow bound to Nothing =
     (to ≢ flow.entry)
-    × ((other : ℕ) (node : FlowNode) → other < bound → IsReachable flow other → slice_get flow.nodes other ≡ Some node → HasEdge node to → ⊥)
+    × ((other : ℕ) (node : FlowNode) → other < bound → IsReachableNode flow other → slice_get flow.nodes other ≡ Some node → HasEdge node to → ⊥)
 IsBefore flow bound to (Only from) = (from < bound) × (to ≢ flow.entry) × LeadsAlone flow to from × OnlyFrom flow bound to from
 IsBefore flow bound to Several = (from : ℕ) → FollowsAlone flow from to → ⊥
 

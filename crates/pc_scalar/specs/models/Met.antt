@@ -3,7 +3,7 @@ use Rattle.std.specs.Prelude.{◌≡◌, ◌↔◌, ℕ, ◌<◌, Bool, true, fa
 use Rattle.pc_flow.specs.declared.node.FlowNode.{FlowNode}
 use Rattle.pc_flow.specs.declared.node.FlowNode.TheVariants.{Op, Test, Stop, Trap}
 use Rattle.pc_flow.specs.FlowGraph.{FlowGraph, IsFlow}
-use Rattle.pc_pass.specs.Reachable.{IsReachable}
+use Rattle.pc_flow.specs.Reachable.{IsReachableNode}
 
 -- the nodes to which the edges of a node lead
 abbrev pub edges_of : FlowNode → List ℕ
@@ -29,5 +29,5 @@ pub data MeetsAll : (nodes : List ℕ) → (flags new : List Bool) → (met late
 pub record AreReached (flow : FlowGraph) (flags : List Bool) : Type 0 where
   pub is_flow : IsFlow flow
   pub as_many : length flags ≡ length flow.nodes
-  pub only : (at : ℕ) → slice_get flags at ≡ Some true → IsReachable flow at
-  pub all : (at : ℕ) → IsReachable flow at → slice_get flags at ≡ Some true
+  pub only : (at : ℕ) → slice_get flags at ≡ Some true → IsReachableNode flow at
+  pub all : (at : ℕ) → IsReachableNode flow at → slice_get flags at ≡ Some true

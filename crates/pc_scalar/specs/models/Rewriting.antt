@@ -3,7 +3,7 @@ use Rattle.std.specs.Prelude.{◌≡◌, ◌⊎◌, ℕ, Bool, true, false, nat_
 use Rattle.pc_word.specs.declared.item.Item.{Item}
 use Rattle.pc_flow.specs.declared.node.FlowNode.{FlowNode}
 use Rattle.pc_flow.specs.FlowGraph.{FlowGraph, IsFlow}
-use Rattle.pc_pass.specs.Reachable.{IsReachable}
+use Rattle.pc_flow.specs.Reachable.{IsReachableNode}
 use Rattle.pc_scalar.specs.declared.before.Predecessor.{Predecessor}
 use Rattle.pc_scalar.specs.declared.before.Predecessor.TheVariants.{Nothing, Only, Several}
 use Rattle.pc_scalar.specs.declared.plan.Plan.{Plan}
@@ -45,5 +45,5 @@ pub record Rewrites (flow : FlowGraph) (rule : Rule) (nodes : List FlowNode) : T
 pub record IsRewriting (flow : FlowGraph) (rule : Rule) (plan : Plan) : Type 0 where
   pub is_flow : IsFlow flow
   pub rewrites : Rewrites flow rule plan.nodes
-  pub written : (at : ℕ) → IsReachable flow at → Written flow rule plan.nodes at
+  pub written : (at : ℕ) → IsReachableNode flow at → Written flow rule plan.nodes at
   pub entry : plan.entry ≡ flow.entry
