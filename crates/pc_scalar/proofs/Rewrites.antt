@@ -1,18 +1,18 @@
 -- Chains whose nodes are rewritten by what is known there.
-use Rattle.std.proofs.Common.{◌≡◌, ◌≢◌, ◌⊎◌, inl, inr, ℕ, ◌+◌, ◌<◌, ◌≤◌, Bool, true, false, ◌||◌, List, [], ◌∷◌, length, map, replicate, get_or, Option, Some, None, refl, sym, ◌∙◌, ap, subst, arith, eq-eqb, eqb-true, true≢false}
-use Rattle.std.specs.Prelude.{ℤ, IfSome, if◌then◌else◌, nat_eq, slice_get, slice_set, slice_index_or}
+use Rattle.std.proofs.Common.{◌≡◌, ◌⊎◌, inl, inr, ℕ, ◌<◌, Bool, true, false, List, [], ◌∷◌, length, map, replicate, Option, Some, None, refl, sym, ◌∙◌, ap, subst, arith, eq-eqb, eqb-true, true≢false}
+use Rattle.std.specs.Prelude.{IfSome, if◌then◌else◌, slice_get, slice_set, slice_index_or}
 use Rattle.std.proofs.lemmas.Bool.{cases_eq}
 use Rattle.std.proofs.lemmas.List.{length-map, length-replicate}
-use Rattle.std.proofs.lemmas.Option.{slice_get_within, slice_get-get_or}
+use Rattle.std.proofs.lemmas.Option.{slice_get_within}
 use Rattle.pc_word.specs.declared.item.Item.{Item}
 use Rattle.pc_word.specs.declared.item.Item.TheVariants.{Bin, Copy, Load, Store, Print, Read, More}
 use Rattle.pc_word.specs.declared.item.OpCode.{OpCode}
 use Rattle.pc_word.specs.declared.item.Operand.{Operand}
 use Rattle.pc_word.specs.Items.{dest_of}
-use Rattle.pc_word.proofs.Lists.{set_length, set_at}
+use Rattle.pc_word.proofs.Lists.{set_length}
 use Rattle.pc_flow.specs.declared.node.FlowNode.{FlowNode}
 use Rattle.pc_flow.specs.declared.node.FlowNode.TheVariants.{Op, Test, Stop, Trap}
-use Rattle.pc_flow.specs.FlowGraph.{FlowGraph, IsFlow, HasEdge, NodeFits, variables}
+use Rattle.pc_flow.specs.FlowGraph.{FlowGraph, IsFlow, variables}
 use Rattle.pc_pass.specs.Reachable.{IsReachable, Entry, Behind}
 use Rattle.pc_pass.proofs.Changes.{reachable_there, node_there}
 use Rattle.pc_scalar.specs.declared.before.Predecessor.{Predecessor}
@@ -21,7 +21,7 @@ use Rattle.pc_scalar.specs.declared.rule.Rule.{Rule}
 use Rattle.pc_scalar.specs.declared.rule.Rule.TheVariants.{CopiedNames, KnownValues}
 use Rattle.pc_scalar.specs.Chain.{FollowsAlone}
 use Rattle.pc_scalar.specs.models.Before.{IsBefore, AreBefore}
-use Rattle.pc_scalar.specs.models.Known.{kept, learnt, after_write, after, stays_true, copied_item, holder, reused, valued_item, rewritten_item, rewritten, none_known, KnownAt, At_head, Behind_item}
+use Rattle.pc_scalar.specs.models.Known.{kept, after_write, after, stays_true, holder, reused, rewritten_item, rewritten, none_known, KnownAt, At_head, Behind_item}
 use Rattle.pc_scalar.specs.models.Rewriting.{follows, begins, ChainFrom, Begins, Goes_on, Written, Rewrites}
 use Rattle.pc_scalar.proofs.Tables.{set_there, set_elsewhere}
 
