@@ -1,5 +1,5 @@
 -- Dead writes, and the graph without them.
-use Rattle.std.proofs.Common.{◌≡◌, ◌≢◌, ◌⊎◌, inl, inr, ℕ, ◌<◌, ◌≤◌, Bool, true, false, not, ◌&&◌, ◌||◌, List, [], ◌∷◌, length, map, Option, Some, None, refl, sym, ◌∙◌, ap, subst, arith, eqb-true, true≢false}
+use Rattle.std.proofs.Common.{◌≡◌, ◌≢◌, inl, inr, ℕ, ◌<◌, Bool, true, false, not, ◌&&◌, List, [], ◌∷◌, length, Option, Some, None, refl, sym, ◌∙◌, ap, subst, arith, eqb-true, true≢false}
 use Rattle.std.specs.Prelude.{ℤ, if◌then◌else◌, nat_eq, slice_get, slice_index, IfSome}
 use Rattle.std.specs.List.{AllByRecursion, list_any}
 use Rattle.std.proofs.lemmas.Bool.{cases_eq}
@@ -9,17 +9,15 @@ use Rattle.pc_word.specs.declared.item.Item.TheVariants.{Bin, Copy, Load, Store,
 use Rattle.pc_word.specs.declared.item.Operand.{Operand}
 use Rattle.pc_word.specs.declared.item.Operand.TheVariants.{Name, Lit}
 use Rattle.pc_word.specs.State.{State, set_name}
-use Rattle.pc_word.specs.Run.{Step, Goes}
 use Rattle.pc_word.specs.Items.{operands_of, dest_of}
 use Rattle.pc_word.specs.Commit.{writes}
 use Rattle.pc_word.specs.Row.{RowOutcome, Commits, item_step}
-use Rattle.pc_word.specs.Laws.{does_alone}
 use Rattle.pc_word.proofs.Items.{item_step-is}
 use Rattle.pc_word.proofs.Truth.{and_made, not_true}
 use Rattle.pc_flow.specs.declared.node.FlowNode.{FlowNode}
 use Rattle.pc_flow.specs.declared.node.FlowNode.TheVariants.{Op, Test, Stop, Trap}
-use Rattle.pc_flow.specs.FlowGraph.{FlowGraph, IsVariable, ItemFits, IsTarget, HasEdge, NodeFits, IsFlow, turn_of, variables}
-use Rattle.pc_flow.specs.FlowRun.{FlowState, after_item, run_node, flow_step}
+use Rattle.pc_flow.specs.FlowGraph.{FlowGraph, IsVariable, IsTarget, HasEdge, NodeFits, IsFlow, turn_of, variables}
+use Rattle.pc_flow.specs.FlowRun.{after_item, run_node}
 use Rattle.pc_live.specs.declared.variable_set.VariableSet.{VariableSet}
 use Rattle.pc_live.specs.Live.{is_variable, node_reads, node_writes, IsLive, Read_here, Read_later}
 use Rattle.pc_live.specs.Liveness.{member, set_at}
@@ -27,15 +25,20 @@ use Rattle.pc_live.specs.models.Rounds.{behind}
 use Rattle.pc_live.proofs.Logic.{or_true, or_first, or_second, place_within}
 use Rattle.pc_live.proofs.Rounds.{some_behind}
 use Rattle.pc_pass.specs.Pass.{Keeps}
+<<<<<<< HEAD
 use Rattle.pc_flow.specs.Reachable.{IsReachableNode, Entry, Behind}
 use Rattle.pc_pass.specs.models.Change.{Change, LeadsPast, Past, Becomes, Does, Tests, Stops_too, Traps_too, DoesNothing, IsSkipped, IsChange}
+=======
+use Rattle.pc_flow.specs.Reachable.{IsReachableNode, Behind}
+use Rattle.pc_pass.specs.models.Change.{Change, LeadsPast, Past, Becomes, Does, Tests, Stops_too, Traps_too, IsSkipped, IsChange}
+>>>>>>> f5a773708cb98db4339b27bdbf491df60db7d713
 use Rattle.pc_pass.proofs.Changes.{change_agrees, node_there, reachable_there}
 use Rattle.pc_scalar.specs.declared.plan.Plan.{Plan}
 use Rattle.pc_scalar.specs.Cleared.{only_writes, WritesAreLive}
 use Rattle.pc_scalar.specs.LoopTests.{KeepsLoopTests}
 use Rattle.pc_scalar.specs.models.Plan.{Fits, planned}
-use Rattle.pc_scalar.specs.models.Ends.{Jump, FallsAlong, AreEnds, led}
-use Rattle.pc_scalar.specs.models.Needed.{IsNeeded, Read_always, Read_for, Read_behind, is_unwanted, is_needless, node_only_writes, node_needless, wants, wants_of, AreNeeded, cleared, AreCleared, IsClearing}
+use Rattle.pc_scalar.specs.models.Ends.{Jump, FallsAlong, led}
+use Rattle.pc_scalar.specs.models.Needed.{IsNeeded, Read_always, Read_for, Read_behind, is_unwanted, is_needless, node_only_writes, node_needless, wants_of, AreNeeded, cleared, AreCleared, IsClearing}
 use Rattle.pc_scalar.proofs.Chains.{one_end, stays_end, edge_led}
 use Rattle.pc_scalar.proofs.Skipping.{sides_there, KeepsEdges, IsSkipping, new_there, new_made_of, new_as_many, skipping_fits, end_leads, reachable_stays, skipping_keeps_tests}
 use Rattle.pc_scalar.proofs.Needs.{only_fits}

@@ -1,9 +1,7 @@
 -- Folded nodes, and the graph that they make.
-use Rattle.std.proofs.Common.{◌≡◌, ◌≢◌, ◌⊎◌, inl, inr, ℕ, ◌<◌, Bool, true, false, List, length, Option, Some, None, refl, sym, ◌∙◌, ap, subst, arith}
+use Rattle.std.proofs.Common.{◌≡◌, ◌≢◌, ◌⊎◌, inl, inr, ℕ, ◌<◌, Bool, true, false, List, length, Some, None, refl, sym, ◌∙◌, ap, subst, arith}
 use Rattle.std.specs.Prelude.{ℤ, [], if◌then◌else◌, slice_get, slice_index}
 use Rattle.std.proofs.lemmas.Bool.{cases_eq}
-use Rattle.std.proofs.lemmas.List.{length-map}
-use Rattle.std.proofs.lemmas.Option.{slice_get_within}
 use Rattle.pc_word.specs.declared.item.Item.{Item}
 use Rattle.pc_word.specs.declared.item.Item.TheVariants.{Bin, Copy, Load, Store, Print, Read, More}
 use Rattle.pc_word.specs.declared.item.Operand.TheVariants.{Name, Lit}
@@ -15,15 +13,19 @@ use Rattle.pc_word.specs.Items.{dest_of}
 use Rattle.pc_word.specs.Row.{item_step}
 use Rattle.pc_flow.specs.declared.node.FlowNode.{FlowNode}
 use Rattle.pc_flow.specs.declared.node.FlowNode.TheVariants.{Op, Test, Stop, Trap}
-use Rattle.pc_flow.specs.FlowGraph.{FlowGraph, ItemFits, IsTarget, HasEdge, TestFits, Descends, NodeFits, IsFlow, KeepsTurn, turn_of}
+use Rattle.pc_flow.specs.FlowGraph.{FlowGraph, ItemFits, IsTarget, HasEdge, Descends, NodeFits, IsFlow, turn_of}
 use Rattle.pc_flow.specs.FlowRun.{FlowState, run_node}
 use Rattle.pc_pass.specs.Pass.{Keeps}
+<<<<<<< HEAD
 use Rattle.pc_flow.specs.Reachable.{IsReachableNode, Entry, Behind}
+=======
+use Rattle.pc_flow.specs.Reachable.{IsReachableNode, Behind}
+>>>>>>> f5a773708cb98db4339b27bdbf491df60db7d713
 use Rattle.pc_pass.specs.models.Change.{Change, LeadsPast, Becomes, Does, Tests, Stops_too, Traps_too, IsSkipped, IsChange}
 use Rattle.pc_pass.proofs.Changes.{change_agrees, node_there, reachable_there}
 use Rattle.pc_scalar.specs.declared.plan.Plan.{Plan}
 use Rattle.pc_scalar.specs.Folded.{IsFolded}
-use Rattle.pc_scalar.specs.LoopTests.{IsLoopTest, KeepsLoopTests}
+use Rattle.pc_scalar.specs.LoopTests.{KeepsLoopTests}
 use Rattle.pc_scalar.specs.models.Plan.{Fits, planned}
 use Rattle.pc_scalar.specs.models.Ends.{Jump, FallsAlong, NodeThere, led}
 use Rattle.pc_scalar.specs.models.Folding.{folded_item, folded, taken, AreTaken, IsFolding}

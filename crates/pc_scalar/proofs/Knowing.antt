@@ -1,8 +1,7 @@
 -- What is known of variables holds, and rewriting by it changes nothing.
-use Rattle.std.proofs.Common.{◌≡◌, ◌≢◌, ◌⊎◌, inl, inr, ℕ, zero, suc, ◌<◌, Bool, true, false, not, ◌&&◌, ◌||◌, List, [], ◌∷◌, length, map, Option, Some, None, refl, sym, ◌∙◌, ap, subst, arith, eq-eqb, eqb-true, true≢false}
+use Rattle.std.proofs.Common.{◌≡◌, inl, inr, ℕ, suc, Bool, true, false, not, ◌&&◌, ◌||◌, List, [], ◌∷◌, map, Option, Some, None, refl, sym, ◌∙◌, ap, subst, eq-eqb, eqb-true, true≢false}
 use Rattle.std.specs.Prelude.{ℤ, if◌then◌else◌, nat_eq, slice_get, slice_set, slice_index}
 use Rattle.std.specs.List.{list_any}
-use Rattle.std.specs.Ordering.{int_eq}
 use Rattle.std.proofs.lemmas.Bool.Decides.{Decides-int_eq}
 use Rattle.pc_word.specs.declared.item.Item.{Item}
 use Rattle.pc_word.specs.declared.item.Item.TheVariants.{Bin, Copy, Load, Store, Print, Read, More}
@@ -14,7 +13,7 @@ use Rattle.pc_word.specs.Word.{word_of_test, word_apply}
 use Rattle.pc_word.specs.State.{State, set_name, set_cell, set_input}
 use Rattle.pc_word.specs.Items.{operand_value, place_in, element_at, some_left, operands_of, dest_of, value_of}
 use Rattle.pc_word.specs.Commit.{writes}
-use Rattle.pc_word.specs.Row.{RowOutcome, Faults, Commits, item_step}
+use Rattle.pc_word.specs.Row.{RowOutcome, Commits, item_step}
 use Rattle.pc_word.specs.Laws.{does_alone, stores_alone, reads_alone}
 use Rattle.pc_word.proofs.Items.{item_step-is}
 use Rattle.pc_word.proofs.Lists.{set_at}
@@ -23,7 +22,7 @@ use Rattle.pc_live.specs.Live.{is_variable}
 use Rattle.pc_scalar.specs.declared.rule.Rule.{Rule}
 use Rattle.pc_scalar.specs.declared.rule.Rule.TheVariants.{CopiedNames, KnownValues}
 use Rattle.pc_scalar.specs.Chain.{touches}
-use Rattle.pc_scalar.specs.models.Known.{kept, learnt, after_write, after, stays_true, source, copied, copied_item, op_number, same_operand, computes, holder, reused, valued_item, rewritten_item, rewritten_operand}
+use Rattle.pc_scalar.specs.models.Known.{kept, after_write, after, stays_true, source, copied, copied_item, op_number, same_operand, computes, holder, reused, valued_item, rewritten_item, rewritten_operand}
 use Rattle.pc_scalar.proofs.Tables.{mapped_from}
 
 -- a variable has the value of the item that it stands for

@@ -1,11 +1,11 @@
 -- A walk over the nodes that can be reached: each that is met is flagged and listed, until all that they lead to are.
-use Rattle.std.proofs.Common.{◌≡◌, ◌≢◌, inl, inr, ℕ, zero, suc, ◌+◌, ◌*◌, ◌<◌, ◌≤◌, Bool, true, false, cond, not, List, [], ◌∷◌, ◌++◌, length, replicate, get_or, Some, None, refl, sym, ◌∙◌, ap, subst, arith}
+use Rattle.std.proofs.Common.{◌≡◌, ◌≢◌, inl, inr, ℕ, zero, suc, ◌+◌, ◌*◌, ◌<◌, ◌≤◌, Bool, true, false, not, List, [], ◌∷◌, ◌++◌, length, replicate, get_or, Some, None, refl, sym, ◌∙◌, ap, subst, arith}
 use Rattle.std.specs.Prelude.{slice_get, slice_set}
 use Rattle.std.specs.List.{AllByRecursion, count_by}
 use Rattle.std.proofs.lemmas.Bool.{cases_eq}
 use Rattle.std.proofs.lemmas.List.{length-replicate, length_push, get_or-replicate}
 use Rattle.std.proofs.lemmas.Option.{slice_get_within, slice_get-get_or}
-use Rattle.pc_word.proofs.Lists.{set_length, set_at, count_more}
+use Rattle.pc_word.proofs.Lists.{set_length, count_more}
 use Rattle.pc_flow.specs.declared.node.FlowNode.{FlowNode}
 use Rattle.pc_flow.specs.declared.node.FlowNode.TheVariants.{Op, Test, Stop, Trap}
 use Rattle.pc_flow.specs.FlowGraph.{FlowGraph, IsFlow, HasEdge}
@@ -186,7 +186,7 @@ meeting_more flow flags new met later done at node meeting next there all =
 all_reached : (flow : FlowGraph) (flags : List Bool) (met : List ℕ) (done at : ℕ) → Meeting flow flags met done → length met ≤ done
     → slice_get flags flow.entry ≡ Some true → IsReachableNode flow at → slice_get flags at ≡ Some true
 all_reached flow flags met done _ meeting end entry Entry = entry
-all_reached flow flags met done _ meeting end entry (Behind {from = from} {at = at} {node = node} before there edge) =
+all_reached flow flags met done _ meeting end entry (Behind {from = from} {to = at} {node = node} before there edge) =
     let listed = meeting.listed from (all_reached flow flags met done from meeting end entry before) in
     let low = slice_get_within met listed.0 from listed.1 in
     meeting.followed listed.0 from at node (omega (arith, low)) listed.1 there edge

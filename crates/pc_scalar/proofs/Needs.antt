@@ -1,26 +1,26 @@
 -- Rounds over the nodes: what is put into a set is needed there, and sets that lack nothing hold all that is needed.
 use Rattle.std.proofs.Common.{◌≡◌, inl, inr, ℕ, ◌-◌, ◌<◌, ◌≤◌, ◌^◌, Bool, true, false, not, ◌||◌, ◌&&◌, List, length}
-use Rattle.std.proofs.Common.{replicate, get_or, All, Option, Some, None, refl, sym, ◌∙◌, ap, subst, arith, get_or-set_same, get_or-set_other, true≢false}
+use Rattle.std.proofs.Common.{replicate, Option, Some, None, refl, sym, ◌∙◌, ap, subst, arith, get_or-set_same, get_or-set_other, true≢false}
 use Rattle.std.proofs.lemmas.Bool.{cases_eq, cases_lt}
 use Rattle.std.proofs.lemmas.List.{get_or-replicate, get_or_past, length-replicate}
 use Rattle.std.specs.Prelude.{IfSome, slice_get, slice_set}
 use Rattle.pc_word.specs.Items.{dest_of}
 use Rattle.pc_word.specs.declared.item.Item.TheVariants.{Bin, Copy, Load, Store, Print, Read, More}
-use Rattle.pc_word.proofs.Truth.{and_true, and_made, not_true}
+use Rattle.pc_word.proofs.Truth.{and_true, not_true}
 use Rattle.pc_word.specs.declared.item.Item.{Item}
 use Rattle.pc_flow.specs.declared.node.FlowNode.{FlowNode}
 use Rattle.pc_flow.specs.declared.node.FlowNode.TheVariants.{Op, Test, Stop, Trap}
-use Rattle.pc_flow.specs.FlowGraph.{FlowGraph, IsFlow, NodeFits, HasEdge, variables}
+use Rattle.pc_flow.specs.FlowGraph.{FlowGraph, IsFlow, NodeFits, variables}
 use Rattle.pc_live.specs.declared.variable_set.VariableSet.{VariableSet}
 use Rattle.pc_live.specs.Live.{node_reads, node_writes}
 use Rattle.pc_live.specs.Liveness.{member, set_at}
 use Rattle.pc_live.specs.models.Rounds.{behind}
-use Rattle.pc_live.proofs.Logic.{or_true, or_first, or_second, place_within}
+use Rattle.pc_live.proofs.Logic.{or_true}
 use Rattle.pc_live.proofs.Bits.{none_in_empty}
-use Rattle.pc_live.proofs.Rounds.{behind_some, some_behind, set_fits}
+use Rattle.pc_live.proofs.Rounds.{behind_some, set_fits}
 use Rattle.pc_scalar.specs.Cleared.{only_writes}
-use Rattle.pc_scalar.specs.models.Needed.{IsNeeded, Read_always, Read_for, Read_behind, is_unwanted, is_needless, node_only_writes, node_needless}
-use Rattle.pc_scalar.specs.models.Needed.{wants, wants_of, wants_at, HoldNeeded, LacksNoneAt, LackNone}
+use Rattle.pc_scalar.specs.models.Needed.{IsNeeded, Read_always, Read_for, Read_behind, is_unwanted, node_needless}
+use Rattle.pc_scalar.specs.models.Needed.{wants, wants_of, wants_at, HoldNeeded, LacksNoneAt}
 
 -- the variable that an item only writes is there
 pub only_fits : (item : Item) → IfSome (dest_of item) (λ name. name < variables) → (x : ℕ) → only_writes item ≡ Some x → x < variables

@@ -1,18 +1,23 @@
 -- What leads to each node, noted node by node.
-use Rattle.std.proofs.Common.{◌≡◌, ◌≢◌, inl, inr, ℕ, ◌+◌, ◌<◌, ◌≤◌, List, length, replicate, get_or, Some, refl, sym, ◌∙◌, ap, subst, arith, length-set, get_or-set_same, get_or-set_other}
+use Rattle.std.proofs.Common.{◌≡◌, inl, inr, ℕ, ◌+◌, ◌<◌, List, length, replicate, Some, refl, sym, ◌∙◌, ap, subst, arith, length-set, get_or-set_same, get_or-set_other}
 use Rattle.std.specs.Prelude.{slice_get, slice_set, slice_index_or}
-use Rattle.std.proofs.lemmas.Bool.{cases_eq, cases_lt}
+use Rattle.std.proofs.lemmas.Bool.{cases_eq}
 use Rattle.std.proofs.lemmas.List.{get_or-replicate, length-replicate}
 use Rattle.pc_word.specs.declared.item.Item.{Item}
 use Rattle.pc_flow.specs.declared.node.FlowNode.{FlowNode}
 use Rattle.pc_flow.specs.declared.node.FlowNode.TheVariants.{Op, Test, Stop, Trap}
+<<<<<<< HEAD
 use Rattle.pc_flow.specs.FlowGraph.{FlowGraph, IsFlow, HasEdge, NodeFits}
 use Rattle.pc_flow.specs.Reachable.{IsReachableNode}
+=======
+use Rattle.pc_flow.specs.FlowGraph.{FlowGraph, HasEdge}
+use Rattle.pc_flow.specs.Reachable.{IsReachableNode}
+>>>>>>> f5a773708cb98db4339b27bdbf491df60db7d713
 use Rattle.pc_scalar.specs.declared.before.Predecessor.{Predecessor}
 use Rattle.pc_scalar.specs.declared.before.Predecessor.TheVariants.{Nothing, Only, Several}
 use Rattle.pc_scalar.specs.Chain.{FollowsAlone}
 use Rattle.pc_scalar.specs.models.Ends.{NodeThere}
-use Rattle.pc_scalar.specs.models.Before.{joined, noted, OnlyFrom, LeadsAlone, IsBefore, AreBefore}
+use Rattle.pc_scalar.specs.models.Before.{joined, noted, IsBefore}
 
 module _ (flow : FlowGraph) (bound : ℕ) where
   -- whether the node with this number leads to another

@@ -1,19 +1,24 @@
 -- Chains whose nodes are rewritten by what is known there.
-use Rattle.std.proofs.Common.{◌≡◌, ◌≢◌, ◌⊎◌, inl, inr, ℕ, ◌+◌, ◌<◌, ◌≤◌, Bool, true, false, ◌||◌, List, [], ◌∷◌, length, map, replicate, get_or, Option, Some, None, refl, sym, ◌∙◌, ap, subst, arith, eq-eqb, eqb-true, true≢false}
-use Rattle.std.specs.Prelude.{ℤ, IfSome, if◌then◌else◌, nat_eq, slice_get, slice_set, slice_index_or}
+use Rattle.std.proofs.Common.{◌≡◌, ◌⊎◌, inl, inr, ℕ, ◌<◌, Bool, true, false, List, [], ◌∷◌, length, map, replicate, Option, Some, None, refl, sym, ◌∙◌, ap, subst, arith, eq-eqb, eqb-true, true≢false}
+use Rattle.std.specs.Prelude.{IfSome, if◌then◌else◌, slice_get, slice_set, slice_index_or}
 use Rattle.std.proofs.lemmas.Bool.{cases_eq}
 use Rattle.std.proofs.lemmas.List.{length-map, length-replicate}
-use Rattle.std.proofs.lemmas.Option.{slice_get_within, slice_get-get_or}
+use Rattle.std.proofs.lemmas.Option.{slice_get_within}
 use Rattle.pc_word.specs.declared.item.Item.{Item}
 use Rattle.pc_word.specs.declared.item.Item.TheVariants.{Bin, Copy, Load, Store, Print, Read, More}
 use Rattle.pc_word.specs.declared.item.OpCode.{OpCode}
 use Rattle.pc_word.specs.declared.item.Operand.{Operand}
 use Rattle.pc_word.specs.Items.{dest_of}
-use Rattle.pc_word.proofs.Lists.{set_length, set_at}
+use Rattle.pc_word.proofs.Lists.{set_length}
 use Rattle.pc_flow.specs.declared.node.FlowNode.{FlowNode}
 use Rattle.pc_flow.specs.declared.node.FlowNode.TheVariants.{Op, Test, Stop, Trap}
+<<<<<<< HEAD
 use Rattle.pc_flow.specs.FlowGraph.{FlowGraph, IsFlow, HasEdge, NodeFits, variables}
 use Rattle.pc_flow.specs.Reachable.{IsReachableNode, Entry, Behind}
+=======
+use Rattle.pc_flow.specs.FlowGraph.{FlowGraph, IsFlow, variables}
+use Rattle.pc_flow.specs.Reachable.{IsReachableNode, Entry, Behind}
+>>>>>>> f5a773708cb98db4339b27bdbf491df60db7d713
 use Rattle.pc_pass.proofs.Changes.{reachable_there, node_there}
 use Rattle.pc_scalar.specs.declared.before.Predecessor.{Predecessor}
 use Rattle.pc_scalar.specs.declared.before.Predecessor.TheVariants.{Nothing, Only, Several}
@@ -21,7 +26,7 @@ use Rattle.pc_scalar.specs.declared.rule.Rule.{Rule}
 use Rattle.pc_scalar.specs.declared.rule.Rule.TheVariants.{CopiedNames, KnownValues}
 use Rattle.pc_scalar.specs.Chain.{FollowsAlone}
 use Rattle.pc_scalar.specs.models.Before.{IsBefore, AreBefore}
-use Rattle.pc_scalar.specs.models.Known.{kept, learnt, after_write, after, stays_true, copied_item, holder, reused, valued_item, rewritten_item, rewritten, none_known, KnownAt, At_head, Behind_item}
+use Rattle.pc_scalar.specs.models.Known.{kept, after_write, after, stays_true, holder, reused, rewritten_item, rewritten, none_known, KnownAt, At_head, Behind_item}
 use Rattle.pc_scalar.specs.models.Rewriting.{follows, begins, ChainFrom, Begins, Goes_on, Written, Rewrites}
 use Rattle.pc_scalar.proofs.Tables.{set_there, set_elsewhere}
 
@@ -197,7 +202,7 @@ head_at flow table at Several is reached e h before =
 pub has_head : (flow : FlowGraph) (table : List Predecessor) (at : ℕ) → IsFlow flow → AreBefore flow table → IsReachableNode flow at → HasHead flow table at
 has_head flow table _ is are Entry =
     head_at flow table flow.entry (slice_index_or table flow.entry Nothing) is Entry refl (are.each flow.entry is.begins) (λ from f. absurd (f.not_entry refl))
-has_head flow table _ is are (Behind {from = from} {at = at} {node = node} before there edge) =
+has_head flow table _ is are (Behind {from = from} {to = at} {node = node} before there edge) =
     let below = has_head flow table from is are before in
     let reached : IsReachableNode flow at = Behind before there edge in
     head_at flow table at (slice_index_or table at Nothing) is reached refl (are.each at (reachable_there flow at is reached))

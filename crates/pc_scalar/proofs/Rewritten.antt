@@ -1,36 +1,31 @@
 -- The graph whose nodes are rewritten by what is known there.
-use Rattle.std.proofs.Common.{◌≡◌, ◌≢◌, ◌⊎◌, inl, inr, ℕ, ◌<◌, Bool, true, false, ◌||◌, List, [], ◌∷◌, length, map, replicate, All, Option, Some, None, refl, sym, ◌∙◌, ap, subst, arith, eq-eqb, eqb-true, true≢false}
-use Rattle.std.specs.Prelude.{ℤ, IfSome, if◌then◌else◌, nat_eq, slice_get, slice_set}
-use Rattle.std.specs.List.{AllByRecursion, list_any}
+use Rattle.std.proofs.Common.{◌≡◌, inl, inr, ℕ, ◌<◌, List, replicate, Option, Some, None, refl, sym, ◌∙◌, ap, subst, arith}
+use Rattle.std.specs.Prelude.{ℤ, slice_get}
 use Rattle.std.proofs.lemmas.Option.{slice_get_within, slice_get-get_or}
 use Rattle.std.proofs.lemmas.List.{length-replicate, get_or-replicate}
 use Rattle.pc_word.specs.declared.item.Item.{Item}
-use Rattle.pc_word.specs.declared.item.Item.TheVariants.{Bin, Copy, Load, Store, Print, Read, More}
-use Rattle.pc_word.specs.declared.item.OpCode.{OpCode}
-use Rattle.pc_word.specs.declared.item.Operand.{Operand}
-use Rattle.pc_word.specs.declared.item.Operand.TheVariants.{Name, Lit}
 use Rattle.pc_word.specs.State.{State, start_state}
-use Rattle.pc_word.specs.Items.{operand_value, operands_of, dest_of, array_of}
-use Rattle.pc_word.specs.Commit.{writes}
 use Rattle.pc_word.specs.Row.{Commits, item_step}
 use Rattle.pc_flow.specs.declared.node.FlowNode.{FlowNode}
 use Rattle.pc_flow.specs.declared.node.FlowNode.TheVariants.{Op, Test, Stop, Trap}
-use Rattle.pc_flow.specs.FlowGraph.{FlowGraph, IsVariable, ItemFits, IsFlow, HasEdge, NodeFits, KeepsTurn, turn_of, variables}
-use Rattle.pc_live.specs.Live.{is_variable, node_reads}
+use Rattle.pc_flow.specs.FlowGraph.{FlowGraph, HasEdge, turn_of, variables}
 use Rattle.pc_pass.specs.Pass.{Keeps}
+<<<<<<< HEAD
 use Rattle.pc_flow.specs.Reachable.{IsReachableNode, Entry, Behind}
 use Rattle.pc_pass.specs.models.Change.{Change, Way, Here, LeadsPast, Becomes, Does, Tests, Stops_too, Traps_too, IsChange}
 use Rattle.pc_pass.proofs.Changes.{change_agrees, node_there, reachable_there}
+=======
+use Rattle.pc_flow.specs.Reachable.{IsReachableNode, Entry, Behind}
+use Rattle.pc_pass.specs.models.Change.{Change, Here, LeadsPast, Becomes, Does, Tests, Stops_too, Traps_too, IsChange}
+use Rattle.pc_pass.proofs.Changes.{change_agrees}
+>>>>>>> f5a773708cb98db4339b27bdbf491df60db7d713
 use Rattle.pc_scalar.specs.declared.plan.Plan.{Plan}
 use Rattle.pc_scalar.specs.declared.rule.Rule.{Rule}
-use Rattle.pc_scalar.specs.declared.rule.Rule.TheVariants.{CopiedNames, KnownValues}
-use Rattle.pc_scalar.specs.Chain.{FollowsAlone}
-use Rattle.pc_scalar.specs.LoopTests.{IsLoopTest, KeepsLoopTests}
-use Rattle.pc_scalar.specs.models.Plan.{Fits, planned}
-use Rattle.pc_scalar.specs.models.Known.{after, copied, copied_item, holder, reused, valued_item, rewritten_item, rewritten_operand, rewritten, none_known, KnownAt, At_head, Behind_item}
-use Rattle.pc_scalar.specs.models.Rewriting.{Written, Rewrites, IsRewriting}
-use Rattle.pc_scalar.proofs.Chains.{keeps_turn}
-use Rattle.pc_scalar.proofs.Rewrites.{rewritten_dest, follows_next}
+use Rattle.pc_scalar.specs.LoopTests.{KeepsLoopTests}
+use Rattle.pc_scalar.specs.models.Plan.{planned}
+use Rattle.pc_scalar.specs.models.Known.{after, rewritten_item, rewritten, none_known, KnownAt, At_head, Behind_item}
+use Rattle.pc_scalar.specs.models.Rewriting.{IsRewriting}
+use Rattle.pc_scalar.proofs.Rewrites.{rewritten_dest}
 use Rattle.pc_scalar.proofs.Knowing.{KnownHolds, after_holds, rewritten_does, rewritten_value}
 
 -- ---- a rewritten node keeps its edges
@@ -186,7 +181,7 @@ module _ (flow : FlowGraph) (rule : Rule) (plan : Plan) (is : IsRewriting flow r
 
   pub reached_before : (at : ℕ) → IsReachableNode new at → IsReachableNode flow at
   reached_before _ Entry = subst (IsReachableNode flow) (sym is.entry) Entry
-  reached_before _ (Behind {from = from} {at = at} {node = node} before there edge) =
+  reached_before _ (Behind {from = from} {to = at} {node = node} before there edge) =
       let was = reached_before from before in
       let w = is.written from was in
       let same : rewritten rule w.known w.node ≡ node = (let a = w.stands in cc) in
@@ -194,6 +189,6 @@ module _ (flow : FlowGraph) (rule : Rule) (plan : Plan) (is : IsRewriting flow r
 
   pub reached_after : (at : ℕ) → IsReachableNode flow at → IsReachableNode new at
   reached_after _ Entry = subst (IsReachableNode new) is.entry Entry
-  reached_after _ (Behind {from = from} {at = at} {node = node} before there edge) =
+  reached_after _ (Behind {from = from} {to = at} {node = node} before there edge) =
       let it = changed_edge from at node there edge in
       Behind (reached_after from before) it.1 it.2

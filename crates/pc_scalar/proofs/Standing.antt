@@ -1,6 +1,6 @@
 -- What stands at a node of the rewritten graph is known there, and what is known there fits.
-use Rattle.std.proofs.Common.{◌≡◌, ◌≢◌, inl, inr, ℕ, ◌<◌, Bool, true, false, ◌||◌, List, [], ◌∷◌, length, map, Option, Some, None, refl, sym, ◌∙◌, ap, subst, arith, eq-eqb, eqb-true, true≢false}
-use Rattle.std.specs.Prelude.{ℤ, IfSome, if◌then◌else◌, nat_eq, slice_get, slice_set}
+use Rattle.std.proofs.Common.{◌≡◌, ◌≢◌, inl, inr, ℕ, ◌<◌, Bool, true, false, List, length, map, Option, Some, None, refl, sym, ◌∙◌, ap, subst, arith, eq-eqb, true≢false}
+use Rattle.std.specs.Prelude.{IfSome, if◌then◌else◌, nat_eq, slice_get, slice_set}
 use Rattle.std.specs.List.{AllByRecursion, list_any}
 use Rattle.std.proofs.lemmas.List.{length-map}
 use Rattle.pc_word.specs.declared.item.Item.{Item}
@@ -8,25 +8,25 @@ use Rattle.pc_word.specs.declared.item.Item.TheVariants.{Bin, Copy, Load, Store,
 use Rattle.pc_word.specs.declared.item.OpCode.{OpCode}
 use Rattle.pc_word.specs.declared.item.Operand.{Operand}
 use Rattle.pc_word.specs.declared.item.Operand.TheVariants.{Name, Lit}
-use Rattle.pc_word.specs.Items.{operands_of, dest_of, array_of}
+use Rattle.pc_word.specs.Items.{operands_of, dest_of}
 use Rattle.pc_word.specs.Commit.{writes}
 use Rattle.pc_word.proofs.Truth.{or_false}
 use Rattle.pc_flow.specs.declared.node.FlowNode.{FlowNode}
 use Rattle.pc_flow.specs.declared.node.FlowNode.TheVariants.{Op, Test, Stop, Trap}
-use Rattle.pc_flow.specs.FlowGraph.{FlowGraph, IsVariable, ItemFits, IsFlow, HasEdge, NodeFits, KeepsTurn, turn_of, variables}
+use Rattle.pc_flow.specs.FlowGraph.{FlowGraph, IsVariable, ItemFits, IsFlow, NodeFits, KeepsTurn, turn_of, variables}
 use Rattle.pc_live.specs.Live.{is_variable}
 use Rattle.pc_flow.specs.Reachable.{IsReachableNode}
 use Rattle.pc_scalar.specs.declared.plan.Plan.{Plan}
 use Rattle.pc_scalar.specs.declared.rule.Rule.{Rule}
 use Rattle.pc_scalar.specs.declared.rule.Rule.TheVariants.{CopiedNames, KnownValues}
-use Rattle.pc_scalar.specs.Chain.{FollowsAlone, Stands, Just_done, Still, touches, touched_by}
+use Rattle.pc_scalar.specs.Chain.{FollowsAlone, Stands, Just_done, Still, touched_by}
 use Rattle.pc_scalar.specs.models.Plan.{Fits, planned}
-use Rattle.pc_scalar.specs.models.Known.{kept, learnt, after_write, after, stays_true, source, copied, copied_item, holder, reused, valued_item, rewritten_item, rewritten_operand, rewritten, none_known, KnownAt, At_head, Behind_item}
+use Rattle.pc_scalar.specs.models.Known.{kept, after_write, after, stays_true, source, copied, copied_item, holder, reused, valued_item, rewritten_item, rewritten_operand, rewritten, KnownAt, At_head, Behind_item}
 use Rattle.pc_scalar.specs.models.Rewriting.{Written, IsRewriting}
 use Rattle.pc_scalar.proofs.Chains.{keeps_turn}
 use Rattle.pc_scalar.proofs.Tables.{mapped_there, set_there, set_elsewhere}
-use Rattle.pc_scalar.proofs.Rewrites.{rewritten_dest, known_once, known_length, of_item}
-use Rattle.pc_scalar.proofs.Knowing.{FromAfter, Was_known, Is_new, after_from, Holder, holder_found}
+use Rattle.pc_scalar.proofs.Rewrites.{known_once, known_length, of_item}
+use Rattle.pc_scalar.proofs.Knowing.{Was_known, Is_new, after_from, holder_found}
 use Rattle.pc_scalar.proofs.Rewritten.{none_there, rewritten_turn, reached_before, reached_after, changed_edge}
 
 -- ---- what is known fits

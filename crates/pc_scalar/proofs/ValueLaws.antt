@@ -1,7 +1,6 @@
 -- After values were reused, none is computed that stands.
-use Rattle.std.proofs.Common.{◌≡◌, inl, inr, ℕ, zero, suc, Bool, true, false, not, ◌&&◌, List, [], ◌∷◌, Option, Some, None, refl, sym, ◌∙◌, ap, subst, eq-eqb}
-use Rattle.std.specs.Prelude.{ℤ, if◌then◌else◌, nat_eq, slice_get}
-use Rattle.std.specs.Ordering.{int_eq}
+use Rattle.std.proofs.Common.{◌≡◌, ℕ, zero, suc, Bool, true, false, not, ◌&&◌, List, [], ◌∷◌, Option, Some, None, refl, sym, ◌∙◌, ap, subst, eq-eqb}
+use Rattle.std.specs.Prelude.{if◌then◌else◌, nat_eq, slice_get}
 use Rattle.std.proofs.lemmas.Bool.Decides.{Decides-int_eq}
 use Rattle.pc_word.specs.declared.item.Item.{Item}
 use Rattle.pc_word.specs.declared.item.Item.TheVariants.{Bin, Copy, Load, Store, Print, Read, More}
@@ -10,8 +9,7 @@ use Rattle.pc_word.specs.declared.item.Operand.{Operand}
 use Rattle.pc_word.specs.declared.item.Operand.TheVariants.{Name, Lit}
 use Rattle.pc_word.specs.Items.{dest_of}
 use Rattle.pc_word.proofs.Truth.{and_made}
-use Rattle.pc_flow.specs.declared.node.FlowNode.{FlowNode}
-use Rattle.pc_flow.specs.declared.node.FlowNode.TheVariants.{Op, Test, Stop, Trap}
+use Rattle.pc_flow.specs.declared.node.FlowNode.TheVariants.{Op}
 use Rattle.pc_flow.specs.FlowGraph.{FlowGraph}
 use Rattle.pc_live.specs.Live.{is_variable}
 use Rattle.pc_pass.specs.Pass.{Keeps}

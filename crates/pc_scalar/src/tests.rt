@@ -177,3 +177,49 @@ fn dead_writes_are_skipped(rt: HostRuntime) -> Result<(), Fail> {
     assert!(rt; is_example_but_for(&flow, &changed));
     Ok(())
 }
+
+#[test]
+fn copies_are_propagated(rt: HostRuntime) -> Result<(), Fail> {
+    let mut flow = example(rt.alloc())?;
+    let mut pass = Copies::new(rt.alloc());
+    assert_eq!(rt; pass.name(), "copies");
+    pass.apply(&mut flow)?;
+    assert_eq!(rt; pass.changes(), 2);
+    let changed = [(2, square(2, 3)), (3, square(3, 4))];
+    assert!(rt; is_example_but_for(&flow, &changed));
+    Ok(())
+}
+
+/// `v0 * v0` into a variable, before a node.
+fn square(dest: u32, next: u32) -> FlowNode {
+    FlowNode::Op {
+        item: Item::Bin {
+            op: OpCode::Mul,
+            dest,
+            left: Operand::Name(0),
+            right: Operand::Name(0),
+        },
+        next,
+    }
+}
+
+#[test]
+fn values_are_reused(rt: HostRuntime) -> Result<(), Fail> {
+    let mut flow = example(rt.alloc())?;
+    let mut pass = Values::new(rt.alloc());
+    assert_eq!(rt; pass.name(), "values");
+    pass.apply(&mut flow)?;
+    assert_eq!(rt; pass.changes(), 1);
+    let changed = [(
+        3,
+        FlowNode::Op {
+            item: Item::Copy {
+                dest: 3,
+                from: Operand::Name(2),
+            },
+            next: 4,
+        },
+    )];
+    assert!(rt; is_example_but_for(&flow, &changed));
+    Ok(())
+}

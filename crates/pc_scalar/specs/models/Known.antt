@@ -1,5 +1,5 @@
 -- What is known at a node: for each variable the item that it stands for, if any.
-use Rattle.std.specs.Prelude.{◌≡◌, ◌||◌, ◌&&◌, ℕ, ℤ, Bool, true, false, not, if◌then◌else◌, nat_eq, List, [], ◌∷◌, map, replicate, Option, Some, None, slice_get, slice_set}
+use Rattle.std.specs.Prelude.{◌≡◌, ◌&&◌, ℕ, Bool, false, not, if◌then◌else◌, nat_eq, List, [], ◌∷◌, map, replicate, Option, Some, None, slice_get, slice_set}
 use Rattle.std.specs.Ordering.{int_eq}
 use Rattle.pc_word.specs.declared.item.Item.{Item}
 use Rattle.pc_word.specs.declared.item.Item.TheVariants.{Bin, Copy, Load, Store, Print, Read, More}

@@ -1,7 +1,5 @@
-use Rattle.std.proofs.Common.{◌≡◌, ◌<◌, true, false, Some, length, sym, ◌∙◌, ap, subst, arith, true≢false}
-use Rattle.std.specs.Prelude.{slice_get}
+use Rattle.std.proofs.Common.{◌≡◌, ◌<◌, true, false, Some, length, sym, ◌∙◌, ap, arith}
 use Rattle.std.proofs.lemmas.Option.{slice_get-get_or}
-use Rattle.pc_scalar.specs.declared.before.Predecessor.{Predecessor}
 use Rattle.pc_scalar.proofs.Skipping.{fits_there}
 use Rattle.pc_scalar.proofs.Predecessors.{note_none, note_node, noted_length}
 use Rattle.pc_scalar.proofs.before.note_all.Goals.{then-flags-at, else-flags-at}

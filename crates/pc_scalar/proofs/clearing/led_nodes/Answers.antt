@@ -1,4 +1,4 @@
-use Rattle.std.proofs.Common.{◌≡◌, length}
+use Rattle.std.proofs.Common.{length}
 use Rattle.pc_scalar.specs.models.Ends.{led}
 use Rattle.pc_scalar.proofs.Tables.{mapped_more}
 use Rattle.pc_scalar.proofs.Skipping.{fits_there}

@@ -1,4 +1,4 @@
-use Rattle.std.proofs.Common.{◌≡◌, arith}
+use Rattle.std.proofs.Common.{arith}
 use Rattle.pc_scalar.specs.models.Known.{kept}
 use Rattle.pc_scalar.proofs.Tables.{changed_more, same_default}
 use Rattle.pc_scalar.proofs.known.forget.Goals as goal

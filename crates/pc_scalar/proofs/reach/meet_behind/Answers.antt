@@ -1,4 +1,4 @@
-use Rattle.std.proofs.Common.{◌≡◌, length, sym, ◌∙◌, subst}
+use Rattle.std.proofs.Common.{length, ◌∙◌}
 use Rattle.pc_flow.specs.declared.node.FlowNode.TheVariants.{Op, Test, Stop, Trap}
 use Rattle.pc_scalar.specs.models.Met.{Nothing_met, Node_met}
 use Rattle.pc_scalar.proofs.Meetings.{op_target, met_behind, meets_length}

@@ -1,7 +1,6 @@
-use Rattle.std.proofs.Common.{◌≡◌, ◌<◌, ◌≤◌, false, length, replicate, sym, ◌∙◌, subst, arith, get_or}
+use Rattle.std.proofs.Common.{◌<◌, ◌≤◌, length, arith}
 use Rattle.pc_pass.proofs.Changes.{node_there}
-use Rattle.pc_scalar.specs.models.Met.{Meets}
-use Rattle.pc_scalar.proofs.Meetings.{Meeting, weight, meeting_begins, meeting_more, meeting_ends, next_met, next_there}
+use Rattle.pc_scalar.proofs.Meetings.{weight, meeting_begins, meeting_more, meeting_ends, next_met, next_there}
 use Rattle.pc_scalar.proofs.reach.reached.Goals as goal
 
 pub loop-done-init : goal.loop-done-init

@@ -1,4 +1,4 @@
-use Rattle.std.proofs.Common.{◌≡◌, ◌+◌, ◌-◌, ◌≤◌, true, Some, length}
+use Rattle.std.proofs.Common.{◌≡◌, ◌-◌, ◌≤◌, true, Some, length}
 use Rattle.std.specs.Prelude.{slice_get}
 use Rattle.pc_flow.specs.FlowGraph.{IsFlow}
 use Rattle.pc_scalar.proofs.Meetings.{Meeting, weight}

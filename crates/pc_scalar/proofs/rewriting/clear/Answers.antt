@@ -1,4 +1,4 @@
-use Rattle.std.proofs.Common.{◌≡◌, ◌≤◌, None, refl, ◌∙◌, ap, arith, append-nil, ◌++◌, map, take, drop, length}
+use Rattle.std.proofs.Common.{◌≤◌, None, refl, ◌∙◌, ap, arith, append-nil, ◌++◌, map, take, length}
 use Rattle.std.proofs.lemmas.List.{take_all, drop_all}
 use Rattle.pc_scalar.proofs.Tables.{changed_more}
 use Rattle.pc_scalar.proofs.Rewrites.{dropped, all_dropped}

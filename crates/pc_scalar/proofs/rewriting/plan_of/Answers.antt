@@ -1,4 +1,3 @@
-use Rattle.std.proofs.Common.{◌≡◌}
 use Rattle.pc_scalar.specs.models.Before.{AreBefore}
 use Rattle.pc_scalar.proofs.Rewrites.{has_head}
 use Rattle.pc_scalar.proofs.rewriting.plan_of.Goals as goal

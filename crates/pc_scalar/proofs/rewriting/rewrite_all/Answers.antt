@@ -1,4 +1,4 @@
-use Rattle.std.proofs.Common.{◌≡◌, ◌<◌, length, sym, ◌∙◌, arith}
+use Rattle.std.proofs.Common.{◌<◌, length, sym, ◌∙◌, arith}
 use Rattle.std.specs.Prelude.{slice_index_or}
 use Rattle.pc_scalar.specs.declared.before.Predecessor.TheVariants.{Nothing}
 use Rattle.pc_scalar.proofs.Rewrites.{begins_alone}

@@ -1,7 +1,6 @@
 use Rattle.std.proofs.Common.{◌≡◌, ◌<◌, ℕ, true}
 use Rattle.std.specs.Prelude.{slice_index_or}
 use Rattle.pc_scalar.specs.declared.before.Predecessor.TheVariants.{Nothing}
-use Rattle.pc_scalar.specs.Chain.{FollowsAlone}
 use Rattle.pc_scalar.specs.models.Rewriting.{begins, ChainFrom, Written, Rewrites}
 use Rattle.pc_scalar.proofs.rewriting.rewrite_all.Given as goal
 

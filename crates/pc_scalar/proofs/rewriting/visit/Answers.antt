@@ -1,4 +1,4 @@
-use Rattle.std.proofs.Common.{◌≡◌, ◌<◌, length, sym, ◌∙◌, ap, subst, arith}
+use Rattle.std.proofs.Common.{sym, ◌∙◌, subst, arith}
 use Rattle.std.specs.Prelude.{slice_index_or}
 use Rattle.pc_flow.specs.declared.node.FlowNode.TheVariants.{Op}
 use Rattle.pc_scalar.specs.declared.before.Predecessor.TheVariants.{Nothing}

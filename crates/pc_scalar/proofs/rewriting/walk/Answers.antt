@@ -1,4 +1,3 @@
-use Rattle.std.proofs.Common.{◌≡◌, arith}
 use Rattle.pc_flow.specs.declared.node.FlowNode.TheVariants.{Op}
 use Rattle.pc_scalar.proofs.Rewrites.{on_chain_first, on_chain_more, on_chain_ends, dropped_is}
 use Rattle.pc_scalar.proofs.rewriting.walk.Goals as goal
