@@ -25,13 +25,8 @@ use Rattle.pc_live.specs.models.Rounds.{behind}
 use Rattle.pc_live.proofs.Logic.{or_true, or_first, or_second, place_within}
 use Rattle.pc_live.proofs.Rounds.{some_behind}
 use Rattle.pc_pass.specs.Pass.{Keeps}
-<<<<<<< HEAD
-use Rattle.pc_flow.specs.Reachable.{IsReachableNode, Entry, Behind}
-use Rattle.pc_pass.specs.models.Change.{Change, LeadsPast, Past, Becomes, Does, Tests, Stops_too, Traps_too, DoesNothing, IsSkipped, IsChange}
-=======
 use Rattle.pc_flow.specs.Reachable.{IsReachableNode, Behind}
 use Rattle.pc_pass.specs.models.Change.{Change, LeadsPast, Past, Becomes, Does, Tests, Stops_too, Traps_too, IsSkipped, IsChange}
->>>>>>> f5a773708cb98db4339b27bdbf491df60db7d713
 use Rattle.pc_pass.proofs.Changes.{change_agrees, node_there, reachable_there}
 use Rattle.pc_scalar.specs.declared.plan.Plan.{Plan}
 use Rattle.pc_scalar.specs.Cleared.{only_writes, WritesAreLive}

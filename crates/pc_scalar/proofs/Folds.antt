@@ -16,11 +16,7 @@ use Rattle.pc_flow.specs.declared.node.FlowNode.TheVariants.{Op, Test, Stop, Tra
 use Rattle.pc_flow.specs.FlowGraph.{FlowGraph, ItemFits, IsTarget, HasEdge, Descends, NodeFits, IsFlow, turn_of}
 use Rattle.pc_flow.specs.FlowRun.{FlowState, run_node}
 use Rattle.pc_pass.specs.Pass.{Keeps}
-<<<<<<< HEAD
-use Rattle.pc_flow.specs.Reachable.{IsReachableNode, Entry, Behind}
-=======
 use Rattle.pc_flow.specs.Reachable.{IsReachableNode, Behind}
->>>>>>> f5a773708cb98db4339b27bdbf491df60db7d713
 use Rattle.pc_pass.specs.models.Change.{Change, LeadsPast, Becomes, Does, Tests, Stops_too, Traps_too, IsSkipped, IsChange}
 use Rattle.pc_pass.proofs.Changes.{change_agrees, node_there, reachable_there}
 use Rattle.pc_scalar.specs.declared.plan.Plan.{Plan}

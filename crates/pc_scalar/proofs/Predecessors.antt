@@ -6,13 +6,8 @@ use Rattle.std.proofs.lemmas.List.{get_or-replicate, length-replicate}
 use Rattle.pc_word.specs.declared.item.Item.{Item}
 use Rattle.pc_flow.specs.declared.node.FlowNode.{FlowNode}
 use Rattle.pc_flow.specs.declared.node.FlowNode.TheVariants.{Op, Test, Stop, Trap}
-<<<<<<< HEAD
-use Rattle.pc_flow.specs.FlowGraph.{FlowGraph, IsFlow, HasEdge, NodeFits}
-use Rattle.pc_flow.specs.Reachable.{IsReachableNode}
-=======
 use Rattle.pc_flow.specs.FlowGraph.{FlowGraph, HasEdge}
 use Rattle.pc_flow.specs.Reachable.{IsReachableNode}
->>>>>>> f5a773708cb98db4339b27bdbf491df60db7d713
 use Rattle.pc_scalar.specs.declared.before.Predecessor.{Predecessor}
 use Rattle.pc_scalar.specs.declared.before.Predecessor.TheVariants.{Nothing, Only, Several}
 use Rattle.pc_scalar.specs.Chain.{FollowsAlone}

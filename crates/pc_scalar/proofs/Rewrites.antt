@@ -12,13 +12,8 @@ use Rattle.pc_word.specs.Items.{dest_of}
 use Rattle.pc_word.proofs.Lists.{set_length}
 use Rattle.pc_flow.specs.declared.node.FlowNode.{FlowNode}
 use Rattle.pc_flow.specs.declared.node.FlowNode.TheVariants.{Op, Test, Stop, Trap}
-<<<<<<< HEAD
-use Rattle.pc_flow.specs.FlowGraph.{FlowGraph, IsFlow, HasEdge, NodeFits, variables}
-use Rattle.pc_flow.specs.Reachable.{IsReachableNode, Entry, Behind}
-=======
 use Rattle.pc_flow.specs.FlowGraph.{FlowGraph, IsFlow, variables}
 use Rattle.pc_flow.specs.Reachable.{IsReachableNode, Entry, Behind}
->>>>>>> f5a773708cb98db4339b27bdbf491df60db7d713
 use Rattle.pc_pass.proofs.Changes.{reachable_there, node_there}
 use Rattle.pc_scalar.specs.declared.before.Predecessor.{Predecessor}
 use Rattle.pc_scalar.specs.declared.before.Predecessor.TheVariants.{Nothing, Only, Several}

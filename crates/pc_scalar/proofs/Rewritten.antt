@@ -10,15 +10,9 @@ use Rattle.pc_flow.specs.declared.node.FlowNode.{FlowNode}
 use Rattle.pc_flow.specs.declared.node.FlowNode.TheVariants.{Op, Test, Stop, Trap}
 use Rattle.pc_flow.specs.FlowGraph.{FlowGraph, HasEdge, turn_of, variables}
 use Rattle.pc_pass.specs.Pass.{Keeps}
-<<<<<<< HEAD
-use Rattle.pc_flow.specs.Reachable.{IsReachableNode, Entry, Behind}
-use Rattle.pc_pass.specs.models.Change.{Change, Way, Here, LeadsPast, Becomes, Does, Tests, Stops_too, Traps_too, IsChange}
-use Rattle.pc_pass.proofs.Changes.{change_agrees, node_there, reachable_there}
-=======
 use Rattle.pc_flow.specs.Reachable.{IsReachableNode, Entry, Behind}
 use Rattle.pc_pass.specs.models.Change.{Change, Here, LeadsPast, Becomes, Does, Tests, Stops_too, Traps_too, IsChange}
 use Rattle.pc_pass.proofs.Changes.{change_agrees}
->>>>>>> f5a773708cb98db4339b27bdbf491df60db7d713
 use Rattle.pc_scalar.specs.declared.plan.Plan.{Plan}
 use Rattle.pc_scalar.specs.declared.rule.Rule.{Rule}
 use Rattle.pc_scalar.specs.LoopTests.{KeepsLoopTests}
