@@ -23,7 +23,7 @@ use Rattle.pc_vm.specs.Standing.{Standing, here_of}
 use Rattle.pc_tool.specs.Due.{Told}
 use Rattle.pc_tool.specs.Objects.{HoldsObject}
 use Rattle.pc_tool.specs.Outside.{Outside, Streamed}
-use Rattle.pc_tool.specs.Simulation.{Loaded, due_of, seen_of}
+use Rattle.pc_tool.specs.Simulation.{Loaded, due_of, run_seen}
 use Rattle.pc_tool.specs.Simulator.{SimulatorEnds, Ran, Misused, Unread, Refused, Untaken, Misspelt, Broke, Lacking}
 use Rattle.pc_tool.specs.Simulator.{SimulatorLacks, Untouched, Loading, Telling, SimulatorPromise}
 use Rattle.pc_tool.specs.declared.stop.Stop.{Stop}
@@ -72,11 +72,11 @@ module _ (request : SimulateRequest) (old new : Shelved) (input input_now out : 
 module _ (request : SimulateRequest) (old new : Shelved) (input input_now out out_now : Streamed) (machine : Standing) where
   -- what is seen of the machine is what is seen of the object
   same_seen : (ready : Ready request.object old.held input.told machine)
-      → run_from (machine_step (code_of machine.code)) request.cycles (here_of machine) ≡ seen_of request ready.object ready.placed.numbers
+      → run_from (machine_step (code_of machine.code)) request.cycles (here_of machine) ≡ run_seen request ready.object ready.placed.numbers
   same_seen ready = rw (ready.placed.runs, ready.placed.start) refl
 
   seen_ends : (due : Option ToolFault) (object : CodeWithNotes) (numbers : List ℤ) → Loaded request.object old.held input.told object numbers
-      → RunEnds request.cycles (seen_of request object numbers) out out_now due
+      → RunEnds request.cycles (run_seen request object numbers) out out_now due
       → SimulatorEnds old new input input_now out out_now (Some request) due
   seen_ends due object numbers loaded (Told_whole sent is) = Ran loaded sent is
   seen_ends due object numbers loaded (Told_part rose part) = Broke loaded rose part
@@ -124,14 +124,14 @@ pub ruleset runs_due = (run_whole, run_part)
 pub ends_lacking : (given : Option SimulateRequest) (old new : Shelved) (input input_now out out_now : Streamed) (due : Option ToolFault)
     → SimulatorEnds old new input input_now out out_now given due → SimulatorLacks old new input input_now out out_now given
 ends_lacking given old new input input_now out out_now due (Ran {request} {object} {numbers} loaded sent is) =
-    Telling loaded (sends_all out out_now (text_of (seen_of request object numbers).printed) sent)
+    Telling loaded (sends_all out out_now (text_of (run_seen request object numbers).printed) sent)
 ends_lacking given old new input input_now out out_now due (Misused same quiet silent) = Untouched quiet silent
 ends_lacking given old new input input_now out out_now due (Unread is failed quiet silent) = Untouched quiet silent
 ends_lacking given old new input input_now out out_now due (Refused faulty quiet silent) = Untouched quiet silent
 ends_lacking given old new input input_now out out_now due (Untaken object failed silent) = Loading object silent
 ends_lacking given old new input input_now out out_now due (Misspelt object faulty silent) = Loading object silent
 ends_lacking given old new input input_now out out_now due (Broke {request} {object} {numbers} loaded rose part) =
-    Telling loaded (sends_part out out_now (text_of (seen_of request object numbers).printed) part)
+    Telling loaded (sends_part out out_now (text_of (run_seen request object numbers).printed) part)
 ends_lacking given old new input input_now out out_now due (Lacking lacks) = lacks
 
 -- what the simulator came to is what it promises, once it is told

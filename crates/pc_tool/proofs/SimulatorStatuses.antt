@@ -23,7 +23,7 @@ use Rattle.pc_tool.specs.Files.{HoldsText}
 use Rattle.pc_tool.specs.Objects.{IsTextOf, IsNoObject, Holds, HoldsObject}
 use Rattle.pc_tool.specs.Outside.{Outside}
 use Rattle.pc_tool.specs.Simulation.{HasObjectFault, Long_object, Unread_object, HasInputFault, Long_input, Misspelt_input}
-use Rattle.pc_tool.specs.Simulation.{IsInputOf, IsNoInput, SpellsInput, Loaded, due_of, seen_of}
+use Rattle.pc_tool.specs.Simulation.{IsInputOf, IsNoInput, SpellsInput, Loaded, due_of, run_seen}
 use Rattle.pc_tool.specs.Simulator.{SimulatorEnds, Ran, Misused, Unread, Refused, Untaken, Misspelt, Broke, Lacking, SimulatorLacks, SimulatorPromise}
 use Rattle.pc_tool.specs.SimulatorLaws.{end_status, IsEndStatus, SendsRun, BreaksOff, HasRun, HasBroken, FailsToTake, RefusesBytes, IsToldObject, SimulatorStatuses}
 use Rattle.pc_tool.proofs.Files.{held_map, told, told_text}
@@ -124,7 +124,7 @@ module _ (old new : Outside) where
     numbers = numbers;
     loaded = loaded;
     sent = sent;
-    ended = ap due_status is ∙ due_is_end request.cycles (seen_of request object numbers).end;
+    ended = ap due_status is ∙ due_is_end request.cycles (run_seen request object numbers).end;
   }
   ran_of given due (Misused same quiet silent) end = absurd (no_end 2 (omega arith) (omega arith) end)
   ran_of given due (Unread is failed quiet silent) end = absurd (no_end 3 (omega arith) (omega arith) end)
@@ -136,9 +136,9 @@ module _ (old new : Outside) where
 
   -- a run's end has no status from 1 to 5
   module _ (request : SimulateRequest) (object : CodeWithNotes) (numbers : List ℤ) (due : Option ToolFault)
-      (is : due ≡ due_of request.cycles (seen_of request object numbers).end) where
+      (is : due ≡ due_of request.cycles (run_seen request object numbers).end) where
     run_is_end : IsEndStatus (due_status due)
-    run_is_end = ((seen_of request object numbers).end, ap due_status is ∙ due_is_end request.cycles (seen_of request object numbers).end)
+    run_is_end = ((run_seen request object numbers).end, ap due_status is ∙ due_is_end request.cycles (run_seen request object numbers).end)
 
     not_between : 1 ≤ due_status due → due_status due ≤ 5 → ⊥
     not_between low high = no_end (due_status due) low high run_is_end
@@ -241,11 +241,11 @@ module _ (old new : Outside) where
 
   complete_of : (request : SimulateRequest) (object : CodeWithNotes) (numbers : List ℤ) (due : Option ToolFault) → ToldRun request object numbers
       → Ends (Some request) due
-      → ((due_status due ≡ end_status (seen_of request object numbers).end) × SendsRun old new request object numbers)
+      → ((due_status due ≡ end_status (run_seen request object numbers).end) × SendsRun old new request object numbers)
       ⊎ (due_status due ≡ 1) ⊎ ((due_status due ≡ 3) × FailsToTake old new request) ⊎ ((due_status due ≡ 5) × BreaksOff old new request object numbers)
   complete_of request told_object told_numbers due t (Ran {object} {numbers} loaded sent is) =
-      inl (of_told (λ o ns. (due_status due ≡ end_status (seen_of request o ns).end) × SendsRun old new request o ns) request told_object told_numbers t object numbers loaded
-      (ap due_status is ∙ due_is_end request.cycles (seen_of request object numbers).end, sent))
+      inl (of_told (λ o ns. (due_status due ≡ end_status (run_seen request o ns).end) × SendsRun old new request o ns) request told_object told_numbers t object numbers loaded
+      (ap due_status is ∙ due_is_end request.cycles (run_seen request object numbers).end, sent))
   complete_of request object numbers due t (Unread {name} is failed quiet silent) =
       inr (inr (inl (refl, inl (subst (λ name. ReadFaultOf old.shelf new.shelf name) (sym is) failed, quiet))))
   complete_of request object numbers due t (Refused {what} faulty quiet silent) =
@@ -328,7 +328,7 @@ module _ (old new : Outside) where
       usage = λ none. by_status (λ code. (code ≡ 2) ⊎ (code ≡ 1) ⊎ ((code ≡ 5) × HasErrorFault old new))
           (either_first (usage_of due (subst (λ (g : Option SimulateRequest). Ends g due) none ends))) (λ part. inr (inr part));
       complete = λ request text left object numbers given_is file is rest input. by_status
-          (λ code. ((code ≡ end_status (seen_of request object numbers).end) × SendsRun old new request object numbers)
+          (λ code. ((code ≡ end_status (run_seen request object numbers).end) × SendsRun old new request object numbers)
           ⊎ (code ≡ 1) ⊎ ((code ≡ 3) × FailsToTake old new request) ⊎ ((code ≡ 5) × (BreaksOff old new request object numbers ⊎ HasErrorFault old new)))
           (last_first (complete_of request object numbers due (record { text = text; file = file; is = is; left = left; rest = rest; input = input }) (to_some request given_is)))
           (λ part. inr (inr (inr (part.0, inr part.1))));

@@ -35,6 +35,8 @@ translates limits text checked flow object h compiled words =
       source = record { read = h.read; faultless = h.faultless; few_nodes = omega (arith, same, few) };
       loads = record { is_object = compiled.is_object; has_words = words };
       limited = compiled.limited;
+      arrays = compiled.arrays ∙ ap (λ (program : ResolvedProgram). program.arrays) (sym h.is_resolved);
+      reached = compiled.reached;
       bare = compiled.bare;
       same = subst (λ (program : ResolvedProgram). AgreeOnInputs (source_run program) (machine_run object.code)) (sym h.is_resolved) compiled.agree;
     }

@@ -1,9 +1,11 @@
 -- What is compiled: the object that stands for a source, and what is reported of it.
-use Rattle.std.specs.Prelude.{◌≡◌, ℕ, Bool, true, false, List, [], length, map}
+use Rattle.std.specs.Prelude.{◌≡◌, ℕ, ◌<◌, Bool, true, false, List, [], length, map}
 use Rattle.std.specs.Io.KnownBytes.{Appends}
 use Rattle.pc_word.specs.declared.item.Limits.{Limits}
 use Rattle.pc_syntax.specs.Source.{SourceProgram}
+use Rattle.pc_check.specs.Resolution.{resolved}
 use Rattle.pc_check.specs.Sizes.{size}
+use Rattle.pc_machine.specs.Reachable.{IsReachable}
 use Rattle.pc_object.specs.ObjectText.{CodeWithNotes, object_text}
 use Rattle.pc_outside.specs.Shelf.{Shelved, HoldsFile}
 use Rattle.pc_command.specs.Requests.{CompileRequest}
@@ -14,12 +16,14 @@ use Rattle.pc_tool.specs.Objects.{Loads}
 use Rattle.pc_tool.specs.Outside.{Streamed}
 use Rattle.pc_tool.specs.Source.{IsSource}
 
--- The text is the source of this program; the object loads under the limits, without notes; for every input of words it does
--- what the source means.
+-- The text is the source of this program; the object loads under the limits, with the program's arrays and without notes, and
+-- leaves lead to each of its rows from row 0; for every input of words it does what the source means.
 pub record Translates (limits : Limits) (text : List ℕ) (program : SourceProgram) (object : CodeWithNotes) : Type 0 where
   pub source : IsSource text program
   pub loads : Loads object
   pub limited : object.code.limits ≡ limits
+  pub arrays : object.code.arrays ≡ (resolved program).arrays
+  pub reached : (row : ℕ) → row < length object.code.rows → IsReachable object.code.rows row
   pub bare : object.notes ≡ []
   pub same : Same program object.code
 

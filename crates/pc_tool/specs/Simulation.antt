@@ -77,5 +77,5 @@ pub record Loaded (name : List ℕ) (held : Option Files) (left : Option (List �
   pub in_input : SpellsInput left numbers
 
 -- what is seen of the run of an object on numbers, for the cycles that are asked for
-abbrev pub seen_of : SimulateRequest → CodeWithNotes → List ℤ → Seen
-seen_of request object numbers = machine_run object.code numbers request.cycles
+abbrev pub run_seen : SimulateRequest → CodeWithNotes → List ℤ → Seen
+run_seen request object numbers = machine_run object.code numbers request.cycles

@@ -18,7 +18,7 @@ use Rattle.pc_tool.specs.Due.{Told}
 use Rattle.pc_tool.specs.Files.{HoldsText}
 use Rattle.pc_tool.specs.Objects.{HoldsObject}
 use Rattle.pc_tool.specs.Outside.{Outside, Streamed, SendsFront}
-use Rattle.pc_tool.specs.Simulation.{HasInputFault, HasObjectFault, Loaded, due_of, seen_of}
+use Rattle.pc_tool.specs.Simulation.{HasInputFault, HasObjectFault, Loaded, due_of, run_seen}
 
 -- What stands where memory ran out: nothing was taken from the input and nothing sent; or OBJ holds an object that loads, and
 -- nothing was sent; or it was run, and the front of what its run printed was sent.
@@ -33,7 +33,7 @@ pub data SimulatorLacks (old new : Shelved) (input input_now out out_now : Strea
       SimulatorLacks old new input input_now out out_now (Some request)
   Telling : {request : SimulateRequest} {object : CodeWithNotes} {numbers : List ℤ} →
       Loaded request.object old.held input.told object numbers →
-      SendsFront out out_now (text_of (seen_of request object numbers).printed) →
+      SendsFront out out_now (text_of (run_seen request object numbers).printed) →
       SimulatorLacks old new input input_now out out_now (Some request)
 
 -- How the simulator ends, by what is due: what was given, and what stands outside.
@@ -41,8 +41,8 @@ pub data SimulatorEnds (old new : Shelved) (input input_now out out_now : Stream
   -- an object was run on the input, what its run printed was sent, and its end is due
   Ran : {request : SimulateRequest} {object : CodeWithNotes} {numbers : List ℤ} {due : Option ToolFault} →
       Loaded request.object old.held input.told object numbers →
-      Appends out.told out_now.told (text_of (seen_of request object numbers).printed) →
-      due ≡ due_of request.cycles (seen_of request object numbers).end →
+      Appends out.told out_now.told (text_of (run_seen request object numbers).printed) →
+      due ≡ due_of request.cycles (run_seen request object numbers).end →
       SimulatorEnds old new input input_now out out_now (Some request) due
   -- the words are no command
   Misused :
@@ -79,7 +79,7 @@ pub data SimulatorEnds (old new : Shelved) (input input_now out out_now : Stream
   Broke : {request : SimulateRequest} {object : CodeWithNotes} {numbers : List ℤ} →
       Loaded request.object old.held input.told object numbers →
       Rose out.faults out_now.faults →
-      AppendsPart out.told out_now.told (text_of (seen_of request object numbers).printed) →
+      AppendsPart out.told out_now.told (text_of (run_seen request object numbers).printed) →
       SimulatorEnds old new input input_now out out_now (Some request) (Some (fault.WriteOutput Pvm))
   -- memory ran out
   Lacking : {given : Option SimulateRequest} →

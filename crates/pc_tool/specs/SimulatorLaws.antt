@@ -16,7 +16,7 @@ use Rattle.pc_tool.specs.Files.{HoldsText}
 use Rattle.pc_tool.specs.Objects.{IsTextOf, IsNoObject, HoldsObject}
 use Rattle.pc_tool.specs.Outside.{Outside}
 use Rattle.pc_tool.specs.CompilerLaws.{HasErrorFault}
-use Rattle.pc_tool.specs.Simulation.{IsInputOf, IsNoInput, Loaded, seen_of}
+use Rattle.pc_tool.specs.Simulation.{IsInputOf, IsNoInput, Loaded, run_seen}
 use Rattle.pc_tool.specs.Simulator.{SimulatorLacks, SimulatorPromise}
 
 -- the status of a run's end; a run whose cycles are spent goes on
@@ -32,12 +32,12 @@ IsEndStatus code = (end : Option End) × (code ≡ end_status end)
 
 -- what the run of an object on numbers printed was sent
 abbrev pub SendsRun : Outside → Outside → SimulateRequest → CodeWithNotes → List ℤ → Type 0
-SendsRun old new request object numbers = Appends old.out.told new.out.told (text_of (seen_of request object numbers).printed)
+SendsRun old new request object numbers = Appends old.out.told new.out.told (text_of (run_seen request object numbers).printed)
 
 -- a proper prefix of what it prints was sent before the output failed
 pub record BreaksOff (old new : Outside) (request : SimulateRequest) (object : CodeWithNotes) (numbers : List ℤ) : Type 0 where
   pub fault : Rose old.out.faults new.out.faults
-  pub part : AppendsPart old.out.told new.out.told (text_of (seen_of request object numbers).printed)
+  pub part : AppendsPart old.out.told new.out.told (text_of (run_seen request object numbers).printed)
 
 -- an object that OBJ held was run on the input, what it printed was sent, and the status is its end
 pub record HasRun (old new : Outside) (code : ℕ) (request : SimulateRequest) : Type 0 where
@@ -45,7 +45,7 @@ pub record HasRun (old new : Outside) (code : ℕ) (request : SimulateRequest) :
   pub numbers : List ℤ
   pub loaded : Loaded request.object old.shelf.held old.input.told object numbers
   pub sent : SendsRun old new request object numbers
-  pub ended : code ≡ end_status (seen_of request object numbers).end
+  pub ended : code ≡ end_status (run_seen request object numbers).end
 
 -- an object that OBJ held was run on the input, and the output failed
 pub record HasBroken (old new : Outside) (request : SimulateRequest) : Type 0 where
@@ -89,7 +89,7 @@ pub record SimulatorStatuses (given : Option SimulateRequest) (old new : Outside
   -- an object that loads is run on an input of numbers, but for want of memory and faults
   pub complete : (request : SimulateRequest) (text left : List ℕ) (object : CodeWithNotes) (numbers : List ℤ) →
       given ≡ Some request → IsToldObject old request text → IsTextOf text object → old.input.told ≡ Some left → IsInputOf left numbers →
-      ((code ≡ end_status (seen_of request object numbers).end) × SendsRun old new request object numbers)
+      ((code ≡ end_status (run_seen request object numbers).end) × SendsRun old new request object numbers)
       ⊎ (code ≡ 1) ⊎ ((code ≡ 3) × FailsToTake old new request) ⊎ ((code ≡ 5) × (BreaksOff old new request object numbers ⊎ HasErrorFault old new))
   -- what is no object is refused
   pub strict_of_object : (request : SimulateRequest) (text : List ℕ) →
