@@ -22,7 +22,8 @@ use Rattle.pc_live.specs.Live.{is_variable}
 use Rattle.pc_scalar.specs.declared.rule.Rule.{Rule}
 use Rattle.pc_scalar.specs.declared.rule.Rule.TheVariants.{CopiedNames, KnownValues}
 use Rattle.pc_scalar.specs.Chain.{touches}
-use Rattle.pc_scalar.specs.models.Known.{kept, after_write, after, stays_true, source, copied, copied_item, op_number, same_operand, computes, holder, reused, valued_item, rewritten_item, rewritten_operand}
+use Rattle.pc_scalar.specs.models.Known.{kept, after_write, after, stays_true, source, copied, copied_item, op_number}
+use Rattle.pc_scalar.specs.models.Known.{same_operand, computes, holder, reused, valued_item, rewritten_item, rewritten_operand}
 use Rattle.pc_scalar.proofs.Tables.{mapped_from}
 
 -- a variable has the value of the item that it stands for

@@ -1,5 +1,6 @@
 -- A walk over the nodes that can be reached: each that is met is flagged and listed, until all that they lead to are.
-use Rattle.std.proofs.Common.{◌≡◌, ◌≢◌, inl, inr, ℕ, zero, suc, ◌+◌, ◌*◌, ◌<◌, ◌≤◌, Bool, true, false, not, List, [], ◌∷◌, ◌++◌, length, replicate, get_or, Some, None, refl, sym, ◌∙◌, ap, subst, arith}
+use Rattle.std.proofs.Common.{◌≡◌, ◌≢◌, inl, inr, ℕ, zero, suc, ◌+◌, ◌*◌, ◌<◌, ◌≤◌, Bool, true, false, not, List, [], ◌∷◌, ◌++◌, length, replicate, get_or, Some, None, refl, sym, ◌∙◌, ap, subst}
+use Rattle.std.proofs.Common.{arith}
 use Rattle.std.specs.Prelude.{slice_get, slice_set}
 use Rattle.std.specs.List.{AllByRecursion, count_by}
 use Rattle.std.proofs.lemmas.Bool.{cases_eq}
@@ -41,7 +42,8 @@ count_flagged (b ∷ flags) (suc i) e =
 -- flags stay where one more is set
 flag_stays : (flags : List Bool) (node at : ℕ) → slice_get flags at ≡ Some true → slice_get (slice_set flags node true) at ≡ Some true
 flag_stays flags node at e = elim (cases_eq node at) [
-  | inl same ↦ subst (λ (n : ℕ). slice_get (slice_set flags node true) n ≡ Some true) same (set_there flags node true (subst (λ (n : ℕ). n < length flags) (sym same) (slice_get_within flags at true e)))
+  | inl same ↦ subst (λ (n : ℕ). slice_get (slice_set flags node true) n ≡ Some true) same
+      (set_there flags node true (subst (λ (n : ℕ). n < length flags) (sym same) (slice_get_within flags at true e)))
   | inr other ↦ set_elsewhere flags node at true other ∙ e
 ]
 

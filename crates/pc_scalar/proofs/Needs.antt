@@ -40,7 +40,8 @@ kept_member false e = cc
 
 -- what an item reads that is not needless
 item_reads : (flow : FlowGraph) (sets : List VariableSet) (at to variable : ℕ) (item : Item) (dest : Option ℕ) → HoldNeeded flow sets
-    → slice_get flow.nodes at ≡ Some (Op item to) → only_writes item ≡ dest → ((x : ℕ) → dest ≡ Some x → x < variables) → is_unwanted (set_at sets to) dest ≡ false → node_reads (Op item to) variable ≡ true
+    → slice_get flow.nodes at ≡ Some (Op item to) → only_writes item ≡ dest → ((x : ℕ) → dest ≡ Some x → x < variables)
+    → is_unwanted (set_at sets to) dest ≡ false → node_reads (Op item to) variable ≡ true
     → IsNeeded flow variable at
 item_reads flow sets at to variable item None hold there only fits kept reads = Read_always there only reads
 item_reads flow sets at to variable item (Some dest) hold there only fits kept reads =

@@ -315,5 +315,3 @@ all_dropped (fact ∷ known) = ap (λ (l : List (Option Item)). None ∷ l) (all
 
 pub dropped_is : (known new : List (Option Item)) → new ≡ replicate (length known) (dropped None) → length known ≡ variables → new ≡ none_known
 dropped_is known new e long = e ∙ ap (λ (n : ℕ). replicate n (dropped None)) long
-
-pub ruleset plan_laws = (has_head)

@@ -21,7 +21,8 @@ use Rattle.pc_scalar.specs.declared.rule.Rule.{Rule}
 use Rattle.pc_scalar.specs.declared.rule.Rule.TheVariants.{CopiedNames, KnownValues}
 use Rattle.pc_scalar.specs.Chain.{FollowsAlone, Stands, Just_done, Still, touched_by}
 use Rattle.pc_scalar.specs.models.Plan.{Fits, planned}
-use Rattle.pc_scalar.specs.models.Known.{kept, after_write, after, stays_true, source, copied, copied_item, holder, reused, valued_item, rewritten_item, rewritten_operand, rewritten, KnownAt, At_head, Behind_item}
+use Rattle.pc_scalar.specs.models.Known.{kept, after_write, after, stays_true, source, copied, copied_item, holder}
+use Rattle.pc_scalar.specs.models.Known.{reused, valued_item, rewritten_item, rewritten_operand, rewritten, KnownAt, At_head, Behind_item}
 use Rattle.pc_scalar.specs.models.Rewriting.{Written, IsRewriting}
 use Rattle.pc_scalar.proofs.Chains.{keeps_turn}
 use Rattle.pc_scalar.proofs.Tables.{mapped_there, set_there, set_elsewhere}
@@ -175,7 +176,8 @@ module _ (flow : FlowGraph) (rule : Rule) (plan : Plan) (is : IsRewriting flow r
       → slice_get (after item known) d ≡ Some (Some item)
   learnt_there item d known lasts dest low =
       let open_write : after item known ≡ after_write item (Some d) known = ap (λ (o : Option ℕ). after_write item o known) dest in
-      let open_learn : after_write item (Some d) known ≡ slice_set (map (kept d) known) d (Some item) = ap (λ (b : Bool). if b then slice_set (map (kept d) known) d (Some item) else map (kept d) known) lasts in
+      let open_learn : after_write item (Some d) known ≡ slice_set (map (kept d) known) d (Some item) =
+      ap (λ (b : Bool). if b then slice_set (map (kept d) known) d (Some item) else map (kept d) known) lasts in
       ap (λ (l : List (Option Item)). slice_get l d) (open_write ∙ open_learn)
       ∙ set_there (map (kept d) known) d (Some item) (omega (arith, low, length-map known (kept d)))
 

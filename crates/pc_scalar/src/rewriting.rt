@@ -1,14 +1,11 @@
 //! Nodes are rewritten by what is known there, along chains of items.
-ghost use Rattle.std.specs.Prelude.{◌≡◌, ◌<◌, ◌≤◌, ℕ, Some, None, length, replicate, slice_get, slice_set, slice_index_or, true, IfOk, OnOk, OnErr, MatchOption};
+ghost use Rattle.std.specs.Prelude.{◌≡◌, ◌<◌, ◌≤◌, ℕ, Some, None, length, replicate, slice_get, slice_set, IfOk, MatchOption};
 ghost use Rattle.pc_flow.specs.declared.node.FlowNode.{FlowNode};
 ghost use Rattle.pc_flow.specs.FlowGraph.{IsFlow, variables};
-ghost use Rattle.pc_pass.specs.Pass.{Keeps};
 ghost use Rattle.pc_scalar.specs.Chain.{FollowsAlone};
-ghost use Rattle.pc_scalar.specs.LoopTests.{KeepsLoopTests};
 ghost use Rattle.pc_scalar.specs.models.Before.{AreBefore};
 ghost use Rattle.pc_scalar.specs.models.Known.{KnownAt, rewritten};
-ghost use Rattle.pc_scalar.specs.models.Plan.{planned};
-ghost use Rattle.pc_scalar.specs.models.Rewriting.{follows, begins, ChainFrom, Written, Rewrites, IsRewriting};
+ghost use Rattle.pc_scalar.specs.models.Rewriting.{follows, begins, ChainFrom, Written, AreWritten, Rewrites, IsRewriting};
 
 use crate::before::{Predecessor, predecessors};
 use crate::known::learn;
@@ -16,14 +13,13 @@ use crate::plan::Plan;
 use crate::reach::reached;
 use crate::rule::{Rule, rewritten};
 use pc_flow::{Flow, FlowNode, FlowNodeList};
-use pc_word::Item;
+use pc_word::{Item, MOST_SCALARS, MOST_TEMPORARIES};
 use std::alloc::{AllocError, Global};
 
-/// How many variables there are.
-const VARIABLES: usize = 96;
+/// How many variables a graph may name.
+const VARIABLES: usize = MOST_SCALARS as usize + MOST_TEMPORARIES as usize;
 
 /// The nodes of a graph, rewritten by what is known there.
-#[tactic(auto, using(crate::proofs::Rewrites::plan_laws))]
 pub(crate) fn plan_of(alloc: Global, flow: &Flow, rule: Rule) -> Result<Plan, AllocError>
     ensures { IfOk result (λ plan. IsRewriting flow.now rule plan) }
 {
@@ -84,7 +80,7 @@ fn rewrite_all(
     requires nodes { nodes.old ≡ flow.now.nodes }
     ensures kept { IsFlow flow.now }
     ensures rewrites { Rewrites flow.now rule nodes.new }
-    ensures written { (head : ℕ) → head < length flow.now.nodes → begins (slice_index_or table.now head Predecessor.Nothing) ≡ true → (at : ℕ) → ChainFrom flow.now head at → Written flow.now rule nodes.new at }
+    ensures written { AreWritten flow.now table.now rule nodes.new }
 {
     for head in 0..flow.count() {
         if begins(table[head as usize]) {

@@ -1,8 +1,5 @@
 //! How a node is rewritten by what is known there.
-ghost use Rattle.std.specs.Prelude.{◌≡◌, ◌<◌, ◌≤◌, length};
-ghost use Rattle.std.specs.List.{AllByRecursion};
-ghost use Rattle.pc_word.specs.Items.{operands_of};
-ghost use Rattle.pc_flow.specs.FlowGraph.{variables, IsVariable};
+ghost use Rattle.std.specs.Prelude.{◌≡◌};
 ghost use Rattle.pc_scalar.specs.models.Known.{copied, copied_item, op_number, same_operand, computes, holder, valued_item, rewritten};
 
 use crate::known::dest;

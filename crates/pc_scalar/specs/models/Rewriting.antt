@@ -1,5 +1,5 @@
 -- Nodes that are rewritten along chains.
-use Rattle.std.specs.Prelude.{◌≡◌, ◌⊎◌, ℕ, Bool, true, false, nat_eq, List, length, Option, Some, slice_get}
+use Rattle.std.specs.Prelude.{◌≡◌, ◌⊎◌, ◌<◌, ℕ, Bool, true, false, nat_eq, List, length, Option, Some, slice_get, slice_index_or}
 use Rattle.pc_word.specs.declared.item.Item.{Item}
 use Rattle.pc_flow.specs.declared.node.FlowNode.{FlowNode}
 use Rattle.pc_flow.specs.FlowGraph.{FlowGraph, IsFlow}
@@ -35,6 +35,11 @@ pub record Written (flow : FlowGraph) (rule : Rule) (nodes : List FlowNode) (at 
   pub node : FlowNode
   pub there : slice_get flow.nodes at ≡ Some node
   pub stands : slice_get nodes at ≡ Some (rewritten rule known node)
+
+-- so is each node of the chains that begin somewhere
+abbrev pub AreWritten : FlowGraph → List Predecessor → Rule → List FlowNode → Type 0
+AreWritten flow table rule nodes =
+    (head : ℕ) → head < length flow.nodes → begins (slice_index_or table head Nothing) ≡ true → (at : ℕ) → ChainFrom flow head at → Written flow rule nodes at
 
 -- nodes of which each is as it was, or rewritten
 pub record Rewrites (flow : FlowGraph) (rule : Rule) (nodes : List FlowNode) : Type 0 where

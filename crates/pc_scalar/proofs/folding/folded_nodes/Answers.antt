@@ -6,7 +6,9 @@ use Rattle.pc_scalar.proofs.Folds.{folded_there}
 use Rattle.pc_scalar.proofs.folding.folded_nodes.Goals as goal
 
 pub led-requires : goal.led-requires
-led-requires c = rw c.folded.ensures (folded_there c.args.flow.now c.loop-at.at (length c.args.ends.now) c.node.result c.requires (c.count-at-end.ensures.kept.nodes_fit c.loop-at.at c.node.result c.node.ensures))
+led-requires c =
+    rw c.folded.ensures (folded_there c.args.flow.now c.loop-at.at (length c.args.ends.now) c.node.result c.requires
+    (c.count-at-end.ensures.kept.nodes_fit c.loop-at.at c.node.result c.node.ensures))
 
 pub loop-at-preserved : goal.loop-at-preserved
 loop-at-preserved c =
