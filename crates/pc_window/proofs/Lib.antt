@@ -1,3 +1,6 @@
+pub mod NamesStored
+pub mod GraftsStored
+pub mod HomesStored
 pub mod Once
 pub mod Shown
 pub mod Forms

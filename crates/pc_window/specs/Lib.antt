@@ -1,3 +1,4 @@
+pub mod models
 pub mod Tree
 pub mod Names
 pub mod Walk

@@ -2,8 +2,20 @@
 //! tidied, rebased, filled and cut, with what each of these steps keeps.
 #![tactic(auto)]
 
+mod bring;
+mod graft;
+mod home;
 mod laws;
+mod names;
+mod tree;
 
-pub use laws::{
-    laws_of_cutting, laws_of_filling, laws_of_moves, laws_of_opening, laws_of_settling,
-};
+pub use home::Home;
+pub use laws::{laws_of_cutting, laws_of_filling, laws_of_moves, laws_of_opening, laws_of_settling};
+use pc_linear::LinForm;
+use pc_word::Seq;
+
+/// Homes of variables.
+pub type HomeList = Seq<Home>;
+
+/// Forms, by name.
+type FormList = Seq<LinForm>;
