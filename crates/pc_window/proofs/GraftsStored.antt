@@ -8,6 +8,11 @@ use Rattle.pc_linear.specs.Form.{Form}
 use Rattle.pc_table.specs.Table.{TableTree, Does, Asks, Next, Stops_here, Traps_here, Table, region_live}
 use Rattle.pc_window.specs.Tree.{Tree, Pending, Undecided, Exit, Stop_exit, Trap_exit}
 use Rattle.pc_window.specs.Opening.{Supply, Grafted, Brought, Moves_home, Gets_name, Stays_plain, brought, changed, with_name, at_home, below_item, below_test, graft_item, graft, stub_tag, homes_at}
+use Rattle.std.specs.Prelude.{true, false}
+use Rattle.pc_window.specs.declared.tree.WindowTree.{WindowTree}
+use Rattle.pc_window.specs.declared.tree.WindowTree.TheVariants as stored
+use Rattle.pc_window.specs.StoredWindow.{InNodes}
+use Rattle.pc_window.specs.models.Stored.{is_leaf}
 use Rattle.pc_window.specs.models.Grafting.{Grafts}
 
 module _ (table : Table) (loop : Option ℕ) (tag origin : ℕ) (names : Supply) (homes : ℕ → Operand) where
@@ -39,3 +44,16 @@ module _ (table : Table) (loop : Option ℕ) (tag origin : ℕ) (names : Supply)
       ∙ ap (λ (g : Grafted). below_test tag origin (at_home homes on) g (λ k. graft table loop tag on_no k homes)) p
 
 pub ruleset grafts = (moves_home, gets_name, stays_plain, asks)
+
+-- ---- nodes
+
+-- a leaf of a node stands below an item or test as it is
+pub leaf_below : (tree : WindowTree) → is_leaf tree ≡ true → InNodes true tree → InNodes false tree
+leaf_below (stored.Step' tag origin item p rest) e h = absurd (cc)
+leaf_below (stored.Test' tag origin on p on_yes q on_no) e h = absurd (cc)
+leaf_below (stored.Node' p below) e h = absurd h
+leaf_below (stored.Exit region tag homes) e h = tt
+leaf_below stored.Stop e h = tt
+leaf_below (stored.Trap kind line) e h = tt
+
+pub ruleset nodes = (leaf_below)

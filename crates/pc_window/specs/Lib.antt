@@ -16,4 +16,5 @@ pub mod Ready
 pub mod Move
 pub mod Kept
 pub mod Steps
+pub mod StoredWindow
 pub mod Laws

@@ -1,11 +1,12 @@
 //! A region's tree, brought into a window: with homes in place of its variables.
-ghost use Rattle.std.specs.Prelude.{◌≡◌, ◌<◌, ◌^◌, length, IfOk};
+ghost use Rattle.std.specs.Prelude.{◌≡◌, ◌<◌, ◌≤◌, ◌^◌, true, false, length, IfOk};
 ghost use Rattle.pc_word.specs.declared.item.Operand.TheVariants.{Name};
 ghost use Rattle.pc_table.specs.Table.{table_tree, table_of, region_live};
-ghost use Rattle.pc_table.specs.TableKeeps.{TreeIsThere};
-ghost use Rattle.pc_window.specs.Tree.{Exit};
+ghost use Rattle.pc_table.specs.TableKeeps.{TreeIsThere, units};
+ghost use Rattle.pc_window.specs.Tree.{Exit, tree_size};
 ghost use Rattle.pc_window.specs.Opening.{changed, same_loop, stub_tag, homes_at};
-ghost use Rattle.pc_window.specs.models.Stored.{tree_in, supply_in, homes_in};
+ghost use Rattle.pc_window.specs.models.Stored.{tree_in, supply_in, homes_in, is_leaf};
+ghost use Rattle.pc_window.specs.StoredWindow.{InNodes};
 ghost use Rattle.pc_window.specs.models.Grafting.{Grafts, HasNames, TakesNames};
 
 use crate::HomeList;
@@ -56,7 +57,8 @@ fn stub(
 ) -> Result<WindowTree, AllocError>
     requires there { number < length table.now.regions }
     requires tag { tag < 2 ^ 31 }
-    ensures { IfOk result (λ tree. tree_in tree ≡ Exit number (stub_tag (table_of table.now) inside number tag) (homes_at (homes_in homes.now) (region_live (table_of table.now) number))) }
+    ensures nodes { IfOk result (λ tree. InNodes true tree) }
+    ensures tree { IfOk result (λ tree. tree_in tree ≡ Exit number (stub_tag (table_of table.now) inside number tag) (homes_at (homes_in homes.now) (region_live (table_of table.now) number))) }
 {
     let region = &table.regions.as_slice()[number as usize];
     let homes = listed(alloc, homes, region.live.as_slice())?;
@@ -79,8 +81,10 @@ fn heads_loop(heads: Option<u16>, inside: Option<u16>) -> bool
 }
 
 /// A tree as what stands below an item or test: in a node of its own, where it has an item or test.
+#[tactic(auto, using(crate::proofs::GraftsStored::nodes))]
 fn below(alloc: Global, tree: WindowTree) -> Result<Box<WindowTree>, AllocError>
-    ensures { IfOk result (λ below. tree_in below.value ≡ tree_in tree) }
+    ensures tree { IfOk result (λ below. tree_in below.value ≡ tree_in tree) }
+    ensures nodes { IfOk result (λ below. InNodes true tree → InNodes false below.value) }
 {
     if !is_leaf(&tree) {
         let below = Box::new(alloc, tree)?;
@@ -92,7 +96,9 @@ fn below(alloc: Global, tree: WindowTree) -> Result<Box<WindowTree>, AllocError>
 }
 
 /// Whether a tree has neither item nor test.
-fn is_leaf(tree: &WindowTree) -> bool {
+fn is_leaf(tree: &WindowTree) -> bool
+    ensures { result ≡ is_leaf tree.now }
+{
     match tree {
         WindowTree::Step { .. } => false,
         WindowTree::Test { .. } => false,
@@ -119,6 +125,8 @@ pub(crate) fn graft(
     requires room { HasNames names.old (table_tree from.now) }
     ensures tree { IfOk result (λ tree. Grafts (table_of table.now) inside tag (table_tree from.now) (supply_in names.old) (homes_in homes) (tree_in tree) (supply_in names.new)) }
     ensures names { IfOk result (λ tree. TakesNames (table_tree from.now) names.old names.new) }
+    ensures nodes { IfOk result (λ tree. InNodes true tree) }
+    ensures size { IfOk result (λ tree. tree_size (tree_in tree) ≤ units (table_tree from.now)) }
 {
     match from {
         RegionTree::Step { origin, item, next } => match bring(names, &homes, *item) {

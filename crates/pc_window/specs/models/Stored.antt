@@ -1,7 +1,7 @@
 -- How windows lie in memory: boxed trees, forms in a list by name, homes in a list by variable.
-use Rattle.std.specs.Prelude.{ℕ, zero, suc, ℤ, pos, List, [], ◌∷◌, ◌++◌, length, Option, Some, None, slice_get, slice_index_or}
+use Rattle.std.specs.Prelude.{Bool, true, false, if◌then◌else◌, nat_lt, ℕ, zero, suc, ℤ, pos, List, [], ◌∷◌, ◌++◌, length, Option, Some, None, slice_get, slice_index_or}
 use Rattle.pc_word.specs.declared.item.Operand.{Operand}
-use Rattle.pc_word.specs.declared.item.Operand.TheVariants.{Lit}
+use Rattle.pc_word.specs.declared.item.Operand.TheVariants.{Name, Lit}
 use Rattle.pc_linear.specs.Form.{Form}
 use Rattle.pc_linear.specs.Combine.{constant_form, variable_form}
 use Rattle.pc_window.specs.declared.tree.WindowTree.{WindowTree}
@@ -56,3 +56,16 @@ brought_in (brings.StaysPlain item) = Stays_plain item
 abbrev pub variable_forms : ℕ → List Form
 variable_forms zero = []
 variable_forms (suc n) = variable_forms n ++ variable_form n ∷ []
+
+-- whether a tree in memory has neither item nor test at its root
+abbrev pub is_leaf : WindowTree → Bool
+is_leaf (stored.Step' tag origin item p rest) = false
+is_leaf (stored.Test' tag origin on p on_yes q on_no) = false
+is_leaf (stored.Node' p below) = true
+is_leaf (stored.Exit region tag homes) = true
+is_leaf stored.Stop = true
+is_leaf (stored.Trap kind line) = true
+
+-- the homes of the first variables, each a name alone
+abbrev pub homes_before : ℕ → ℕ → Operand
+homes_before n variable = if nat_lt variable n then Name variable else Lit (pos 0)
