@@ -1,4 +1,5 @@
 pub mod NamesStored
+pub mod WindowsStored
 pub mod GraftsStored
 pub mod HomesStored
 pub mod Once

@@ -30,10 +30,6 @@ window_in w = record {
 abbrev pub most_window_size : ℕ
 most_window_size = 65535
 
--- what every window keeps
-pub record IsStoredWindow (w : StoredWindow) : Type 0 where
-  pub small : tree_size (tree_in w.tree) ≤ most_window_size
-
 -- each item and each test is a node of its own: at the root of a node, or below an item or test
 abbrev pub InNodes : (at_root : Bool) → WindowTree → Type 0
 InNodes true (stored.Step' tag origin item p rest) = InNodes false rest
