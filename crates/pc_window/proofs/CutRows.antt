@@ -13,7 +13,8 @@ use Rattle.pc_word.specs.Items.{operand_value}
 use Rattle.pc_word.specs.Commit.{fault_of, prints_of, state_after}
 use Rattle.pc_table.specs.Table.{Table, Next}
 use Rattle.pc_table.specs.RegionRun.{place_at}
-use Rattle.pc_window.specs.Tree.{Home, Tree, Pending, Undecided, Exit, Stop_exit, Trap_exit, Front, Issued, Split, Unfinished, whole, front_of, home_state}
+use Rattle.pc_window.specs.declared.home.Home.{Home}
+use Rattle.pc_window.specs.Tree.{Tree, Pending, Undecided, Exit, Stop_exit, Trap_exit, Front, Issued, Split, Unfinished, whole, front_of, home_state}
 use Rattle.pc_window.specs.Names.{uses}
 use Rattle.pc_window.specs.Walk.{Walked, Leaves, Finishes, IsWhole, printing, walk, outcome_walk}
 use Rattle.pc_window.proofs.Shown.{behind_length, front_shown}

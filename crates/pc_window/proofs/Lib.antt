@@ -1,3 +1,7 @@
+pub mod NamesStored
+pub mod WindowsStored
+pub mod GraftsStored
+pub mod HomesStored
 pub mod Once
 pub mod Shown
 pub mod Forms

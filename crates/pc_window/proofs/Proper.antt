@@ -28,7 +28,8 @@ use Rattle.pc_window.proofs.Unwinding.{used_below}
 use Rattle.pc_window.proofs.Rebasing.{rebased-kept}
 use Rattle.pc_table.specs.Table.{Table}
 use Rattle.pc_table.specs.TableKeeps.{reads, reads_name}
-use Rattle.pc_window.specs.Tree.{Home, Tree, Pending, Undecided, Exit, Stop_exit, Trap_exit, Front, Issued, Split, Unfinished, whole, front_of}
+use Rattle.pc_window.specs.declared.home.Home.{Home}
+use Rattle.pc_window.specs.Tree.{Tree, Pending, Undecided, Exit, Stop_exit, Trap_exit, Front, Issued, Split, Unfinished, whole, front_of}
 use Rattle.pc_window.specs.WindowRun.{Window, supply_of}
 use Rattle.pc_window.specs.Tidying.{tidied}
 use Rattle.pc_window.specs.Kept.{Left, Rest, Gone}

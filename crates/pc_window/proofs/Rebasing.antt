@@ -16,7 +16,8 @@ use Rattle.pc_linear.specs.declared.term.Term.{Term}
 use Rattle.pc_linear.specs.Form.{most_terms, Form, sum_of, ◌≈◌, number_of, says, Means, factor_of}
 use Rattle.pc_linear.specs.Combine.{plus, variable_form}
 use Rattle.pc_window.specs.Opening.{FormBelow, Supply, changed, OperandBelow, ItemBelow, StubBelow, TreeBelow, FormsBelow}
-use Rattle.pc_window.specs.Tree.{Home, Tree, Pending, Undecided, Exit, Stop_exit, Trap_exit}
+use Rattle.pc_window.specs.declared.home.Home.{Home}
+use Rattle.pc_window.specs.Tree.{Tree, Pending, Undecided, Exit, Stop_exit, Trap_exit}
 use Rattle.pc_window.specs.Hold.{DefinedMeans, DefinedHold, TreeHolds}
 use Rattle.pc_window.specs.Rebasing.{with_form, with_variable, settled, rewritten_by, rewritten, rewrite_all, one_variable_more, make_base, Turned, first_base, first_turn}
 use Rattle.pc_window.specs.Rebasing.{first_turns, free_terms, second_choice, second_turn, second_turns, rebased, all_names}

@@ -14,7 +14,8 @@ use Rattle.pc_word.specs.State.{State}
 use Rattle.pc_word.specs.Commit.{Stored, stores_of, prints_of, reads_of, fault_of, writes, cells_after}
 use Rattle.pc_word.specs.Items.{operand_value, place_in, element_at, dest_of, value_of, operands_of}
 use Rattle.pc_word.proofs.Lists.{all_imply}
-use Rattle.pc_window.specs.Tree.{Home, Tree, Pending, Undecided, Exit, Stop_exit, Trap_exit, home_of, home_state}
+use Rattle.pc_window.specs.declared.home.Home.{Home}
+use Rattle.pc_window.specs.Tree.{Tree, Pending, Undecided, Exit, Stop_exit, Trap_exit, home_of, home_state}
 use Rattle.pc_window.specs.Walk.{Walked, Leaves, printing, unless_fault, after_item, walk}
 use Rattle.pc_window.proofs.Shown.{walk_length, shown}
 use Rattle.pc_linear.specs.Form.{Form}

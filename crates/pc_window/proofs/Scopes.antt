@@ -8,7 +8,8 @@ use Rattle.pc_word.specs.declared.item.Operand.{Operand}
 use Rattle.pc_word.specs.declared.item.Operand.TheVariants.{Name, Lit}
 use Rattle.pc_word.specs.Items.{dest_of}
 use Rattle.pc_word.specs.Commit.{writes}
-use Rattle.pc_window.specs.Tree.{Home, Tree, Pending, Undecided, Exit, Stop_exit, Trap_exit, Front, whole}
+use Rattle.pc_window.specs.declared.home.Home.{Home}
+use Rattle.pc_window.specs.Tree.{Tree, Pending, Undecided, Exit, Stop_exit, Trap_exit, Front, whole}
 use Rattle.pc_linear.specs.Form.{Form}
 use Rattle.pc_window.specs.Names.{IsKnown, ReadsKnown, IsNew, and_dest, HomesKnown, Scoped, Unwritten, NotWritten}
 use Rattle.pc_window.specs.Rename.{map_operands, map_homes, mapped, renamed, with_dest}

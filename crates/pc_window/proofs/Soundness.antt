@@ -7,7 +7,8 @@ use Rattle.pc_word.specs.declared.item.Operand.{Operand}
 use Rattle.pc_word.specs.declared.item.Operand.TheVariants.{Name, Lit}
 use Rattle.pc_linear.specs.Form.{Form}
 use Rattle.pc_table.specs.Table.{TableTree, Does, Asks, Next, Stops_here, Traps_here, Table, region_live, region_tree}
-use Rattle.pc_window.specs.Tree.{Home, Tree, Pending, Undecided, Exit, Stop_exit, Trap_exit, home_of}
+use Rattle.pc_window.specs.declared.home.Home.{Home}
+use Rattle.pc_window.specs.Tree.{Tree, Pending, Undecided, Exit, Stop_exit, Trap_exit, home_of}
 use Rattle.pc_window.proofs.Once.{defines, Undefined, OncePerPath, Sound}
 use Rattle.pc_window.specs.Opening.{first_new, Supply, changed, with_name, at_home, Brought, Moves_home, Gets_name, Stays_plain, brought, Grafted, graft_item, homes_at, graft, OperandBelow}
 use Rattle.pc_window.specs.Opening.{ItemBelow, StubBelow, TreeBelow, FormsBelow, opened, first_supply, first_home, unwound_at}

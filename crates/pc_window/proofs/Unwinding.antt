@@ -16,7 +16,8 @@ use Rattle.pc_linear.specs.Form.{Form, Means}
 use Rattle.pc_table.specs.Table.{Next, Table, region_tree}
 use Rattle.pc_table.specs.RegionRun.{place_at, region_step, region_run}
 use Rattle.pc_table.specs.TableKeeps.{reads, reads_name, TableKeeps}
-use Rattle.pc_window.specs.Tree.{Home, Tree, Pending, Undecided, Exit, Stop_exit, Trap_exit, home_of}
+use Rattle.pc_window.specs.declared.home.Home.{Home}
+use Rattle.pc_window.specs.Tree.{Tree, Pending, Undecided, Exit, Stop_exit, Trap_exit, home_of}
 use Rattle.pc_window.specs.Walk.{Walked, Leaves, Finishes, printing, done_first, walk}
 use Rattle.pc_window.specs.WindowRun.{follow, free_run}
 use Rattle.pc_window.specs.Names.{uses, homes_use}

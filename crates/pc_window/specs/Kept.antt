@@ -7,7 +7,8 @@ use Rattle.pc_word.specs.Run.{Run, Answers, Follows, Agree, after_printing, ende
 use Rattle.pc_word.specs.State.{State}
 use Rattle.pc_table.specs.Table.{Table, Next}
 use Rattle.pc_table.specs.RegionRun.{region_run}
-use Rattle.pc_window.specs.Tree.{Home, Tree, Pending, Undecided, Exit, Stop_exit, Trap_exit, Front, Issued, Split, Unfinished, whole, home_state}
+use Rattle.pc_window.specs.declared.home.Home.{Home}
+use Rattle.pc_window.specs.Tree.{Tree, Pending, Undecided, Exit, Stop_exit, Trap_exit, Front, Issued, Split, Unfinished, whole, home_state}
 use Rattle.pc_window.specs.WindowRun.{Window, window_run, front_run, FormsHold}
 use Rattle.pc_word.specs.Row.{Row, Then, Either, At_leaf, RowOutcome, Faults, Commits, row_step}
 

@@ -1,3 +1,4 @@
+pub mod models
 pub mod Tree
 pub mod Names
 pub mod Walk
@@ -15,4 +16,5 @@ pub mod Ready
 pub mod Move
 pub mod Kept
 pub mod Steps
+pub mod StoredWindow
 pub mod Laws

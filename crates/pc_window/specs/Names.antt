@@ -8,7 +8,8 @@ use Rattle.pc_word.specs.declared.item.Operand.TheVariants.{Name, Lit}
 use Rattle.pc_word.specs.Items.{dest_of, operands_of}
 use Rattle.pc_word.specs.Commit.{writes}
 use Rattle.pc_table.specs.TableKeeps.{reads, reads_name}
-use Rattle.pc_window.specs.Tree.{Home, Tree, Pending, Undecided, Exit, Stop_exit, Trap_exit}
+use Rattle.pc_window.specs.declared.home.Home.{Home}
+use Rattle.pc_window.specs.Tree.{Tree, Pending, Undecided, Exit, Stop_exit, Trap_exit}
 
 -- ---- used and defined
 

@@ -9,7 +9,8 @@ use Rattle.pc_linear.specs.declared.term.Term.{Term}
 use Rattle.pc_linear.specs.Form.{Form}
 use Rattle.pc_linear.specs.Combine.{combine, constant_form, variable_form}
 use Rattle.pc_table.specs.Table.{Table, TableRegion, TableTree, Does, Asks, Next, Stops_here, Traps_here, region_tree, region_live}
-use Rattle.pc_window.specs.Tree.{Home, Tree, Pending, Undecided, Exit, Stop_exit, Trap_exit, home_of}
+use Rattle.pc_window.specs.declared.home.Home.{Home}
+use Rattle.pc_window.specs.Tree.{Tree, Pending, Undecided, Exit, Stop_exit, Trap_exit, home_of}
 use Rattle.pc_window.specs.Hold.{operand_form}
 
 -- the form of each name, and the numbers from which on names and form variables are new

@@ -3,14 +3,10 @@ use Rattle.std.specs.Prelude.{ℕ, suc, pos, ◌+◌, if◌then◌else◌, nat_e
 use Rattle.pc_word.specs.declared.item.Item.{Item}
 use Rattle.pc_word.specs.declared.item.Operand.{Operand}
 use Rattle.pc_word.specs.declared.item.Operand.TheVariants.{Lit}
+use Rattle.pc_window.specs.declared.home.Home.{Home}
 use Rattle.pc_word.specs.declared.item.TrapKind.{TrapKind}
 use Rattle.pc_word.specs.State.{State}
 use Rattle.pc_word.specs.Items.{operand_value}
-
--- the value that a variable has where a window is left
-pub record Home : Type 0 where
-  pub variable : ℕ
-  pub value : Operand
 
 -- unfinished items and tests down to the places where the window is left: a stub that leads to a region, the end, or a trap
 pub data Tree : Type 0 where

@@ -2,8 +2,24 @@
 //! tidied, rebased, filled and cut, with what each of these steps keeps.
 #![tactic(auto)]
 
+mod bring;
+mod error;
+mod graft;
+mod home;
 mod laws;
+mod names;
+mod tree;
+mod window;
 
-pub use laws::{
-    laws_of_cutting, laws_of_filling, laws_of_moves, laws_of_opening, laws_of_settling,
-};
+pub use error::WindowError;
+pub use home::Home;
+pub use laws::{laws_of_cutting, laws_of_filling, laws_of_moves, laws_of_opening, laws_of_settling};
+use pc_linear::LinForm;
+use pc_word::Seq;
+pub use window::Window;
+
+/// Homes of variables.
+pub type HomeList = Seq<Home>;
+
+/// Forms, by name.
+type FormList = Seq<LinForm>;

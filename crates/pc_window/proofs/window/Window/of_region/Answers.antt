@@ -1,0 +1,18 @@
+use Rattle.pc_window.proofs.WindowsStored.{region_there, first_room, opened_small, opened_is}
+use Rattle.pc_window.proofs.window.Window.of_region.Goals as goal
+
+pub graft-requires-clause-there : goal.graft-requires-clause-there
+graft-requires-clause-there c = region_there c.args.table.now c.args.region c.region_at-opened.result.now c.region_at-opened.ensures c.requires.kept
+
+pub graft-requires-clause-room : goal.graft-requires-clause-room
+graft-requires-clause-room c =
+    first_room c.args.table.now c.args.region c.region_at-opened.result.now c.region_at-opened.ensures c.in_ok-names.names c.requires.kept c.in_ok-names.ensures
+
+pub invariant_of-result : goal.invariant_of-result
+invariant_of-result c =
+    opened_small c.args.table.now c.args.region c.region_at-opened.result.now c.region_at-opened.ensures _ c.requires.kept c.in_ok-tree.ensures.size
+
+pub returns-clause-opened : goal.returns-clause-opened
+returns-clause-opened c =
+    opened_is c.args.table.now c.args.region c.region_at-opened.result.now c.region_at-opened.ensures c.in_ok-names.names c.graft.new.names c.first_homes-homes.result
+    c.in_ok-tree.tree c.args.limits c.loop_of-inside.result c.in_ok-names.ensures c.first_homes-homes.ensures c.loop_of-inside.ensures c.in_ok-tree.ensures.tree c.in_ok-tree.ensures.nodes

@@ -1,0 +1,86 @@
+//! What becomes of a region's item where the region's tree comes into a window.
+ghost use Rattle.std.specs.Prelude.{◌≡◌, ◌<◌, ◌^◌, length};
+ghost use Rattle.pc_window.specs.Opening.{at_home, brought};
+ghost use Rattle.pc_window.specs.models.Stored.{supply_in, homes_in, brought_in};
+
+use crate::names::NameTable;
+use pc_linear::LinForm;
+use pc_word::{Item, Operand};
+
+/// What becomes of an item.
+#[derive(Clone, Copy, Debug)]
+pub(crate) enum Brought {
+    /// There is no item, and the variable's home is the operand.
+    MovesHome {
+        variable: u32,
+        from: Operand,
+    },
+    /// The item writes a new name, which is the variable's home, and has this form, or a new form
+    /// variable where there is none.
+    GetsName {
+        variable: u32,
+        item: Item,
+        form: Option<LinForm>,
+    },
+    /// The item writes no variable.
+    StaysPlain {
+        item: Item,
+    },
+}
+
+/// An operand, with a variable's home in its place.
+pub(crate) fn at_home(homes: &[Operand], operand: Operand) -> Operand
+    ensures { result ≡ at_home (homes_in homes.now) operand }
+{
+    match operand {
+        Operand::Name(variable) => match homes.get(variable as usize) {
+            Some(home) => *home,
+            None => Operand::Lit(0),
+        },
+        Operand::Lit(value) => Operand::Lit(value),
+    }
+}
+
+/// What becomes of an item, where variables have these homes.
+pub(crate) fn bring(names: &NameTable, homes: &[Operand], item: Item) -> Brought
+    requires { length names.now.forms < 2 ^ 31 }
+    ensures { brought_in result ≡ brought (supply_in names.now) (homes_in homes.now) item }
+{
+    let name = names.forms.len() as u32;
+    match item {
+        Item::Bin { op, dest, left, right } => {
+            let left = at_home(homes, left);
+            let right = at_home(homes, right);
+            Brought::GetsName {
+                variable: dest,
+                item: Item::Bin { op, dest: name, left, right },
+                form: LinForm::combine(op, &names.form(left), &names.form(right)),
+            }
+        }
+        Item::Copy { dest, from } => Brought::MovesHome {
+            variable: dest,
+            from: at_home(homes, from),
+        },
+        Item::Load { dest, array, index } => Brought::GetsName {
+            variable: dest,
+            item: Item::Load { dest: name, array, index: at_home(homes, index) },
+            form: None,
+        },
+        Item::Store { array, index, value } => Brought::StaysPlain {
+            item: Item::Store { array, index: at_home(homes, index), value: at_home(homes, value) },
+        },
+        Item::Print { value } => Brought::StaysPlain {
+            item: Item::Print { value: at_home(homes, value) },
+        },
+        Item::Read { dest } => Brought::GetsName {
+            variable: dest,
+            item: Item::Read { dest: name },
+            form: None,
+        },
+        Item::More { dest } => Brought::GetsName {
+            variable: dest,
+            item: Item::More { dest: name },
+            form: None,
+        },
+    }
+}

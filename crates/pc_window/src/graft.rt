@@ -1,0 +1,162 @@
+//! A region's tree, brought into a window: with homes in place of its variables.
+ghost use Rattle.std.specs.Prelude.{◌≡◌, ◌<◌, ◌≤◌, ◌^◌, true, false, length, IfOk};
+ghost use Rattle.pc_word.specs.declared.item.Operand.TheVariants.{Name};
+ghost use Rattle.pc_table.specs.Table.{table_tree, table_of, region_live};
+ghost use Rattle.pc_table.specs.TableKeeps.{TreeIsThere, units};
+ghost use Rattle.pc_window.specs.Tree.{Exit, tree_size};
+ghost use Rattle.pc_window.specs.Opening.{changed, same_loop, stub_tag, homes_at};
+ghost use Rattle.pc_window.specs.models.Stored.{tree_in, supply_in, homes_in, is_leaf};
+ghost use Rattle.pc_window.specs.StoredWindow.{InNodes};
+ghost use Rattle.pc_window.specs.models.Grafting.{Grafts, HasNames, TakesNames};
+
+use crate::HomeList;
+use crate::bring::{Brought, at_home, bring};
+use crate::home::Home;
+use crate::names::NameTable;
+use crate::tree::WindowTree;
+use pc_table::{RegionTable, RegionTree};
+use pc_word::Operand;
+use std::alloc::{AllocError, Global};
+
+/// How many variables there are.
+pub(crate) const VARIABLES: usize = 96;
+
+/// Homes, with another one for a variable.
+#[tactic(auto, using(crate::proofs::HomesStored::homes))]
+fn moved(homes: [Operand; VARIABLES], variable: u32, home: Operand) -> [Operand; VARIABLES]
+    requires { variable < 96 }
+    ensures { homes_in result ≡ changed (homes_in homes) variable home }
+{
+    let mut homes = homes;
+    homes[variable as usize] = home;
+    homes
+}
+
+/// The homes of these variables.
+#[tactic(auto, using(crate::proofs::HomesStored::homes))]
+fn listed(alloc: Global, homes: &[Operand], variables: &[u32]) -> Result<HomeList, AllocError>
+    ensures { IfOk result (λ list. list ≡ homes_at (homes_in homes.now) variables.now) }
+{
+    let mut list = HomeList::new(alloc);
+    for at in 0..variables.len() {
+        let variable = variables[at];
+        let value = at_home(homes, Operand::Name(variable));
+        list.push(Home { variable, value })?;
+    }
+    Ok(list)
+}
+
+/// The stub that leads to a region.
+fn stub(
+    alloc: Global,
+    table: &RegionTable,
+    inside: Option<u16>,
+    tag: u32,
+    number: u32,
+    homes: &[Operand],
+) -> Result<WindowTree, AllocError>
+    requires there { number < length table.now.regions }
+    requires tag { tag < 2 ^ 31 }
+    ensures nodes { IfOk result (λ tree. InNodes true tree) }
+    ensures tree { IfOk result (λ tree. tree_in tree ≡ Exit number (stub_tag (table_of table.now) inside number tag) (homes_at (homes_in homes.now) (region_live (table_of table.now) number))) }
+{
+    let region = &table.regions.as_slice()[number as usize];
+    let homes = listed(alloc, homes, region.live.as_slice())?;
+    let tag = if heads_loop(region.heads, inside) { tag + 1 } else { tag };
+    Ok(WindowTree::Exit {
+        region: number,
+        tag,
+        homes,
+    })
+}
+
+/// Whether a region is at the header of a loop.
+fn heads_loop(heads: Option<u16>, inside: Option<u16>) -> bool
+    ensures { result ≡ same_loop heads inside }
+{
+    match (heads, inside) {
+        (Some(one), Some(other)) => one == other,
+        _ => false,
+    }
+}
+
+/// A tree as what stands below an item or test: in a node of its own, where it has an item or test.
+#[tactic(auto, using(crate::proofs::GraftsStored::nodes))]
+fn below(alloc: Global, tree: WindowTree) -> Result<Box<WindowTree>, AllocError>
+    ensures tree { IfOk result (λ below. tree_in below.value ≡ tree_in tree) }
+    ensures nodes { IfOk result (λ below. InNodes true tree → InNodes false below.value) }
+{
+    if !is_leaf(&tree) {
+        let below = Box::new(alloc, tree)?;
+        let node = Box::new(alloc, WindowTree::Node { below })?;
+        return Ok(node);
+    }
+    let leaf = Box::new(alloc, tree)?;
+    Ok(leaf)
+}
+
+/// Whether a tree has neither item nor test.
+fn is_leaf(tree: &WindowTree) -> bool
+    ensures { result ≡ is_leaf tree.now }
+{
+    match tree {
+        WindowTree::Step { .. } => false,
+        WindowTree::Test { .. } => false,
+        WindowTree::Node { .. } => true,
+        WindowTree::Exit { .. } => true,
+        WindowTree::Stop => true,
+        WindowTree::Trap { .. } => true,
+    }
+}
+
+/// A region's tree with homes in place of its variables.
+#[tactic(auto, using(crate::proofs::GraftsStored::grafts))]
+pub(crate) fn graft(
+    alloc: Global,
+    table: &RegionTable,
+    inside: Option<u16>,
+    tag: u32,
+    from: &RegionTree,
+    names: &mut NameTable,
+    homes: [Operand; VARIABLES],
+) -> Result<WindowTree, AllocError>
+    requires there { TreeIsThere (length table.now.arrays) (length table.now.regions) (table_tree from.now) }
+    requires tag { tag < 2 ^ 31 }
+    requires room { HasNames names.old (table_tree from.now) }
+    ensures tree { IfOk result (λ tree. Grafts (table_of table.now) inside tag (table_tree from.now) (supply_in names.old) (homes_in homes) (tree_in tree) (supply_in names.new)) }
+    ensures names { IfOk result (λ tree. TakesNames (table_tree from.now) names.old names.new) }
+    ensures nodes { IfOk result (λ tree. InNodes true tree) }
+    ensures size { IfOk result (λ tree. tree_size (tree_in tree) ≤ units (table_tree from.now)) }
+{
+    match from {
+        RegionTree::Step { origin, item, next } => match bring(names, &homes, *item) {
+            Brought::MovesHome { variable, from } => {
+                let homes = moved(homes, variable, from);
+                graft(alloc, table, inside, tag, next, names, homes)
+            }
+            Brought::GetsName { variable, item, form } => {
+                let name = names.add(form)?;
+                let homes = moved(homes, variable, Operand::Name(name));
+                let rest = graft(alloc, table, inside, tag, next, names, homes)?;
+                let rest = below(alloc, rest)?;
+                Ok(WindowTree::Step { tag, origin: *origin, item, rest })
+            }
+            Brought::StaysPlain { item } => {
+                let rest = graft(alloc, table, inside, tag, next, names, homes)?;
+                let rest = below(alloc, rest)?;
+                Ok(WindowTree::Step { tag, origin: *origin, item, rest })
+            }
+        },
+        RegionTree::Test { origin, on, yes, no } => {
+            let on = at_home(&homes, *on);
+            let yes = graft(alloc, table, inside, tag, yes, names, homes)?;
+            let no = graft(alloc, table, inside, tag, no, names, homes)?;
+            let yes = below(alloc, yes)?;
+            let no = below(alloc, no)?;
+            Ok(WindowTree::Test { tag, origin: *origin, on, yes, no })
+        }
+        RegionTree::Next { region } => stub(alloc, table, inside, tag, *region, &homes),
+        RegionTree::Stop => Ok(WindowTree::Stop),
+        RegionTree::Trap { kind, line } => Ok(WindowTree::Trap { kind: *kind, line: *line }),
+    }
+}

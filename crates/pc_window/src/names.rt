@@ -1,0 +1,68 @@
+//! The names of a window, and their forms.
+ghost use Rattle.std.specs.Prelude.{◌≡◌, ◌<◌, ◌≤◌, ◌+◌, ◌^◌, length, IfOk};
+ghost use Rattle.pc_window.specs.Hold.{operand_form};
+ghost use Rattle.pc_window.specs.Opening.{with_name, first_supply};
+ghost use Rattle.pc_window.specs.models.Stored.{supply_in};
+
+use crate::FormList;
+use pc_linear::LinForm;
+use pc_word::{MOST_SCALARS, MOST_TEMPORARIES, Operand};
+use std::alloc::{AllocError, Global};
+
+/// The form of each name, and the number from which on form variables are new.
+#[derive(Debug, Drop)]
+pub(crate) struct NameTable {
+    pub forms: FormList,
+    pub next_variable: u32,
+}
+
+impl NameTable {
+    /// A name for each variable, whose form is a form variable of its own.
+    #[tactic(auto, using(crate::proofs::NamesStored::names))]
+    pub(crate) fn first(alloc: Global) -> Result<NameTable, AllocError>
+        ensures { IfOk result (λ names. supply_in names ≡ first_supply) }
+    {
+        let mut forms = FormList::new(alloc);
+        for variable in 0..MOST_SCALARS + MOST_TEMPORARIES {
+            forms.push(LinForm::variable(variable))?;
+        }
+        Ok(NameTable {
+            forms,
+            next_variable: MOST_SCALARS + MOST_TEMPORARIES,
+        })
+    }
+
+    /// The form of an operand.
+    pub(crate) fn form(&self, operand: Operand) -> LinForm
+        ensures { result ≡ operand_form (supply_in self.now).forms operand }
+    {
+        match operand {
+            Operand::Name(name) => match self.forms.get(name as usize) {
+                Some(form) => *form,
+                None => LinForm::constant(0),
+            },
+            Operand::Lit(value) => LinForm::constant(value),
+        }
+    }
+
+    /// One more name, with this form, or with a new form variable where there is none.
+    #[tactic(auto, using(crate::proofs::NamesStored::names))]
+    pub(crate) fn add(&mut self, form: Option<LinForm>) -> Result<u32, AllocError>
+        requires names { length self.old.forms < 2 ^ 31 }
+        requires variables { self.old.next_variable < 2 ^ 31 }
+        ensures name { IfOk result (λ name. name ≡ length self.old.forms) }
+        ensures names { IfOk result (λ name. supply_in self.new ≡ with_name (supply_in self.old) form) }
+        ensures count { IfOk result (λ name. length self.new.forms ≤ length self.old.forms + 1) }
+        ensures variables { IfOk result (λ name. self.new.next_variable ≤ self.old.next_variable + 1) }
+    {
+        let name = self.forms.len() as u32;
+        match form {
+            Some(form) => self.forms.push(form)?,
+            None => {
+                self.forms.push(LinForm::variable(self.next_variable))?;
+                self.next_variable += 1;
+            }
+        }
+        Ok(name)
+    }
+}

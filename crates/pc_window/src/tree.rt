@@ -1,0 +1,42 @@
+//! The trees of windows.
+use crate::HomeList;
+use pc_word::{Item, Operand, TrapKind};
+
+/// A tree of items and tests, down to the places where a window is left.
+///
+/// A node of a window is what stands above the leaves `Node`.
+#[derive(Debug, Drop)]
+pub(crate) enum WindowTree {
+    /// An item, and what stands below it.
+    Step {
+        tag: u32,
+        origin: u32,
+        item: Item,
+        rest: Box<WindowTree>,
+    },
+    /// Goes to `yes` where the operand is not 0, and else to `no`.
+    Test {
+        tag: u32,
+        origin: u32,
+        on: Operand,
+        yes: Box<WindowTree>,
+        no: Box<WindowTree>,
+    },
+    /// A leaf that leads to a node.
+    Node {
+        below: Box<WindowTree>,
+    },
+    /// A stub: the window is left for a region, where variables have these values.
+    Exit {
+        region: u32,
+        tag: u32,
+        homes: HomeList,
+    },
+    /// The end of the program.
+    Stop,
+    /// A trap, with the line that it is told by.
+    Trap {
+        kind: TrapKind,
+        line: u32,
+    },
+}

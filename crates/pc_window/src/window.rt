@@ -1,0 +1,163 @@
+//! Windows.
+ghost use Rattle.std.specs.Prelude.{◌≡◌, ◌<◌, ◌^◌, length, true, false, Some, slice_get, IfOk};
+ghost use Rattle.pc_word.specs.State.{State};
+ghost use Rattle.pc_word.specs.Ranges.{AreLimits};
+ghost use Rattle.pc_table.specs.Table.{table_of};
+ghost use Rattle.pc_table.specs.TableKeeps.{TableKeeps};
+ghost use Rattle.pc_window.specs.Tree.{whole, tree_size};
+ghost use Rattle.pc_window.specs.Opening.{first_home, same_loop};
+ghost use Rattle.pc_window.specs.Kept.{OpensAlike};
+ghost use Rattle.pc_window.specs.Steps.{is_innermost, loop_of, opened_window, IsProper};
+ghost use Rattle.pc_window.specs.StoredWindow.{window_in, InNodes};
+ghost use Rattle.pc_window.specs.models.Stored.{tree_in, homes_in};
+
+use crate::error::WindowError;
+use crate::graft::{VARIABLES, graft};
+use crate::names::NameTable;
+use crate::tree::WindowTree;
+use pc_table::{Region, RegionTable};
+use pc_word::{Limits, LoopMark, Operand};
+use std::alloc::Global;
+use std::marker::Model;
+
+/// A window: a tree of nodes, each a tree of items and tests, with a form for each name.
+///
+/// Its root node is the front, whose items and tests are finished.
+#[derive(Drop)]
+pub struct Window {
+    tree: WindowTree,
+    names: NameTable,
+    limits: Limits,
+    inside: Option<u16>,
+}
+
+impl Model for Window {
+    ghost use Rattle.std.specs.Coded.{codes};
+    ghost use Rattle.pc_window.specs.contracts.tree.WindowTree as stored_tree;
+    ghost use Rattle.pc_window.specs.StoredWindow.{StoredWindow};
+
+    ghost Value = { StoredWindow };
+
+    ghost coded = { Prim.hlevel (codes, stored_tree.the_row.coded) };
+
+    ghost use Rattle.std.specs.Prelude.{◌≤◌};
+    ghost use Rattle.pc_window.specs.Tree.{tree_size};
+    ghost use Rattle.pc_window.specs.StoredWindow.{most_window_size};
+    ghost use Rattle.pc_window.specs.models.Stored.{tree_in};
+
+    ghost view = { λ it. record { tree = it.tree; names = it.names; limits = it.limits; inside = it.inside } };
+
+    ghost invariant = { λ it. tree_size (tree_in it.tree) ≤ most_window_size };
+}
+
+impl Window {
+    /// The tree of a region as a window. Each of its items and tests is a node of its own, at tag 0;
+    /// copies only move the homes of variables.
+    pub fn of_region(
+        alloc: Global,
+        table: &RegionTable,
+        region: u32,
+        limits: Limits,
+    ) -> Result<Window, WindowError>
+        requires kept { TableKeeps (table_of table.now) }
+        requires there { region < length table.now.regions }
+        requires limits { AreLimits limits }
+        ensures opened { IfOk result (λ window. window_in window ≡ opened_window (table_of table.now) limits region) }
+        ensures nodes { IfOk result (λ window. InNodes true window.tree) }
+    {
+        let mut names = NameTable::first(alloc)?;
+        let homes = first_homes();
+        let inside = loop_of(table, region);
+        let opened = region_at(table, region);
+        let tree = graft(alloc, table, inside, 0, &opened.tree, &mut names, homes)?;
+        Ok(Window {
+            tree,
+            names,
+            limits,
+            inside,
+        })
+    }
+
+    /// The number of items and tests.
+    #[tactic(auto, using(crate::proofs::WindowsStored::sized))]
+    pub fn size(&self) -> u32
+        ensures { result ≡ tree_size (whole (window_in self.now).front) }
+    {
+        size(&self.tree)
+    }
+}
+
+/// The number of items and tests of a tree.
+fn size(tree: &WindowTree) -> u32
+    requires { tree_size (tree_in tree.now) < 2 ^ 31 }
+    ensures { result ≡ tree_size (tree_in tree.now) }
+{
+    match tree {
+        WindowTree::Step { rest, .. } => 1 + size(rest),
+        WindowTree::Test { yes, no, .. } => 1 + size(yes) + size(no),
+        WindowTree::Node { below } => size(below),
+        WindowTree::Exit { .. } => 0,
+        WindowTree::Stop => 0,
+        WindowTree::Trap { .. } => 0,
+    }
+}
+
+/// The first home of each variable: the name with its number.
+#[tactic(auto, using(crate::proofs::HomesStored::first_homes))]
+fn first_homes() -> [Operand; VARIABLES]
+    ensures { homes_in result ≡ first_home }
+{
+    let mut homes = [Operand::Lit(0); VARIABLES];
+    for variable in 0..VARIABLES as u32 {
+        homes[variable as usize] = Operand::Name(variable);
+    }
+    homes
+}
+
+/// A region of a table.
+fn region_at(table: &RegionTable, number: u32) -> &Region
+    requires { number < length table.now.regions }
+    ensures { slice_get table.now.regions number ≡ Some result.now }
+{
+    &table.regions.as_slice()[number as usize]
+}
+
+/// The loop of a window that is opened at a region.
+fn loop_of(table: &RegionTable, region: u32) -> Option<u16>
+    requires { region < length table.now.regions }
+    ensures { result ≡ loop_of (table_of table.now) region }
+{
+    match region_at(table, region).heads {
+        None => None,
+        Some(inside) => {
+            if is_innermost(table.loops.as_slice(), inside) {
+                Some(inside)
+            } else {
+                None
+            }
+        }
+    }
+}
+
+/// Whether no loop stands in a loop.
+#[tactic(auto, using(crate::proofs::WindowsStored::innermost))]
+fn is_innermost(loops: &[LoopMark], inside: u16) -> bool
+    ensures { result ≡ is_innermost loops.now inside }
+{
+    for at in 0..loops.len() {
+        if stands_in(loops[at].outer, inside) {
+            return false;
+        }
+    }
+    true
+}
+
+/// Whether a loop is the one round another.
+fn stands_in(outer: Option<u16>, inside: u16) -> bool
+    ensures { result ≡ same_loop outer (Some inside) }
+{
+    match outer {
+        Some(outer) => outer == inside,
+        None => false,
+    }
+}
