@@ -45,7 +45,7 @@ pub single_window : (tree : WindowTree) (names : NameTable) (limits : Limits) (i
     → window_in (record { tree = tree; names = names; limits = limits; inside = inside }) ≡ window_of g.tree g.names limits inside
 single_window tree names limits inside g is single =
     ap (λ (f : Front). let w : Window = record { front = f; forms = (supply_in names).forms; next = (supply_in names).next; next_variable = names.next_variable; limits = limits; inside = inside } in w)
-      (first_front tree single)
+    (first_front tree single)
     ∙ ap (λ (h : Grafted). window_of h.tree h.names limits inside) is
 
 -- ---- whether some element is so
