@@ -1,6 +1,6 @@
 -- Homes in a list by variable.
-use Rattle.std.proofs.Common.{◌≡◌, ℕ, zero, suc, ◌+◌, ◌<◌, ◌≤◌, List, [], ◌∷◌, ◌++◌, length, refl, sym, ◌∙◌, ap, arith, get_or-set_same, get_or-set_other}
-use Rattle.std.specs.Prelude.{ℤ, pos, Bool, true, false, if◌then◌else◌, nat_eq, nat_lt, replicate, slice_index_or, slice_index, slice_set, take}
+use Rattle.std.proofs.Common.{◌≡◌, ℕ, zero, suc, ◌+◌, ◌<◌, List, [], ◌∷◌, ◌++◌, length, refl, sym, ◌∙◌, ap, arith, get_or-set_same, get_or-set_other}
+use Rattle.std.specs.Prelude.{pos, Bool, true, false, if◌then◌else◌, nat_eq, nat_lt, replicate, slice_index, slice_set, take}
 use Rattle.pc_word.specs.declared.item.Operand.{Operand}
 use Rattle.pc_word.specs.declared.item.Operand.TheVariants.{Name, Lit}
 use Rattle.pc_window.specs.declared.home.Home.{Home}
@@ -17,8 +17,10 @@ home_moved homes variable home within = λ i x. at x i
       where
         same : nat_eq variable x ≡ true → variable ≡ x
         same e = grind arith
+
         other : nat_eq variable x ≡ false → x ≡ variable → ⊥
         other e f = absurd (grind arith)
+
         by_test : (b : Bool) → nat_eq variable x ≡ b → homes_in (slice_set homes variable home) x ≡ (if b then home else homes_in homes x)
         by_test true e = ap (homes_in (slice_set homes variable home)) (sym (same e)) ∙ get_or-set_same homes variable home (Lit (pos 0)) within
         by_test false e = get_or-set_other homes variable x home (Lit (pos 0)) (other e)
@@ -59,6 +61,7 @@ none_yet n = λ i x. at n x i
   where
     above : (x : ℕ) → false ≡ nat_lt x 0
     above x = grind arith
+
     at : (n x : ℕ) → homes_in (replicate n (Lit (pos 0))) x ≡ homes_before 0 x
     at zero x = ap (λ (b : Bool). if b then Name x else Lit (pos 0)) (above x)
     at (suc n) zero = ap (λ (b : Bool). if b then Name zero else Lit (pos 0)) (above zero)
@@ -73,12 +76,14 @@ named_more homes n within is = home_moved homes n (Name n) within ∙ (λ i x. a
       where
         same : nat_eq n x ≡ true → (n ≡ x) × (true ≡ nat_lt x (n + 1))
         same e = let s : n ≡ x = grind arith in (s, grind arith)
+
         other : nat_eq n x ≡ false → nat_lt x n ≡ nat_lt x (n + 1)
         other e = by_order (nat_lt x n) refl
           where
             by_order : (b : Bool) → nat_lt x n ≡ b → b ≡ nat_lt x (n + 1)
             by_order true p = grind arith
             by_order false p = grind arith
+
         by_test : (b : Bool) → nat_eq n x ≡ b → (if b then Name n else if nat_lt x n then Name x else Lit (pos 0)) ≡ (if nat_lt x (n + 1) then Name x else Lit (pos 0))
         by_test true e = let s = same e in ap Name s.0 ∙ ap (λ (b : Bool). if b then Name x else Lit (pos 0)) s.1
         by_test false e = ap (λ (b : Bool). if b then Name x else Lit (pos 0)) (other e)

@@ -48,12 +48,22 @@ pub(crate) fn bring(names: &NameTable, homes: &[Operand], item: Item) -> Brought
 {
     let name = names.forms.len() as u32;
     match item {
-        Item::Bin { op, dest, left, right } => {
+        Item::Bin {
+            op,
+            dest,
+            left,
+            right,
+        } => {
             let left = at_home(homes, left);
             let right = at_home(homes, right);
             Brought::GetsName {
                 variable: dest,
-                item: Item::Bin { op, dest: name, left, right },
+                item: Item::Bin {
+                    op,
+                    dest: name,
+                    left,
+                    right,
+                },
                 form: LinForm::combine(op, &names.form(left), &names.form(right)),
             }
         }
@@ -63,14 +73,28 @@ pub(crate) fn bring(names: &NameTable, homes: &[Operand], item: Item) -> Brought
         },
         Item::Load { dest, array, index } => Brought::GetsName {
             variable: dest,
-            item: Item::Load { dest: name, array, index: at_home(homes, index) },
+            item: Item::Load {
+                dest: name,
+                array,
+                index: at_home(homes, index),
+            },
             form: None,
         },
-        Item::Store { array, index, value } => Brought::StaysPlain {
-            item: Item::Store { array, index: at_home(homes, index), value: at_home(homes, value) },
+        Item::Store {
+            array,
+            index,
+            value,
+        } => Brought::StaysPlain {
+            item: Item::Store {
+                array,
+                index: at_home(homes, index),
+                value: at_home(homes, value),
+            },
         },
         Item::Print { value } => Brought::StaysPlain {
-            item: Item::Print { value: at_home(homes, value) },
+            item: Item::Print {
+                value: at_home(homes, value),
+            },
         },
         Item::Read { dest } => Brought::GetsName {
             variable: dest,

@@ -62,7 +62,11 @@ fn stub(
 {
     let region = &table.regions.as_slice()[number as usize];
     let homes = listed(alloc, homes, region.live.as_slice())?;
-    let tag = if heads_loop(region.heads, inside) { tag + 1 } else { tag };
+    let tag = if heads_loop(region.heads, inside) {
+        tag + 1
+    } else {
+        tag
+    };
     Ok(WindowTree::Exit {
         region: number,
         tag,
@@ -134,29 +138,57 @@ pub(crate) fn graft(
                 let homes = moved(homes, variable, from);
                 graft(alloc, table, inside, tag, next, names, homes)
             }
-            Brought::GetsName { variable, item, form } => {
+            Brought::GetsName {
+                variable,
+                item,
+                form,
+            } => {
                 let name = names.add(form)?;
                 let homes = moved(homes, variable, Operand::Name(name));
                 let rest = graft(alloc, table, inside, tag, next, names, homes)?;
                 let rest = below(alloc, rest)?;
-                Ok(WindowTree::Step { tag, origin: *origin, item, rest })
+                Ok(WindowTree::Step {
+                    tag,
+                    origin: *origin,
+                    item,
+                    rest,
+                })
             }
             Brought::StaysPlain { item } => {
                 let rest = graft(alloc, table, inside, tag, next, names, homes)?;
                 let rest = below(alloc, rest)?;
-                Ok(WindowTree::Step { tag, origin: *origin, item, rest })
+                Ok(WindowTree::Step {
+                    tag,
+                    origin: *origin,
+                    item,
+                    rest,
+                })
             }
         },
-        RegionTree::Test { origin, on, yes, no } => {
+        RegionTree::Test {
+            origin,
+            on,
+            yes,
+            no,
+        } => {
             let on = at_home(&homes, *on);
             let yes = graft(alloc, table, inside, tag, yes, names, homes)?;
             let no = graft(alloc, table, inside, tag, no, names, homes)?;
             let yes = below(alloc, yes)?;
             let no = below(alloc, no)?;
-            Ok(WindowTree::Test { tag, origin: *origin, on, yes, no })
+            Ok(WindowTree::Test {
+                tag,
+                origin: *origin,
+                on,
+                yes,
+                no,
+            })
         }
         RegionTree::Next { region } => stub(alloc, table, inside, tag, *region, &homes),
         RegionTree::Stop => Ok(WindowTree::Stop),
-        RegionTree::Trap { kind, line } => Ok(WindowTree::Trap { kind: *kind, line: *line }),
+        RegionTree::Trap { kind, line } => Ok(WindowTree::Trap {
+            kind: *kind,
+            line: *line,
+        }),
     }
 }

@@ -13,7 +13,9 @@ mod window;
 
 pub use error::WindowError;
 pub use home::Home;
-pub use laws::{laws_of_cutting, laws_of_filling, laws_of_moves, laws_of_opening, laws_of_settling};
+pub use laws::{
+    laws_of_cutting, laws_of_filling, laws_of_moves, laws_of_opening, laws_of_settling,
+};
 use pc_linear::LinForm;
 use pc_word::Seq;
 pub use window::Window;
