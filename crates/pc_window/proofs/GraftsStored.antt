@@ -1,13 +1,12 @@
 -- How a region's tree comes into a window, constructor by constructor.
-use Rattle.std.proofs.Common.{◌≡◌, ℕ, ◌<◌, Option, Some, None, refl, sym, ◌∙◌, ap}
-use Rattle.std.specs.Prelude.{IfSome}
+use Rattle.std.proofs.Common.{◌≡◌, ℕ, Option, sym, ◌∙◌, ap}
 use Rattle.pc_word.specs.declared.item.Item.{Item}
 use Rattle.pc_word.specs.declared.item.Operand.{Operand}
 use Rattle.pc_word.specs.declared.item.Operand.TheVariants.{Name}
 use Rattle.pc_linear.specs.Form.{Form}
-use Rattle.pc_table.specs.Table.{TableTree, Does, Asks, Next, Stops_here, Traps_here, Table, region_live}
-use Rattle.pc_window.specs.Tree.{Tree, Pending, Undecided, Exit, Stop_exit, Trap_exit}
-use Rattle.pc_window.specs.Opening.{Supply, Grafted, Brought, Moves_home, Gets_name, Stays_plain, brought, changed, with_name, at_home, below_item, below_test, graft_item, graft, stub_tag, homes_at}
+use Rattle.pc_table.specs.Table.{TableTree, Does, Asks, Table}
+use Rattle.pc_window.specs.Tree.{Tree, Pending, Undecided}
+use Rattle.pc_window.specs.Opening.{Supply, Grafted, Brought, Moves_home, Gets_name, Stays_plain, brought, changed, with_name, at_home, below_item, below_test, graft_item, graft}
 use Rattle.std.specs.Prelude.{true, false}
 use Rattle.pc_window.specs.declared.tree.WindowTree.{WindowTree}
 use Rattle.pc_window.specs.declared.tree.WindowTree.TheVariants as stored

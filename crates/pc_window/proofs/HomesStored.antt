@@ -1,6 +1,6 @@
 -- Homes in a list by variable.
-use Rattle.std.proofs.Common.{◌≡◌, ℕ, zero, suc, ◌+◌, ◌<◌, ◌≤◌, List, [], ◌∷◌, ◌++◌, length, refl, sym, ◌∙◌, ap, arith, get_or-set_same, get_or-set_other}
-use Rattle.std.specs.Prelude.{ℤ, pos, Bool, true, false, if◌then◌else◌, nat_eq, nat_lt, replicate, slice_index_or, slice_index, slice_set, take}
+use Rattle.std.proofs.Common.{◌≡◌, ℕ, zero, suc, ◌+◌, ◌<◌, List, [], ◌∷◌, ◌++◌, length, refl, sym, ◌∙◌, ap, arith, get_or-set_same, get_or-set_other}
+use Rattle.std.specs.Prelude.{pos, Bool, true, false, if◌then◌else◌, nat_eq, nat_lt, replicate, slice_index, slice_set, take}
 use Rattle.pc_word.specs.declared.item.Operand.{Operand}
 use Rattle.pc_word.specs.declared.item.Operand.TheVariants.{Name, Lit}
 use Rattle.pc_window.specs.declared.home.Home.{Home}

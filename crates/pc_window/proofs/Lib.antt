@@ -1,4 +1,5 @@
 pub mod NamesStored
+pub mod Printed
 pub mod WindowsStored
 pub mod GraftsStored
 pub mod HomesStored

@@ -1,10 +1,10 @@
 -- Forms in a list by name.
-use Rattle.std.proofs.Common.{◌≡◌, ℕ, zero, suc, ◌<◌, ◌≤◌, List, [], ◌∷◌, ◌++◌, length, Option, Some, None, refl, sym, ◌∙◌, ap, arith}
-use Rattle.std.specs.Prelude.{ℤ, pos, Bool, true, false, if◌then◌else◌, nat_eq, nat_lt, slice_get}
+use Rattle.std.proofs.Common.{◌≡◌, ℕ, zero, suc, List, [], ◌∷◌, ◌++◌, length, Some, None, refl, sym, ◌∙◌, ap, arith}
+use Rattle.std.specs.Prelude.{pos, Bool, true, false, if◌then◌else◌, nat_eq, nat_lt}
 use Rattle.pc_linear.specs.Form.{Form}
 use Rattle.pc_linear.specs.Combine.{constant_form, variable_form}
-use Rattle.pc_window.specs.Opening.{Supply, changed, with_name, first_form, first_supply, first_new}
-use Rattle.pc_window.specs.models.Stored.{form_or_none, forms_in, variable_forms}
+use Rattle.pc_window.specs.Opening.{with_name, first_supply, first_new}
+use Rattle.pc_window.specs.models.Stored.{forms_in, variable_forms}
 
 -- a list that is one form longer
 forms-more : (forms : List Form) (f : Form) (x : ℕ) → forms_in (forms ++ f ∷ []) x ≡ (if nat_eq (length forms) x then f else forms_in forms x)

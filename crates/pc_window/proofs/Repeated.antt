@@ -1,6 +1,6 @@
 -- Unwinding again and again: the window runs as before, forms that held still hold, and it stays sound.
 use Rattle.std.proofs.Common.{◌≡◌, ℕ, ◌+◌, Option, Some, None}
-use Rattle.std.specs.Prelude.{Bool, true, false, if◌then◌else◌, nat_lt, min}
+use Rattle.std.specs.Prelude.{Bool, true, false, if◌then◌else◌, nat_lt}
 use Rattle.pc_word.specs.Run.{Agree}
 use Rattle.pc_word.proofs.Runs.{Agree-refl, Agree-trans}
 use Rattle.pc_word.specs.State.{State}

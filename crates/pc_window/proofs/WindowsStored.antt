@@ -1,5 +1,5 @@
 -- Windows in memory, and the windows that they are.
-use Rattle.std.proofs.Common.{◌≡◌, ℕ, zero, suc, List, [], ◌∷◌, Option, Some, map, length, ◌≤◌, ◌<◌, refl, sym, ◌∙◌, ap, subst, arith}
+use Rattle.std.proofs.Common.{◌≡◌, ℕ, zero, suc, List, [], ◌∷◌, Option, Some, map, length, ◌≤◌, refl, sym, ◌∙◌, ap, subst, arith}
 use Rattle.std.specs.Prelude.{Bool, true, false, ◌||◌, slice_get, take, option_map}
 use Rattle.std.specs.List.{list_any}
 use Rattle.pc_word.proofs.Truth.{or_false, or_made_false}
@@ -10,15 +10,17 @@ use Rattle.pc_window.specs.declared.names.NameTable.{NameTable}
 use Rattle.pc_word.specs.declared.item.Operand.{Operand}
 use Rattle.pc_table.specs.declared.table.Region.{Region}
 use Rattle.pc_table.specs.declared.table.RegionTable.{RegionTable}
-use Rattle.pc_table.specs.Table.{tree_of, table_tree, table_region, table_of, region_tree}
+use Rattle.pc_table.specs.Table.{Table, tree_of, table_tree, table_region, table_of, region_tree}
 use Rattle.pc_table.specs.TableKeeps.{TreeIsThere, TableKeeps, units}
 use Rattle.std.proofs.lemmas.Option.{slice_get-map}
 use Rattle.pc_window.specs.models.Grafting.{Grafts, HasNames}
 use Rattle.pc_window.specs.Tree.{Tree, Pending, Undecided, Front, Issued, Split, Unfinished, front_of, whole, tree_size}
 use Rattle.pc_window.specs.WindowRun.{Window}
 use Rattle.pc_window.specs.Opening.{Supply, Grafted, first_supply, first_home, opened, graft}
-use Rattle.pc_window.specs.Steps.{window_of, loop_of, opened_window}
-use Rattle.pc_window.specs.StoredWindow.{InNodes, StoredWindow, window_in}
+use Rattle.pc_window.specs.Steps.{window_of, loop_of, opened_window, IsProper}
+use Rattle.pc_word.specs.Ranges.{AreLimits}
+use Rattle.pc_window.proofs.Proper.{opens_proper}
+use Rattle.pc_window.specs.StoredWindow.{InNodes, window_in}
 use Rattle.pc_window.specs.models.Stored.{tree_in, front_in, supply_in, homes_in}
 
 -- below an item or test that is a node of its own nothing is finished
@@ -123,3 +125,7 @@ module _ (table : RegionTable) (number : ℕ) (r : Region) (at : slice_get table
       let tree_is : table_tree r.tree ≡ region_tree t number = ap tree_of (sym table_at) in
       single_window tree names limits inside g (grafts ∙ (λ i. graft t (loop_is i) 0 (tree_is i) (names_are i) (homes_are i))) single
       ∙ ap (λ (l : Option ℕ). window_of g.tree g.names limits l) loop_is
+
+-- limits of the machine leave room for one item or test
+pub opens_within : (table : Table) (limits : Limits) (region : ℕ) (w : Window) → AreLimits limits → w ≡ opened_window table limits region → IsProper w
+opens_within table limits region w within is = opens_proper table limits region w (record { ops = within.ops.0; tests = within.tests.0; mem = within.mem.0 }) is

@@ -1,12 +1,11 @@
 -- Windows as they lie in memory: where nodes end, and the window that each is.
-use Rattle.std.specs.Prelude.{ℕ, ◌≤◌, ◌<◌, Bool, true, false, length, Option}
+use Rattle.std.specs.Prelude.{ℕ, Bool, true, false, length, Option}
 use Rattle.pc_word.specs.declared.item.Limits.{Limits}
 use Rattle.pc_window.specs.declared.tree.WindowTree.{WindowTree}
 use Rattle.pc_window.specs.declared.tree.WindowTree.TheVariants as stored
 use Rattle.pc_window.specs.declared.names.NameTable.{NameTable}
-use Rattle.pc_window.specs.Tree.{tree_size}
 use Rattle.pc_window.specs.WindowRun.{Window}
-use Rattle.pc_window.specs.models.Stored.{tree_in, front_in, forms_in}
+use Rattle.pc_window.specs.models.Stored.{front_in, forms_in}
 
 -- a tree in memory with the names of a window, the limits of its front, and its loop
 pub record StoredWindow : Type 0 where

@@ -4,7 +4,7 @@ ghost use Rattle.pc_word.specs.declared.item.Operand.TheVariants.{Name};
 ghost use Rattle.pc_table.specs.Table.{table_tree, table_of, region_live};
 ghost use Rattle.pc_table.specs.TableKeeps.{TreeIsThere, units};
 ghost use Rattle.pc_window.specs.Tree.{Exit, tree_size};
-ghost use Rattle.pc_window.specs.Opening.{changed, same_loop, stub_tag, homes_at};
+ghost use Rattle.pc_window.specs.Opening.{first_new, changed, same_loop, stub_tag, homes_at};
 ghost use Rattle.pc_window.specs.models.Stored.{tree_in, supply_in, homes_in, is_leaf};
 ghost use Rattle.pc_window.specs.StoredWindow.{InNodes};
 ghost use Rattle.pc_window.specs.models.Grafting.{Grafts, HasNames, TakesNames};
@@ -15,16 +15,16 @@ use crate::home::Home;
 use crate::names::NameTable;
 use crate::tree::WindowTree;
 use pc_table::{RegionTable, RegionTree};
-use pc_word::Operand;
+use pc_word::{MOST_SCALARS, MOST_TEMPORARIES, Operand};
 use std::alloc::{AllocError, Global};
 
 /// How many variables there are.
-pub(crate) const VARIABLES: usize = 96;
+pub(crate) const VARIABLES: usize = (MOST_SCALARS + MOST_TEMPORARIES) as usize;
 
 /// Homes, with another one for a variable.
 #[tactic(auto, using(crate::proofs::HomesStored::homes))]
 fn moved(homes: [Operand; VARIABLES], variable: u32, home: Operand) -> [Operand; VARIABLES]
-    requires { variable < 96 }
+    requires { variable < first_new }
     ensures { homes_in result ≡ changed (homes_in homes) variable home }
 {
     let mut homes = homes;
@@ -58,7 +58,8 @@ fn stub(
     requires there { number < length table.now.regions }
     requires tag { tag < 2 ^ 31 }
     ensures nodes { IfOk result (λ tree. InNodes true tree) }
-    ensures tree { IfOk result (λ tree. tree_in tree ≡ Exit number (stub_tag (table_of table.now) inside number tag) (homes_at (homes_in homes.now) (region_live (table_of table.now) number))) }
+    ensures tree { IfOk result (λ tree. tree_in tree
+        ≡ Exit number (stub_tag (table_of table.now) inside number tag) (homes_at (homes_in homes.now) (region_live (table_of table.now) number))) }
 {
     let region = &table.regions.as_slice()[number as usize];
     let homes = listed(alloc, homes, region.live.as_slice())?;
@@ -127,7 +128,8 @@ pub(crate) fn graft(
     requires there { TreeIsThere (length table.now.arrays) (length table.now.regions) (table_tree from.now) }
     requires tag { tag < 2 ^ 31 }
     requires room { HasNames names.old (table_tree from.now) }
-    ensures tree { IfOk result (λ tree. Grafts (table_of table.now) inside tag (table_tree from.now) (supply_in names.old) (homes_in homes) (tree_in tree) (supply_in names.new)) }
+    ensures tree { IfOk result (λ tree.
+        Grafts (table_of table.now) inside tag (table_tree from.now) (supply_in names.old) (homes_in homes) (tree_in tree) (supply_in names.new)) }
     ensures names { IfOk result (λ tree. TakesNames (table_tree from.now) names.old names.new) }
     ensures nodes { IfOk result (λ tree. InNodes true tree) }
     ensures size { IfOk result (λ tree. tree_size (tree_in tree) ≤ units (table_tree from.now)) }

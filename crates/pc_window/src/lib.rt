@@ -8,6 +8,8 @@ mod graft;
 mod home;
 mod laws;
 mod names;
+#[cfg(test)]
+mod tests;
 mod tree;
 mod window;
 

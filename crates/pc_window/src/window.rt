@@ -64,6 +64,8 @@ impl Window {
         requires limits { AreLimits limits }
         ensures opened { IfOk result (λ window. window_in window ≡ opened_window (table_of table.now) limits region) }
         ensures nodes { IfOk result (λ window. InNodes true window.tree) }
+        ensures alike { IfOk result (λ window. (s : State) → OpensAlike (table_of table.now) region (window_in window) s) }
+        ensures proper { IfOk result (λ window. IsProper (window_in window)) }
     {
         let mut names = NameTable::first(alloc)?;
         let homes = first_homes();

@@ -1,5 +1,5 @@
 -- How windows lie in memory: boxed trees, forms in a list by name, homes in a list by variable.
-use Rattle.std.specs.Prelude.{Bool, true, false, if◌then◌else◌, nat_lt, ℕ, zero, suc, ℤ, pos, List, [], ◌∷◌, ◌++◌, length, Option, Some, None, slice_get, slice_index_or}
+use Rattle.std.specs.Prelude.{Bool, true, false, if◌then◌else◌, nat_lt, ℕ, zero, suc, pos, List, [], ◌∷◌, ◌++◌, length, Option, Some, None, slice_get, slice_index_or}
 use Rattle.pc_word.specs.declared.item.Operand.{Operand}
 use Rattle.pc_word.specs.declared.item.Operand.TheVariants.{Name, Lit}
 use Rattle.pc_linear.specs.Form.{Form}

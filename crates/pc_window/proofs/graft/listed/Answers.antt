@@ -1,8 +1,4 @@
-use Rattle.std.proofs.Common.{◌∙◌, ◌++◌, ◌∷◌, [], ap, sym, List, suc, ◌≡◌, ◌+◌, arith}
-use Rattle.std.specs.Prelude.{take}
-use Rattle.pc_window.specs.declared.home.Home.{Home}
-use Rattle.pc_window.specs.Opening.{homes_at}
-use Rattle.pc_window.specs.models.Stored.{homes_in}
+use Rattle.std.proofs.Common.{arith}
 use Rattle.pc_window.proofs.HomesStored.{home_added}
 use Rattle.pc_window.proofs.graft.listed.Goals as goal
 

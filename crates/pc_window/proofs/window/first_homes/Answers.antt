@@ -1,6 +1,6 @@
 use Rattle.std.proofs.Common.{refl, ◌∙◌, ap, arith, length-set, ◌≡◌, ◌<◌, length}
 use Rattle.pc_word.specs.declared.item.Operand.TheVariants.{Name}
-use Rattle.pc_window.specs.models.Stored.{homes_in, homes_before}
+use Rattle.pc_window.specs.models.Stored.{homes_before}
 use Rattle.pc_window.proofs.HomesStored.{none_yet, named_more}
 use Rattle.pc_window.proofs.window.first_homes.Goals as goal
 

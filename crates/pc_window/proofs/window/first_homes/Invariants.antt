@@ -1,4 +1,4 @@
-use Rattle.std.proofs.Common.{◌≡◌, ℕ, length}
+use Rattle.std.proofs.Common.{◌≡◌, length}
 use Rattle.pc_window.specs.models.Stored.{homes_in, homes_before}
 use Rattle.pc_window.proofs.window.first_homes.Given as goal
 

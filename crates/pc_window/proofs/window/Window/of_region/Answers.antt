@@ -1,4 +1,6 @@
-use Rattle.pc_window.proofs.WindowsStored.{region_there, first_room, opened_small, opened_is}
+use Rattle.pc_table.specs.Table.{table_of}
+use Rattle.pc_window.proofs.WindowsStored.{region_there, first_room, opened_small, opened_is, opens_within}
+use Rattle.pc_window.proofs.Settling.{opens_alike}
 use Rattle.pc_window.proofs.window.Window.of_region.Goals as goal
 
 pub graft-requires-clause-there : goal.graft-requires-clause-there
@@ -16,3 +18,15 @@ pub returns-clause-opened : goal.returns-clause-opened
 returns-clause-opened c =
     opened_is c.args.table.now c.args.region c.region_at-opened.result.now c.region_at-opened.ensures c.in_ok-names.names c.graft.new.names c.first_homes-homes.result
     c.in_ok-tree.tree c.args.limits c.loop_of-inside.result c.in_ok-names.ensures c.first_homes-homes.ensures c.loop_of-inside.ensures c.in_ok-tree.ensures.tree c.in_ok-tree.ensures.nodes
+
+pub returns-clause-alike : goal.returns-clause-alike
+returns-clause-alike c s =
+    opens_alike (table_of c.args.table.now) c.requires.kept c.args.limits c.args.region _
+    (opened_is c.args.table.now c.args.region c.region_at-opened.result.now c.region_at-opened.ensures c.in_ok-names.names c.graft.new.names c.first_homes-homes.result
+    c.in_ok-tree.tree c.args.limits c.loop_of-inside.result c.in_ok-names.ensures c.first_homes-homes.ensures c.loop_of-inside.ensures c.in_ok-tree.ensures.tree c.in_ok-tree.ensures.nodes) s
+
+pub returns-clause-proper : goal.returns-clause-proper
+returns-clause-proper c =
+    opens_within (table_of c.args.table.now) c.args.limits c.args.region _ c.requires.limits
+    (opened_is c.args.table.now c.args.region c.region_at-opened.result.now c.region_at-opened.ensures c.in_ok-names.names c.graft.new.names c.first_homes-homes.result
+    c.in_ok-tree.tree c.args.limits c.loop_of-inside.result c.in_ok-names.ensures c.first_homes-homes.ensures c.loop_of-inside.ensures c.in_ok-tree.ensures.tree c.in_ok-tree.ensures.nodes)
