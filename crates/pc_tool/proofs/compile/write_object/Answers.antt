@@ -22,11 +22,13 @@ pub returns-in-Err-Failed : goal.returns-in-Err-Failed
 returns-in-Err-Failed g c =
     let passes = counts_of g.P.Pass.label g.P.Pass.changed c.args.passes.now in
     let out = streamed (g.O.Sink.taken c.args.out.now) (g.O.Sink.faults c.args.out.now) in
-    unwritten_ends passes (compile_request c.args.command) (g.H.Shelf.state c.args.shelf.now) (g.H.Shelf.state c.write_file.new.self) out out c.args.translation.now c.requires c.args.command.object refl
+    unwritten_ends passes (compile_request c.args.command) (g.H.Shelf.state c.args.shelf.now) (g.H.Shelf.state c.write_file.new.self) out out
+    c.args.translation.now c.requires c.args.command.object refl
     c.in-Err-Failed.ensures.keeps.others (c.in-Err-Failed.ensures.fault (ap Err c.in-Err-Failed.field-0-is))
 
 pub returns-in-Err-Memory : goal.returns-in-Err-Memory
 returns-in-Err-Memory g c =
     let passes = counts_of g.P.Pass.label g.P.Pass.changed c.args.passes.now in
     let out = streamed (g.O.Sink.taken c.args.out.now) (g.O.Sink.faults c.args.out.now) in
-    unwritten_lacks passes (compile_request c.args.command) (g.H.Shelf.state c.args.shelf.now) (g.H.Shelf.state c.write_file.new.self) out out c.args.translation.now c.requires c.in-Err-Memory.ensures.keeps.others
+    unwritten_lacks passes (compile_request c.args.command) (g.H.Shelf.state c.args.shelf.now) (g.H.Shelf.state c.write_file.new.self) out out
+    c.args.translation.now c.requires c.in-Err-Memory.ensures.keeps.others

@@ -16,5 +16,6 @@ pub returns-in_err-decode-clause-object : goal.returns-in_err-decode-clause-obje
 returns-in_err-decode-clause-object g c =
     let p = err_from_is_err_and c.from_residual-in_err-decode.result c.from_residual-in_err-decode.ensures.1 in
     let why = c.in_err-decode.field-0.0 in
-    rw (p.1, p.2) (object_stops c.args.name.now (g.H.Shelf.state c.args.shelf.now) (g.H.Shelf.state c.read_whole.new.shelf) c.in_ok-bytes.bytes.items c.in_ok-bytes.ensures.text c.in_ok-bytes.ensures.few why
+    rw (p.1, p.2) (object_stops c.args.name.now (g.H.Shelf.state c.args.shelf.now) (g.H.Shelf.state c.read_whole.new.shelf) c.in_ok-bytes.bytes.items
+    c.in_ok-bytes.ensures.text c.in_ok-bytes.ensures.few why
     (subst (λ (bytes : List ℕ). IsRefusal (object_cause why) (object_reading bytes)) c.as_slice.ensures.value c.in_err-decode.ensures.exact))

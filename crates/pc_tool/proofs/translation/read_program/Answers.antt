@@ -23,5 +23,10 @@ returns-in_err-program c =
 pub returns-in_err-checked : goal.returns-in_err-checked
 returns-in_err-checked c =
     let p = err_from_is_err_and c.from_residual-in_err-checked.result c.from_residual-in_err-checked.ensures.1 in
-    let read : IsRead c.args.text.now (program_of c.in_ok-program.program) = record { few_bytes = c.requires; tokens = c.in_ok-tokens.tokens; cut = c.in_ok-tokens.ensures; read = c.in_ok-program.ensures.read } in
+    let read : IsRead c.args.text.now (program_of c.in_ok-program.program) = record {
+      few_bytes = c.requires;
+      tokens = c.in_ok-tokens.tokens;
+      cut = c.in_ok-tokens.ensures;
+      read = c.in_ok-program.ensures.read;
+    } in
     rw (p.1, p.2) (refused c.in_err-checked.field-0.0 c.args.text.now (program_of c.in_ok-program.program) read c.in_err-checked.ensures)
