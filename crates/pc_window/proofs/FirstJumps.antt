@@ -98,7 +98,8 @@ with_dest_same n m (More d) e = let same : n ≡ m = cc in ap (λ (k : ℕ). Mor
 priority_within : (known : ℕ → Bool) (forms forms' : ℕ → Form) (new : Option ℕ) (comes : Option Item) (from to : Front)
     → (e : EntersFront known forms forms' new comes from to) → (priority_of e).2 < tree_size (whole from)
 priority_within known forms forms' new comes from to (Lands tag origin x t left reads isnew none same rises) = risen_within forms tag origin x x false t left rises
-priority_within known forms forms' new comes from to (Lands_renamed tag origin name stood t left reads isnew is gives rises) = risen_within forms tag origin stood (with_dest name stood) true t left rises
+priority_within known forms forms' new comes from to (Lands_renamed tag origin name stood t left reads isnew is gives rises) =
+    risen_within forms tag origin stood (with_dest name stood) true t left rises
 priority_within known forms forms' new comes from to (Lands_test tag origin on t p q reads none same divides) = divided_within tag origin on t p q divides
 priority_within known forms forms' new comes from to (Lands_once t o on tag origin tag' origin' name stood other c c' p q l m equal reads isnew is gives rises rises') =
     let a = risen_within forms tag origin stood (with_dest name stood) c p l rises in omega arith
@@ -149,7 +150,8 @@ same_next next new new' name name' stood stood' p q same u u' =
 
 enters_same : (known : ℕ → Bool) (forms f g : ℕ → Form) (new new' : Option ℕ) (comes comes' : Option Item) (from to to' : Front)
     → (e : EntersFront known forms f new comes from to) → (e' : EntersFront known forms g new' comes' from to')
-    → (priority_of e).2 ≡ (priority_of e').2 → (priority_of e).3 ≡ (priority_of e').3 → (priority_of e).4 ≡ (priority_of e').4 → (next : ℕ) → IsNext next new → IsNext next new' → (new ≡ new') × SameEntry comes comes' to to'
+    → (priority_of e).2 ≡ (priority_of e').2 → (priority_of e).3 ≡ (priority_of e').3 → (priority_of e).4 ≡ (priority_of e').4 → (next : ℕ) → IsNext next new
+    → IsNext next new' → (new ≡ new') × SameEntry comes comes' to to'
 enters_same known forms f g new new' comes comes' from to to' (Lands tag origin x t left reads isnew none same rises)
     (Lands tag' origin' x' t' left' reads' isnew' none' same' rises') p q r next u u' =
     let k = rise_same forms tag origin tag' origin' x x x' x' false false t left left' rises rises' p in

@@ -137,7 +137,8 @@ scoped_parameters tree known h = scoped_fewer tree (uses tree) known (parameters
 
 -- ---- a front that does not hang on itself needs only parameters to be known
 
-independent_by : (forms : ℕ → Form) (known base base' : ℕ → Bool) (front : Front) → ((z : ℕ) → base z ≡ true → known z ≡ true) → ((z : ℕ) → base z ≡ true → uses (whole front) z ≡ true → base' z ≡ true)
+independent_by : (forms : ℕ → Form) (known base base' : ℕ → Bool) (front : Front) → ((z : ℕ) → base z ≡ true → known z ≡ true)
+    → ((z : ℕ) → base z ≡ true → uses (whole front) z ≡ true → base' z ≡ true)
     → Scoped known (whole front) → Independent forms base front → Independent forms base' front
 independent_by forms known base base' (Issued t o x rest) within enough scoped independent = (
   known_reads base' x (λ z e. enough z (item_known base x z e independent.0) (or_first (reads x z) _ e)),

@@ -1,9 +1,8 @@
 -- What the table of the tests keeps.
-use Rattle.std.proofs.Common.{◌≡◌, ℕ, zero, suc, ◌+◌, ◌≤◌, [], ◌∷◌, length, Option, Some, None, refl, sym, ◌∙◌, ap, subst, arith}
+use Rattle.std.proofs.Common.{◌≡◌, ℕ, zero, suc, ◌+◌, ◌≤◌, [], Some, None, refl, sym, ◌∙◌, subst, arith}
 use Rattle.std.specs.Prelude.{ℤ, true, false, nat_eq, slice_get}
 use Rattle.std.specs.List.{list_any}
 use Rattle.pc_table.specs.RegionRun.{arrive}
-use Rattle.std.specs.List.Sorted.{IsStrictlyIncreasing}
 use Rattle.pc_word.specs.declared.item.Item.TheVariants.{Print}
 use Rattle.pc_word.specs.declared.item.Operand.TheVariants.{Lit}
 use Rattle.pc_table.specs.Table.{TableRegion, Does, Stops_here, region_tree, region_live}
@@ -27,7 +26,13 @@ region_keeps value zero region e =
     let one : TableRegion = record { head = 0; tree = Does 0 (Print (Lit value)) Stops_here; live = []; inside = None; heads = None } in
     let same : one ≡ region = (cc) in
     subst (RegionKeeps (printing_table value)) same
-    (record { there = (record { reads = (tt, tt); writes = tt; array = tt }, tt); few = omega arith; rising = λ k lt. absurd (let h : suc (k + 1) ≤ 0 = lt in omega arith); inside_there = tt; heads_there = tt })
+    (record {
+      there = (record { reads = (tt, tt); writes = tt; array = tt }, tt);
+      few = omega arith;
+      rising = λ k lt. absurd (let h : suc (k + 1) ≤ 0 = lt in omega arith);
+      inside_there = tt;
+      heads_there = tt;
+    })
 region_keeps value (suc number) region e = absurd (cc)
 
 pub printing_keeps : (value : ℤ) → TableKeeps (printing_table value)

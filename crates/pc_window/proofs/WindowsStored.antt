@@ -41,13 +41,17 @@ first_front (stored.Exit region tag homes) h = refl
 first_front stored.Stop h = refl
 first_front (stored.Trap kind line) h = refl
 
+-- a front as a window
+abbrev with_front : Supply → Limits → Option ℕ → Front → Window
+with_front names limits inside front =
+    record { front = front; forms = names.forms; next = names.next; next_variable = names.next_variable; limits = limits; inside = inside }
+
 -- a tree whose nodes are single is the window that its tree becomes
 pub single_window : (tree : WindowTree) (names : NameTable) (limits : Limits) (inside : Option ℕ) (g : Grafted)
     → (let it : Grafted = record { tree = tree_in tree; names = supply_in names } in it) ≡ g → InNodes true tree
     → window_in (record { tree = tree; names = names; limits = limits; inside = inside }) ≡ window_of g.tree g.names limits inside
 single_window tree names limits inside g is single =
-    ap (λ (f : Front). let w : Window = record { front = f; forms = (supply_in names).forms; next = (supply_in names).next; next_variable = names.next_variable; limits = limits; inside = inside } in w)
-    (first_front tree single)
+    ap (with_front (supply_in names) limits inside) (first_front tree single)
     ∙ ap (λ (h : Grafted). window_of h.tree h.names limits inside) is
 
 -- ---- whether some element is so
