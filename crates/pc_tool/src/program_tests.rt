@@ -1,7 +1,8 @@
 //! Sources that are compiled, and whose objects are run.
 
 use crate::Who;
-use crate::bench::{NONE_FAILS, call, shelf_with};
+use crate::bench::{NONE_FAILS, SILENCE, Wanted, answers, shelf_with};
+use pc_outside::MemoryShelf;
 use std::alloc::Global;
 use std::test::Fail;
 
@@ -154,16 +155,27 @@ const PROGRAMS: [Program; 17] = [
 /// Whether a source is compiled, and its object does what it is to.
 fn does(alloc: Global, program: &Program) -> Result<bool, Fail> {
     let mut shelf = shelf_with(alloc, "a.c", program.source, 0)?;
-    let compiled = call(alloc, Who::Pcc, "a.c -o o.tv", &mut shelf, b"", NONE_FAILS)?;
-    let ran = call(
-        alloc,
-        Who::Pvm,
-        "o.tv",
-        &mut shelf,
-        program.input,
-        NONE_FAILS,
-    )?;
-    Ok(compiled.is(0, b"", "") && ran.is(program.code, program.output, program.told))
+    does_there(alloc, "a.c -o o.tv", "o.tv", program, &mut shelf)
+}
+
+/// The same over a shelf, by these two lines.
+fn does_there(
+    alloc: Global,
+    compile: &str,
+    simulate: &str,
+    program: &Program,
+    shelf: &mut MemoryShelf,
+) -> Result<bool, Fail> {
+    let wanted = Wanted {
+        code: program.code,
+        out: program.output,
+        err: program.told,
+    };
+    let input = program.input;
+    Ok(
+        answers(alloc, Who::Pcc, compile, shelf, b"", NONE_FAILS, SILENCE)?
+            && answers(alloc, Who::Pvm, simulate, shelf, input, NONE_FAILS, wanted)?,
+    )
 }
 
 #[test]
@@ -175,31 +187,44 @@ fn objects_do_what_their_sources_mean(rt: HostRuntime) -> Result<(), Fail> {
     Ok(())
 }
 
+/// Goes on for ever.
+const ENDLESS: Program = Program {
+    source: b"int main(void){while(1){}}",
+    input: b"",
+    code: 6,
+    output: b"",
+    told: "pvm: budget of 1000 cycles spent\n",
+};
+
 #[test]
 fn tells_the_budget_of_its_command(rt: HostRuntime) -> Result<(), Fail> {
     let alloc = rt.alloc();
-    let mut shelf = shelf_with(alloc, "a.c", b"int main(void){while(1){}}", 0)?;
-    let compiled = call(alloc, Who::Pcc, "a.c -o o.tv", &mut shelf, b"", NONE_FAILS)?;
-    assert!(rt; compiled.is(0, b"", ""));
-    let ran = call(
-        alloc,
-        Who::Pvm,
-        "o.tv --cycles 1000",
-        &mut shelf,
-        b"",
-        NONE_FAILS,
-    )?;
-    assert!(rt; ran.is(6, b"", "pvm: budget of 1000 cycles spent\n"));
+    let mut shelf = shelf_with(alloc, "a.c", ENDLESS.source, 0)?;
+    assert!(rt;
+        does_there(
+            alloc,
+            "a.c -o o.tv",
+            "o.tv --cycles 1000",
+            &ENDLESS,
+            &mut shelf
+        )?
+    );
     Ok(())
 }
+
+/// What the sample of 0 prints.
+const FIRST_SAMPLE: Program = Program {
+    source: b"",
+    input: b"",
+    code: 0,
+    output: b"85344\n",
+    told: "",
+};
 
 #[test]
 fn the_first_sample_prints_its_sum(rt: HostRuntime) -> Result<(), Fail> {
     let alloc = rt.alloc();
-    let mut shelf = shelf_with(alloc, "a.c", b"", 0)?;
-    let compiled = call(alloc, Who::Pcc, "@0 -o o.tv", &mut shelf, b"", NONE_FAILS)?;
-    assert!(rt; compiled.is(0, b"", ""));
-    let ran = call(alloc, Who::Pvm, "o.tv", &mut shelf, b"", NONE_FAILS)?;
-    assert!(rt; ran.is(0, b"85344\n", ""));
+    let mut shelf = shelf_with(alloc, "a.c", FIRST_SAMPLE.source, 0)?;
+    assert!(rt; does_there(alloc, "@0 -o o.tv", "o.tv", &FIRST_SAMPLE, &mut shelf)?);
     Ok(())
 }

@@ -1,7 +1,7 @@
 //! The simulator: each status with its line.
 
 use crate::Who;
-use crate::bench::{Failing, NONE_FAILS, call, shelf_with};
+use crate::bench::{Failing, NONE_FAILS, Wanted, answers, shelf_with};
 use std::alloc::Global;
 use std::test::Fail;
 
@@ -253,15 +253,21 @@ const FAILURES: [Call; 10] = [
 /// Whether a call leaves what it is to.
 fn leaves(alloc: Global, made: &Call) -> Result<bool, Fail> {
     let mut shelf = shelf_with(alloc, "o.tv", made.object, made.failing.shelf)?;
-    let left = call(
+    let wanted = Wanted {
+        code: made.code,
+        out: made.out,
+        err: made.err,
+    };
+    let (line, input) = (made.line, made.input);
+    answers(
         alloc,
         Who::Pvm,
-        made.line,
+        line,
         &mut shelf,
-        made.input,
+        input,
         made.failing,
-    )?;
-    Ok(left.is(made.code, made.out, made.err))
+        wanted,
+    )
 }
 
 #[test]
