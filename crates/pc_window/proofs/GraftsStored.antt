@@ -12,7 +12,7 @@ use Rattle.pc_window.specs.declared.tree.WindowTree.{WindowTree}
 use Rattle.pc_window.specs.declared.tree.WindowTree.TheVariants as stored
 use Rattle.pc_window.specs.StoredWindow.{InNodes}
 use Rattle.pc_window.specs.models.Stored.{is_leaf}
-use Rattle.pc_window.specs.models.Grafting.{Grafts}
+use Rattle.pc_window.specs.Grafting.{Grafts}
 
 module _ (table : Table) (loop : Option ℕ) (tag origin : ℕ) (names : Supply) (homes : ℕ → Operand) where
   -- an item that moves a home

@@ -5,7 +5,8 @@ use Rattle.pc_word.specs.declared.item.Operand.{Operand}
 use Rattle.pc_word.specs.declared.item.Operand.TheVariants.{Name, Lit}
 use Rattle.pc_window.specs.declared.home.Home.{Home}
 use Rattle.pc_window.specs.Opening.{changed, homes_at}
-use Rattle.pc_window.specs.models.Stored.{homes_in, homes_before}
+use Rattle.pc_window.specs.StoredWindow.{homes_in}
+use Rattle.pc_window.specs.models.Stored.{homes_before}
 
 -- one home that is moved
 pub home_moved : (homes : List Operand) (variable : ℕ) (home : Operand) → variable < length homes

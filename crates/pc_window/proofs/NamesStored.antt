@@ -4,7 +4,8 @@ use Rattle.std.specs.Prelude.{pos, Bool, true, false, if◌then◌else◌, nat_e
 use Rattle.pc_linear.specs.Form.{Form}
 use Rattle.pc_linear.specs.Combine.{constant_form, variable_form}
 use Rattle.pc_window.specs.Opening.{with_name, first_supply, first_new}
-use Rattle.pc_window.specs.models.Stored.{forms_in, variable_forms}
+use Rattle.pc_window.specs.StoredWindow.{forms_in}
+use Rattle.pc_window.specs.models.Stored.{variable_forms}
 
 -- a list that is one form longer
 forms-more : (forms : List Form) (f : Form) (x : ℕ) → forms_in (forms ++ f ∷ []) x ≡ (if nat_eq (length forms) x then f else forms_in forms x)

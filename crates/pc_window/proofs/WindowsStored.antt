@@ -13,15 +13,14 @@ use Rattle.pc_table.specs.declared.table.RegionTable.{RegionTable}
 use Rattle.pc_table.specs.Table.{Table, tree_of, table_tree, table_region, table_of, region_tree}
 use Rattle.pc_table.specs.TableKeeps.{TreeIsThere, TableKeeps, units}
 use Rattle.std.proofs.lemmas.Option.{slice_get-map}
-use Rattle.pc_window.specs.models.Grafting.{Grafts, HasNames}
+use Rattle.pc_window.specs.Grafting.{Grafts, HasNames, TakesNames}
 use Rattle.pc_window.specs.Tree.{Tree, Pending, Undecided, Front, Issued, Split, Unfinished, front_of, whole, tree_size}
 use Rattle.pc_window.specs.WindowRun.{Window}
 use Rattle.pc_window.specs.Opening.{Supply, Grafted, first_supply, first_home, opened, graft}
 use Rattle.pc_window.specs.Steps.{window_of, loop_of, opened_window, IsProper}
 use Rattle.pc_word.specs.Ranges.{AreLimits}
 use Rattle.pc_window.proofs.Proper.{opens_proper}
-use Rattle.pc_window.specs.StoredWindow.{InNodes, window_in}
-use Rattle.pc_window.specs.models.Stored.{tree_in, front_in, supply_in, homes_in}
+use Rattle.pc_window.specs.StoredWindow.{InNodes, IsJustOpened, window_in, tree_in, front_in, supply_in, homes_in}
 
 -- below an item or test that is a node of its own nothing is finished
 below_unfinished : (tree : WindowTree) → InNodes false tree → front_in tree ≡ Unfinished (tree_in tree)
@@ -113,10 +112,16 @@ module _ (table : RegionTable) (number : ℕ) (r : Region) (at : slice_get table
       record { names = omega arith; variables = omega arith }
 
   -- what it comes to is small
-  pub opened_small : (size : ℕ) → TableKeeps (table_of table) → size ≤ units (table_tree r.tree) → size ≤ 65535
-  opened_small size keeps le =
+  pub just_opened : (first names : NameTable) (tree : WindowTree) (limits : Limits) (inside : Option ℕ)
+      → TableKeeps (table_of table) → supply_in first ≡ first_supply → TakesNames (table_tree r.tree) first names → tree_size (tree_in tree) ≤ units (table_tree r.tree)
+      → IsJustOpened (record { tree = tree; names = names; limits = limits; inside = inside })
+  just_opened first names tree limits inside keeps is takes le =
       let few : units (table_tree r.tree) ≤ 128 = (keeps.each number (table_region r) table_at).few in
-      omega arith
+      let n : length first.forms ≡ 96 = ap (λ (s : Supply). s.next) is in
+      let v : first.next_variable ≡ 96 = ap (λ (s : Supply). s.next_variable) is in
+      let more_names = takes.names in
+      let more_variables = takes.variables in
+      record { size = omega arith; names = omega arith; variables = omega arith }
 
   -- it comes to the opened window
   pub opened_is : (first names : NameTable) (homes : List Operand) (tree : WindowTree) (limits : Limits) (inside : Option ℕ)

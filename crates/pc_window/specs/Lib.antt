@@ -17,4 +17,5 @@ pub mod Move
 pub mod Kept
 pub mod Steps
 pub mod StoredWindow
+pub mod Grafting
 pub mod Laws

@@ -1,7 +1,8 @@
 //! What becomes of a region's item where the region's tree comes into a window.
 ghost use Rattle.std.specs.Prelude.{◌≡◌, ◌<◌, ◌^◌, length};
 ghost use Rattle.pc_window.specs.Opening.{at_home, brought};
-ghost use Rattle.pc_window.specs.models.Stored.{supply_in, homes_in, brought_in};
+ghost use Rattle.pc_window.specs.StoredWindow.{supply_in, homes_in};
+ghost use Rattle.pc_window.specs.models.Stored.{brought_in};
 
 use crate::names::NameTable;
 use pc_linear::LinForm;

@@ -4,7 +4,7 @@
 
 mod bring;
 mod error;
-mod graft;
+mod grafting;
 mod home;
 mod laws;
 mod names;
@@ -14,16 +14,19 @@ mod tree;
 mod window;
 
 pub use error::WindowError;
+pub use grafting::{VARIABLES, graft};
 pub use home::Home;
 pub use laws::{
     laws_of_cutting, laws_of_filling, laws_of_moves, laws_of_opening, laws_of_settling,
 };
+pub use names::NameTable;
 use pc_linear::LinForm;
 use pc_word::Seq;
+pub use tree::WindowTree;
 pub use window::Window;
 
 /// Homes of variables.
 pub type HomeList = Seq<Home>;
 
 /// Forms, by name.
-type FormList = Seq<LinForm>;
+pub type FormList = Seq<LinForm>;

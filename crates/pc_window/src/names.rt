@@ -2,7 +2,7 @@
 ghost use Rattle.std.specs.Prelude.{◌≡◌, ◌<◌, ◌≤◌, ◌+◌, ◌^◌, length, IfOk};
 ghost use Rattle.pc_window.specs.Hold.{operand_form};
 ghost use Rattle.pc_window.specs.Opening.{with_name, first_supply};
-ghost use Rattle.pc_window.specs.models.Stored.{supply_in};
+ghost use Rattle.pc_window.specs.StoredWindow.{supply_in};
 
 use crate::FormList;
 use pc_linear::LinForm;
@@ -11,7 +11,7 @@ use std::alloc::{AllocError, Global};
 
 /// The form of each name, and the number from which on form variables are new.
 #[derive(Debug, Drop)]
-pub(crate) struct NameTable {
+pub struct NameTable {
     pub forms: FormList,
     pub next_variable: u32,
 }
@@ -33,7 +33,7 @@ impl NameTable {
     }
 
     /// The form of an operand.
-    pub(crate) fn form(&self, operand: Operand) -> LinForm
+    pub fn form(&self, operand: Operand) -> LinForm
         ensures { result ≡ operand_form (supply_in self.now).forms operand }
     {
         match operand {
@@ -47,7 +47,7 @@ impl NameTable {
 
     /// One more name, with this form, or with a new form variable where there is none.
     #[tactic(auto, using(crate::proofs::NamesStored::names))]
-    pub(crate) fn add(&mut self, form: Option<LinForm>) -> Result<u32, AllocError>
+    pub fn add(&mut self, form: Option<LinForm>) -> Result<u32, AllocError>
         requires names { length self.old.forms < 2 ^ 31 }
         requires variables { self.old.next_variable < 2 ^ 31 }
         ensures name { IfOk result (λ name. name ≡ length self.old.forms) }

@@ -6,7 +6,7 @@ use pc_word::{Item, Operand, TrapKind};
 ///
 /// A node of a window is what stands above the leaves `Node`.
 #[derive(Debug, Drop)]
-pub(crate) enum WindowTree {
+pub enum WindowTree {
     /// An item, and what stands below it.
     Step {
         tag: u32,

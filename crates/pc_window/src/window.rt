@@ -8,46 +8,26 @@ ghost use Rattle.pc_window.specs.Tree.{whole, tree_size};
 ghost use Rattle.pc_window.specs.Opening.{first_home, same_loop};
 ghost use Rattle.pc_window.specs.Kept.{OpensAlike};
 ghost use Rattle.pc_window.specs.Steps.{is_innermost, loop_of, opened_window, IsProper};
-ghost use Rattle.pc_window.specs.StoredWindow.{window_in, InNodes};
-ghost use Rattle.pc_window.specs.models.Stored.{tree_in, homes_in};
+ghost use Rattle.pc_window.specs.StoredWindow.{tree_in, homes_in, window_in, InNodes, IsJustOpened};
 
 use crate::error::WindowError;
-use crate::graft::{VARIABLES, graft};
+use crate::grafting::{VARIABLES, graft};
 use crate::names::NameTable;
 use crate::tree::WindowTree;
 use pc_table::{Region, RegionTable};
 use pc_word::{Limits, LoopMark, Operand};
 use std::alloc::Global;
-use std::marker::Model;
 
 /// A window: a tree of nodes, each a tree of items and tests, with a form for each name.
 ///
-/// Its root node is the front, whose items and tests are finished.
-#[derive(Drop)]
+/// Its root node is the front, whose items and tests are finished. `inside` is the loop that it
+/// unwinds, where there is one.
+#[derive(Debug, Drop)]
 pub struct Window {
-    tree: WindowTree,
-    names: NameTable,
-    limits: Limits,
-    inside: Option<u16>,
-}
-
-impl Model for Window {
-    ghost use Rattle.std.specs.Coded.{codes};
-    ghost use Rattle.pc_window.specs.contracts.tree.WindowTree as stored_tree;
-    ghost use Rattle.pc_window.specs.StoredWindow.{StoredWindow};
-
-    ghost Value = { StoredWindow };
-
-    ghost coded = { Prim.hlevel (codes, stored_tree.the_row.coded) };
-
-    ghost use Rattle.std.specs.Prelude.{◌≤◌};
-    ghost use Rattle.pc_window.specs.Tree.{tree_size};
-    ghost use Rattle.pc_window.specs.StoredWindow.{most_window_size};
-    ghost use Rattle.pc_window.specs.models.Stored.{tree_in};
-
-    ghost view = { λ it. record { tree = it.tree; names = it.names; limits = it.limits; inside = it.inside } };
-
-    ghost invariant = { λ it. tree_size (tree_in it.tree) ≤ most_window_size };
+    pub tree: WindowTree,
+    pub names: NameTable,
+    pub limits: Limits,
+    pub inside: Option<u16>,
 }
 
 impl Window {
@@ -66,6 +46,7 @@ impl Window {
         ensures nodes { IfOk result (λ window. InNodes true window.tree) }
         ensures alike { IfOk result (λ window. (s : State) → OpensAlike (table_of table.now) region (window_in window) s) }
         ensures proper { IfOk result (λ window. IsProper (window_in window)) }
+        ensures small { IfOk result (λ window. IsJustOpened window) }
     {
         let mut names = NameTable::first(alloc)?;
         let homes = first_homes();
@@ -83,6 +64,7 @@ impl Window {
     /// The number of items and tests.
     #[tactic(auto, using(crate::proofs::WindowsStored::sized))]
     pub fn size(&self) -> u32
+        requires { tree_size (whole (window_in self.now).front) < 2 ^ 31 }
         ensures { result ≡ tree_size (whole (window_in self.now).front) }
     {
         size(&self.tree)

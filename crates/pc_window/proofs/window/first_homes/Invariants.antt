@@ -1,5 +1,6 @@
 use Rattle.std.proofs.Common.{◌≡◌, length}
-use Rattle.pc_window.specs.models.Stored.{homes_in, homes_before}
+use Rattle.pc_window.specs.StoredWindow.{homes_in}
+use Rattle.pc_window.specs.models.Stored.{homes_before}
 use Rattle.pc_window.proofs.window.first_homes.Given as goal
 
 abbrev pub invariant-loop-variable : goal.invariant-loop-variable

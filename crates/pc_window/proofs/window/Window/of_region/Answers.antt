@@ -1,5 +1,5 @@
 use Rattle.pc_table.specs.Table.{table_of}
-use Rattle.pc_window.proofs.WindowsStored.{region_there, first_room, opened_small, opened_is, opens_within}
+use Rattle.pc_window.proofs.WindowsStored.{region_there, first_room, just_opened, opened_is, opens_within}
 use Rattle.pc_window.proofs.Settling.{opens_alike}
 use Rattle.pc_window.proofs.window.Window.of_region.Goals as goal
 
@@ -10,9 +10,10 @@ pub graft-requires-clause-room : goal.graft-requires-clause-room
 graft-requires-clause-room c =
     first_room c.args.table.now c.args.region c.region_at-opened.result.now c.region_at-opened.ensures c.in_ok-names.names c.requires.kept c.in_ok-names.ensures
 
-pub invariant_of-result : goal.invariant_of-result
-invariant_of-result c =
-    opened_small c.args.table.now c.args.region c.region_at-opened.result.now c.region_at-opened.ensures _ c.requires.kept c.in_ok-tree.ensures.size
+pub returns-clause-small : goal.returns-clause-small
+returns-clause-small c =
+    just_opened c.args.table.now c.args.region c.region_at-opened.result.now c.region_at-opened.ensures c.in_ok-names.names c.graft.new.names
+    c.in_ok-tree.tree c.args.limits c.loop_of-inside.result c.requires.kept c.in_ok-names.ensures c.in_ok-tree.ensures.names c.in_ok-tree.ensures.size
 
 pub returns-clause-opened : goal.returns-clause-opened
 returns-clause-opened c =

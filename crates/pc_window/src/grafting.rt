@@ -5,9 +5,9 @@ ghost use Rattle.pc_table.specs.Table.{table_tree, table_of, region_live};
 ghost use Rattle.pc_table.specs.TableKeeps.{TreeIsThere, units};
 ghost use Rattle.pc_window.specs.Tree.{Exit, tree_size};
 ghost use Rattle.pc_window.specs.Opening.{first_new, changed, same_loop, stub_tag, homes_at};
-ghost use Rattle.pc_window.specs.models.Stored.{tree_in, supply_in, homes_in, is_leaf};
-ghost use Rattle.pc_window.specs.StoredWindow.{InNodes};
-ghost use Rattle.pc_window.specs.models.Grafting.{Grafts, HasNames, TakesNames};
+ghost use Rattle.pc_window.specs.StoredWindow.{tree_in, supply_in, homes_in, InNodes};
+ghost use Rattle.pc_window.specs.Grafting.{Grafts, HasNames, TakesNames};
+ghost use Rattle.pc_window.specs.models.Stored.{is_leaf};
 
 use crate::HomeList;
 use crate::bring::{Brought, at_home, bring};
@@ -19,7 +19,7 @@ use pc_word::{MOST_SCALARS, MOST_TEMPORARIES, Operand};
 use std::alloc::{AllocError, Global};
 
 /// How many variables there are.
-pub(crate) const VARIABLES: usize = (MOST_SCALARS + MOST_TEMPORARIES) as usize;
+pub const VARIABLES: usize = (MOST_SCALARS + MOST_TEMPORARIES) as usize;
 
 /// Homes, with another one for a variable.
 #[tactic(auto, using(crate::proofs::HomesStored::homes))]
@@ -116,7 +116,7 @@ fn is_leaf(tree: &WindowTree) -> bool
 
 /// A region's tree with homes in place of its variables.
 #[tactic(auto, using(crate::proofs::GraftsStored::grafts))]
-pub(crate) fn graft(
+pub fn graft(
     alloc: Global,
     table: &RegionTable,
     inside: Option<u16>,

@@ -1,6 +1,6 @@
 use Rattle.std.proofs.Common.{arith}
 use Rattle.pc_window.proofs.HomesStored.{home_added}
-use Rattle.pc_window.proofs.graft.listed.Goals as goal
+use Rattle.pc_window.proofs.grafting.listed.Goals as goal
 
 pub loop-at-preserved : goal.loop-at-preserved
 loop-at-preserved c =
