@@ -1,5 +1,5 @@
 //! Automata: states with parameters and a row each.
-ghost use Rattle.std.specs.Prelude.{◌≡◌, ◌×◌, ◌<◌, length, Some, slice_get, MatchResult, ⊥};
+ghost use Rattle.std.specs.Prelude.{◌≡◌, ◌<◌, ◌^◌, length, Some, slice_get, MatchResult};
 ghost use Rattle.pc_automaton.specs.Automaton.{IsAutomaton, states_in};
 
 use crate::RowTree;

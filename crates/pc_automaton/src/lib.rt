@@ -2,10 +2,20 @@
 //! as such a row.
 #![tactic(auto)]
 
+mod automaton;
+mod checking;
 mod cutting;
 mod left;
 mod row_tree;
 
+pub use automaton::{Automaton, AutomatonLeaf, AutomatonState};
 pub use cutting::cut_front;
 pub use left::Left;
 pub use row_tree::RowTree;
+use pc_word::{Operand, Seq};
+
+/// Operands, in the order of the parameters that they are passed to.
+pub type OperandList = Seq<Operand>;
+
+/// States of an automaton, by number.
+pub type StateList = Seq<AutomatonState>;
