@@ -1,17 +1,15 @@
 -- States that were found to be those of an automaton are, and those that are, are found.
-use Rattle.std.proofs.Common.{◌≡◌, ℕ, zero, suc, ◌≤◌, List, [], ◌∷◌, ◌++◌, Option, Some, None, map, length, refl, sym, ◌∙◌, ap, subst, arith}
+use Rattle.std.proofs.Common.{◌≡◌, ℕ, List, [], ◌∷◌, ◌++◌, Option, Some, None, length, refl, sym, ◌∙◌, ap}
 use Rattle.std.specs.Prelude.{Bool, true, false, not, ◌||◌, ◌&&◌, ◌↔◌, nat_eq, nat_lt, slice_get}
-use Rattle.std.specs.List.{list_all, list_any, AllByRecursion, IsDistinct, filter_map, cons_option}
-use Rattle.std.proofs.lemmas.List.Folds.{list_any-append, list_all-append, list_all-map}
+use Rattle.std.specs.List.{list_all, AllByRecursion, IsDistinct, filter_map, cons_option}
+use Rattle.std.proofs.lemmas.List.Folds.{list_any-append, list_all-map}
 use Rattle.std.proofs.lemmas.List.Elements.{filter_map-append}
 use Rattle.std.proofs.lemmas.Bool.{eqb-true, eq-eqb, ltb-true, lt-ltb}
 use Rattle.std.proofs.lemmas.List.{length-map}
 use Rattle.pc_word.proofs.Truth.{and_true, and_made, or_false, or_made_false, not_true}
-use Rattle.pc_word.specs.declared.item.Item.{Item}
 use Rattle.pc_word.specs.declared.item.Operand.{Operand}
 use Rattle.pc_word.specs.declared.item.Operand.TheVariants.{Name, Lit}
 use Rattle.pc_word.specs.Items.{operands_of, dest_of}
-use Rattle.pc_word.specs.Commit.{writes}
 use Rattle.pc_word.specs.Row.{Row, Then, Either, At_leaf, items_of, tests_of, leaves_of}
 use Rattle.pc_window.specs.declared.home.Home.{Home}
 use Rattle.pc_window.specs.Names.{IsKnown, ReadsKnown, and_dest}
@@ -293,11 +291,12 @@ module _ (states : List AutomatonState) where
 
 -- the code's answer is exact
 pub automaton_exact : (states : List AutomatonState) (found : Bool) → found ≡ is_automaton states → (found ≡ true) ↔ IsAutomaton states
-automaton_exact states found is =
-    ( (λ h. let parts = and_true (nat_lt 0 (length states)) (list_all (is_state states) states) (sym is ∙ h) in
-            record { some = ltb-true 0 (length states) parts.0; each = all_true (is_state states) (IsStateAmong states) (state_true states) states parts.1 })
-    , (λ h. is ∙ and_made (nat_lt 0 (length states)) (list_all (is_state states) states) (lt-ltb 0 (length states) h.some)
-            (all_made (is_state states) (IsStateAmong states) (state_made states) states h.each)) )
+automaton_exact states found is = (
+  (λ h. let parts = and_true (nat_lt 0 (length states)) (list_all (is_state states) states) (sym is ∙ h) in
+      record { some = ltb-true 0 (length states) parts.0; each = all_true (is_state states) (IsStateAmong states) (state_true states) states parts.1 }),
+  (λ h. is ∙ and_made (nat_lt 0 (length states)) (list_all (is_state states) states) (lt-ltb 0 (length states) h.some)
+      (all_made (is_state states) (IsStateAmong states) (state_made states) states h.each)),
+)
 
 -- among states as they lie in memory
 stored_is : (states : List StoredState)

@@ -1,6 +1,6 @@
 -- The front of a window as a row.
 use Rattle.std.proofs.Common.{◌≡◌, ℕ, List, Option, refl, sym, ◌∙◌, ap}
-use Rattle.std.specs.Prelude.{true, false, slice_get, if◌then◌else◌, Bool}
+use Rattle.std.specs.Prelude.{true, false}
 use Rattle.pc_word.specs.declared.item.Limits.{Limits}
 use Rattle.pc_word.specs.Row.{Row, Then, Either, At_leaf}
 use Rattle.pc_linear.specs.Form.{Form}
@@ -9,12 +9,12 @@ use Rattle.pc_window.specs.declared.tree.WindowTree.{WindowTree}
 use Rattle.pc_window.specs.declared.tree.WindowTree.TheVariants as stored
 use Rattle.pc_window.specs.declared.names.NameTable.{NameTable}
 use Rattle.pc_window.specs.Tree.{Tree, Pending, Undecided, Exit, Stop_exit, Trap_exit, Front, Issued, Split, Unfinished}
-use Rattle.pc_window.specs.Opening.{Supply, is_inside}
 use Rattle.pc_window.specs.WindowRun.{Window, supply_of}
-use Rattle.pc_window.specs.Kept.{Left, Rest, Gone}
-use Rattle.pc_window.specs.Steps.{left_of, left_at_root, front_row, cut_row, with_tree}
-use Rattle.pc_window.specs.StoredWindow.{InNodes, tree_in, front_in, supply_in, window_in}
+use Rattle.pc_window.specs.Kept.{Left}
+use Rattle.pc_window.specs.Steps.{left_of, front_row, cut_row, with_tree}
+use Rattle.pc_window.specs.StoredWindow.{InNodes, tree_in, supply_in, window_in}
 use Rattle.pc_window.proofs.WindowsStored.{single_window}
+use Rattle.pc_automaton.specs.StoredRow.{BehindInNodes}
 use Rattle.pc_automaton.specs.models.Cutting.{bare_window}
 
 -- what is left does not depend on the front
@@ -38,7 +38,7 @@ rest_is names limits inside tree single = single_window tree names limits inside
 -- the same with a copy of the names
 pub rest_of : (names : NameTable) (forms : List Form) (limits : Limits) (inside : Option ℕ) (tree : WindowTree) → forms ≡ names.forms → InNodes true tree
     → window_in (record { tree = tree; names = record { forms = forms; next_variable = names.next_variable }; limits = limits; inside = inside })
-        ≡ with_tree (bare_window (supply_in names) limits inside) (tree_in tree)
+    ≡ with_tree (bare_window (supply_in names) limits inside) (tree_in tree)
 rest_of names forms limits inside tree is single =
     ap (λ (fs : List Form). window_in (record { tree = tree; names = record { forms = fs; next_variable = names.next_variable }; limits = limits; inside = inside })) is
     ∙ rest_is names limits inside tree single
@@ -48,3 +48,22 @@ pub cut_at_front : (table : Table) (w : Window) (row : Row Left) (f : Front)
 cut_at_front table w row f is front cut = is ∙ row_bare table w f ∙ sym cut ∙ ap (cut_row table w) (sym front)
 
 pub ruleset cuts = (cut_at_front)
+
+-- a tree whose nodes are single has single nodes behind its root
+below_behind : (tree : WindowTree) → InNodes false tree → BehindInNodes tree
+below_behind (stored.Step' tag origin item p rest) h = absurd h
+below_behind (stored.Test' tag origin on p on_yes q on_no) h = absurd h
+below_behind (stored.Node' p below) h = h
+below_behind (stored.Exit region tag homes) h = tt
+below_behind stored.Stop h = tt
+below_behind (stored.Trap kind line) h = tt
+
+pub in_nodes_behind : (tree : WindowTree) → InNodes true tree → BehindInNodes tree
+in_nodes_behind (stored.Step' tag origin item p rest) h = below_behind rest h
+in_nodes_behind (stored.Test' tag origin on p on_yes q on_no) h = (below_behind on_yes h.0, below_behind on_no h.1)
+in_nodes_behind (stored.Node' p below) h = absurd h
+in_nodes_behind (stored.Exit region tag homes) h = tt
+in_nodes_behind stored.Stop h = tt
+in_nodes_behind (stored.Trap kind line) h = tt
+
+pub ruleset behind = (in_nodes_behind)

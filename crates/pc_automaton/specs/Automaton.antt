@@ -1,7 +1,6 @@
 -- Automata: states with parameters and a row each, whose leaves lead from state to state.
 use Rattle.std.specs.Prelude.{◌≡◌, ℕ, ◌≤◌, ◌++◌, Bool, List, map, length, nat_eq, Option, Some, None, slice_get}
 use Rattle.std.specs.List.{AllByRecursion, filter_map, IsDistinct}
-use Rattle.pc_word.specs.declared.item.Operand.{Operand}
 use Rattle.pc_word.specs.Items.{dest_of}
 use Rattle.pc_word.specs.Row.{Row, Then, Either, At_leaf, items_of, tests_of, leaves_of}
 use Rattle.pc_window.specs.Names.{IsKnown, ReadsKnown, HomesKnown, and_dest}

@@ -2,9 +2,8 @@
 ghost use Rattle.std.specs.Prelude.{◌≡◌, ◌<◌, ◌^◌, length, Some, slice_get, MatchResult};
 ghost use Rattle.pc_automaton.specs.Automaton.{IsAutomaton, states_in};
 
-use crate::RowTree;
 use crate::checking::are_states;
-use crate::{OperandList, StateList};
+use crate::{OperandList, RowTree, StateList};
 use pc_table::VarList;
 use pc_window::HomeList;
 use pc_word::TrapKind;
@@ -14,22 +13,13 @@ use std::marker::Model;
 #[derive(Debug, Drop)]
 pub enum AutomatonLeaf {
     /// A state, by its number, with an argument for each of its parameters.
-    To {
-        state: u32,
-        arguments: OperandList,
-    },
+    To { state: u32, arguments: OperandList },
     /// A region, where variables have these values.
-    Out {
-        region: u32,
-        homes: HomeList,
-    },
+    Out { region: u32, homes: HomeList },
     /// The end of the program.
     Stop,
     /// A trap, with the line that it is told by.
-    Trap {
-        kind: TrapKind,
-        line: u32,
-    },
+    Trap { kind: TrapKind, line: u32 },
 }
 
 /// A state: the names that it is passed values for, and its row.

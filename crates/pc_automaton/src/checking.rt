@@ -16,14 +16,9 @@ use pc_word::{Item, Operand};
 #[derive(Drop)]
 pub(crate) enum Known<'a> {
     /// Parameters alone.
-    Parameters {
-        names: &'a [u32],
-    },
+    Parameters { names: &'a [u32] },
     /// One name more, which is written above.
-    Written {
-        name: u32,
-        above: &'a Known<'a>,
-    },
+    Written { name: u32, above: &'a Known<'a> },
 }
 
 /// Whether these are the states of an automaton.

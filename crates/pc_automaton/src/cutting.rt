@@ -121,11 +121,7 @@ fn left(
     match tree {
         WindowTree::Stop => Ok(Left::Stop),
         WindowTree::Trap { kind, line } => Ok(Left::Trap { kind, line }),
-        WindowTree::Exit {
-            region,
-            tag,
-            homes,
-        } => {
+        WindowTree::Exit { region, tag, homes } => {
             if !is_inside(table, inside, region) {
                 return Ok(Left::Out { region, homes });
             }

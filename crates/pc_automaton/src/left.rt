@@ -5,19 +5,11 @@ use pc_word::TrapKind;
 #[derive(Debug, Drop)]
 pub enum Left {
     /// What stood behind the leaf, as a window of its own.
-    Rest {
-        window: Window,
-    },
+    Rest { window: Window },
     /// The window's loop is left for a region, where variables have these values.
-    Out {
-        region: u32,
-        homes: HomeList,
-    },
+    Out { region: u32, homes: HomeList },
     /// The end of the program.
     Stop,
     /// A trap, with the line that it is told by.
-    Trap {
-        kind: TrapKind,
-        line: u32,
-    },
+    Trap { kind: TrapKind, line: u32 },
 }

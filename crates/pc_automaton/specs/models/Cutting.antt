@@ -1,10 +1,8 @@
 -- What the windows that are left have of the window that is cut.
 use Rattle.std.specs.Prelude.{ℕ, Option}
 use Rattle.pc_word.specs.declared.item.Limits.{Limits}
-use Rattle.pc_window.specs.declared.names.NameTable.{NameTable}
 use Rattle.pc_window.specs.Tree.{Unfinished, Stop_exit}
 use Rattle.pc_window.specs.Opening.{Supply}
-use Rattle.pc_window.specs.StoredWindow.{supply_in}
 use Rattle.pc_window.specs.WindowRun.{Window}
 
 -- a window of these names without items and tests
