@@ -1,0 +1,309 @@
+-- Rows that do what was taken out of a table, and in the end all moves at once.
+use Rattle.std.proofs.Common.{◌≡◌, ◌≢◌, ◌⊎◌, inl, inr, ℕ, zero, suc, ◌+◌, ◌<◌, ◌≤◌, Bool, true, false, List, [], ◌∷◌, ◌++◌, length, map, drop, reverse, get_or, Option, Some, None, refl, sym, ◌∙◌, ap, subst, arith}
+use Rattle.std.specs.Prelude.{ℤ, if◌then◌else◌, nat_eq, slice_get}
+use Rattle.std.specs.List.{AllByRecursion}
+use Rattle.std.proofs.lemmas.Bool.{cases_eq}
+use Rattle.std.proofs.lemmas.List.{reverse-append}
+use Rattle.std.proofs.lemmas.Option.{slice_get_within, slice_get-get_or}
+use Rattle.pc_word.specs.declared.item.Operand.{Operand}
+use Rattle.pc_word.specs.declared.item.Operand.TheVariants.{Name, Lit}
+use Rattle.pc_word.specs.State.{State}
+use Rattle.pc_word.specs.Items.{operand_value}
+use Rattle.pc_word.specs.Commit.{Stored, names_after, stores_of, cells_after, reads_of}
+use Rattle.pc_word.proofs.Lists.{all_imply}
+use Rattle.pc_copies.specs.declared.moves.Move.{Move}
+use Rattle.pc_copies.specs.Moves.{IsSource, AreMoves, AreDone, kept, copy_of, after_row, after_rows, IsArranged}
+use Rattle.pc_copies.specs.models.Sources.{taken, moved, source_in, first_of, over, IsRead, Unread, back, Do}
+use Rattle.pc_copies.specs.models.Packing.{AddsRing, WritesOnce, Avoids, IsClean}
+use Rattle.pc_copies.specs.models.Placing.{IsWay}
+use Rattle.pc_copies.specs.models.Following.{source_at, AreSources, IsTaken, Followed}
+use Rattle.pc_copies.specs.models.Arranging.{IsMove, AreApart, IsTable, Arranging, if_any}
+use Rattle.pc_copies.proofs.Rows.{do_same}
+use Rattle.pc_copies.proofs.Unwinding.{Unwritten, unwritten, leads_reads}
+use Rattle.pc_copies.proofs.Rings.{all_clean}
+use Rattle.pc_copies.proofs.Kept.{Found, found, all_found, all_sources, given_once, kept_none, kept_source}
+
+-- ---- moves that leave scratch alone
+
+move_avoids : (scratch : ℕ) (move : Move) → IsMove scratch move → Avoids scratch move
+move_avoids scratch move is = record {
+  writes = is.dest.other;
+  reads = λ e. (subst (IsSource scratch) e is.from).other refl;
+}
+
+moves_clean : (scratch : ℕ) (moves : List Move) → AreApart scratch moves → IsClean scratch moves
+moves_clean scratch moves are = all_clean scratch moves (all_imply (IsMove scratch) (Avoids scratch) moves (move_avoids scratch) are.all)
+
+-- ---- so far
+
+none_more : (source : Option Operand) → first_of source None ≡ source
+none_more (Some from) = refl
+none_more None = refl
+
+-- nothing was taken out yet
+pub arranged_first : (scratch : ℕ) (moves : List Move) (table : List (Option Operand)) → IsTable moves table → Arranging scratch moves 0 table [] []
+arranged_first scratch moves table is = record {
+  are = is.are;
+  placed = λ x. None;
+  does = record { same = λ names x other. refl };
+  stage = λ x. inl (is.each x, refl);
+  reads = λ register h. let e = h.reads in absurd (cc);
+  row_reads = λ register h. let e = h.reads in absurd (cc);
+  through = λ i move low there. absurd (omega (arith, low));
+}
+
+module _ (scratch : ℕ) (moves : List Move) (at : ℕ) (table later_table : List (Option Operand)) (rows : List (List Move)) (first : List Move) (path : List Move) (begin : ℕ)
+    (are : AreApart scratch moves) (so_far : Arranging scratch moves at table rows first) (follows : Followed table later_table begin path) where
+  -- what had no source has none later, and is written by none of the moves that were followed
+  none_stays : (x : ℕ) → source_at table x ≡ None → source_at later_table x ≡ None
+  none_stays x none = elim (follows.taken x) [
+    | inl left ↦ left.1 ∙ none
+    | inr taken ↦ taken.1
+  ]
+
+  path_none : (x : ℕ) → source_at table x ≡ None → source_in path x ≡ None
+  path_none x none = elim (follows.taken x) [
+    | inl left ↦ left.0
+    | inr taken ↦ taken.0 ∙ none
+  ]
+
+  -- a source of theirs is one of the moves
+  path_source : (x : ℕ) (from : Operand) → source_in path x ≡ Some from → source_in moves x ≡ Some from
+  path_source x from e = elim (follows.taken x) [
+    | inl left ↦ let none = left.0 in absurd (cc)
+    | inr taken ↦ elim (so_far.stage x) [
+      | inl waits ↦ sym waits.0 ∙ sym taken.0 ∙ e
+      | inr placed ↦ let none = placed.0 in let same = taken.0 in absurd (cc)
+    ]
+  ]
+
+  -- so they leave scratch alone
+  pub path_avoids : AllByRecursion (Avoids scratch) path
+  path_avoids = all_sources (Avoids scratch) path follows.once
+      (λ x from e. move_avoids scratch (record { dest = x; from = from }) (all_found (IsMove scratch) moves x from are.all (path_source x from e)))
+
+  pub path_way : IsWay path
+  path_way = record { once = follows.once; end = follows.end; leads = follows.leads }
+
+  -- what they read has no source later
+  path_reads : (register : ℕ) → IsRead (source_in path) register → source_at later_table register ≡ None
+  path_reads register h = elim (leads_reads path follows.end register follows.leads h) [
+    | inl written ↦ elim (follows.taken register) [
+      | inl left ↦ absurd (written left.0)
+      | inr taken ↦ taken.1
+    ]
+    | inr is ↦ follows.ends register is
+  ]
+
+  scratch_none : source_at table scratch ≡ None
+  scratch_none = elim (so_far.stage scratch) [
+    | inl waits ↦ waits.0 ∙ (moves_clean scratch moves are).unwritten
+    | inr placed ↦ placed.0
+  ]
+
+  placed_clean : IsRead so_far.placed scratch → ⊥
+  placed_clean h = elim (so_far.stage h.by) [
+    | inl waits ↦ let none = waits.1 in let reads = h.reads in absurd (cc)
+    | inr placed ↦ (moves_clean scratch moves are).unread (record { by = h.by; reads = sym placed.1 ∙ h.reads })
+  ]
+
+  module _ (default : Move) (here : begin ≡ (get_or moves at default).dest) (within : at < length moves) (later : List (List Move)) (now : List Move) (left_table : AreSources later_table)
+      (adds : AddsRing scratch (source_in path) rows first later now) where
+    placed_free : Unread so_far.placed (source_in path)
+    placed_free = record { unread = λ register h. path_none register (so_far.reads register h) }
+
+    row_free : Unread (source_in first) (source_in path)
+    row_free = record {
+      unread = λ register h. elim (so_far.row_reads register h) [
+        | inl is ↦ subst (λ (r : ℕ). source_in path r ≡ None) (sym is) (path_none scratch scratch_none)
+        | inr none ↦ path_none register none
+      ];
+    }
+
+    stage_more : (x : ℕ) → ((source_at later_table x ≡ source_in moves x) × (over so_far.placed (source_in path) x ≡ None))
+        ⊎ ((source_at later_table x ≡ None) × (over so_far.placed (source_in path) x ≡ source_in moves x))
+    stage_more x = elim (follows.taken x) [
+      | inl left ↦
+          let same : over so_far.placed (source_in path) x ≡ so_far.placed x = ap (λ o. first_of (so_far.placed x) o) left.0 ∙ none_more (so_far.placed x) in
+          elim (so_far.stage x) [
+            | inl waits ↦ inl (left.1 ∙ waits.0, same ∙ waits.1)
+            | inr placed ↦ inr (left.1 ∙ placed.0, same ∙ placed.1)
+          ]
+      | inr taken ↦ elim (so_far.stage x) [
+        | inl waits ↦ inr (taken.1, ap (λ o. first_of o (source_in path x)) waits.1 ∙ taken.0 ∙ waits.0)
+        | inr placed ↦ inr (taken.1, ap (λ o. first_of (so_far.placed x) o) (taken.0 ∙ placed.0) ∙ none_more (so_far.placed x) ∙ placed.1)
+      ]
+    ]
+
+    reads_more : (register : ℕ) → IsRead (over so_far.placed (source_in path)) register → source_at later_table register ≡ None
+    reads_more register h = by_source (so_far.placed h.by) refl h.reads
+      where
+        by_source : (source : Option Operand) → so_far.placed h.by ≡ source → first_of source (source_in path h.by) ≡ Some (Name register) → source_at later_table register ≡ None
+        by_source (Some from) e reads = none_stays register (so_far.reads register (record { by = h.by; reads = e ∙ reads }))
+        by_source None e reads = path_reads register (record { by = h.by; reads = reads })
+
+    row_reads_more : (register : ℕ) → IsRead (source_in now) register → (register ≡ scratch) ⊎ (source_at later_table register ≡ None)
+    row_reads_more register h = elim (adds.reads register h) [
+      | inl is ↦ inl is
+      | inr (inl early) ↦ elim (so_far.row_reads register early) [
+        | inl is ↦ inl is
+        | inr none ↦ inr (none_stays register none)
+      ]
+      | inr (inr moves_read) ↦ inr (path_reads register moves_read)
+    ]
+
+    through_more : (i : ℕ) (move : Move) → i < at + 1 → slice_get moves i ≡ Some move → source_at later_table move.dest ≡ None
+    through_more i move low there = elim (cases_eq i at) [
+      | inl same ↦
+          let stands = slice_get-get_or moves at default within in
+          let is : get_or moves at default ≡ move = (let again = subst (λ (n : ℕ). slice_get moves n ≡ Some move) same there in cc) in
+          subst (λ (m : Move). source_at later_table m.dest ≡ None) is (subst (λ (r : ℕ). source_at later_table r ≡ None) here follows.begun)
+      | inr apart ↦ none_stays move.dest (so_far.through i move (omega (arith, low, apart)) there)
+    ]
+
+    pub arranged_more : Arranging scratch moves (at + 1) later_table later now
+    arranged_more = record {
+      are = left_table;
+      placed = over so_far.placed (source_in path);
+      does = adds.does so_far.placed placed_clean so_far.does placed_free row_free;
+      stage = stage_more;
+      reads = reads_more;
+      row_reads = row_reads_more;
+      through = through_more;
+    }
+
+-- in the end the rows do all moves
+pub arranged_all : (scratch : ℕ) (moves : List Move) (at : ℕ) (table : List (Option Operand)) (rows : List (List Move)) (first : List Move) → length moves ≤ at
+    → Arranging scratch moves at table rows first → Do scratch rows first (source_in moves)
+arranged_all scratch moves at table rows first all so_far = do_same scratch rows first so_far.placed (source_in moves) (λ x other. placed_is x) so_far.does
+  where
+    by_source : (x : ℕ) (source : Option Operand) → source_in moves x ≡ source → source_at table x ≡ source_in moves x → source ≡ None
+    by_source x None e waits = refl
+    by_source x (Some from) e waits =
+        let it = found moves x from e in
+        let none = so_far.through it.at it.move (let within = slice_get_within moves it.at it.move it.there in omega (arith, within, all)) it.there in
+        let same = it.writes in
+        let gone = subst (λ (r : ℕ). source_at table r ≡ None) same none in
+        absurd (cc)
+
+    placed_is : (x : ℕ) → so_far.placed x ≡ source_in moves x
+    placed_is x = elim (so_far.stage x) [
+      | inl waits ↦ waits.1 ∙ sym (by_source x (source_in moves x) refl waits.0)
+      | inr placed ↦ placed.1
+    ]
+
+-- ---- rows in the order in which they run
+
+abbrev forth : List (List Move) → (ℕ → ℤ) → ℕ → ℤ
+forth [] names = names
+forth (row ∷ rows) names = forth rows (moved (source_in row) names)
+
+forth_last : (rows : List (List Move)) (row : List Move) (names : ℕ → ℤ) → forth (rows ++ row ∷ []) names ≡ moved (source_in row) (forth rows names)
+forth_last [] row names = refl
+forth_last (other ∷ rows) row names = forth_last rows row (moved (source_in other) names)
+
+forth_back : (rows : List (List Move)) (names : ℕ → ℤ) → forth (reverse rows) names ≡ back rows names
+forth_back [] names = refl
+forth_back (row ∷ rows) names =
+    ap (λ (l : List (List Move)). forth l names) (reverse-append (row ∷ []) rows)
+    ∙ forth_last (reverse rows) row names
+    ∙ ap (λ (n : ℕ → ℤ). moved (source_in row) n) (forth_back rows names)
+
+forth_first : (first : List Move) (rows : List (List Move)) (names : ℕ → ℤ) → forth (if_any first ++ rows) names ≡ forth rows (moved (source_in first) names)
+forth_first [] rows names = refl
+forth_first (move ∷ first) rows names = refl
+
+-- ---- what a row does to a state
+
+taken_test : (b : Bool) (move : Move) (source : Option Operand) (names : ℕ → ℤ) (x : ℕ) → (if b then operand_value names move.from else taken source names x)
+    ≡ taken (if b then Some move.from else source) names x
+taken_test true move source names x = refl
+taken_test false move source names x = refl
+
+row_names : (lengths : List ℕ) (row : List Move) (s : State) (x : ℕ) → names_after lengths s (map copy_of row) x ≡ moved (source_in row) s.names x
+row_names lengths [] s x = refl
+row_names lengths (move ∷ row) s x =
+    ap (λ v. if nat_eq move.dest x then operand_value s.names move.from else v) (row_names lengths row s x)
+    ∙ taken_test (nat_eq move.dest x) move (source_in row x) s.names x
+
+row_stores : (lengths : List ℕ) (row : List Move) (s : State) → stores_of lengths s (map copy_of row) ≡ []
+row_stores lengths [] s = refl
+row_stores lengths (move ∷ row) s = row_stores lengths row s
+
+row_takes : (row : List Move) → reads_of (map copy_of row) ≡ 0
+row_takes [] = refl
+row_takes (move ∷ row) = row_takes row
+
+-- a state with other registers
+abbrev with_names : State → (ℕ → ℤ) → State
+with_names s names = record s { names = names }
+
+row_does : (lengths : List ℕ) (row : List Move) (s : State) → after_row lengths row s ≡ with_names s (moved (source_in row) s.names)
+row_does lengths row s = λ i. record {
+  names = λ x. row_names lengths row s x i;
+  cells = λ array place. cells_after s.cells (row_stores lengths row s i) array place;
+  input = drop (row_takes row i) s.input;
+}
+
+rows_do : (lengths : List ℕ) (rows : List (List Move)) (s : State) → after_rows lengths rows s ≡ with_names s (forth rows s.names)
+rows_do lengths [] s = refl
+rows_do lengths (row ∷ rows) s =
+    ap (after_rows lengths rows) (row_does lengths row s) ∙ rows_do lengths rows (with_names s (moved (source_in row) s.names))
+
+-- a move in a list has a source there
+missing : (list : List Move) (i : ℕ) (move : Move) → slice_get list i ≡ Some move → source_in list move.dest ≡ None → ⊥
+missing [] i move e none = cc
+missing (other ∷ list) zero move e none = let same : other ≡ move = (cc) in (unwritten other list move.dest none).head (ap (λ (n : Move). n.dest) same)
+missing (other ∷ list) (suc i) move e none = missing list i move e (unwritten other list move.dest none).tail
+
+-- ---- all moves at once
+
+module _ (moves : List Move) (ops scratch : ℕ) (rows : List (List Move)) (first : List Move) (are : AreMoves scratch moves) (does : Do scratch rows first (source_in (kept moves))) where
+  abbrev all : List (List Move)
+  all = if_any first ++ reverse rows
+
+  names_are : (lengths : List ℕ) (s : State) (x : ℕ) → x ≢ scratch → (after_rows lengths all s).names x ≡ moved (source_in (kept moves)) s.names x
+  names_are lengths s x other =
+      ap (λ (t : State). t.names x) (rows_do lengths all s)
+      ∙ ap (λ (n : ℕ → ℤ). n x) (forth_first first (reverse rows) s.names ∙ forth_back rows (moved (source_in first) s.names))
+      ∙ does.same s.names x other
+
+  once : WritesOnce moves
+  once = given_once scratch moves are
+
+  source_is : (at : ℕ) (move : Move) → slice_get moves at ≡ Some move → source_in moves move.dest ≡ Some move.from
+  source_is at move there = by_source (source_in moves move.dest) refl
+    where
+      by_source : (source : Option Operand) → source_in moves move.dest ≡ source → source ≡ Some move.from
+      by_source (Some from) e =
+          let it = found moves move.dest from e in
+          let same = are.apart it.at at it.move move it.there there it.writes in
+          let again = subst (λ (n : ℕ). slice_get moves n ≡ Some it.move) same it.there in
+          let is : it.move ≡ move = (cc) in
+          ap (λ o. Some o) (sym it.reads ∙ ap (λ (m : Move). m.from) is)
+      by_source None e = absurd (missing moves at move there e)
+
+  moved_is : (s : State) (at : ℕ) (move : Move) → slice_get moves at ≡ Some move → moved (source_in (kept moves)) s.names move.dest ≡ operand_value s.names move.from
+  moved_is s at move there = elim (kept_source moves once move.dest) [
+    | inl same ↦ ap (λ o. taken o s.names move.dest) (same ∙ source_is at move there)
+    | inr own ↦
+        let is : move.from ≡ Name move.dest = (let given = source_is at move there in let itself = own.1 in cc) in
+        ap (λ o. taken o s.names move.dest) own.0 ∙ sym (ap (operand_value s.names) is)
+  ]
+
+  others_are : (s : State) (x : ℕ) → ((at : ℕ) (move : Move) → slice_get moves at ≡ Some move → move.dest ≢ x) → moved (source_in (kept moves)) s.names x ≡ s.names x
+  others_are s x other = by_source (source_in moves x) refl
+    where
+      by_source : (source : Option Operand) → source_in moves x ≡ source → moved (source_in (kept moves)) s.names x ≡ s.names x
+      by_source (Some from) e = let it = found moves x from e in absurd (other it.at it.move it.there it.writes)
+      by_source None e = ap (λ o. taken o s.names x) (kept_none moves x e)
+
+  pub arranged : IsArranged moves ops scratch (if_any first ++ reverse rows)
+  arranged = record {
+    done = λ lengths old. record {
+      moved = λ at move there. names_are lengths old move.dest (are.dests at move there).other ∙ moved_is old at move there;
+      others = λ x apart other. names_are lengths old x apart ∙ others_are old x other;
+      same_cells = ap (λ (t : State). t.cells) (rows_do lengths all old);
+      same_input = ap (λ (t : State). t.input) (rows_do lengths all old);
+    };
+  }

@@ -1,0 +1,7 @@
+pub mod Arranged
+pub mod Follows
+pub mod Kept
+pub mod Places
+pub mod Rings
+pub mod Rows
+pub mod Unwinding

@@ -1,0 +1,70 @@
+-- Moves between registers that are done at once, and rows of copies that do them.
+use Rattle.std.specs.Prelude.{◌≡◌, ◌≢◌, ◌<◌, ◌≤◌, ◌+◌, ◌*◌, ℕ, Bool, true, false, if◌then◌else◌, nat_eq, List, [], ◌∷◌, length, map, sum, Some, slice_get}
+use Rattle.std.specs.List.{AllByRecursion, count_by}
+use Rattle.pc_word.specs.declared.item.Item.{Item}
+use Rattle.pc_word.specs.declared.item.Item.TheVariants.{Copy}
+use Rattle.pc_word.specs.declared.item.Operand.{Operand}
+use Rattle.pc_word.specs.declared.item.Operand.TheVariants.{Name, Lit}
+use Rattle.pc_word.specs.MachineLimits.{registers}
+use Rattle.pc_word.specs.State.{State}
+use Rattle.pc_word.specs.Items.{operand_value}
+use Rattle.pc_word.specs.Commit.{state_after}
+use Rattle.pc_copies.specs.declared.moves.Move.{Move}
+
+-- ---- moves that are given
+
+-- a register that moves may name: one of the machine, but not scratch
+pub record IsNamed (scratch register : ℕ) : Type 0 where
+  pub below : register < registers
+  pub other : register ≢ scratch
+
+-- an operand that a move may read
+abbrev pub IsSource : ℕ → Operand → Type 0
+IsSource scratch (Name register) = IsNamed scratch register
+IsSource scratch (Lit value) = Unit {0}
+
+-- moves that may be done at once: no two have the same destination, and none names scratch
+pub record AreMoves (scratch : ℕ) (moves : List Move) : Type 0 where
+  pub dests : (at : ℕ) (move : Move) → slice_get moves at ≡ Some move → IsNamed scratch move.dest
+  pub sources : (at : ℕ) (move : Move) → slice_get moves at ≡ Some move → IsSource scratch move.from
+  pub apart : (at also : ℕ) (move other : Move) → slice_get moves at ≡ Some move → slice_get moves also ≡ Some other → move.dest ≡ other.dest → at ≡ also
+
+-- whether a move reads the register that it writes
+abbrev pub is_name : Operand → ℕ → Bool
+is_name (Name register) x = nat_eq register x
+is_name (Lit value) x = false
+
+-- the moves that are not to themselves
+abbrev pub kept : List Move → List Move
+kept [] = []
+kept (move ∷ moves) = if is_name move.from move.dest then kept moves else move ∷ kept moves
+
+-- ---- what they do at once
+
+-- each destination has the value that its source had, and each other register but scratch the one that it had
+pub record AreDone (moves : List Move) (scratch : ℕ) (old new : State) : Type 0 where
+  pub moved : (at : ℕ) (move : Move) → slice_get moves at ≡ Some move → new.names move.dest ≡ operand_value old.names move.from
+  pub others : (x : ℕ) → x ≢ scratch → ((at : ℕ) (move : Move) → slice_get moves at ≡ Some move → move.dest ≢ x) → new.names x ≡ old.names x
+  pub same_cells : new.cells ≡ old.cells
+  pub same_input : new.input ≡ old.input
+
+-- ---- what rows of copies do
+
+-- the item that does a move
+abbrev pub copy_of : Move → Item
+copy_of move = Copy move.dest move.from
+
+-- the state after a row, which reads before it writes
+abbrev pub after_row : List ℕ → List Move → State → State
+after_row lengths row old = state_after lengths old (map copy_of row)
+
+-- the state after rows that run one after the other
+abbrev pub after_rows : List ℕ → List (List Move) → State → State
+after_rows lengths [] old = old
+after_rows lengths (row ∷ rows) old = after_rows lengths rows (after_row lengths row old)
+
+-- ---- the whole
+
+-- rows of copies that do moves at once
+pub record IsArranged (moves : List Move) (ops scratch : ℕ) (rows : List (List Move)) : Type 0 where
+  pub done : (lengths : List ℕ) (old : State) → AreDone moves scratch old (after_rows lengths rows old)

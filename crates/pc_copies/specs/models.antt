@@ -1,0 +1,5 @@
+pub mod Arranging
+pub mod Following
+pub mod Packing
+pub mod Placing
+pub mod Sources
