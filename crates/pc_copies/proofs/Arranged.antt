@@ -1,27 +1,28 @@
 -- Rows that do what was taken out of a table, and in the end all moves at once.
 use Rattle.std.proofs.Common.{◌≡◌, ◌≢◌, ◌⊎◌, inl, inr, ℕ, zero, suc, ◌+◌, ◌<◌, ◌≤◌, Bool, true, false, List, [], ◌∷◌, ◌++◌, length, map, drop, reverse, get_or, Option, Some, None, refl, sym, ◌∙◌, ap, subst, arith}
 use Rattle.std.specs.Prelude.{ℤ, if◌then◌else◌, nat_eq, slice_get}
-use Rattle.std.specs.List.{AllByRecursion}
+use Rattle.std.specs.List.{AllByRecursion, filter_map, IsDistinct}
 use Rattle.std.proofs.lemmas.Bool.{cases_eq}
 use Rattle.std.proofs.lemmas.List.{reverse-append}
 use Rattle.std.proofs.lemmas.Option.{slice_get_within, slice_get-get_or}
 use Rattle.pc_word.specs.declared.item.Operand.{Operand}
 use Rattle.pc_word.specs.declared.item.Operand.TheVariants.{Name, Lit}
 use Rattle.pc_word.specs.State.{State}
-use Rattle.pc_word.specs.Items.{operand_value}
+use Rattle.pc_word.specs.Items.{operand_value, dest_of}
 use Rattle.pc_word.specs.Commit.{Stored, names_after, stores_of, cells_after, reads_of}
-use Rattle.pc_word.proofs.Lists.{all_imply}
+use Rattle.pc_word.proofs.Lists.{all_imply, all_both}
 use Rattle.pc_copies.specs.declared.moves.Move.{Move}
-use Rattle.pc_copies.specs.Moves.{IsSource, AreMoves, AreDone, kept, copy_of, after_row, after_rows, IsArranged}
-use Rattle.pc_copies.specs.models.Sources.{taken, moved, source_in, first_of, over, IsRead, Unread, back, Do}
-use Rattle.pc_copies.specs.models.Packing.{AddsRing, WritesOnce, Avoids, IsClean}
+use Rattle.pc_copies.specs.Moves.{IsSource, AreMoves, AreDone, kept, copy_of, after_row, after_rows, IsCopyRow, IsFullRow, IsArranged}
+use Rattle.pc_copies.specs.models.Sources.{taken, moved, source_in, first_of, over, IsRead, Unread, IsWritten, Apart, back, Do}
+use Rattle.pc_copies.specs.models.Packing.{AddsRing, WritesOnce, IsFull, RowsFit, Avoids, IsClean}
 use Rattle.pc_copies.specs.models.Placing.{IsWay}
 use Rattle.pc_copies.specs.models.Following.{source_at, AreSources, IsTaken, Followed}
-use Rattle.pc_copies.specs.models.Arranging.{IsMove, AreApart, IsTable, Arranging, if_any}
+use Rattle.pc_copies.specs.models.Arranging.{IsMove, AreApart, IsTable, Arranging, IsPacked, if_any}
 use Rattle.pc_copies.proofs.Rows.{do_same}
-use Rattle.pc_copies.proofs.Unwinding.{Unwritten, unwritten, leads_reads}
+use Rattle.pc_copies.proofs.Singles.{apart_tests, Unwritten, unwritten}
+use Rattle.pc_copies.proofs.Unwinding.{leads_reads}
 use Rattle.pc_copies.proofs.Rings.{all_clean}
-use Rattle.pc_copies.proofs.Kept.{Found, found, all_found, all_sources, given_once, kept_none, kept_source}
+use Rattle.pc_copies.proofs.Kept.{Found, found, all_found, all_sources, given_once, kept_none, kept_apart, kept_source}
 
 -- ---- moves that leave scratch alone
 
@@ -41,19 +42,21 @@ none_more (Some from) = refl
 none_more None = refl
 
 -- nothing was taken out yet
-pub arranged_first : (scratch : ℕ) (moves : List Move) (table : List (Option Operand)) → IsTable moves table → Arranging scratch moves 0 table [] []
-arranged_first scratch moves table is = record {
+pub arranged_first : (ops scratch : ℕ) (moves : List Move) (table : List (Option Operand)) → IsTable moves table → Arranging ops scratch moves 0 table [] []
+arranged_first ops scratch moves table is = record {
   are = is.are;
   placed = λ x. None;
   does = record { same = λ names x other. refl };
   stage = λ x. inl (is.each x, refl);
   reads = λ register h. let e = h.reads in absurd (cc);
   row_reads = λ register h. let e = h.reads in absurd (cc);
+  fit = record { full = tt; once = tt };
+  row_writes = λ register h. let e = h.writes in absurd (cc);
   through = λ i move low there. absurd (omega (arith, low));
 }
 
-module _ (scratch : ℕ) (moves : List Move) (at : ℕ) (table later_table : List (Option Operand)) (rows : List (List Move)) (first : List Move) (path : List Move) (begin : ℕ)
-    (are : AreApart scratch moves) (so_far : Arranging scratch moves at table rows first) (follows : Followed table later_table begin path) where
+module _ (ops scratch : ℕ) (moves : List Move) (at : ℕ) (table later_table : List (Option Operand)) (rows : List (List Move)) (first : List Move) (path : List Move) (begin : ℕ)
+    (are : AreApart scratch moves) (so_far : Arranging ops scratch moves at table rows first) (follows : Followed table later_table begin path) where
   -- what had no source has none later, and is written by none of the moves that were followed
   none_stays : (x : ℕ) → source_at table x ≡ None → source_at later_table x ≡ None
   none_stays x none = elim (follows.taken x) [
@@ -108,7 +111,7 @@ module _ (scratch : ℕ) (moves : List Move) (at : ℕ) (table later_table : Lis
   ]
 
   module _ (default : Move) (here : begin ≡ (get_or moves at default).dest) (within : at < length moves) (later : List (List Move)) (now : List Move) (left_table : AreSources later_table)
-      (adds : AddsRing scratch (source_in path) rows first later now) where
+      (adds : AddsRing ops scratch (source_in path) rows first later now) where
     placed_free : Unread so_far.placed (source_in path)
     placed_free = record { unread = λ register h. path_none register (so_far.reads register h) }
 
@@ -161,7 +164,28 @@ module _ (scratch : ℕ) (moves : List Move) (at : ℕ) (table later_table : Lis
       | inr apart ↦ none_stays move.dest (so_far.through i move (omega (arith, low, apart)) there)
     ]
 
-    pub arranged_more : Arranging scratch moves (at + 1) later_table later now
+    row_apart : Apart (source_in first) (source_in path)
+    row_apart = record {
+      apart = λ register h. elim (so_far.row_writes register h) [
+        | inl is ↦ subst (λ (r : ℕ). source_in path r ≡ None) (sym is) (path_none scratch scratch_none)
+        | inr none ↦ path_none register none
+      ];
+    }
+
+    row_writes_more : (register : ℕ) → IsWritten (source_in now) register → (register ≡ scratch) ⊎ (source_at later_table register ≡ None)
+    row_writes_more register h = elim (adds.writes register h) [
+      | inl is ↦ inl is
+      | inr (inl early) ↦ elim (so_far.row_writes register early) [
+        | inl is ↦ inl is
+        | inr none ↦ inr (none_stays register none)
+      ]
+      | inr (inr here) ↦ elim (follows.taken register) [
+        | inl left ↦ let none = left.0 in let writes = here.writes in absurd (cc)
+        | inr taken ↦ inr taken.1
+      ]
+    ]
+
+    pub arranged_more : Arranging ops scratch moves (at + 1) later_table later now
     arranged_more = record {
       are = left_table;
       placed = over so_far.placed (source_in path);
@@ -169,13 +193,15 @@ module _ (scratch : ℕ) (moves : List Move) (at : ℕ) (table later_table : Lis
       stage = stage_more;
       reads = reads_more;
       row_reads = row_reads_more;
+      fit = adds.fits row_apart so_far.fit;
+      row_writes = row_writes_more;
       through = through_more;
     }
 
 -- in the end the rows do all moves
-pub arranged_all : (scratch : ℕ) (moves : List Move) (at : ℕ) (table : List (Option Operand)) (rows : List (List Move)) (first : List Move) → length moves ≤ at
-    → Arranging scratch moves at table rows first → Do scratch rows first (source_in moves)
-arranged_all scratch moves at table rows first all so_far = do_same scratch rows first so_far.placed (source_in moves) (λ x other. placed_is x) so_far.does
+pub arranged_all : (ops scratch : ℕ) (moves : List Move) (at : ℕ) (table : List (Option Operand)) (rows : List (List Move)) (first : List Move) → length moves ≤ at
+    → Arranging ops scratch moves at table rows first → Do scratch rows first (source_in moves)
+arranged_all ops scratch moves at table rows first all so_far = do_same scratch rows first so_far.placed (source_in moves) (λ x other. placed_is x) so_far.does
   where
     by_source : (x : ℕ) (source : Option Operand) → source_in moves x ≡ source → source_at table x ≡ source_in moves x → source ≡ None
     by_source x None e waits = refl
@@ -259,12 +285,12 @@ missing (other ∷ list) (suc i) move e none = missing list i move e (unwritten 
 -- ---- all moves at once
 
 module _ (moves : List Move) (ops scratch : ℕ) (rows : List (List Move)) (first : List Move) (are : AreMoves scratch moves) (does : Do scratch rows first (source_in (kept moves))) where
-  abbrev all : List (List Move)
-  all = if_any first ++ reverse rows
+  abbrev in_order : List (List Move)
+  in_order = if_any first ++ reverse rows
 
-  names_are : (lengths : List ℕ) (s : State) (x : ℕ) → x ≢ scratch → (after_rows lengths all s).names x ≡ moved (source_in (kept moves)) s.names x
+  names_are : (lengths : List ℕ) (s : State) (x : ℕ) → x ≢ scratch → (after_rows lengths in_order s).names x ≡ moved (source_in (kept moves)) s.names x
   names_are lengths s x other =
-      ap (λ (t : State). t.names x) (rows_do lengths all s)
+      ap (λ (t : State). t.names x) (rows_do lengths in_order s)
       ∙ ap (λ (n : ℕ → ℤ). n x) (forth_first first (reverse rows) s.names ∙ forth_back rows (moved (source_in first) s.names))
       ∙ does.same s.names x other
 
@@ -298,12 +324,80 @@ module _ (moves : List Move) (ops scratch : ℕ) (rows : List (List Move)) (firs
       by_source (Some from) e = let it = found moves x from e in absurd (other it.at it.move it.there it.writes)
       by_source None e = ap (λ o. taken o s.names x) (kept_none moves x e)
 
-  pub arranged : IsArranged moves ops scratch (if_any first ++ reverse rows)
-  arranged = record {
-    done = λ lengths old. record {
-      moved = λ at move there. names_are lengths old move.dest (are.dests at move there).other ∙ moved_is old at move there;
-      others = λ x apart other. names_are lengths old x apart ∙ others_are old x other;
-      same_cells = ap (λ (t : State). t.cells) (rows_do lengths all old);
-      same_input = ap (λ (t : State). t.input) (rows_do lengths all old);
-    };
+  all_done : (lengths : List ℕ) (old : State) → AreDone moves scratch old (after_rows lengths in_order old)
+  all_done lengths old = record {
+    moved = λ at move there. names_are lengths old move.dest (are.dests at move there).other ∙ moved_is old at move there;
+    others = λ x apart other. names_are lengths old x apart ∙ others_are old x other;
+    same_cells = ap (λ (t : State). t.cells) (rows_do lengths in_order old);
+    same_input = ap (λ (t : State). t.input) (rows_do lengths in_order old);
   }
+
+-- ---- the rows themselves
+
+dest_apart : (move : Move) (row : List Move) → source_in row move.dest ≡ None → AllByRecursion (λ y. nat_eq move.dest y ≡ false) (filter_map dest_of (map copy_of row))
+dest_apart move [] none = tt
+dest_apart move (other ∷ row) none =
+    let rest = unwritten other row move.dest none in
+    (apart_tests move.dest other.dest (λ e. rest.head (sym e)), dest_apart move row rest.tail)
+
+distinct_dests : (row : List Move) → WritesOnce row → IsDistinct nat_eq (filter_map dest_of (map copy_of row))
+unfolding IsDistinct
+distinct_dests [] written = tt
+distinct_dests (move ∷ row) written = (dest_apart move row written.0, distinct_dests row written.1)
+
+full_fits : (ops : ℕ) → 1 ≤ ops → (row : List Move) → IsFull ops row → IsCopyRow ops row
+full_fits ops some row full = record { some = omega (arith, some, full.many); few = omega (arith, full.many); once = distinct_dests row full.once }
+
+all_reverse : (P : List Move → Type 0) (rows : List (List Move)) → AllByRecursion P rows → AllByRecursion P (reverse rows)
+all_reverse P [] all = tt
+all_reverse P (row ∷ rows) all =
+    subst (AllByRecursion P) (sym (reverse-append (row ∷ []) rows)) (all_both P (reverse rows) (row ∷ []) (all_reverse P rows all.1) (all.0, tt))
+
+all_behind : (P : List Move → Type 0) (rows : List (List Move)) → AllByRecursion P rows → AllByRecursion P (drop 1 rows)
+all_behind P [] all = tt
+all_behind P (row ∷ rows) all = all.1
+
+first_fits : (ops : ℕ) (first : List Move) (rows : List (List Move)) → length first ≤ ops → WritesOnce first → AllByRecursion (IsCopyRow ops) rows
+    → AllByRecursion (IsCopyRow ops) (if_any first ++ rows)
+first_fits ops [] rows few once all = all
+first_fits ops (move ∷ first) rows few once all = (record { some = omega arith; few = few; once = distinct_dests (move ∷ first) once }, all)
+
+rest_full : (ops : ℕ) (first : List Move) (rows : List (List Move)) → AllByRecursion (IsFullRow ops) rows → AllByRecursion (IsFullRow ops) (drop 1 (if_any first ++ rows))
+rest_full ops [] rows all = all_behind (IsFullRow ops) rows all
+rest_full ops (move ∷ first) rows all = all
+
+-- rows that were packed
+pub arranged : (moves : List Move) (ops scratch : ℕ) (rows : List (List Move)) (first : List Move) → AreMoves scratch moves → 1 ≤ ops → ops < length (kept moves)
+    → IsPacked ops scratch (kept moves) rows first → IsArranged moves ops scratch (if_any first ++ reverse rows)
+arranged moves ops scratch rows first are some many packed =
+    let fit = packed.fit in
+    record {
+      done = all_done moves ops scratch rows first are packed.does;
+      rows_fit = first_fits ops first (reverse rows) (omega (arith, packed.room)) fit.once
+      (all_reverse (IsCopyRow ops) rows (all_imply (IsFull ops) (IsCopyRow ops) rows (full_fits ops some) fit.full));
+      full = rest_full ops first (reverse rows) (all_reverse (IsFullRow ops) rows (all_imply (IsFull ops) (IsFullRow ops) rows (λ row full. record { full = full.many }) fit.full));
+      one = λ few. absurd (omega (arith, few, many));
+    }
+
+one_at_most : (first : List Move) → length (if_any first) ≤ 1
+one_at_most [] = omega arith
+one_at_most (move ∷ first) = omega arith
+
+only : (first : List Move) → if_any first ++ [] ≡ if_any first
+only [] = refl
+only (move ∷ first) = refl
+
+-- one row of all moves
+pub arranged_in_one : (moves : List Move) (ops scratch : ℕ) → AreMoves scratch moves → length (kept moves) ≤ ops → IsArranged moves ops scratch (if_any (kept moves))
+arranged_in_one moves ops scratch are few =
+    let apart = kept_apart scratch moves are in
+    let does : Do scratch [] (kept moves) (source_in (kept moves)) = record { same = λ names x other. refl } in
+    record {
+      done = subst (λ (l : List (List Move)). (lengths : List ℕ) (old : State) → AreDone moves scratch old (after_rows lengths l old)) (only (kept moves))
+      (all_done moves ops scratch [] (kept moves) are does);
+      rows_fit = subst (AllByRecursion (IsCopyRow ops)) (only (kept moves)) (first_fits ops (kept moves) [] few apart.once tt);
+      full = subst (λ (l : List (List Move)). AllByRecursion (IsFullRow ops) (drop 1 l)) (only (kept moves)) (rest_full ops (kept moves) [] tt);
+      one = λ h. one_at_most (kept moves);
+    }
+
+pub ruleset arranged_laws = (arranged, arranged_in_one, kept_apart)

@@ -12,7 +12,7 @@ use Rattle.pc_copies.specs.models.Sources.{source_in, first_of}
 use Rattle.pc_copies.specs.models.Packing.{Leads_to, WritesOnce}
 use Rattle.pc_copies.specs.models.Following.{source_at, AreSources, IsTaken, AreTaken, Followed, Following}
 use Rattle.pc_copies.proofs.Rows.{source_both}
-use Rattle.pc_copies.proofs.Unwinding.{one_unwritten, head_written, Unwritten, unwritten}
+use Rattle.pc_copies.proofs.Singles.{one_unwritten, head_written, Unwritten, unwritten}
 
 -- ---- tables
 

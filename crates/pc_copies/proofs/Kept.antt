@@ -15,7 +15,7 @@ use Rattle.pc_copies.specs.models.Sources.{source_in, first_of}
 use Rattle.pc_copies.specs.models.Packing.{WritesOnce, Avoids}
 use Rattle.pc_copies.specs.models.Following.{source_at, AreSources}
 use Rattle.pc_copies.specs.models.Arranging.{IsMove, IsBelow, IsInside, AreApart, IsTable}
-use Rattle.pc_copies.proofs.Unwinding.{head_written, tail_written, Unwritten, unwritten}
+use Rattle.pc_copies.proofs.Singles.{head_written, tail_written, Unwritten, unwritten}
 use Rattle.pc_copies.proofs.Follows.{set_there, set_elsewhere}
 
 -- ---- what has a source

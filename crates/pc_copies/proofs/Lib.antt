@@ -4,4 +4,5 @@ pub mod Kept
 pub mod Places
 pub mod Rings
 pub mod Rows
+pub mod Singles
 pub mod Unwinding

@@ -7,11 +7,12 @@ use Rattle.pc_word.specs.declared.item.Operand.{Operand}
 use Rattle.pc_word.specs.declared.item.Operand.TheVariants.{Name, Lit}
 use Rattle.pc_word.proofs.Lists.{all_front, all_back}
 use Rattle.pc_copies.specs.declared.moves.Move.{Move}
-use Rattle.pc_copies.specs.models.Sources.{source_in, first_of, over, IsRead, Unread, Do}
-use Rattle.pc_copies.specs.models.Packing.{AddsRing, Leads_to, WritesOnce, Avoids, Unwinds, IsRing, IsClean, Unwound}
+use Rattle.pc_copies.specs.models.Sources.{source_in, first_of, over, IsRead, Unread, IsWritten, Apart, Do}
+use Rattle.pc_copies.specs.models.Packing.{AddsRing, RowsFit, Leads_to, WritesOnce, Avoids, Unwinds, IsRing, IsClean, Unwound}
 use Rattle.pc_copies.specs.models.Placing.{IsWay, IsAt, EndsElsewhere, EndsAt}
 use Rattle.pc_copies.proofs.Rows.{source_both, do_same}
-use Rattle.pc_copies.proofs.Unwinding.{one_unwritten, head_written, leads_unwind, leads_reads}
+use Rattle.pc_copies.proofs.Singles.{one_unwritten, head_written}
+use Rattle.pc_copies.proofs.Unwinding.{leads_unwind, leads_reads}
 use Rattle.pc_copies.proofs.Rings.{none_front, none_behind, leads_split, WriteApart, once_split, all_clean, split_last, adds_ring}
 
 -- ---- where moves end
@@ -76,9 +77,9 @@ none_further path default register at within none other =
 pub way_unwinds : (path : List Move) → IsWay path → EndsElsewhere path → Unwinds path
 way_unwinds path way ends = leads_unwind path way.end way.leads way.once (λ register e. ends.elsewhere way.end register way.leads e)
 
-pub unwound_adds : (scratch : ℕ) (path : List Move) (rows : List (List Move)) (first : List Move) (later : List (List Move)) (now : List Move)
-    → Unwound scratch path rows first later now → AddsRing scratch (source_in path) rows first later now
-unwound_adds scratch path rows first later now unwound = adds_ring scratch (source_in path) rows first later now unwound.adds
+pub unwound_adds : (ops scratch : ℕ) (path : List Move) (rows : List (List Move)) (first : List Move) (later : List (List Move)) (now : List Move)
+    → Unwound ops scratch path rows first later now → AddsRing ops scratch (source_in path) rows first later now
+unwound_adds ops scratch path rows first later now unwound = adds_ring ops scratch (source_in path) rows first later now unwound.adds
 
 -- ---- moves that end in a cycle
 
@@ -177,8 +178,8 @@ module _ (path : List Move) (at : ℕ) (way : IsWay path) (ends : EndsAt path at
       by_source (Some from) e written = found register from e
       by_source None e written = absurd (written e)
 
-  module _ (scratch : ℕ) (avoids : AllByRecursion (Avoids scratch) path) (rows : List (List Move)) (first : List Move) (mid : List (List Move)) (row : List Move)
-      (later : List (List Move)) (now : List Move) (ring : AddsRing scratch (source_in (drop at path)) rows first mid row) (unwound : Unwound scratch (take at path) mid row later now) where
+  module _ (ops scratch : ℕ) (avoids : AllByRecursion (Avoids scratch) path) (rows : List (List Move)) (first : List Move) (mid : List (List Move)) (row : List Move)
+      (later : List (List Move)) (now : List Move) (ring : AddsRing ops scratch (source_in (drop at path)) rows first mid row) (unwound : Unwound ops scratch (take at path) mid row later now) where
     tail_clean : IsClean scratch tail
     tail_clean = all_clean scratch tail (all_front (Avoids scratch) tail (ends.move ∷ drop (suc at) path) (subst (AllByRecursion (Avoids scratch)) split avoids))
 
@@ -219,5 +220,32 @@ module _ (path : List Move) (at : ℕ) (way : IsWay path) (ends : EndsAt path at
       | inr moves ↦ inr (inr (tail_reads register moves))
     ]
 
-    pub place_adds : AddsRing scratch (source_in path) rows first later now
-    place_adds = record { does = place_does; reads = place_reads }
+    row_apart : Apart (source_in first) (source_in path) → Apart (source_in row) (source_in tail)
+    row_apart free = record {
+      apart = λ register h. elim (ring.writes register h) [
+        | inl is ↦ subst (λ (r : ℕ). source_in tail r ≡ None) (sym is) tail_clean.unwritten
+        | inr (inl early) ↦ tail_none register (free.apart register early)
+        | inr (inr here) ↦ apart.apart register here.from (sym (ap (λ (l : List Move). source_in l register) (drop_at path at ends.move ends.there)) ∙ here.writes)
+      ];
+    }
+
+    place_fits : Apart (source_in first) (source_in path) → RowsFit ops rows first → RowsFit ops later now
+    place_fits free fit = unwound.adds.fits (row_apart free) (ring.fits (record { apart = λ register h. ring_none register (free.apart register h) }) fit)
+
+    place_writes : (register : ℕ) → IsWritten (source_in now) register → (register ≡ scratch) ⊎ IsWritten (source_in first) register ⊎ IsWritten (source_in path) register
+    place_writes register h = elim (unwound.adds.writes register h) [
+      | inl early ↦ elim (ring.writes register early) [
+        | inl is ↦ inl is
+        | inr (inl old) ↦ inr (inl old)
+        | inr (inr here) ↦ inr (inr (record { from = here.from; writes = sym (over_path register) ∙ ap (λ o. first_of o (source_in tail register)) here.writes }))
+      ]
+      | inr moves ↦ inr (inr (record {
+        from = moves.from;
+        writes = ap (λ (l : List Move). source_in l register) split
+        ∙ source_both tail (ends.move ∷ drop (suc at) path) register
+        ∙ ap (λ o. first_of o (source_in (ends.move ∷ drop (suc at) path) register)) moves.writes;
+      }))
+    ]
+
+    pub place_adds : AddsRing ops scratch (source_in path) rows first later now
+    place_adds = record { does = place_does; reads = place_reads; fits = place_fits; writes = place_writes }

@@ -10,10 +10,11 @@ use Rattle.pc_word.specs.declared.item.Operand.{Operand}
 use Rattle.pc_word.specs.declared.item.Operand.TheVariants.{Name, Lit}
 use Rattle.pc_word.specs.Items.{operand_value}
 use Rattle.pc_copies.specs.declared.moves.Move.{Move}
-use Rattle.pc_copies.specs.models.Sources.{taken, moved, source_in, first_of, over, IsRead, Unread, back, Do}
-use Rattle.pc_copies.specs.models.Packing.{Puts, Fills, Fits, Adds, AddsRing, Leads_to, WritesOnce, Avoids, Unwinds, IsRing, IsClean, Unwound}
-use Rattle.pc_copies.proofs.Rows.{source_both, row_more, reads_both, put_done, put_does, put_reads, put_adds}
-use Rattle.pc_copies.proofs.Unwinding.{one_unwritten, head_written, tail_written, Unwritten, unwritten, one_read, clean_none, leads_unwind}
+use Rattle.pc_copies.specs.models.Sources.{taken, moved, source_in, first_of, over, IsRead, Unread, IsWritten, Apart, back, Do}
+use Rattle.pc_copies.specs.models.Packing.{Puts, Fills, Fits, Adds, AddsRing, RowsFit, Leads_to, WritesOnce, Avoids, Unwinds, IsRing, IsClean, Unwound}
+use Rattle.pc_copies.proofs.Rows.{source_both, row_more, reads_both, put_done, put_does, put_reads, put_writes, put_fits, put_adds}
+use Rattle.pc_copies.proofs.Singles.{one_unwritten, head_written, tail_written, Unwritten, unwritten, one_read, one_written}
+use Rattle.pc_copies.proofs.Unwinding.{clean_none, leads_unwind}
 
 -- ---- parts of moves that follow one another
 
@@ -71,16 +72,18 @@ all_clean register (move ∷ moves) all =
 
 -- ---- a cycle that is put whole
 
-pub adds_ring : (scratch : ℕ) (sources : ℕ → Option Operand) (rows : List (List Move)) (first : List Move) (later : List (List Move)) (now : List Move)
-    → Adds scratch sources rows first later now → AddsRing scratch sources rows first later now
-adds_ring scratch sources rows first later now adds = record {
+pub adds_ring : (ops scratch : ℕ) (sources : ℕ → Option Operand) (rows : List (List Move)) (first : List Move) (later : List (List Move)) (now : List Move)
+    → Adds ops scratch sources rows first later now → AddsRing ops scratch sources rows first later now
+adds_ring ops scratch sources rows first later now adds = record {
   does = λ placed clean done apart unread. adds.does placed done apart unread;
   reads = λ register h. inr (adds.reads register h);
+  fits = adds.fits;
+  writes = λ register h. inr (adds.writes register h);
 }
 
 pub put_ring : (scratch ops : ℕ) (ring : List Move) (rows : List (List Move)) (first : List Move) (later : List (List Move)) (now : List Move) → Puts ops ring rows first later now
-    → AddsRing scratch (source_in ring) rows first later now
-put_ring scratch ops ring rows first later now puts = adds_ring scratch (source_in ring) rows first later now (put_adds scratch ops ring rows first later now puts)
+    → WritesOnce ring → AddsRing ops scratch (source_in ring) rows first later now
+put_ring scratch ops ring rows first later now puts once = adds_ring ops scratch (source_in ring) rows first later now (put_adds scratch ops ring rows first later now puts once)
 
 -- ---- a cycle that is broken
 
@@ -93,7 +96,7 @@ to_scratch scratch head = record { dest = scratch; from = Name head.dest }
 
 -- the first row does not name scratch by then
 pub broken_clean : (scratch ops : ℕ) (init : List Move) (last : Move) (rows : List (List Move)) (first : List Move) (mid : List (List Move)) (row : List Move)
-    (late : List (List Move)) (second : List Move) → Puts ops (from_scratch scratch last ∷ []) rows first mid row → Unwound scratch init mid row late second
+    (late : List (List Move)) (second : List Move) → Puts ops (from_scratch scratch last ∷ []) rows first mid row → Unwound ops scratch init mid row late second
     → ops < length first + length (init ++ last ∷ []) → length second < ops → IsClean scratch second
 broken_clean scratch ops init last rows first mid row late second (Fills full is row_is) unwound long has_room = unwound.clean (subst (IsClean scratch) (sym row_is) (clean_none scratch))
 broken_clean scratch ops init last rows first mid row late second (Fits room is row_is) unwound long has_room = elim unwound.grows [
@@ -103,9 +106,9 @@ broken_clean scratch ops init last rows first mid row late second (Fits room is 
   | inr clean ↦ clean
 ]
 
-module _ (scratch ops more : ℕ) (init : List Move) (last head : Move) (rows : List (List Move)) (first : List Move) (mid : List (List Move)) (row : List Move)
+module _ (scratch ops : ℕ) (init : List Move) (last head : Move) (rows : List (List Move)) (first : List Move) (mid : List (List Move)) (row : List Move)
     (late : List (List Move)) (second : List Move) (later : List (List Move)) (now : List Move) (out : Puts ops (from_scratch scratch last ∷ []) rows first mid row)
-    (unwound : Unwound scratch init mid row late second) (into : Puts more (to_scratch scratch head ∷ []) late second later now)
+    (unwound : Unwound ops scratch init mid row late second) (into : Puts ops (to_scratch scratch head ∷ []) late second later now)
     (closes : last.from ≡ Name head.dest) (once : source_in init last.dest ≡ None) (clean : IsClean scratch init) (apart : last.dest ≢ scratch)
     (tidy : IsClean scratch second) where
   abbrev ring : List Move
@@ -198,7 +201,7 @@ module _ (scratch ops more : ℕ) (init : List Move) (last head : Move) (rows : 
   ring_does placed free done apart_p apart_f =
       let begun = put_does scratch ops leaves rows first mid row out placed done (record { unread = last_free placed apart_p }) (record { unread = last_free (source_in first) apart_f }) in
       let middle = unwound.adds.does (over placed (source_in leaves)) begun (mid_free placed apart_p) (row_free apart_f) in
-      put_done scratch more enters late second later now into (over placed (source_in ring)) (record {
+      put_done scratch ops enters late second later now into (over placed (source_in ring)) (record {
         same = λ names x other.
             ap (λ (n : ℕ → ℤ). back late n x) (row_more second enters names enters_free)
             ∙ middle.same (moved (source_in enters) names) x other
@@ -209,7 +212,7 @@ module _ (scratch ops more : ℕ) (init : List Move) (last head : Move) (rows : 
   init_read register h = record { by = h.by; reads = source_both init (last ∷ []) h.by ∙ ap (λ o. first_of o (source_in (last ∷ []) h.by)) h.reads }
 
   ring_reads : (register : ℕ) → IsRead (source_in now) register → (register ≡ scratch) ⊎ IsRead (source_in first) register ⊎ IsRead (source_in ring) register
-  ring_reads register h = elim (put_reads more enters late second later now into register h) [
+  ring_reads register h = elim (put_reads ops enters late second later now into register h) [
     | inl early ↦ elim (unwound.adds.reads register early) [
       | inl old ↦ elim (put_reads ops leaves rows first mid row out register old) [
         | inl oldest ↦ inr (inl oldest)
@@ -230,8 +233,50 @@ module _ (scratch ops more : ℕ) (init : List Move) (last head : Move) (rows : 
         }))
   ]
 
-  pub ring_broken : AddsRing scratch (source_in ring) rows first later now
-  ring_broken = record { does = ring_does; reads = ring_reads }
+  -- no row writes a register twice
+  leaves_apart : Apart (source_in first) (source_in ring) → Apart (source_in first) (source_in leaves)
+  leaves_apart free = record {
+    apart = λ register h. one_unwritten (from_scratch scratch last) register (unwritten last [] register (none_behind init (last ∷ []) register (free.apart register h))).head;
+  }
+
+  init_apart : Apart (source_in first) (source_in ring) → Apart (source_in row) (source_in init)
+  init_apart free = record {
+    apart = λ register h. elim (put_writes ops leaves rows first mid row out register h) [
+      | inl early ↦ none_front init (last ∷ []) register (free.apart register early)
+      | inr here ↦ subst (λ (r : ℕ). source_in init r ≡ None) (one_written (from_scratch scratch last) register here) once
+    ];
+  }
+
+  enters_apart : Apart (source_in second) (source_in enters)
+  enters_apart = record {
+    apart = λ register h. one_unwritten (to_scratch scratch head) register (λ e. let none = sym (ap (source_in second) e) ∙ tidy.unwritten in let writes = h.writes in absurd (cc));
+  }
+
+  ring_fits : Apart (source_in first) (source_in ring) → RowsFit ops rows first → RowsFit ops later now
+  ring_fits free fit =
+      let begun = put_fits ops leaves rows first mid row out (refl, tt) (leaves_apart free) fit in
+      put_fits ops enters late second later now into (refl, tt) enters_apart (unwound.adds.fits (init_apart free) begun)
+
+  init_written : (register : ℕ) → IsWritten (source_in init) register → IsWritten (source_in ring) register
+  init_written register h = record { from = h.from; writes = source_both init (last ∷ []) register ∙ ap (λ o. first_of o (source_in (last ∷ []) register)) h.writes }
+
+  last_written : source_in ring last.dest ≡ Some last.from
+  last_written = source_both init (last ∷ []) last.dest ∙ ap (λ o. first_of o (source_in (last ∷ []) last.dest)) once ∙ head_written last []
+
+  ring_writes : (register : ℕ) → IsWritten (source_in now) register → (register ≡ scratch) ⊎ IsWritten (source_in first) register ⊎ IsWritten (source_in ring) register
+  ring_writes register h = elim (put_writes ops enters late second later now into register h) [
+    | inl early ↦ elim (unwound.adds.writes register early) [
+      | inl old ↦ elim (put_writes ops leaves rows first mid row out register old) [
+        | inl oldest ↦ inr (inl oldest)
+        | inr here ↦ inr (inr (record { from = last.from; writes = ap (source_in ring) (sym (one_written (from_scratch scratch last) register here)) ∙ last_written }))
+      ]
+      | inr moves ↦ inr (inr (init_written register moves))
+    ]
+    | inr here ↦ inl (sym (one_written (to_scratch scratch head) register here))
+  ]
+
+  pub ring_broken : AddsRing ops scratch (source_in ring) rows first later now
+  ring_broken = record { does = ring_does; reads = ring_reads; fits = ring_fits; writes = ring_writes }
 
 -- ---- as the code reads it
 
@@ -278,20 +323,20 @@ ring_unwinds ring is =
     let last = get_or ring (length ring - 1) is.head in
     leads_unwind (take (length ring - 1) ring) (Name last.dest) ends.leads ends.front (λ register e. let same : last.dest ≡ register = (cc) in subst (λ (r : ℕ). source_in (take (length ring - 1) ring) r ≡ None) same ends.once)
 
-pub break_adds : (scratch ops more : ℕ) (ring : List Move) (default other : Move) (rows : List (List Move)) (first : List Move) (mid : List (List Move)) (row : List Move)
+pub break_adds : (scratch ops : ℕ) (ring : List Move) (default other : Move) (rows : List (List Move)) (first : List Move) (mid : List (List Move)) (row : List Move)
     (late : List (List Move)) (second : List Move) (later : List (List Move)) (now : List Move) → IsRing ring → AllByRecursion (Avoids scratch) ring
     → Puts ops (from_scratch scratch (get_or ring (length ring - 1) default) ∷ []) rows first mid row
-    → Unwound scratch (take (length ring - 1) ring) mid row late second
-    → Puts more (to_scratch scratch (get_or ring 0 other) ∷ []) late second later now
-    → ops < length first + length ring → length second < ops → AddsRing scratch (source_in ring) rows first later now
-break_adds scratch ops more ring default other rows first mid row late second later now is avoids out unwound into long room =
+    → Unwound ops scratch (take (length ring - 1) ring) mid row late second
+    → Puts ops (to_scratch scratch (get_or ring 0 other) ∷ []) late second later now
+    → ops < length first + length ring → length second < ops → AddsRing ops scratch (source_in ring) rows first later now
+break_adds scratch ops ring default other rows first mid row late second later now is avoids out unwound into long room =
     let ends = ring_ends ring default is in
     let init = take (length ring - 1) ring in
     let last = get_or ring (length ring - 1) default in
     let all : AllByRecursion (Avoids scratch) (init ++ last ∷ []) = rw ends.split avoids in
     let long_split : ops < length first + length (init ++ last ∷ []) = rw ends.split long in
     let tidy = broken_clean scratch ops init last rows first mid row late second out unwound long_split room in
-    let enters = subst (λ (m : Move). Puts more (to_scratch scratch m ∷ []) late second later now) (ends.first other) into in
-    let broken = ring_broken scratch ops more init last ends.head rows first mid row late second later now out unwound enters ends.closes ends.once
+    let enters = subst (λ (m : Move). Puts ops (to_scratch scratch m ∷ []) late second later now) (ends.first other) into in
+    let broken = ring_broken scratch ops init last ends.head rows first mid row late second later now out unwound enters ends.closes ends.once
     (all_clean scratch init (all_front (Avoids scratch) init (last ∷ []) all)) (all_back (Avoids scratch) init (last ∷ []) all).0.writes tidy in
-    subst (λ (l : List Move). AddsRing scratch (source_in l) rows first later now) ends.split broken
+    subst (λ (l : List Move). AddsRing ops scratch (source_in l) rows first later now) ends.split broken

@@ -2,11 +2,14 @@
 use Rattle.std.proofs.Common.{◌≡◌, ◌≢◌, ◌⊎◌, inl, inr, ℕ, ◌+◌, ◌<◌, Bool, true, false, List, [], ◌∷◌, ◌++◌, length, drop, Option, Some, None, refl, sym, ◌∙◌, ap, subst, arith, length-append}
 use Rattle.std.specs.Prelude.{ℤ, if◌then◌else◌, nat_eq}
 use Rattle.std.proofs.lemmas.Bool.{cases_eq}
+use Rattle.std.specs.List.{AllByRecursion}
+use Rattle.pc_word.proofs.Lists.{all_both}
 use Rattle.pc_word.specs.declared.item.Operand.{Operand}
 use Rattle.pc_word.specs.declared.item.Operand.TheVariants.{Name, Lit}
 use Rattle.pc_copies.specs.declared.moves.Move.{Move}
-use Rattle.pc_copies.specs.models.Sources.{taken, moved, source_in, first_of, over, IsRead, Unread, back, Do}
-use Rattle.pc_copies.specs.models.Packing.{Puts, Fills, Fits, Adds}
+use Rattle.pc_copies.specs.models.Sources.{taken, moved, source_in, first_of, over, IsRead, Unread, IsWritten, Apart, back, Do}
+use Rattle.pc_copies.specs.models.Packing.{Puts, Fills, Fits, WritesOnce, IsFull, RowsFit, Adds}
+use Rattle.pc_copies.proofs.Singles.{head_written, tail_is_written}
 
 -- ---- sources
 
@@ -89,12 +92,55 @@ pub put_reads : (ops : ℕ) (group : List Move) (rows : List (List Move)) (first
 put_reads ops group rows first later now (Fills full is now_is) register h = absurd (none_read register (subst (λ (l : List Move). IsRead (source_in l) register) now_is h))
 put_reads ops group rows first later now (Fits room is now_is) register h = reads_both first group register (subst (λ (l : List Move). IsRead (source_in l) register) now_is h)
 
+-- ---- what is written
+
+written_both : (row more : List Move) (register : ℕ) (one other : Option Operand) → source_in row register ≡ one → source_in more register ≡ other
+    → IsWritten (λ (x : ℕ). first_of one other) register → IsWritten (source_in row) register ⊎ IsWritten (source_in more) register
+written_both row more register (Some from) other e f h = inl (record { from = from; writes = e })
+written_both row more register None (Some from) e f h = inr (record { from = from; writes = f })
+written_both row more register None None e f h = let is = h.writes in absurd (cc)
+
+pub writes_both : (row more : List Move) (register : ℕ) → IsWritten (source_in (row ++ more)) register → IsWritten (source_in row) register ⊎ IsWritten (source_in more) register
+writes_both row more register h =
+    written_both row more register (source_in row register) (source_in more register) refl refl (record { from = h.from; writes = sym (source_both row more register) ∙ h.writes })
+
+-- lists that write nothing twice and nothing both
+pub once_join : (moves more : List Move) → WritesOnce moves → WritesOnce more → Apart (source_in moves) (source_in more) → WritesOnce (moves ++ more)
+once_join [] more once others apart = others
+once_join (move ∷ moves) more once others apart = (
+  source_both moves more move.dest
+  ∙ ap (λ o. first_of o (source_in more move.dest)) once.0
+  ∙ apart.apart move.dest (record { from = move.from; writes = head_written move moves }),
+  once_join moves more once.1 others (record { apart = λ register h. apart.apart register (tail_is_written move moves register once.0 h) }),
+)
+
+pub put_writes : (ops : ℕ) (group : List Move) (rows : List (List Move)) (first : List Move) (later : List (List Move)) (now : List Move) → Puts ops group rows first later now
+    → (register : ℕ) → IsWritten (source_in now) register → IsWritten (source_in first) register ⊎ IsWritten (source_in group) register
+put_writes ops group rows first later now (Fills full is now_is) register h =
+    let none = subst (λ (l : List Move). IsWritten (source_in l) register) now_is h in let e = none.writes in absurd (cc)
+put_writes ops group rows first later now (Fits room is now_is) register h = writes_both first group register (subst (λ (l : List Move). IsWritten (source_in l) register) now_is h)
+
+pub put_fits : (ops : ℕ) (group : List Move) (rows : List (List Move)) (first : List Move) (later : List (List Move)) (now : List Move) → Puts ops group rows first later now
+    → WritesOnce group → Apart (source_in first) (source_in group) → RowsFit ops rows first → RowsFit ops later now
+put_fits ops group rows first later now (Fills full is now_is) once apart fit =
+    let row : IsFull ops (first ++ group) = record { many = length-append first group ∙ full; once = once_join first group fit.once once apart } in
+    record {
+      full = subst (AllByRecursion (IsFull ops)) (sym is) (all_both (IsFull ops) rows ((first ++ group) ∷ []) fit.full (row, tt));
+      once = subst WritesOnce (sym now_is) tt;
+    }
+put_fits ops group rows first later now (Fits room is now_is) once apart fit = record {
+  full = subst (AllByRecursion (IsFull ops)) (sym is) fit.full;
+  once = subst WritesOnce (sym now_is) (once_join first group fit.once once apart);
+}
+
 -- what is put is added
 pub put_adds : (scratch ops : ℕ) (group : List Move) (rows : List (List Move)) (first : List Move) (later : List (List Move)) (now : List Move) → Puts ops group rows first later now
-    → Adds scratch (source_in group) rows first later now
-put_adds scratch ops group rows first later now puts = record {
+    → WritesOnce group → Adds ops scratch (source_in group) rows first later now
+put_adds scratch ops group rows first later now puts once = record {
   does = put_does scratch ops group rows first later now puts;
   reads = put_reads ops group rows first later now puts;
+  fits = put_fits ops group rows first later now puts once;
+  writes = put_writes ops group rows first later now puts;
 }
 
 -- the first row has room still

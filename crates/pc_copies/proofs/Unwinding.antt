@@ -7,62 +7,10 @@ use Rattle.std.proofs.lemmas.List.{drop_more}
 use Rattle.pc_word.specs.declared.item.Operand.{Operand}
 use Rattle.pc_word.specs.declared.item.Operand.TheVariants.{Name}
 use Rattle.pc_copies.specs.declared.moves.Move.{Move}
-use Rattle.pc_copies.specs.models.Sources.{source_in, first_of, over, IsRead, Unread, Do}
-use Rattle.pc_copies.specs.models.Packing.{Puts, Fills, Fits, Leads_to, WritesOnce, Avoids, Unwinds, IsClean, Unwound}
-use Rattle.pc_copies.proofs.Rows.{source_both, reads_both, do_same, put_does, put_reads}
-
--- ---- what moves write
-
--- a register that is not the first move's destination
-apart_tests : (dest register : ℕ) → dest ≢ register → nat_eq dest register ≡ false
-apart_tests dest register other = by_test (nat_eq dest register) refl
-  where
-    by_test : (b : Bool) → nat_eq dest register ≡ b → b ≡ false
-    by_test true e = absurd (other (eqb-true dest register e))
-    by_test false e = refl
-
-tests_apart : (dest register : ℕ) → nat_eq dest register ≡ false → dest ≢ register
-tests_apart dest register e same = true≢false (sym (eq-eqb dest register same) ∙ e)
-
--- one move writes its destination alone
-pub one_unwritten : (move : Move) (register : ℕ) → move.dest ≢ register → source_in (move ∷ []) register ≡ None
-one_unwritten move register other = ap (λ b. if b then Some move.from else None) (apart_tests move.dest register other)
-
-pub head_written : (move : Move) (moves : List Move) → source_in (move ∷ moves) move.dest ≡ Some move.from
-head_written move moves = ap (λ b. if b then Some move.from else source_in moves move.dest) (eq-eqb move.dest move.dest refl)
-
--- behind another move the same is written
-pub tail_written : (move : Move) (moves : List Move) (register : ℕ) → move.dest ≢ register → source_in (move ∷ moves) register ≡ source_in moves register
-tail_written move moves register other = ap (λ b. if b then Some move.from else source_in moves register) (apart_tests move.dest register other)
-
--- what no move writes
-pub record Unwritten (move : Move) (moves : List Move) (register : ℕ) : Type 0 where
-  pub head : move.dest ≢ register
-  pub tail : source_in moves register ≡ None
-
-pub unwritten : (move : Move) (moves : List Move) (register : ℕ) → source_in (move ∷ moves) register ≡ None → Unwritten move moves register
-unwritten move moves register e = by_test (nat_eq move.dest register) refl e
-  where
-    by_test : (b : Bool) → nat_eq move.dest register ≡ b → (if b then Some move.from else source_in moves register) ≡ None → Unwritten move moves register
-    by_test true t h = absurd (cc)
-    by_test false t h = record { head = tests_apart move.dest register t; tail = h }
-
--- what one move reads
-pub one_read : (move : Move) (register : ℕ) → IsRead (source_in (move ∷ [])) register → move.from ≡ Name register
-one_read move register h = by_test (nat_eq move.dest h.by) h.reads
-  where
-    by_test : (b : Bool) → (if b then Some move.from else None) ≡ Some (Name register) → move.from ≡ Name register
-    by_test true e = cc
-    by_test false e = absurd (cc)
-
-pub head_read : (move : Move) (moves : List Move) (register : ℕ) → move.from ≡ Name register → IsRead (source_in (move ∷ moves)) register
-head_read move moves register e = record { by = move.dest; reads = head_written move moves ∙ ap (λ o. Some o) e }
-
--- what the moves behind another one read
-pub tail_read : (move : Move) (moves : List Move) (register : ℕ) → source_in moves move.dest ≡ None → IsRead (source_in moves) register → IsRead (source_in (move ∷ moves)) register
-tail_read move moves register once h =
-    let other : move.dest ≢ h.by = λ e. let both = sym (ap (source_in moves) e) ∙ once in let reads = h.reads in absurd (cc) in
-    record { by = h.by; reads = tail_written move moves h.by other ∙ h.reads }
+use Rattle.pc_copies.specs.models.Sources.{source_in, first_of, over, IsRead, Unread, IsWritten, Apart, Do}
+use Rattle.pc_copies.specs.models.Packing.{Puts, Fills, Fits, Leads_to, WritesOnce, Avoids, Unwinds, RowsFit, IsClean, Unwound}
+use Rattle.pc_copies.proofs.Singles.{one_unwritten, head_written, tail_written, Unwritten, unwritten, one_read, head_read, tail_read, tail_is_written, one_written}
+use Rattle.pc_copies.proofs.Rows.{source_both, reads_both, once_join, do_same, put_does, put_reads, put_writes, put_fits}
 
 -- ---- clean rows
 
@@ -88,7 +36,7 @@ over_more None (Some other) false from once = refl
 over_more None None false from once = refl
 
 module _ (scratch ops : ℕ) (move : Move) (moves : List Move) (rows : List (List Move)) (first : List Move) (mid : List (List Move)) (row : List Move)
-    (later : List (List Move)) (now : List Move) (before : Unwound scratch moves rows first mid row) (puts : Puts ops (move ∷ []) mid row later now)
+    (later : List (List Move)) (now : List Move) (before : Unwound ops scratch moves rows first mid row) (puts : Puts ops (move ∷ []) mid row later now)
     (unwinds : Unwinds (move ∷ moves)) (avoids : Avoids scratch move) where
   -- what the moves behind it read is not written by it
   moves_unread : (register : ℕ) → IsRead (source_in moves) register → source_in (move ∷ []) register ≡ None
@@ -133,6 +81,32 @@ module _ (scratch ops : ℕ) (move : Move) (moves : List Move) (rows : List (Lis
     | inr here ↦ inr (head_read move moves register (one_read move register here))
   ]
 
+  -- what the moves behind it write is not written by it
+  moves_apart : (register : ℕ) → IsWritten (source_in moves) register → source_in (move ∷ []) register ≡ None
+  moves_apart register h = one_unwritten move register (λ e. let none = sym (ap (source_in moves) e) ∙ unwinds.0 in let writes = h.writes in absurd (cc))
+
+  row_apart : Apart (source_in first) (source_in (move ∷ moves)) → Apart (source_in row) (source_in (move ∷ []))
+  row_apart apart = record {
+    apart = λ register h. elim (before.adds.writes register h) [
+      | inl early ↦ one_unwritten move register (unwritten move moves register (apart.apart register early)).head
+      | inr late ↦ moves_apart register late
+    ];
+  }
+
+  more_fits : Apart (source_in first) (source_in (move ∷ moves)) → RowsFit ops rows first → RowsFit ops later now
+  more_fits apart fit =
+      let rest : Apart (source_in first) (source_in moves) = record { apart = λ register h. (unwritten move moves register (apart.apart register h)).tail } in
+      put_fits ops (move ∷ []) mid row later now puts (refl, tt) (row_apart apart) (before.adds.fits rest fit)
+
+  more_writes : (register : ℕ) → IsWritten (source_in now) register → IsWritten (source_in first) register ⊎ IsWritten (source_in (move ∷ moves)) register
+  more_writes register h = elim (put_writes ops (move ∷ []) mid row later now puts register h) [
+    | inl early ↦ elim (before.adds.writes register early) [
+      | inl old ↦ inl old
+      | inr rest ↦ inr (tail_is_written move moves register unwinds.0 rest)
+    ]
+    | inr here ↦ inr (record { from = move.from; writes = ap (source_in (move ∷ moves)) (sym (one_written move register here)) ∙ head_written move moves })
+  ]
+
   more_grows : Puts ops (move ∷ []) mid row later now → (length now ≡ length first + length (move ∷ moves)) ⊎ IsClean scratch now
   more_grows (Fills full is now_is) = inr (subst (IsClean scratch) (sym now_is) (clean_none scratch))
   more_grows (Fits room is now_is) = elim before.grows [
@@ -144,8 +118,8 @@ module _ (scratch ops : ℕ) (move : Move) (moves : List Move) (rows : List (Lis
   more_clean (Fills full is now_is) clean = subst (IsClean scratch) (sym now_is) (clean_none scratch)
   more_clean (Fits room is now_is) clean = subst (IsClean scratch) (sym now_is) (clean_more scratch row move (before.clean clean) avoids)
 
-  pub unwound_more : Unwound scratch (move ∷ moves) rows first later now
-  unwound_more = record { adds = record { does = more_does; reads = more_reads }; grows = more_grows puts; clean = more_clean puts }
+  pub unwound_more : Unwound ops scratch (move ∷ moves) rows first later now
+  unwound_more = record { adds = record { does = more_does; reads = more_reads; fits = more_fits; writes = more_writes }; grows = more_grows puts; clean = more_clean puts }
 
 unwinds_drop : (at : ℕ) (moves : List Move) → Unwinds moves → Unwinds (drop at moves)
 unwinds_drop zero moves unwinds = unwinds
@@ -160,23 +134,25 @@ avoids_drop scratch (suc at) (move ∷ moves) all = avoids_drop scratch at moves
 -- the move before those that were put is put
 pub unwound_next : (scratch ops at : ℕ) (moves : List Move) (default : Move) (rows : List (List Move)) (first : List Move) (mid : List (List Move)) (row : List Move)
     (later : List (List Move)) (now : List Move) → 0 < at → at ≤ length moves → Unwinds moves → AllByRecursion (Avoids scratch) moves
-    → Unwound scratch (drop at moves) rows first mid row → Puts ops (get_or moves (at - 1) default ∷ []) mid row later now
-    → Unwound scratch (drop (at - 1) moves) rows first later now
+    → Unwound ops scratch (drop at moves) rows first mid row → Puts ops (get_or moves (at - 1) default ∷ []) mid row later now
+    → Unwound ops scratch (drop (at - 1) moves) rows first later now
 unwound_next scratch ops at moves default rows first mid row later now some within unwinds avoids before puts =
     let whole : at - 1 + 1 ≡ at = omega (arith, some) in
     let split : drop (at - 1) moves ≡ get_or moves (at - 1) default ∷ drop at moves =
     drop_more moves (at - 1) default (omega (arith, some, within)) ∙ ap (λ (n : ℕ). get_or moves (at - 1) default ∷ drop n moves) whole in
     let here = subst (λ (l : List Move). Unwinds l) split (unwinds_drop (at - 1) moves unwinds) in
     let avoid = subst (λ (l : List Move). AllByRecursion (Avoids scratch) l) split (avoids_drop scratch (at - 1) moves avoids) in
-    subst (λ (l : List Move). Unwound scratch l rows first later now) (sym split)
+    subst (λ (l : List Move). Unwound ops scratch l rows first later now) (sym split)
     (unwound_more scratch ops (get_or moves (at - 1) default) (drop at moves) rows first mid row later now before puts here avoid.0)
 
 -- nothing is put
-pub unwound_none : (scratch : ℕ) (rows : List (List Move)) (first : List Move) → Unwound scratch [] rows first rows first
-unwound_none scratch rows first = record {
+pub unwound_none : (ops scratch : ℕ) (rows : List (List Move)) (first : List Move) → Unwound ops scratch [] rows first rows first
+unwound_none ops scratch rows first = record {
   adds = record {
     does = λ placed done apart unread. do_same scratch rows first placed (over placed (source_in [])) (λ x other. kept (placed x)) done;
     reads = λ register h. inl h;
+    fits = λ apart fit. fit;
+    writes = λ register h. inl h;
   };
   grows = inl (omega arith);
   clean = λ h. h;

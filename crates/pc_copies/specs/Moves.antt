@@ -1,13 +1,13 @@
 -- Moves between registers that are done at once, and rows of copies that do them.
-use Rattle.std.specs.Prelude.{◌≡◌, ◌≢◌, ◌<◌, ◌≤◌, ◌+◌, ◌*◌, ℕ, Bool, true, false, if◌then◌else◌, nat_eq, List, [], ◌∷◌, length, map, sum, Some, slice_get}
-use Rattle.std.specs.List.{AllByRecursion, count_by}
+use Rattle.std.specs.Prelude.{◌≡◌, ◌≢◌, ◌<◌, ◌≤◌, ℕ, Bool, false, if◌then◌else◌, nat_eq, List, [], ◌∷◌, length, map, drop, Some, slice_get}
+use Rattle.std.specs.List.{AllByRecursion, filter_map, IsDistinct}
 use Rattle.pc_word.specs.declared.item.Item.{Item}
 use Rattle.pc_word.specs.declared.item.Item.TheVariants.{Copy}
 use Rattle.pc_word.specs.declared.item.Operand.{Operand}
 use Rattle.pc_word.specs.declared.item.Operand.TheVariants.{Name, Lit}
 use Rattle.pc_word.specs.MachineLimits.{registers}
 use Rattle.pc_word.specs.State.{State}
-use Rattle.pc_word.specs.Items.{operand_value}
+use Rattle.pc_word.specs.Items.{operand_value, dest_of}
 use Rattle.pc_word.specs.Commit.{state_after}
 use Rattle.pc_copies.specs.declared.moves.Move.{Move}
 
@@ -65,6 +65,19 @@ after_rows lengths (row ∷ rows) old = after_rows lengths rows (after_row lengt
 
 -- ---- the whole
 
--- rows of copies that do moves at once
+-- a row of at least one and at most so many copies, no two to one register
+pub record IsCopyRow (ops : ℕ) (row : List Move) : Type 0 where
+  pub some : 1 ≤ length row
+  pub few : length row ≤ ops
+  pub once : IsDistinct nat_eq (filter_map dest_of (map copy_of row))
+
+-- a row with room for no more
+pub record IsFullRow (ops : ℕ) (row : List Move) : Type 0 where
+  pub full : length row ≡ ops
+
+-- rows of copies that do moves at once: each but the first is full, and one row is enough where it has room for all moves
 pub record IsArranged (moves : List Move) (ops scratch : ℕ) (rows : List (List Move)) : Type 0 where
   pub done : (lengths : List ℕ) (old : State) → AreDone moves scratch old (after_rows lengths rows old)
+  pub rows_fit : AllByRecursion (IsCopyRow ops) rows
+  pub full : AllByRecursion (IsFullRow ops) (drop 1 rows)
+  pub one : length (kept moves) ≤ ops → length rows ≤ 1

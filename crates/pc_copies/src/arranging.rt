@@ -3,8 +3,7 @@ ghost use Rattle.std.specs.Prelude.{◌≡◌, ◌<◌, ◌≤◌, [], None, len
 ghost use Rattle.std.specs.List.{AllByRecursion};
 ghost use Rattle.pc_word.specs.MachineLimits.{registers};
 ghost use Rattle.pc_copies.specs.Moves.{AreMoves, kept, is_name, IsArranged};
-ghost use Rattle.pc_copies.specs.models.Arranging.{IsInside, AreApart, IsTable};
-ghost use Rattle.pc_copies.specs.models.Sources.{source_in, Do};
+ghost use Rattle.pc_copies.specs.models.Arranging.{IsInside, AreApart, IsTable, IsPacked, if_any};
 
 use crate::error::CopyError;
 use crate::follow::follow;
@@ -15,7 +14,7 @@ use pc_word::{Operand, REGISTERS, Seq};
 use std::alloc::{AllocError, Global};
 
 /// Rows of at most `ops` copies that do moves at once when they run one after the other.
-#[tactic(auto, using(crate::proofs::Arranged::arranged, crate::proofs::Kept::kept_apart))]
+#[tactic(auto, using(crate::proofs::Arranged::arranged_laws))]
 pub fn arrange(
     alloc: Global,
     moves: &[Move],
@@ -27,7 +26,11 @@ pub fn arrange(
     ensures { IfOk result (λ rows. IsArranged moves.now ops scratch rows) }
 {
     let kept = kept(alloc, moves)?;
-    let packing = pack(alloc, kept.as_slice(), usize::from(ops), scratch)?;
+    let ops = usize::from(ops);
+    if kept.len() <= ops {
+        return Ok(one_row(alloc, kept)?);
+    }
+    let packing = pack(alloc, kept.as_slice(), ops, scratch)?;
     Ok(packing.in_order()?)
 }
 
@@ -44,6 +47,17 @@ fn kept(alloc: Global, moves: &[Move]) -> Result<CopyRow, AllocError>
     Ok(row)
 }
 
+/// One row of these copies, or none if there is none.
+fn one_row(alloc: Global, row: CopyRow) -> Result<CopyRows, AllocError>
+    ensures { IfOk result (λ rows. rows ≡ if_any row) }
+{
+    let mut rows = Seq::new(alloc);
+    if !row.is_empty() {
+        rows.push(row)?;
+    }
+    Ok(rows)
+}
+
 /// Whether an operand is a register.
 fn is_name(operand: Operand, register: u32) -> bool
     ensures { result ≡ is_name operand register }
@@ -58,7 +72,7 @@ fn is_name(operand: Operand, register: u32) -> bool
 fn pack(alloc: Global, moves: &[Move], ops: usize, scratch: u32) -> Result<Packing, AllocError>
     requires moves { AreApart scratch moves.now }
     requires ops { 0 < ops }
-    ensures { IfOk result (λ packing. Do scratch packing.rows packing.first (source_in moves.now)) }
+    ensures { IfOk result (λ packing. IsPacked ops scratch moves.now packing.rows packing.first) }
 {
     let mut sources = [None; REGISTERS];
     fill(&mut sources, moves);
@@ -78,7 +92,7 @@ fn pack_all(
     requires table { IsTable moves.now sources.old }
     requires has_room { length packing.old.first < packing.old.ops }
     requires none { (packing.old.rows ≡ []) × (packing.old.first ≡ []) }
-    ensures { OnOk result (Do packing.old.scratch packing.new.rows packing.new.first (source_in moves.now)) }
+    ensures { OnOk result (IsPacked packing.old.ops packing.old.scratch moves.now packing.new.rows packing.new.first) }
 {
     for at in 0..moves.len() {
         let path = follow(alloc, sources, moves[at].dest)?;

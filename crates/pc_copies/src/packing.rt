@@ -67,7 +67,7 @@ impl Packing {
         ensures ops { self.new.ops ≡ self.old.ops }
         ensures scratch { self.new.scratch ≡ self.old.scratch }
         ensures has_room { OnOk result (length self.new.first < self.new.ops) }
-        ensures adds { OnOk result (AddsRing self.old.scratch (source_in ring.now) self.old.rows self.old.first self.new.rows self.new.first) }
+        ensures adds { OnOk result (AddsRing self.old.ops self.old.scratch (source_in ring.now) self.old.rows self.old.first self.new.rows self.new.first) }
     {
         if ring.len() <= self.ops - self.first.len() {
             self.put(ring)?;
@@ -87,7 +87,7 @@ impl Packing {
         ensures ops { self.new.ops ≡ self.old.ops }
         ensures scratch { self.new.scratch ≡ self.old.scratch }
         ensures has_room { OnOk result (length self.new.first < self.new.ops) }
-        ensures adds { OnOk result (AddsRing self.old.scratch (source_in ring.now) self.old.rows self.old.first self.new.rows self.new.first) }
+        ensures adds { OnOk result (AddsRing self.old.ops self.old.scratch (source_in ring.now) self.old.rows self.old.first self.new.rows self.new.first) }
     {
         let scratch = self.scratch;
         let last = ring.len() - 1;
@@ -111,7 +111,7 @@ impl Packing {
         ensures ops { self.new.ops ≡ self.old.ops }
         ensures scratch { self.new.scratch ≡ self.old.scratch }
         ensures has_room { OnOk result (length self.new.first < self.new.ops) }
-        ensures unwound { OnOk result (Unwound self.old.scratch moves.now self.old.rows self.old.first self.new.rows self.new.first) }
+        ensures unwound { OnOk result (Unwound self.old.ops self.old.scratch moves.now self.old.rows self.old.first self.new.rows self.new.first) }
     {
         let mut at = moves.len();
         while at > 0 {

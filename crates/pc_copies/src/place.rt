@@ -19,7 +19,7 @@ pub(crate) fn place(packing: &mut Packing, path: &[Move]) -> Result<(), AllocErr
     ensures ops { packing.new.ops ≡ packing.old.ops }
     ensures scratch { packing.new.scratch ≡ packing.old.scratch }
     ensures has_room { OnOk result (length packing.new.first < packing.new.ops) }
-    ensures adds { OnOk result (AddsRing packing.old.scratch (source_in path.now) packing.old.rows packing.old.first packing.new.rows packing.new.first) }
+    ensures adds { OnOk result (AddsRing packing.old.ops packing.old.scratch (source_in path.now) packing.old.rows packing.old.first packing.new.rows packing.new.first) }
 {
     match ring_start(path) {
         Some(start) => {

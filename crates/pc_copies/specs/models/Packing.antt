@@ -1,9 +1,10 @@
 -- Copies that are packed into rows, those that run last first.
 use Rattle.std.specs.Prelude.{◌≡◌, ◌≢◌, ◌⊎◌, ◌+◌, ◌<◌, ℕ, List, [], ◌∷◌, ◌++◌, length, Option, Some, None}
+use Rattle.std.specs.List.{AllByRecursion}
 use Rattle.pc_word.specs.declared.item.Operand.{Operand}
 use Rattle.pc_word.specs.declared.item.Operand.TheVariants.{Name}
 use Rattle.pc_copies.specs.declared.moves.Move.{Move}
-use Rattle.pc_copies.specs.models.Sources.{source_in, over, IsRead, Unread, Do}
+use Rattle.pc_copies.specs.models.Sources.{source_in, over, IsRead, Unread, IsWritten, Apart, Do}
 
 -- ---- what is put into rows
 
@@ -12,17 +13,35 @@ pub data Puts (ops : ℕ) (group : List Move) (rows : List (List Move)) (first :
   Fills : length first + length group ≡ ops → later ≡ rows ++ (first ++ group) ∷ [] → now ≡ [] → Puts ops group rows first later now
   Fits : length first + length group < ops → later ≡ rows → now ≡ first ++ group → Puts ops group rows first later now
 
+-- no register is written twice
+abbrev pub WritesOnce : List Move → Type 0
+WritesOnce [] = Unit {0}
+WritesOnce (move ∷ moves) = (source_in moves move.dest ≡ None) × WritesOnce moves
+
+-- rows of so many copies each, and a first row with fewer: none writes a register twice
+pub record IsFull (ops : ℕ) (row : List Move) : Type 0 where
+  pub many : length row ≡ ops
+  pub once : WritesOnce row
+
+pub record RowsFit (ops : ℕ) (rows : List (List Move)) (first : List Move) : Type 0 where
+  pub full : AllByRecursion (IsFull ops) rows
+  pub once : WritesOnce first
+
 -- what rows do with these sources more
-pub record Adds (scratch : ℕ) (sources : ℕ → Option Operand) (rows : List (List Move)) (first : List Move) (later : List (List Move)) (now : List Move) : Type 0 where
+pub record Adds (ops scratch : ℕ) (sources : ℕ → Option Operand) (rows : List (List Move)) (first : List Move) (later : List (List Move)) (now : List Move) : Type 0 where
   pub does : (placed : ℕ → Option Operand) → Do scratch rows first placed → Unread placed sources → Unread (source_in first) sources
       → Do scratch later now (over placed sources)
   pub reads : (register : ℕ) → IsRead (source_in now) register → IsRead (source_in first) register ⊎ IsRead sources register
+  pub fits : Apart (source_in first) sources → RowsFit ops rows first → RowsFit ops later now
+  pub writes : (register : ℕ) → IsWritten (source_in now) register → IsWritten (source_in first) register ⊎ IsWritten sources register
 
 -- the same where scratch may be needed for it
-pub record AddsRing (scratch : ℕ) (sources : ℕ → Option Operand) (rows : List (List Move)) (first : List Move) (later : List (List Move)) (now : List Move) : Type 0 where
+pub record AddsRing (ops scratch : ℕ) (sources : ℕ → Option Operand) (rows : List (List Move)) (first : List Move) (later : List (List Move)) (now : List Move) : Type 0 where
   pub does : (placed : ℕ → Option Operand) → (IsRead placed scratch → ⊥) → Do scratch rows first placed → Unread placed sources → Unread (source_in first) sources
       → Do scratch later now (over placed sources)
   pub reads : (register : ℕ) → IsRead (source_in now) register → (register ≡ scratch) ⊎ IsRead (source_in first) register ⊎ IsRead sources register
+  pub fits : Apart (source_in first) sources → RowsFit ops rows first → RowsFit ops later now
+  pub writes : (register : ℕ) → IsWritten (source_in now) register → (register ≡ scratch) ⊎ IsWritten (source_in first) register ⊎ IsWritten sources register
 
 -- ---- moves that follow one another
 
@@ -31,11 +50,6 @@ abbrev pub Leads_to : List Move → Operand → Type 0
 Leads_to [] end = Unit {0}
 Leads_to (move ∷ []) end = move.from ≡ end
 Leads_to (move ∷ next ∷ moves) end = (move.from ≡ Name next.dest) × Leads_to (next ∷ moves) end
-
--- no register is written twice
-abbrev pub WritesOnce : List Move → Type 0
-WritesOnce [] = Unit {0}
-WritesOnce (move ∷ moves) = (source_in moves move.dest ≡ None) × WritesOnce moves
 
 -- a move leaves a register alone
 pub record Avoids (register : ℕ) (move : Move) : Type 0 where
@@ -63,7 +77,7 @@ pub record IsClean (register : ℕ) (row : List Move) : Type 0 where
   pub unwritten : source_in row register ≡ None
 
 -- moves were put one after the other, the last first: the first row grew by them, or has begun anew since
-pub record Unwound (scratch : ℕ) (moves : List Move) (rows : List (List Move)) (first : List Move) (later : List (List Move)) (now : List Move) : Type 0 where
-  pub adds : Adds scratch (source_in moves) rows first later now
+pub record Unwound (ops scratch : ℕ) (moves : List Move) (rows : List (List Move)) (first : List Move) (later : List (List Move)) (now : List Move) : Type 0 where
+  pub adds : Adds ops scratch (source_in moves) rows first later now
   pub grows : (length now ≡ length first + length moves) ⊎ IsClean scratch now
   pub clean : IsClean scratch first → IsClean scratch now

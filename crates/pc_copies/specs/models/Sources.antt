@@ -36,6 +36,15 @@ pub record IsRead (sources : ℕ → Option Operand) (register : ℕ) : Type 0 w
 pub record Unread (sources others : ℕ → Option Operand) : Type 0 where
   pub unread : (register : ℕ) → IsRead sources register → others register ≡ None
 
+-- a register takes its value from a source
+pub record IsWritten (sources : ℕ → Option Operand) (register : ℕ) : Type 0 where
+  pub from : Operand
+  pub writes : sources register ≡ Some from
+
+-- no register has a source in both
+pub record Apart (sources others : ℕ → Option Operand) : Type 0 where
+  pub apart : (register : ℕ) → IsWritten sources register → others register ≡ None
+
 -- the registers after rows of which the last runs first
 abbrev pub back : List (List Move) → (ℕ → ℤ) → ℕ → ℤ
 back [] names = names

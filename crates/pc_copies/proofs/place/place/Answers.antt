@@ -20,6 +20,6 @@ pub returns-in_ok-unwind-in-Some-clause-adds : goal.returns-in_ok-unwind-in-Some
 returns-in_ok-unwind-in-Some-clause-adds c =
     let put = c.in_ok-put_ring-in-Some.ensures in
     let ring = rw take_rest at put.adds in
-    let unwound = rw put.scratch at c.in_ok-unwind-in-Some.ensures.unwound in
-    place_adds c.args.path.now c.in-Some.start c.requires.way c.in-Some.ensures c.args.packing.now.scratch c.requires.avoids c.args.packing.now.rows c.args.packing.now.first
+    let unwound = rw (put.scratch, put.ops) at c.in_ok-unwind-in-Some.ensures.unwound in
+    place_adds c.args.path.now c.in-Some.start c.requires.way c.in-Some.ensures c.args.packing.now.ops c.args.packing.now.scratch c.requires.avoids c.args.packing.now.rows c.args.packing.now.first
     c.put_ring.new.self.rows c.put_ring.new.self.first c.unwind.new.self.rows c.unwind.new.self.first ring unwound

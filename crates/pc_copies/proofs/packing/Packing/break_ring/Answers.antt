@@ -10,8 +10,8 @@ unwind-requires-clause-moves c = ring_unwinds c.args.ring.now c.requires.ring
 pub returns-clause-adds : goal.returns-clause-adds
 returns-clause-adds c =
     let put = c.in_ok-put_one.ensures in
-    let unwound = rw put.scratch at c.in_ok-unwind.ensures.unwound in
+    let unwound = rw (put.scratch, put.ops) at c.in_ok-unwind.ensures.unwound in
     let same = c.in_ok-unwind.ensures.ops ∙ put.ops in
-    break_adds c.args.self.now.scratch c.args.self.now.ops c.unwind.new.self.ops c.args.ring.now _ _ c.args.self.now.rows c.args.self.now.first c.put_one.new.self.rows c.put_one.new.self.first
+    break_adds c.args.self.now.scratch c.args.self.now.ops c.args.ring.now _ _ c.args.self.now.rows c.args.self.now.first c.put_one.new.self.rows c.put_one.new.self.first
     c.unwind.new.self.rows c.unwind.new.self.first c.put_one-2.new.self.rows c.put_one-2.new.self.first c.requires.ring c.requires.avoids put.put unwound
-    c.in_ok-put_one-2.ensures.put c.requires.long (subst (λ (n : ℕ). length c.unwind.new.self.first < n) same c.in_ok-unwind.ensures.has_room)
+    (rw same at c.in_ok-put_one-2.ensures.put) c.requires.long (subst (λ (n : ℕ). length c.unwind.new.self.first < n) same c.in_ok-unwind.ensures.has_room)

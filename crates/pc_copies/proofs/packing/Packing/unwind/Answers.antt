@@ -11,6 +11,6 @@ loop-at-preserved c =
       has_room = put.has_room;
       ops = put.ops ∙ old.ops;
       scratch = put.scratch ∙ old.scratch;
-      unwound = unwound_next c.args.self.now.scratch c.loop-at.self.ops c.loop-at.at c.args.moves.now _ c.args.self.now.rows c.args.self.now.first c.loop-at.self.rows c.loop-at.self.first
-          c.put_one.new.self.rows c.put_one.new.self.first c.loop-at-test.true old.within c.requires.moves c.requires.avoids old.unwound put.put;
+      unwound = unwound_next c.args.self.now.scratch c.args.self.now.ops c.loop-at.at c.args.moves.now _ c.args.self.now.rows c.args.self.now.first c.loop-at.self.rows c.loop-at.self.first
+          c.put_one.new.self.rows c.put_one.new.self.first c.loop-at-test.true old.within c.requires.moves c.requires.avoids old.unwound (rw old.ops at put.put);
     }

@@ -8,7 +8,7 @@ invariant-loop-at l = record {
   has_room : length l.self.first < l.self.ops;
   ops : l.self.ops ≡ l.initial.self.ops;
   scratch : l.self.scratch ≡ l.initial.self.scratch;
-  unwound : Unwound l.initial.self.scratch (drop l.at l.moves) l.initial.self.rows l.initial.self.first l.self.rows l.self.first;
+  unwound : Unwound l.initial.self.ops l.initial.self.scratch (drop l.at l.moves) l.initial.self.rows l.initial.self.first l.self.rows l.self.first;
 }
 
 abbrev pub decreases-loop-at : goal.decreases-loop-at
