@@ -277,7 +277,7 @@ rows_do lengths (row ∷ rows) s =
     ap (after_rows lengths rows) (row_does lengths row s) ∙ rows_do lengths rows (with_names s (moved (source_in row) s.names))
 
 -- a move in a list has a source there
-missing : (list : List Move) (i : ℕ) (move : Move) → slice_get list i ≡ Some move → source_in list move.dest ≡ None → ⊥
+pub missing : (list : List Move) (i : ℕ) (move : Move) → slice_get list i ≡ Some move → source_in list move.dest ≡ None → ⊥
 missing [] i move e none = cc
 missing (other ∷ list) zero move e none = let same : other ≡ move = (cc) in (unwritten other list move.dest none).head (ap (λ (n : Move). n.dest) same)
 missing (other ∷ list) (suc i) move e none = missing list i move e (unwritten other list move.dest none).tail
@@ -374,7 +374,7 @@ arranged moves ops scratch rows first are some many packed =
     record {
       done = all_done moves ops scratch rows first are packed.does;
       rows_fit = first_fits ops first (reverse rows) (omega (arith, packed.room)) fit.once
-      (all_reverse (IsCopyRow ops) rows (all_imply (IsFull ops) (IsCopyRow ops) rows (full_fits ops some) fit.full));
+          (all_reverse (IsCopyRow ops) rows (all_imply (IsFull ops) (IsCopyRow ops) rows (full_fits ops some) fit.full));
       full = rest_full ops first (reverse rows) (all_reverse (IsFullRow ops) rows (all_imply (IsFull ops) (IsFullRow ops) rows (λ row full. record { full = full.many }) fit.full));
       one = λ few. absurd (omega (arith, few, many));
     }
@@ -394,7 +394,7 @@ arranged_in_one moves ops scratch are few =
     let does : Do scratch [] (kept moves) (source_in (kept moves)) = record { same = λ names x other. refl } in
     record {
       done = subst (λ (l : List (List Move)). (lengths : List ℕ) (old : State) → AreDone moves scratch old (after_rows lengths l old)) (only (kept moves))
-      (all_done moves ops scratch [] (kept moves) are does);
+          (all_done moves ops scratch [] (kept moves) are does);
       rows_fit = subst (AllByRecursion (IsCopyRow ops)) (only (kept moves)) (first_fits ops (kept moves) [] few apart.once tt);
       full = subst (λ (l : List (List Move)). AllByRecursion (IsFullRow ops) (drop 1 l)) (only (kept moves)) (rest_full ops (kept moves) [] tt);
       one = λ h. one_at_most (kept moves);

@@ -1,5 +1,6 @@
 pub mod Arranged
 pub mod Follows
+pub mod Given
 pub mod Kept
 pub mod Places
 pub mod Rings

@@ -242,8 +242,8 @@ module _ (path : List Move) (at : ℕ) (way : IsWay path) (ends : EndsAt path at
       | inr moves ↦ inr (inr (record {
         from = moves.from;
         writes = ap (λ (l : List Move). source_in l register) split
-        ∙ source_both tail (ends.move ∷ drop (suc at) path) register
-        ∙ ap (λ o. first_of o (source_in (ends.move ∷ drop (suc at) path) register)) moves.writes;
+            ∙ source_both tail (ends.move ∷ drop (suc at) path) register
+            ∙ ap (λ o. first_of o (source_in (ends.move ∷ drop (suc at) path) register)) moves.writes;
       }))
     ]
 

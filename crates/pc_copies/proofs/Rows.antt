@@ -109,8 +109,8 @@ pub once_join : (moves more : List Move) → WritesOnce moves → WritesOnce mor
 once_join [] more once others apart = others
 once_join (move ∷ moves) more once others apart = (
   source_both moves more move.dest
-  ∙ ap (λ o. first_of o (source_in more move.dest)) once.0
-  ∙ apart.apart move.dest (record { from = move.from; writes = head_written move moves }),
+      ∙ ap (λ o. first_of o (source_in more move.dest)) once.0
+      ∙ apart.apart move.dest (record { from = move.from; writes = head_written move moves }),
   once_join moves more once.1 others (record { apart = λ register h. apart.apart register (tail_is_written move moves register once.0 h) }),
 )
 

@@ -15,12 +15,7 @@ use std::alloc::{AllocError, Global};
 
 /// Rows of at most `ops` copies that do moves at once when they run one after the other.
 #[tactic(auto, using(crate::proofs::Arranged::arranged_laws))]
-pub fn arrange(
-    alloc: Global,
-    moves: &[Move],
-    ops: u8,
-    scratch: u32,
-) -> Result<CopyRows, CopyError>
+pub fn arrange(alloc: Global, moves: &[Move], ops: u8, scratch: u32) -> Result<CopyRows, CopyError>
     requires moves { AreMoves scratch moves.now }
     requires ops { 1 ≤ ops }
     ensures { IfOk result (λ rows. IsArranged moves.now ops scratch rows) }

@@ -7,6 +7,8 @@ mod follow;
 mod moves;
 mod packing;
 mod place;
+#[cfg(test)]
+mod tests;
 
 pub use arranging::arrange;
 pub use error::CopyError;

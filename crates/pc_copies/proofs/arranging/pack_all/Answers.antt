@@ -27,7 +27,7 @@ loop-at-preserved c =
       ops = put.ops ∙ old.ops;
       scratch = put.scratch ∙ old.scratch;
       so_far = arranged_more c.args.packing.now.ops c.args.packing.now.scratch c.args.moves.now c.loop-at.at c.loop-at.sources c.follow.new.sources c.loop-at.packing.rows c.loop-at.packing.first c.in_ok-path.path _
-      c.requires.moves old.so_far c.in_ok-path.ensures.followed _ refl c.loop-at-test.true c.place.new.packing.rows c.place.new.packing.first c.in_ok-path.ensures.table adds;
+          c.requires.moves old.so_far c.in_ok-path.ensures.followed _ refl c.loop-at-test.true c.place.new.packing.rows c.place.new.packing.first c.in_ok-path.ensures.table adds;
     }
 
 pub returns : goal.returns
@@ -35,7 +35,7 @@ returns c =
     let so_far = c.loop-at.invariant.so_far in
     record {
       does = arranged_all c.args.packing.now.ops c.args.packing.now.scratch c.args.moves.now c.loop-at.at c.loop-at.sources c.loop-at.packing.rows c.loop-at.packing.first
-      (omega (arith, c.loop-at-test.false)) so_far;
+          (omega (arith, c.loop-at-test.false)) so_far;
       fit = so_far.fit;
       room = rw c.loop-at.invariant.ops at c.loop-at.invariant.has_room;
     }
