@@ -6,20 +6,21 @@ use Rattle.std.proofs.lemmas.Bool.{cases_eq}
 use Rattle.std.proofs.lemmas.List.{reverse-append}
 use Rattle.std.proofs.lemmas.Option.{slice_get_within, slice_get-get_or}
 use Rattle.pc_word.specs.declared.item.Operand.{Operand}
-use Rattle.pc_word.specs.declared.item.Operand.TheVariants.{Name, Lit}
+use Rattle.pc_word.specs.declared.item.Operand.TheVariants.{Name}
 use Rattle.pc_word.specs.State.{State}
 use Rattle.pc_word.specs.Items.{operand_value, dest_of}
-use Rattle.pc_word.specs.Commit.{Stored, names_after, stores_of, cells_after, reads_of}
+use Rattle.pc_word.specs.Commit.{names_after, stores_of, cells_after, reads_of}
 use Rattle.pc_word.proofs.Lists.{all_imply, all_both}
 use Rattle.pc_copies.specs.declared.moves.Move.{Move}
-use Rattle.pc_copies.specs.Moves.{IsSource, AreMoves, AreDone, kept, copy_of, after_row, after_rows, IsCopyRow, IsFullRow, IsArranged}
+use Rattle.pc_copies.specs.Moves.{IsSource, AreMoves, AreDone, kept, copy_of, after_row, after_rows, IsCopyRow, IsFullRow, AreCopies, IsArranged}
 use Rattle.pc_copies.specs.models.Sources.{taken, moved, source_in, first_of, over, IsRead, Unread, IsWritten, Apart, back, Do}
-use Rattle.pc_copies.specs.models.Packing.{AddsRing, WritesOnce, IsFull, RowsFit, Avoids, IsClean}
+use Rattle.pc_copies.specs.models.Packing.{AddsRing, WritesOnce, IsFull, Avoids, IsClean}
 use Rattle.pc_copies.specs.models.Placing.{IsWay}
-use Rattle.pc_copies.specs.models.Following.{source_at, AreSources, IsTaken, Followed}
+use Rattle.pc_copies.specs.models.Following.{source_at, AreSources, Followed}
 use Rattle.pc_copies.specs.models.Arranging.{IsMove, AreApart, IsTable, Arranging, IsPacked, if_any}
+use Rattle.pc_copies.proofs.Copies.{copies_any, copies_in_order}
 use Rattle.pc_copies.proofs.Rows.{do_same}
-use Rattle.pc_copies.proofs.Singles.{apart_tests, Unwritten, unwritten}
+use Rattle.pc_copies.proofs.Singles.{apart_tests, unwritten}
 use Rattle.pc_copies.proofs.Unwinding.{leads_reads}
 use Rattle.pc_copies.proofs.Rings.{all_clean}
 use Rattle.pc_copies.proofs.Kept.{Found, found, all_found, all_sources, given_once, kept_none, kept_apart, kept_source}
@@ -58,7 +59,7 @@ arranged_first ops scratch moves table is = record {
 module _ (ops scratch : ℕ) (moves : List Move) (at : ℕ) (table later_table : List (Option Operand)) (rows : List (List Move)) (first : List Move) (path : List Move) (begin : ℕ)
     (are : AreApart scratch moves) (so_far : Arranging ops scratch moves at table rows first) (follows : Followed table later_table begin path) where
   -- what had no source has none later, and is written by none of the moves that were followed
-  none_stays : (x : ℕ) → source_at table x ≡ None → source_at later_table x ≡ None
+  pub none_stays : (x : ℕ) → source_at table x ≡ None → source_at later_table x ≡ None
   none_stays x none = elim (follows.taken x) [
     | inl left ↦ left.1 ∙ none
     | inr taken ↦ taken.1
@@ -71,7 +72,7 @@ module _ (ops scratch : ℕ) (moves : List Move) (at : ℕ) (table later_table :
   ]
 
   -- a source of theirs is one of the moves
-  path_source : (x : ℕ) (from : Operand) → source_in path x ≡ Some from → source_in moves x ≡ Some from
+  pub path_source : (x : ℕ) (from : Operand) → source_in path x ≡ Some from → source_in moves x ≡ Some from
   path_source x from e = elim (follows.taken x) [
     | inl left ↦ let none = left.0 in absurd (cc)
     | inr taken ↦ elim (so_far.stage x) [
@@ -198,7 +199,22 @@ module _ (ops scratch : ℕ) (moves : List Move) (at : ℕ) (table later_table :
       through = through_more;
     }
 
--- in the end the rows do all moves
+-- in the end no source is left
+pub none_waits : (ops scratch : ℕ) (moves : List Move) (at : ℕ) (table : List (Option Operand)) (rows : List (List Move)) (first : List Move) → length moves ≤ at
+    → Arranging ops scratch moves at table rows first → (x : ℕ) → source_at table x ≡ None
+none_waits ops scratch moves at table rows first all so_far x = elim (so_far.stage x) [
+  | inl waits ↦ by_source (source_in moves x) refl waits.0
+  | inr placed ↦ placed.0
+]
+  where
+    by_source : (source : Option Operand) → source_in moves x ≡ source → source_at table x ≡ source_in moves x → source_at table x ≡ None
+    by_source None e waits = waits ∙ e
+    by_source (Some from) e waits =
+        let it = found moves x from e in
+        let none = so_far.through it.at it.move (let within = slice_get_within moves it.at it.move it.there in omega (arith, within, all)) it.there in
+        subst (λ (r : ℕ). source_at table r ≡ None) it.writes none
+
+-- and the rows do all moves
 pub arranged_all : (ops scratch : ℕ) (moves : List Move) (at : ℕ) (table : List (Option Operand)) (rows : List (List Move)) (first : List Move) → length moves ≤ at
     → Arranging ops scratch moves at table rows first → Do scratch rows first (source_in moves)
 arranged_all ops scratch moves at table rows first all so_far = do_same scratch rows first so_far.placed (source_in moves) (λ x other. placed_is x) so_far.does
@@ -340,7 +356,7 @@ dest_apart move (other ∷ row) none =
     let rest = unwritten other row move.dest none in
     (apart_tests move.dest other.dest (λ e. rest.head (sym e)), dest_apart move row rest.tail)
 
-distinct_dests : (row : List Move) → WritesOnce row → IsDistinct nat_eq (filter_map dest_of (map copy_of row))
+pub distinct_dests : (row : List Move) → WritesOnce row → IsDistinct nat_eq (filter_map dest_of (map copy_of row))
 unfolding IsDistinct
 distinct_dests [] written = tt
 distinct_dests (move ∷ row) written = (dest_apart move row written.0, distinct_dests row written.1)
@@ -376,6 +392,7 @@ arranged moves ops scratch rows first are some many packed =
       rows_fit = first_fits ops first (reverse rows) (omega (arith, packed.room)) fit.once
           (all_reverse (IsCopyRow ops) rows (all_imply (IsFull ops) (IsCopyRow ops) rows (full_fits ops some) fit.full));
       full = rest_full ops first (reverse rows) (all_reverse (IsFullRow ops) rows (all_imply (IsFull ops) (IsFullRow ops) rows (λ row full. record { full = full.many }) fit.full));
+      copies = subst (AreCopies (kept moves)) (sym (copies_in_order rows first)) packed.copies;
       one = λ few. absurd (omega (arith, few, many));
     }
 
@@ -397,6 +414,7 @@ arranged_in_one moves ops scratch are few =
           (all_done moves ops scratch [] (kept moves) are does);
       rows_fit = subst (AllByRecursion (IsCopyRow ops)) (only (kept moves)) (first_fits ops (kept moves) [] few apart.once tt);
       full = subst (λ (l : List (List Move)). AllByRecursion (IsFullRow ops) (drop 1 l)) (only (kept moves)) (rest_full ops (kept moves) [] tt);
+      copies = record { cycles = []; are = tt; among = tt; apart = distinct_dests [] tt; number = let any = copies_any (kept moves) in omega (arith, any) };
       one = λ h. one_at_most (kept moves);
     }
 

@@ -1,18 +1,18 @@
 -- Moves that are followed from one register to the next.
-use Rattle.std.proofs.Common.{◌≡◌, ◌≢◌, ◌⊎◌, inl, inr, ℕ, zero, suc, ◌+◌, ◌<◌, Bool, true, false, cond, List, [], ◌∷◌, ◌++◌, length, get_or, set, Option, Some, None, refl, sym, ◌∙◌, ap, subst, arith}
+use Rattle.std.proofs.Common.{◌≡◌, ◌≢◌, inl, inr, ℕ, zero, suc, ◌+◌, ◌<◌, cond, List, [], ◌∷◌, ◌++◌, length, Option, Some, None, refl, sym, ◌∙◌, ap, subst, arith}
 use Rattle.std.specs.Prelude.{ℤ, slice_set}
-use Rattle.std.specs.List.{count_by}
 use Rattle.std.proofs.lemmas.Bool.{cases_eq}
 use Rattle.pc_word.specs.declared.item.Operand.{Operand}
 use Rattle.pc_word.specs.declared.item.Operand.TheVariants.{Name, Lit}
 use Rattle.pc_word.specs.MachineLimits.{registers}
 use Rattle.pc_word.proofs.Lists.{count_more, set_length}
 use Rattle.pc_copies.specs.declared.moves.Move.{Move}
+use Rattle.pc_copies.specs.Moves.{Leads_to}
 use Rattle.pc_copies.specs.models.Sources.{source_in, first_of}
-use Rattle.pc_copies.specs.models.Packing.{Leads_to, WritesOnce}
-use Rattle.pc_copies.specs.models.Following.{source_at, AreSources, IsTaken, AreTaken, Followed, Following}
+use Rattle.pc_copies.specs.models.Packing.{WritesOnce}
+use Rattle.pc_copies.specs.models.Following.{source_at, is_there, sources_left, AreSources, IsTaken, AreTaken, Followed, Following}
 use Rattle.pc_copies.proofs.Rows.{source_both}
-use Rattle.pc_copies.proofs.Singles.{one_unwritten, head_written, Unwritten, unwritten}
+use Rattle.pc_copies.proofs.Singles.{one_unwritten, head_written, unwritten}
 
 -- ---- tables
 
@@ -28,29 +28,43 @@ set_elsewhere (other ∷ table) zero (suc x) source apart = refl
 set_elsewhere (other ∷ table) (suc at) zero source apart = refl
 set_elsewhere (other ∷ table) (suc at) (suc x) source apart = set_elsewhere table at x source (λ e. apart (ap suc e))
 
--- whether there is a source
-abbrev pub is_there : Option Operand → Bool
-is_there (Some from) = true
-is_there None = false
-
--- how many sources a table has
-abbrev pub sources_left : List (Option Operand) → ℕ
-sources_left table = count_by is_there table
-
 -- one that is taken out is one less
-pub fewer_left : (table : List (Option Operand)) (at : ℕ) (from : Operand) → source_at table at ≡ Some from → sources_left (slice_set table at None) < sources_left table
-fewer_left [] at from there = absurd (cc)
-fewer_left (source ∷ table) zero from there =
+pub one_less : (table : List (Option Operand)) (at : ℕ) (from : Operand) → source_at table at ≡ Some from → sources_left (slice_set table at None) + 1 ≡ sources_left table
+one_less [] at from there = absurd (cc)
+one_less (source ∷ table) zero from there =
     let now = count_more is_there None table in
     let before = count_more is_there source table in
-    let some = ap is_there there in
-    let one = ap {B = ℕ} (λ b. cond b 1 0) some in
+    let one = ap {B = ℕ} (λ o. cond (is_there o) 1 0) there in
     omega (arith, now, before, one)
-fewer_left (source ∷ table) (suc at) from there =
+one_less (source ∷ table) (suc at) from there =
     let now = count_more is_there source (slice_set table at None) in
     let before = count_more is_there source table in
-    let less = fewer_left table at from there in
+    let less = one_less table at from there in
     omega (arith, now, before, less)
+
+-- one that is put where none was is one more
+pub left_more : (table : List (Option Operand)) (at : ℕ) (from : Operand) → at < length table → source_at table at ≡ None
+    → sources_left (slice_set table at (Some from)) ≡ sources_left table + 1
+left_more [] at from within none = absurd (omega arith)
+left_more (source ∷ table) zero from within none =
+    let now = count_more is_there (Some from) table in
+    let before = count_more is_there source table in
+    let zero_is = ap {B = ℕ} (λ o. cond (is_there o) 1 0) none in
+    omega (arith, now, before, zero_is)
+left_more (source ∷ table) (suc at) from within none =
+    let now = count_more is_there source (slice_set table at (Some from)) in
+    let before = count_more is_there source table in
+    let more = left_more table at from (omega arith) none in
+    omega (arith, now, before, more)
+
+-- none is left where no register has one
+pub none_left : (table : List (Option Operand)) → ((x : ℕ) → source_at table x ≡ None) → sources_left table ≡ 0
+none_left [] none = refl
+none_left (source ∷ table) none =
+    let count = count_more is_there source table in
+    let here = ap {B = ℕ} (λ o. cond (is_there o) 1 0) (none 0) in
+    let rest = none_left table (λ x. none (suc x)) in
+    omega (arith, count, here, rest)
 
 -- ---- one move more
 

@@ -1,6 +1,6 @@
 -- Moves that are given, those that are kept, and the table of their sources.
 use Rattle.std.proofs.Common.{◌≡◌, ◌≢◌, ◌⊎◌, inl, inr, ℕ, zero, suc, ◌+◌, ◌-◌, ◌<◌, ◌≤◌, Bool, true, false, List, [], ◌∷◌, ◌++◌, length, take, drop, get_or, replicate, Option, Some, None, refl, sym, ◌∙◌, ap, subst, arith}
-use Rattle.std.proofs.Common.{eqb-true, eq-eqb}
+use Rattle.std.proofs.Common.{eqb-true}
 use Rattle.std.specs.Prelude.{if◌then◌else◌, nat_eq, slice_get, slice_set}
 use Rattle.std.specs.List.{AllByRecursion}
 use Rattle.std.proofs.lemmas.Bool.{cases_eq}
@@ -10,13 +10,13 @@ use Rattle.pc_word.specs.declared.item.Operand.TheVariants.{Name, Lit}
 use Rattle.pc_word.specs.MachineLimits.{registers}
 use Rattle.pc_word.proofs.Lists.{set_length}
 use Rattle.pc_copies.specs.declared.moves.Move.{Move}
-use Rattle.pc_copies.specs.Moves.{IsNamed, IsSource, AreMoves, is_name, kept}
-use Rattle.pc_copies.specs.models.Sources.{source_in, first_of}
-use Rattle.pc_copies.specs.models.Packing.{WritesOnce, Avoids}
-use Rattle.pc_copies.specs.models.Following.{source_at, AreSources}
+use Rattle.pc_copies.specs.Moves.{AreMoves, is_name, kept}
+use Rattle.pc_copies.specs.models.Sources.{source_in}
+use Rattle.pc_copies.specs.models.Packing.{WritesOnce}
+use Rattle.pc_copies.specs.models.Following.{source_at}
 use Rattle.pc_copies.specs.models.Arranging.{IsMove, IsBelow, IsInside, AreApart, IsTable}
-use Rattle.pc_copies.proofs.Singles.{head_written, tail_written, Unwritten, unwritten}
-use Rattle.pc_copies.proofs.Follows.{set_there, set_elsewhere}
+use Rattle.pc_copies.proofs.Singles.{head_written, tail_written, unwritten}
+use Rattle.pc_copies.proofs.Follows.{set_there, set_elsewhere, left_more, none_left}
 
 -- ---- what has a source
 
@@ -182,14 +182,15 @@ table_none moves table is =
     subst (IsTable (drop (length moves) moves)) (sym is) (rw (drop_all (length moves) moves (omega arith)) (record {
       are = record { as_many = length-replicate registers (let none : Option Operand = None in none); named = λ at register e. let there = none_at registers at in absurd (cc) };
       each = λ x. none_at registers x;
+      left = none_left none (λ x. none_at registers x);
     }))
 
 below_of : (from : Operand) (register : ℕ) → IsBelow from → from ≡ Name register → register < registers
 below_of from register below e = subst IsBelow e below
 
 -- with one source more
-table_more : (move : Move) (moves : List Move) (table : List (Option Operand)) → IsInside move → IsTable moves table → IsTable (move ∷ moves) (slice_set table move.dest (Some move.from))
-table_more move moves table inside is =
+table_more : (move : Move) (moves : List Move) (table : List (Option Operand)) → IsInside move → source_in moves move.dest ≡ None → IsTable moves table → IsTable (move ∷ moves) (slice_set table move.dest (Some move.from))
+table_more move moves table inside once is =
     let within : move.dest < length table = (let many = is.are.as_many in let below = inside.dest in omega (arith, many, below)) in
     record {
       are = record {
@@ -207,6 +208,7 @@ table_more move moves table inside is =
             (set_there table move.dest (Some move.from) within ∙ sym (head_written move moves))
         | inr apart ↦ set_elsewhere table move.dest x (Some move.from) apart ∙ is.each x ∙ sym (tail_written move moves x apart)
       ];
+      left = let more = left_more table move.dest move.from within (is.each move.dest ∙ once) in let so_far = is.left in omega (arith, more, so_far);
     }
 
 inside_drop : (at : ℕ) (moves : List Move) → AllByRecursion IsInside moves → AllByRecursion IsInside (drop at moves)
@@ -214,13 +216,19 @@ inside_drop zero moves all = all
 inside_drop (suc at) [] all = tt
 inside_drop (suc at) (move ∷ moves) all = inside_drop at moves all.1
 
+once_drop : (at : ℕ) (moves : List Move) → WritesOnce moves → WritesOnce (drop at moves)
+once_drop zero moves once = once
+once_drop (suc at) [] once = tt
+once_drop (suc at) (move ∷ moves) once = once_drop at moves once.1
+
 -- the source of the move before those that are in the table is put there
-pub table_next : (moves : List Move) (at : ℕ) (default : Move) (table : List (Option Operand)) → 0 < at → at ≤ length moves → AllByRecursion IsInside moves
+pub table_next : (moves : List Move) (at : ℕ) (default : Move) (table : List (Option Operand)) → 0 < at → at ≤ length moves → AllByRecursion IsInside moves → WritesOnce moves
     → IsTable (drop at moves) table → IsTable (drop (at - 1) moves) (slice_set table (get_or moves (at - 1) default).dest (Some (get_or moves (at - 1) default).from))
-table_next moves at default table some within all is =
+table_next moves at default table some within all once is =
     let whole : at - 1 + 1 ≡ at = omega (arith, some) in
     let split : drop (at - 1) moves ≡ get_or moves (at - 1) default ∷ drop at moves =
     drop_more moves (at - 1) default (omega (arith, some, within)) ∙ ap (λ (n : ℕ). get_or moves (at - 1) default ∷ drop n moves) whole in
     let inside = subst (AllByRecursion IsInside) split (inside_drop (at - 1) moves all) in
+    let apart = subst WritesOnce split (once_drop (at - 1) moves once) in
     subst (λ (l : List Move). IsTable l (slice_set table (get_or moves (at - 1) default).dest (Some (get_or moves (at - 1) default).from))) (sym split)
-    (table_more (get_or moves (at - 1) default) (drop at moves) table inside.0 is)
+    (table_more (get_or moves (at - 1) default) (drop at moves) table inside.0 apart.0 is)

@@ -1,4 +1,6 @@
 pub mod Arranged
+pub mod Copies
+pub mod Counts
 pub mod Follows
 pub mod Given
 pub mod Kept

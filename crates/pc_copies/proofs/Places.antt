@@ -2,13 +2,17 @@
 use Rattle.std.proofs.Common.{◌≡◌, ◌≢◌, ◌⊎◌, inl, inr, ℕ, zero, suc, ◌+◌, ◌-◌, ◌<◌, List, [], ◌∷◌, ◌++◌, length, take, drop, get_or, Option, Some, None, refl, sym, ◌∙◌, ap, subst, arith}
 use Rattle.std.specs.Prelude.{ℤ, slice_get, MatchOption}
 use Rattle.std.specs.List.{AllByRecursion}
-use Rattle.std.proofs.lemmas.List.{take_more}
+use Rattle.std.proofs.Common.{length-drop}
+use Rattle.std.proofs.lemmas.List.{take_more, length-take-le}
+use Rattle.std.proofs.lemmas.Option.{slice_get_within}
 use Rattle.pc_word.specs.declared.item.Operand.{Operand}
 use Rattle.pc_word.specs.declared.item.Operand.TheVariants.{Name, Lit}
-use Rattle.pc_word.proofs.Lists.{all_front, all_back}
+use Rattle.pc_word.proofs.Lists.{all_front}
 use Rattle.pc_copies.specs.declared.moves.Move.{Move}
+use Rattle.pc_copies.specs.Moves.{Leads_to}
 use Rattle.pc_copies.specs.models.Sources.{source_in, first_of, over, IsRead, Unread, IsWritten, Apart, Do}
-use Rattle.pc_copies.specs.models.Packing.{AddsRing, RowsFit, Leads_to, WritesOnce, Avoids, Unwinds, IsRing, IsClean, Unwound}
+use Rattle.pc_copies.specs.models.Packing.{AddsRing, RowsFit, WritesOnce, Avoids, Unwinds, IsRing, IsClean, Unwound}
+use Rattle.pc_copies.specs.models.Counting.{Ring_counts, Path_counts}
 use Rattle.pc_copies.specs.models.Placing.{IsWay, IsAt, EndsElsewhere, EndsAt}
 use Rattle.pc_copies.proofs.Rows.{source_both, do_same}
 use Rattle.pc_copies.proofs.Singles.{one_unwritten, head_written}
@@ -249,3 +253,14 @@ module _ (path : List Move) (at : ℕ) (way : IsWay path) (ends : EndsAt path at
 
     pub place_adds : AddsRing ops scratch (source_in path) rows first later now
     place_adds = record { does = place_does; reads = place_reads; fits = place_fits; writes = place_writes }
+
+  -- the copies of both, with one more where the cycle was broken
+  pub path_counts : (before mid after : ℕ) → Ring_counts (drop at path) before mid → after ≡ mid + length (take at path) → Path_counts path before after
+  path_counts before mid after ring tail_is =
+      let within = slice_get_within path at ends.move ends.there in
+      let front = length-take-le at path (omega (arith, within)) in
+      let behind = length-drop at path in
+      elim ring [
+        | inl whole ↦ inl (omega (arith, whole, tail_is, front, behind, within))
+        | inr broken ↦ inr (record { at = at; ring = way_ring; counted = omega (arith, broken, tail_is, front, behind, within) })
+      ]

@@ -1,5 +1,5 @@
 -- Cycles of moves that are put whole, or broken by a copy through scratch.
-use Rattle.std.proofs.Common.{◌≡◌, ◌≢◌, ◌⊎◌, inl, inr, ℕ, ◌+◌, ◌-◌, ◌<◌, ◌≤◌, List, [], ◌∷◌, ◌++◌, length, take, get_or, Option, Some, None, refl, sym, ◌∙◌, ap, subst, arith}
+use Rattle.std.proofs.Common.{◌≡◌, ◌≢◌, ◌⊎◌, inl, inr, ℕ, ◌+◌, ◌-◌, ◌<◌, List, [], ◌∷◌, ◌++◌, length, take, get_or, Option, Some, None, refl, sym, ◌∙◌, ap, subst, arith}
 use Rattle.std.proofs.Common.{length-append}
 use Rattle.std.specs.Prelude.{ℤ}
 use Rattle.std.specs.List.{AllByRecursion}
@@ -8,12 +8,12 @@ use Rattle.std.proofs.lemmas.List.{take_more, take_all}
 use Rattle.pc_word.proofs.Lists.{all_front, all_back}
 use Rattle.pc_word.specs.declared.item.Operand.{Operand}
 use Rattle.pc_word.specs.declared.item.Operand.TheVariants.{Name, Lit}
-use Rattle.pc_word.specs.Items.{operand_value}
 use Rattle.pc_copies.specs.declared.moves.Move.{Move}
+use Rattle.pc_copies.specs.Moves.{Leads_to}
 use Rattle.pc_copies.specs.models.Sources.{taken, moved, source_in, first_of, over, IsRead, Unread, IsWritten, Apart, back, Do}
-use Rattle.pc_copies.specs.models.Packing.{Puts, Fills, Fits, Adds, AddsRing, RowsFit, Leads_to, WritesOnce, Avoids, Unwinds, IsRing, IsClean, Unwound}
+use Rattle.pc_copies.specs.models.Packing.{Puts, Fills, Fits, Adds, AddsRing, RowsFit, WritesOnce, Avoids, Unwinds, IsRing, IsClean, Unwound}
 use Rattle.pc_copies.proofs.Rows.{source_both, row_more, reads_both, put_done, put_does, put_reads, put_writes, put_fits, put_adds}
-use Rattle.pc_copies.proofs.Singles.{one_unwritten, head_written, tail_written, Unwritten, unwritten, one_read, one_written}
+use Rattle.pc_copies.proofs.Singles.{one_unwritten, head_written, tail_written, unwritten, one_read, one_written}
 use Rattle.pc_copies.proofs.Unwinding.{clean_none, leads_unwind}
 
 -- ---- parts of moves that follow one another
@@ -296,7 +296,7 @@ pub record RingEnds (ring init : List Move) (last : Move) : Type 0 where
   pub front : WritesOnce init
   pub once : source_in init last.dest ≡ None
 
-ring_some : (ring : List Move) → IsRing ring → 0 < length ring
+pub ring_some : (ring : List Move) → IsRing ring → 0 < length ring
 ring_some ring is = let long = ap length is.is in omega (arith, long)
 
 pub ring_ends : (ring : List Move) (default : Move) → IsRing ring → RingEnds ring (take (length ring - 1) ring) (get_or ring (length ring - 1) default)

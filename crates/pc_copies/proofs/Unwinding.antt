@@ -1,16 +1,18 @@
 -- Moves that are put one after the other, the last first.
 use Rattle.std.proofs.Common.{◌≡◌, ◌≢◌, ◌⊎◌, inl, inr, ℕ, zero, suc, ◌+◌, ◌-◌, ◌<◌, ◌≤◌, Bool, true, false, List, [], ◌∷◌, ◌++◌, length, drop, get_or, Option, Some, None, refl, sym, ◌∙◌, ap, subst, arith}
-use Rattle.std.proofs.Common.{eq-eqb, eqb-true, true≢false, length-append}
+use Rattle.std.proofs.Common.{eqb-true, length-append}
 use Rattle.std.specs.Prelude.{if◌then◌else◌, nat_eq}
 use Rattle.std.specs.List.{AllByRecursion}
 use Rattle.std.proofs.lemmas.List.{drop_more}
 use Rattle.pc_word.specs.declared.item.Operand.{Operand}
 use Rattle.pc_word.specs.declared.item.Operand.TheVariants.{Name}
 use Rattle.pc_copies.specs.declared.moves.Move.{Move}
+use Rattle.pc_copies.specs.Moves.{Leads_to}
 use Rattle.pc_copies.specs.models.Sources.{source_in, first_of, over, IsRead, Unread, IsWritten, Apart, Do}
-use Rattle.pc_copies.specs.models.Packing.{Puts, Fills, Fits, Leads_to, WritesOnce, Avoids, Unwinds, RowsFit, IsClean, Unwound}
-use Rattle.pc_copies.proofs.Singles.{one_unwritten, head_written, tail_written, Unwritten, unwritten, one_read, head_read, tail_read, tail_is_written, one_written}
-use Rattle.pc_copies.proofs.Rows.{source_both, reads_both, once_join, do_same, put_does, put_reads, put_writes, put_fits}
+use Rattle.pc_copies.specs.models.Packing.{Puts, Fills, Fits, WritesOnce, Avoids, Unwinds, RowsFit, IsClean, Unwound}
+use Rattle.pc_copies.proofs.Singles.{one_unwritten, head_written, unwritten, one_read, head_read, tail_read, tail_is_written, one_written}
+use Rattle.pc_copies.proofs.Copies.{put_counts}
+use Rattle.pc_copies.proofs.Rows.{source_both, reads_both, do_same, put_does, put_reads, put_writes, put_fits}
 
 -- ---- clean rows
 
@@ -119,7 +121,12 @@ module _ (scratch ops : ℕ) (move : Move) (moves : List Move) (rows : List (Lis
   more_clean (Fits room is now_is) clean = subst (IsClean scratch) (sym now_is) (clean_more scratch row move (before.clean clean) avoids)
 
   pub unwound_more : Unwound ops scratch (move ∷ moves) rows first later now
-  unwound_more = record { adds = record { does = more_does; reads = more_reads; fits = more_fits; writes = more_writes }; grows = more_grows puts; clean = more_clean puts }
+  unwound_more = record {
+    adds = record { does = more_does; reads = more_reads; fits = more_fits; writes = more_writes };
+    grows = more_grows puts;
+    clean = more_clean puts;
+    counted = let one = put_counts ops (move ∷ []) mid row later now puts in let so_far = before.counted in omega (arith, one, so_far);
+  }
 
 unwinds_drop : (at : ℕ) (moves : List Move) → Unwinds moves → Unwinds (drop at moves)
 unwinds_drop zero moves unwinds = unwinds
@@ -156,6 +163,7 @@ unwound_none ops scratch rows first = record {
   };
   grows = inl (omega arith);
   clean = λ h. h;
+  counted = omega arith;
 }
   where
     kept : (source : Option Operand) → source ≡ first_of source None

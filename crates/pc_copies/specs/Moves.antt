@@ -1,5 +1,5 @@
 -- Moves between registers that are done at once, and rows of copies that do them.
-use Rattle.std.specs.Prelude.{◌≡◌, ◌≢◌, ◌<◌, ◌≤◌, ℕ, Bool, false, if◌then◌else◌, nat_eq, List, [], ◌∷◌, length, map, drop, Some, slice_get}
+use Rattle.std.specs.Prelude.{◌≡◌, ◌≢◌, ◌<◌, ◌≤◌, ◌+◌, ◌++◌, ℕ, Bool, false, if◌then◌else◌, nat_eq, List, [], ◌∷◌, length, map, drop, Some, slice_get}
 use Rattle.std.specs.List.{AllByRecursion, filter_map, IsDistinct}
 use Rattle.pc_word.specs.declared.item.Item.{Item}
 use Rattle.pc_word.specs.declared.item.Item.TheVariants.{Copy}
@@ -75,9 +75,44 @@ pub record IsCopyRow (ops : ℕ) (row : List Move) : Type 0 where
 pub record IsFullRow (ops : ℕ) (row : List Move) : Type 0 where
   pub full : length row ≡ ops
 
+-- each move reads what the next one writes, and the last reads this
+abbrev pub Leads_to : List Move → Operand → Type 0
+Leads_to [] end = Unit {0}
+Leads_to (move ∷ []) end = move.from ≡ end
+Leads_to (move ∷ next ∷ moves) end = (move.from ≡ Name next.dest) × Leads_to (next ∷ moves) end
+
+-- a cycle of moves: each reads what the next one writes, and the last what the first one writes
+abbrev pub IsCycle : List Move → Type 0
+IsCycle [] = ⊥
+IsCycle (move ∷ moves) = Leads_to (move ∷ moves) (Name move.dest)
+
+-- a move among others
+pub record IsAmong (moves : List Move) (move : Move) : Type 0 where
+  pub at : ℕ
+  pub there : slice_get moves at ≡ Some move
+
+-- the moves of several lists
+abbrev pub joined : List (List Move) → List Move
+joined [] = []
+joined (moves ∷ lists) = moves ++ joined lists
+
+-- how many copies rows have
+abbrev pub copies_in : List (List Move) → ℕ
+copies_in [] = 0
+copies_in (row ∷ rows) = length row + copies_in rows
+
+-- as many copies as moves, and one more for each of some cycles of them, no two of which share a register
+pub record AreCopies (moves : List Move) (copies : ℕ) : Type 0 where
+  pub cycles : List (List Move)
+  pub are : AllByRecursion IsCycle cycles
+  pub among : AllByRecursion (IsAmong moves) (joined cycles)
+  pub apart : IsDistinct nat_eq (filter_map dest_of (map copy_of (joined cycles)))
+  pub number : copies ≡ length moves + length cycles
+
 -- rows of copies that do moves at once: each but the first is full, and one row is enough where it has room for all moves
 pub record IsArranged (moves : List Move) (ops scratch : ℕ) (rows : List (List Move)) : Type 0 where
   pub done : (lengths : List ℕ) (old : State) → AreDone moves scratch old (after_rows lengths rows old)
   pub rows_fit : AllByRecursion (IsCopyRow ops) rows
   pub full : AllByRecursion (IsFullRow ops) (drop 1 rows)
+  pub copies : AreCopies (kept moves) (copies_in rows)
   pub one : length (kept moves) ≤ ops → length rows ≤ 1

@@ -1,4 +1,5 @@
 pub mod Arranging
+pub mod Counting
 pub mod Following
 pub mod Given
 pub mod Packing

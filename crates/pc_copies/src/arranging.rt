@@ -3,6 +3,7 @@ ghost use Rattle.std.specs.Prelude.{◌≡◌, ◌<◌, ◌≤◌, [], None, len
 ghost use Rattle.std.specs.List.{AllByRecursion};
 ghost use Rattle.pc_word.specs.MachineLimits.{registers};
 ghost use Rattle.pc_copies.specs.Moves.{AreMoves, kept, is_name, IsArranged};
+ghost use Rattle.pc_copies.specs.models.Packing.{WritesOnce};
 ghost use Rattle.pc_copies.specs.models.Arranging.{IsInside, AreApart, IsTable, IsPacked, if_any};
 
 use crate::error::CopyError;
@@ -100,6 +101,7 @@ fn pack_all(
 fn fill(table: &mut [Option<Operand>], moves: &[Move])
     requires table { table.old ≡ replicate registers None }
     requires moves { AllByRecursion IsInside moves.now }
+    requires once { WritesOnce moves.now }
     ensures { IsTable moves.now table.new }
 {
     let mut at = moves.len();

@@ -1,7 +1,7 @@
 //! Moves that follow one another: each reads what the next one writes.
-ghost use Rattle.std.specs.Prelude.{◌≡◌, ◌<◌, IfOk, OnOk};
+ghost use Rattle.std.specs.Prelude.{◌≡◌, ◌<◌, ◌+◌, length, IfOk, OnOk};
 ghost use Rattle.pc_word.specs.MachineLimits.{registers};
-ghost use Rattle.pc_copies.specs.models.Following.{AreSources, Followed};
+ghost use Rattle.pc_copies.specs.models.Following.{AreSources, sources_left, Followed};
 
 use crate::moves::{CopyRow, Move};
 use pc_word::{Operand, Seq};
@@ -17,6 +17,7 @@ pub(crate) fn follow(
     requires table { AreSources sources.old }
     requires first { first < registers }
     ensures table { OnOk result (AreSources sources.new) }
+    ensures counted { IfOk result (λ path. sources_left sources.new + length path ≡ sources_left sources.old) }
     ensures followed { IfOk result (λ path. Followed sources.old sources.new first path) }
 {
     let mut path = Seq::new(alloc);

@@ -2,6 +2,7 @@
 ghost use Rattle.std.specs.Prelude.{◌≡◌, ◌+◌, ◌<◌, ◌≤◌, [], ◌∷◌, ◌++◌, length, reverse, IfOk, OnOk};
 ghost use Rattle.std.specs.List.{AllByRecursion};
 ghost use Rattle.pc_copies.specs.models.Arranging.{if_any};
+ghost use Rattle.pc_copies.specs.models.Counting.{copies_with, Ring_counts};
 ghost use Rattle.pc_copies.specs.models.Packing.{Puts, Avoids, Unwinds, IsRing, AddsRing, Unwound};
 ghost use Rattle.pc_copies.specs.models.Sources.{source_in};
 
@@ -59,7 +60,6 @@ impl Packing {
     }
 
     /// Puts a cycle of moves into the first row, whole if there is room for it.
-
     pub(crate) fn put_ring(&mut self, ring: &[Move]) -> Result<(), AllocError>
         requires has_room { length self.old.first < self.old.ops }
         requires ring { IsRing ring.now }
@@ -67,6 +67,7 @@ impl Packing {
         ensures ops { self.new.ops ≡ self.old.ops }
         ensures scratch { self.new.scratch ≡ self.old.scratch }
         ensures has_room { OnOk result (length self.new.first < self.new.ops) }
+        ensures counted { OnOk result (Ring_counts ring.now (copies_with self.old.rows self.old.first) (copies_with self.new.rows self.new.first)) }
         ensures adds { OnOk result (AddsRing self.old.ops self.old.scratch (source_in ring.now) self.old.rows self.old.first self.new.rows self.new.first) }
     {
         if ring.len() <= self.ops - self.first.len() {
@@ -87,6 +88,7 @@ impl Packing {
         ensures ops { self.new.ops ≡ self.old.ops }
         ensures scratch { self.new.scratch ≡ self.old.scratch }
         ensures has_room { OnOk result (length self.new.first < self.new.ops) }
+        ensures counted { OnOk result (Ring_counts ring.now (copies_with self.old.rows self.old.first) (copies_with self.new.rows self.new.first)) }
         ensures adds { OnOk result (AddsRing self.old.ops self.old.scratch (source_in ring.now) self.old.rows self.old.first self.new.rows self.new.first) }
     {
         let scratch = self.scratch;

@@ -1,6 +1,7 @@
 //! Moves that follow one another are put into rows.
 ghost use Rattle.std.specs.Prelude.{◌≡◌, ◌<◌, None, length, OnOk, MatchOption};
 ghost use Rattle.std.specs.List.{AllByRecursion};
+ghost use Rattle.pc_copies.specs.models.Counting.{copies_with, Path_counts};
 ghost use Rattle.pc_copies.specs.models.Packing.{Avoids, AddsRing};
 ghost use Rattle.pc_copies.specs.models.Placing.{IsWay, IsAt, EndsElsewhere, EndsAt};
 ghost use Rattle.pc_copies.specs.models.Sources.{source_in};
@@ -19,6 +20,7 @@ pub(crate) fn place(packing: &mut Packing, path: &[Move]) -> Result<(), AllocErr
     ensures ops { packing.new.ops ≡ packing.old.ops }
     ensures scratch { packing.new.scratch ≡ packing.old.scratch }
     ensures has_room { OnOk result (length packing.new.first < packing.new.ops) }
+    ensures counted { OnOk result (Path_counts path.now (copies_with packing.old.rows packing.old.first) (copies_with packing.new.rows packing.new.first)) }
     ensures adds { OnOk result (AddsRing packing.old.ops packing.old.scratch (source_in path.now) packing.old.rows packing.old.first packing.new.rows packing.new.first) }
 {
     match ring_start(path) {

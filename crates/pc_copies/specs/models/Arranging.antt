@@ -5,10 +5,11 @@ use Rattle.pc_word.specs.declared.item.Operand.{Operand}
 use Rattle.pc_word.specs.declared.item.Operand.TheVariants.{Name, Lit}
 use Rattle.pc_word.specs.MachineLimits.{registers}
 use Rattle.pc_copies.specs.declared.moves.Move.{Move}
-use Rattle.pc_copies.specs.Moves.{IsNamed, IsSource}
+use Rattle.pc_copies.specs.Moves.{IsNamed, IsSource, AreCopies}
 use Rattle.pc_copies.specs.models.Sources.{source_in, IsRead, IsWritten, Do}
 use Rattle.pc_copies.specs.models.Packing.{WritesOnce, RowsFit}
-use Rattle.pc_copies.specs.models.Following.{source_at, AreSources}
+use Rattle.pc_copies.specs.models.Following.{source_at, sources_left, AreSources}
+use Rattle.pc_copies.specs.models.Counting.{copies_with}
 
 -- a move that names registers of the machine, but not scratch
 pub record IsMove (scratch : ℕ) (move : Move) : Type 0 where
@@ -33,6 +34,7 @@ pub record AreApart (scratch : ℕ) (moves : List Move) : Type 0 where
 pub record IsTable (moves : List Move) (table : List (Option Operand)) : Type 0 where
   pub are : AreSources table
   pub each : (x : ℕ) → source_at table x ≡ source_in moves x
+  pub left : sources_left table ≡ length moves
 
 -- rows do what was taken out of the table, from the moves before this place at least
 pub record Arranging (ops scratch : ℕ) (moves : List Move) (at : ℕ) (table : List (Option Operand)) (rows : List (List Move)) (first : List Move) : Type 0 where
@@ -51,6 +53,7 @@ pub record IsPacked (ops scratch : ℕ) (moves : List Move) (rows : List (List M
   pub does : Do scratch rows first (source_in moves)
   pub fit : RowsFit ops rows first
   pub room : length first < ops
+  pub copies : AreCopies moves (copies_with rows first)
 
 -- the first row, if it has copies
 abbrev pub if_any : List Move → List (List Move)

@@ -1,11 +1,13 @@
 -- Moves that were followed from one register to the next.
-use Rattle.std.specs.Prelude.{◌≡◌, ◌⊎◌, ◌<◌, ℕ, List, [], length, Option, Some, None, slice_index_or}
+use Rattle.std.specs.Prelude.{◌≡◌, ◌⊎◌, ◌<◌, ℕ, Bool, true, false, List, [], length, Option, Some, None, slice_index_or}
+use Rattle.std.specs.List.{count_by}
 use Rattle.pc_word.specs.declared.item.Operand.{Operand}
 use Rattle.pc_word.specs.declared.item.Operand.TheVariants.{Name}
 use Rattle.pc_word.specs.MachineLimits.{registers}
 use Rattle.pc_copies.specs.declared.moves.Move.{Move}
+use Rattle.pc_copies.specs.Moves.{Leads_to}
 use Rattle.pc_copies.specs.models.Sources.{source_in}
-use Rattle.pc_copies.specs.models.Packing.{Leads_to, WritesOnce}
+use Rattle.pc_copies.specs.models.Packing.{WritesOnce}
 
 -- the source that a table has for a register
 abbrev pub source_at : List (Option Operand) → ℕ → Option Operand
@@ -15,6 +17,15 @@ source_at table register = slice_index_or table register None
 pub record AreSources (table : List (Option Operand)) : Type 0 where
   pub as_many : length table ≡ registers
   pub named : (at register : ℕ) → source_at table at ≡ Some (Name register) → register < registers
+
+-- whether there is a source
+abbrev pub is_there : Option Operand → Bool
+is_there (Some from) = true
+is_there None = false
+
+-- how many sources a table has
+abbrev pub sources_left : List (Option Operand) → ℕ
+sources_left table = count_by is_there table
 
 -- a source was left in a table, or taken out
 abbrev pub IsTaken : Option Operand → Option Operand → Option Operand → Type 0

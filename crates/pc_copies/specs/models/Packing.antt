@@ -1,9 +1,10 @@
 -- Copies that are packed into rows, those that run last first.
-use Rattle.std.specs.Prelude.{◌≡◌, ◌≢◌, ◌⊎◌, ◌+◌, ◌<◌, ℕ, List, [], ◌∷◌, ◌++◌, length, Option, Some, None}
+use Rattle.std.specs.Prelude.{◌≡◌, ◌≢◌, ◌⊎◌, ◌+◌, ◌<◌, ℕ, List, [], ◌∷◌, ◌++◌, length, Option, None}
 use Rattle.std.specs.List.{AllByRecursion}
 use Rattle.pc_word.specs.declared.item.Operand.{Operand}
 use Rattle.pc_word.specs.declared.item.Operand.TheVariants.{Name}
 use Rattle.pc_copies.specs.declared.moves.Move.{Move}
+use Rattle.pc_copies.specs.Moves.{Leads_to, copies_in}
 use Rattle.pc_copies.specs.models.Sources.{source_in, over, IsRead, Unread, IsWritten, Apart, Do}
 
 -- ---- what is put into rows
@@ -45,12 +46,6 @@ pub record AddsRing (ops scratch : ℕ) (sources : ℕ → Option Operand) (rows
 
 -- ---- moves that follow one another
 
--- each move reads what the next one writes, and the last reads this
-abbrev pub Leads_to : List Move → Operand → Type 0
-Leads_to [] end = Unit {0}
-Leads_to (move ∷ []) end = move.from ≡ end
-Leads_to (move ∷ next ∷ moves) end = (move.from ≡ Name next.dest) × Leads_to (next ∷ moves) end
-
 -- a move leaves a register alone
 pub record Avoids (register : ℕ) (move : Move) : Type 0 where
   pub writes : move.dest ≢ register
@@ -81,3 +76,4 @@ pub record Unwound (ops scratch : ℕ) (moves : List Move) (rows : List (List Mo
   pub adds : Adds ops scratch (source_in moves) rows first later now
   pub grows : (length now ≡ length first + length moves) ⊎ IsClean scratch now
   pub clean : IsClean scratch first → IsClean scratch now
+  pub counted : copies_in later + length now ≡ copies_in rows + length first + length moves

@@ -1,10 +1,11 @@
 -- Moves that follow one another, and the cycle that they may end in.
-use Rattle.std.specs.Prelude.{◌≡◌, ℕ, List, Option, Some, None, slice_get}
+use Rattle.std.specs.Prelude.{◌≡◌, ℕ, List, Some, None, slice_get}
 use Rattle.pc_word.specs.declared.item.Operand.{Operand}
 use Rattle.pc_word.specs.declared.item.Operand.TheVariants.{Name}
 use Rattle.pc_copies.specs.declared.moves.Move.{Move}
+use Rattle.pc_copies.specs.Moves.{Leads_to}
 use Rattle.pc_copies.specs.models.Sources.{source_in}
-use Rattle.pc_copies.specs.models.Packing.{Leads_to, WritesOnce}
+use Rattle.pc_copies.specs.models.Packing.{WritesOnce}
 
 -- moves that follow one another, to different registers
 pub record IsWay (path : List Move) : Type 0 where

@@ -1,4 +1,4 @@
-use Rattle.std.proofs.Common.{◌∙◌, sym, ap, arith, length}
+use Rattle.std.proofs.Common.{◌∙◌, ap, arith, length}
 use Rattle.std.specs.Prelude.{List}
 use Rattle.pc_copies.specs.declared.moves.Move.{Move}
 use Rattle.pc_copies.specs.models.Arranging.{if_any}

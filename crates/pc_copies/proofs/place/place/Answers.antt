@@ -1,7 +1,7 @@
 use Rattle.std.proofs.Common.{sym, arith}
 use Rattle.std.proofs.lemmas.List.{length-take-le, take_rest}
 use Rattle.std.proofs.lemmas.Option.{slice_get_within}
-use Rattle.pc_copies.proofs.Places.{way_unwinds, way_ring, way_tail, place_adds}
+use Rattle.pc_copies.proofs.Places.{way_unwinds, way_ring, way_tail, place_adds, path_counts}
 use Rattle.pc_copies.proofs.place.place.Goals as goal
 
 pub put_ring-requires-clause-ring : goal.put_ring-requires-clause-ring
@@ -23,3 +23,8 @@ returns-in_ok-unwind-in-Some-clause-adds c =
     let unwound = rw (put.scratch, put.ops) at c.in_ok-unwind-in-Some.ensures.unwound in
     place_adds c.args.path.now c.in-Some.start c.requires.way c.in-Some.ensures c.args.packing.now.ops c.args.packing.now.scratch c.requires.avoids c.args.packing.now.rows c.args.packing.now.first
     c.put_ring.new.self.rows c.put_ring.new.self.first c.unwind.new.self.rows c.unwind.new.self.first ring unwound
+
+pub returns-in_ok-unwind-in-Some-clause-counted : goal.returns-in_ok-unwind-in-Some-clause-counted
+returns-in_ok-unwind-in-Some-clause-counted c =
+    let put = c.in_ok-put_ring-in-Some.ensures in
+    path_counts c.args.path.now c.in-Some.start c.requires.way c.in-Some.ensures _ _ _ (rw take_rest at put.counted) c.in_ok-unwind-in-Some.ensures.unwound.counted

@@ -1,4 +1,3 @@
-use Rattle.std.proofs.Common.{arith}
 use Rattle.pc_copies.proofs.Places.{none_further}
 use Rattle.pc_copies.proofs.place.position.Goals as goal
 

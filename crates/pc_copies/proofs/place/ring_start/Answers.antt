@@ -2,7 +2,7 @@ use Rattle.std.proofs.Common.{◌≡◌, None, arith}
 use Rattle.std.proofs.lemmas.Bool.Decides.{nat_tests}
 use Rattle.pc_copies.specs.models.Sources.{source_in}
 use Rattle.pc_copies.specs.models.Placing.{IsAt, EndsElsewhere, EndsAt}
-use Rattle.pc_copies.proofs.Places.{match_other, none_elsewhere, literal_elsewhere, ends_elsewhere, ends_at}
+use Rattle.pc_copies.proofs.Places.{match_other, literal_elsewhere, ends_elsewhere, ends_at}
 use Rattle.pc_copies.proofs.place.ring_start.Goals as goal
 
 pub returns-in-Name : goal.returns-in-Name

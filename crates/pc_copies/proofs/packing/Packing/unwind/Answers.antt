@@ -1,4 +1,4 @@
-use Rattle.std.proofs.Common.{sym, ◌∙◌, arith, subst}
+use Rattle.std.proofs.Common.{◌∙◌, arith}
 use Rattle.pc_copies.proofs.Unwinding.{unwound_next}
 use Rattle.pc_copies.proofs.packing.Packing.unwind.Goals as goal
 
