@@ -1,5 +1,6 @@
 -- Moves that are given, those that are kept, and the table of their sources.
-use Rattle.std.proofs.Common.{◌≡◌, ◌≢◌, ◌⊎◌, inl, inr, ℕ, zero, suc, ◌+◌, ◌-◌, ◌<◌, ◌≤◌, Bool, true, false, List, [], ◌∷◌, ◌++◌, length, take, drop, get_or, replicate, Option, Some, None, refl, sym, ◌∙◌, ap, subst, arith}
+use Rattle.std.proofs.Common.{◌≡◌, ◌≢◌, ◌⊎◌, inl, inr, ℕ, zero, suc, ◌+◌, ◌-◌, ◌<◌, ◌≤◌, Bool, true, false, List, [], ◌∷◌, ◌++◌, length, take, drop, get_or, replicate, Option}
+use Rattle.std.proofs.Common.{Some, None, refl, sym, ◌∙◌, ap, subst, arith}
 use Rattle.std.proofs.Common.{eqb-true}
 use Rattle.std.specs.Prelude.{if◌then◌else◌, nat_eq, slice_get, slice_set}
 use Rattle.std.specs.List.{AllByRecursion}
@@ -159,7 +160,8 @@ pub kept_skipped : (moves : List Move) (at : ℕ) (default : Move) (row : List M
     → is_name (get_or moves at default).from (get_or moves at default).dest ≡ true → row ≡ kept (take (at + 1) moves)
 kept_skipped moves at default row within so_far own =
     let move = get_or moves at default in
-    so_far ∙ sym (ap kept (take_more moves at default within) ∙ kept_both (take at moves) (move ∷ []) ∙ ap (λ b. kept (take at moves) ++ (if b then [] else move ∷ [])) own ∙ no_more (kept (take at moves)))
+    so_far
+    ∙ sym (ap kept (take_more moves at default within) ∙ kept_both (take at moves) (move ∷ []) ∙ ap (λ b. kept (take at moves) ++ (if b then [] else move ∷ [])) own ∙ no_more (kept (take at moves)))
 
 pub kept_pushed : (moves : List Move) (at : ℕ) (default : Move) (row now : List Move) → at < length moves → row ≡ kept (take at moves)
     → is_name (get_or moves at default).from (get_or moves at default).dest ≡ false → now ≡ row ++ get_or moves at default ∷ [] → now ≡ kept (take (at + 1) moves)
@@ -189,7 +191,8 @@ below_of : (from : Operand) (register : ℕ) → IsBelow from → from ≡ Name 
 below_of from register below e = subst IsBelow e below
 
 -- with one source more
-table_more : (move : Move) (moves : List Move) (table : List (Option Operand)) → IsInside move → source_in moves move.dest ≡ None → IsTable moves table → IsTable (move ∷ moves) (slice_set table move.dest (Some move.from))
+table_more : (move : Move) (moves : List Move) (table : List (Option Operand)) → IsInside move → source_in moves move.dest ≡ None → IsTable moves table
+    → IsTable (move ∷ moves) (slice_set table move.dest (Some move.from))
 table_more move moves table inside once is =
     let within : move.dest < length table = (let many = is.are.as_many in let below = inside.dest in omega (arith, many, below)) in
     record {

@@ -210,7 +210,8 @@ module _ (path : List Move) (at : ℕ) (way : IsWay path) (ends : EndsAt path at
     place_does : (placed : ℕ → Option Operand) → (IsRead placed scratch → ⊥) → Do scratch rows first placed → Unread placed (source_in path) → Unread (source_in first) (source_in path)
         → Do scratch later now (over placed (source_in path))
     place_does placed clean done apart_p apart_f =
-        let begun = ring.does placed clean done (record { unread = λ register h. ring_none register (apart_p.unread register h) }) (record { unread = λ register h. ring_none register (apart_f.unread register h) }) in
+        let begun = ring.does placed clean done (record { unread = λ register h. ring_none register (apart_p.unread register h) })
+        (record { unread = λ register h. ring_none register (apart_f.unread register h) }) in
         let all = unwound.adds.does (over placed (source_in (drop at path))) begun (placed_free placed apart_p) (row_free apart_f) in
         do_same scratch later now (over (over placed (source_in (drop at path))) (source_in tail)) (over placed (source_in path)) (λ x other. over_all (placed x) x) all
 

@@ -321,7 +321,8 @@ pub ring_unwinds : (ring : List Move) → IsRing ring → Unwinds (take (length 
 ring_unwinds ring is =
     let ends = ring_ends ring is.head is in
     let last = get_or ring (length ring - 1) is.head in
-    leads_unwind (take (length ring - 1) ring) (Name last.dest) ends.leads ends.front (λ register e. let same : last.dest ≡ register = (cc) in subst (λ (r : ℕ). source_in (take (length ring - 1) ring) r ≡ None) same ends.once)
+    leads_unwind (take (length ring - 1) ring) (Name last.dest) ends.leads ends.front
+    (λ register e. let same : last.dest ≡ register = (cc) in subst (λ (r : ℕ). source_in (take (length ring - 1) ring) r ≡ None) same ends.once)
 
 pub break_adds : (scratch ops : ℕ) (ring : List Move) (default other : Move) (rows : List (List Move)) (first : List Move) (mid : List (List Move)) (row : List Move)
     (late : List (List Move)) (second : List Move) (later : List (List Move)) (now : List Move) → IsRing ring → AllByRecursion (Avoids scratch) ring

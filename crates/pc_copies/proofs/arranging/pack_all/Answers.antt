@@ -16,7 +16,8 @@ pub place-requires-clause-avoids : goal.place-requires-clause-avoids
 place-requires-clause-avoids c =
     rw c.as_slice.ensures
     (rw c.loop-at.invariant.scratch
-    (path_avoids c.args.packing.now.ops c.args.packing.now.scratch c.args.moves.now c.loop-at.at c.loop-at.sources c.follow.new.sources c.loop-at.packing.rows c.loop-at.packing.first c.in_ok-path.path _
+    (path_avoids c.args.packing.now.ops c.args.packing.now.scratch c.args.moves.now c.loop-at.at c.loop-at.sources c.follow.new.sources c.loop-at.packing.rows
+    c.loop-at.packing.first c.in_ok-path.path _
     c.requires.moves c.loop-at.invariant.so_far c.in_ok-path.ensures.followed))
 
 pub loop-at-preserved : goal.loop-at-preserved
@@ -31,7 +32,8 @@ loop-at-preserved c =
       counting = counting_more c.args.packing.now.ops c.args.packing.now.scratch c.args.moves.now c.loop-at.at c.loop-at.sources c.follow.new.sources c.loop-at.packing.rows
           c.loop-at.packing.first c.in_ok-path.path _ c.requires.moves old.so_far c.in_ok-path.ensures.followed old.counting c.place.new.packing.rows c.place.new.packing.first
           c.in_ok-path.ensures.counted (rw c.as_slice.ensures at put.counted);
-      so_far = arranged_more c.args.packing.now.ops c.args.packing.now.scratch c.args.moves.now c.loop-at.at c.loop-at.sources c.follow.new.sources c.loop-at.packing.rows c.loop-at.packing.first c.in_ok-path.path _
+      so_far = arranged_more c.args.packing.now.ops c.args.packing.now.scratch c.args.moves.now c.loop-at.at c.loop-at.sources c.follow.new.sources
+          c.loop-at.packing.rows c.loop-at.packing.first c.in_ok-path.path _
           c.requires.moves old.so_far c.in_ok-path.ensures.followed _ refl c.loop-at-test.true c.place.new.packing.rows c.place.new.packing.first c.in_ok-path.ensures.table adds;
     }
 

@@ -8,7 +8,8 @@ pub put_ring-requires-clause-ring : goal.put_ring-requires-clause-ring
 put_ring-requires-clause-ring c = rw take_rest (way_ring c.args.path.now c.in-Some.start c.requires.way c.in-Some.ensures)
 
 pub slice_bounds-unwind-end : goal.slice_bounds-unwind-end
-slice_bounds-unwind-end c = sym (length-take-le c.in-Some.start c.args.path.now (let within = slice_get_within c.args.path.now c.in-Some.start c.in-Some.ensures.move c.in-Some.ensures.there in omega (arith, within)))
+slice_bounds-unwind-end c =
+    sym (length-take-le c.in-Some.start c.args.path.now (let within = slice_get_within c.args.path.now c.in-Some.start c.in-Some.ensures.move c.in-Some.ensures.there in omega (arith, within)))
 
 pub unwind-requires-clause-moves : goal.unwind-requires-clause-moves
 unwind-requires-clause-moves c = way_tail c.args.path.now c.in-Some.start c.requires.way c.in-Some.ensures
