@@ -1,8 +1,9 @@
 -- Dead writes, and the graph without them.
-use Rattle.std.proofs.Common.{◌≡◌, ◌≢◌, inl, inr, ℕ, ◌<◌, Bool, true, false, not, ◌&&◌, List, [], ◌∷◌, length, Option, Some, None, refl, sym, ◌∙◌, ap, subst, arith, eqb-true, true≢false}
+use Rattle.std.proofs.Common.{◌≡◌, ◌≢◌, inl, inr, ℕ, ◌<◌, Bool, true, false, not, ◌&&◌, List, [], ◌∷◌, length, get_or, Option, Some, None, refl, sym, ◌∙◌, ap, subst, arith, eqb-true, true≢false}
 use Rattle.std.specs.Prelude.{ℤ, if◌then◌else◌, nat_eq, slice_get, slice_index, IfSome}
 use Rattle.std.specs.List.{AllByRecursion, list_any}
 use Rattle.std.proofs.lemmas.Bool.{cases_eq}
+use Rattle.std.proofs.lemmas.List.{get_or_default}
 use Rattle.std.proofs.lemmas.Option.{slice_get_within}
 use Rattle.pc_word.specs.declared.item.Item.{Item}
 use Rattle.pc_word.specs.declared.item.Item.TheVariants.{Bin, Copy, Load, Store, Print, Read, More}
@@ -31,11 +32,13 @@ use Rattle.pc_pass.proofs.Changes.{change_agrees, node_there, reachable_there}
 use Rattle.pc_scalar.specs.declared.plan.Plan.{Plan}
 use Rattle.pc_scalar.specs.Cleared.{only_writes, WritesAreLive}
 use Rattle.pc_scalar.specs.LoopTests.{KeepsLoopTests}
+use Rattle.pc_scalar.specs.Tally.{AreMany, IsWorkedOn}
 use Rattle.pc_scalar.specs.models.Plan.{Fits, planned}
-use Rattle.pc_scalar.specs.models.Ends.{Jump, FallsAlong, led}
+use Rattle.pc_scalar.specs.models.Ends.{Jump, FallsAlong, AreEnds, led}
 use Rattle.pc_scalar.specs.models.Needed.{IsNeeded, Read_always, Read_for, Read_behind, is_unwanted, is_needless, node_only_writes, node_needless, wants_of, AreNeeded, cleared, AreCleared, IsClearing}
 use Rattle.pc_scalar.proofs.Chains.{one_end, stays_end, edge_led}
 use Rattle.pc_scalar.proofs.Skipping.{sides_there, KeepsEdges, IsSkipping, new_there, new_made_of, new_as_many, skipping_fits, end_leads, reachable_stays, skipping_keeps_tests}
+use Rattle.pc_scalar.proofs.Skipped.{Tells, skipping_counts}
 use Rattle.pc_scalar.proofs.Needs.{only_fits}
 
 -- ---- sets that lack nothing
@@ -216,6 +219,12 @@ module _ (flow : FlowGraph) (sets : List VariableSet) (table : List ℕ) (needs 
         let it = jump_needless at (omega (arith, are.as_many)) other in
         (needs.is_flow.nodes_fit at (Op it.item (slice_index table at)) it.there).1.lower;
   }
+
+-- the end that is read for the entry
+pub entry_end : (flow : FlowGraph) (sets : List VariableSet) (table ends : List ℕ) (entry end : ℕ) → AreNeeded flow sets → AreCleared flow sets table → AreEnds table ends
+    → entry ≡ flow.entry → end ≡ get_or ends entry end → end ≡ slice_index ends flow.entry
+entry_end flow sets table ends entry end needed cleared are is e =
+    e ∙ ap (λ (n : ℕ). get_or ends n end) is ∙ get_or_default ends flow.entry end 0 (omega (arith, needed.is_flow.begins, cleared.as_many, are.as_many))
 
 -- ---- the cleared graph
 
@@ -433,8 +442,23 @@ module _ (flow : FlowGraph) (plan : Plan) (is : IsClearing flow plan) where
   clearing_keeps_tests = skipping_keeps_tests flow plan is.table is.ends (λ node. node) (is_skipping flow plan is)
       (λ to turn test. place_stays to test.node test.there (loop_kept is.sets turn test.node test.tests))
 
+  -- ---- what is counted
+
+  -- a needless item is skipped
+  clearing_works : (at : ℕ) (node : FlowNode) → slice_get flow.nodes at ≡ Some node → node_needless is.sets node ≡ true → slice_index is.table at ≢ at
+  clearing_works at node there e stays = true≢false (sym e ∙ stays_kept at node there stays)
+
+  clearing_tells : Tells flow is.table (λ node. node) (node_needless is.sets)
+  clearing_tells = record {
+    worked = λ at node there e. inr (clearing_works at node there e);
+    left = λ at node there e. (refl, place_stays at node there e);
+  }
+
+  pub clearing_counts : AreMany (IsWorkedOn flow new) (length flow.nodes) plan.changed
+  clearing_counts = skipping_counts flow plan is.table is.ends (λ node. node) (is_skipping flow plan is) (node_needless is.sets) clearing_tells is.changed
+
 pub ruleset place_laws = (behind_has_set, writes_fit)
 
 pub ruleset plan_laws = (cleared_falls)
 
-pub ruleset clear_laws = (clearing_fits, clearing_keeps, clearing_clears, clearing_keeps_tests)
+pub ruleset clear_laws = (clearing_fits, clearing_keeps, clearing_clears, clearing_keeps_tests, clearing_counts)

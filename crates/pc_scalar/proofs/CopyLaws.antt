@@ -1,5 +1,5 @@
 -- After copies were propagated, none is named that stands.
-use Rattle.std.proofs.Common.{◌≡◌, ◌≢◌, inl, inr, ℕ, Bool, true, false, not, ◌||◌, List, Option, Some, None, refl, sym, ◌∙◌, ap, eq-eqb, eqb-true, true≢false}
+use Rattle.std.proofs.Common.{◌≡◌, ◌≢◌, inl, inr, ℕ, Bool, true, false, not, ◌||◌, List, length, Option, Some, None, refl, sym, ◌∙◌, ap, eq-eqb, eqb-true, true≢false}
 use Rattle.std.specs.Prelude.{nat_eq, slice_get}
 use Rattle.std.specs.List.{list_any}
 use Rattle.pc_word.specs.declared.item.Item.{Item}
@@ -18,11 +18,13 @@ use Rattle.pc_scalar.specs.declared.plan.Plan.{Plan}
 use Rattle.pc_scalar.specs.declared.rule.Rule.TheVariants.{CopiedNames}
 use Rattle.pc_scalar.specs.Copied.{NamesNoCopy}
 use Rattle.pc_scalar.specs.LoopTests.{KeepsLoopTests}
+use Rattle.pc_scalar.specs.Tally.{AreMany, IsWorkedOn}
 use Rattle.pc_scalar.specs.models.Plan.{Fits, planned}
 use Rattle.pc_scalar.specs.models.Known.{after, stays_true, source, copied, copied_item, rewritten, KnownAt, At_head, Behind_item}
 use Rattle.pc_scalar.specs.models.Rewriting.{IsRewriting}
 use Rattle.pc_scalar.proofs.Knowing.{FromAfter, Was_known, Is_new, after_from}
 use Rattle.pc_scalar.proofs.Rewritten.{none_there, rewriting_keeps, rewriting_keeps_tests, reached_before}
+use Rattle.pc_scalar.proofs.Differing.{rewriting_counts}
 use Rattle.pc_scalar.proofs.Standing.{rewriting_fits, stands_known, stands_small}
 
 -- what a known copy was copied from is no known copy
@@ -152,4 +154,7 @@ copying_keeps flow plan is = rewriting_keeps flow CopiedNames plan is
 pub copying_keeps_tests : (flow : FlowGraph) (plan : Plan) → IsRewriting flow CopiedNames plan → KeepsLoopTests flow (planned plan flow)
 copying_keeps_tests flow plan is = rewriting_keeps_tests flow CopiedNames plan is
 
-pub ruleset copy_laws = (copying_fits, copying_keeps, copying_copies, copying_keeps_tests)
+pub copying_counts : (flow : FlowGraph) (plan : Plan) → IsRewriting flow CopiedNames plan → AreMany (IsWorkedOn flow (planned plan flow)) (length flow.nodes) plan.changed
+copying_counts flow plan is = rewriting_counts flow CopiedNames plan is
+
+pub ruleset copy_laws = (copying_fits, copying_keeps, copying_copies, copying_keeps_tests, copying_counts)

@@ -6,7 +6,7 @@ use Rattle.pc_word.specs.declared.item.Item.{Item}
 use Rattle.pc_word.specs.declared.item.Item.TheVariants.{Bin, Copy, Load, Store, Print, Read, More}
 use Rattle.pc_word.specs.declared.item.Operand.TheVariants.{Name, Lit}
 use Rattle.pc_word.specs.declared.item.OpCode.{OpCode}
-use Rattle.pc_word.specs.Word.{holds}
+use Rattle.pc_word.specs.Word.{holds, word_apply}
 use Rattle.pc_word.specs.State.{State}
 use Rattle.pc_word.specs.Run.{Step, Goes}
 use Rattle.pc_word.specs.Items.{dest_of}
@@ -20,12 +20,14 @@ use Rattle.pc_flow.specs.Reachable.{IsReachableNode, Behind}
 use Rattle.pc_pass.specs.models.Change.{Change, LeadsPast, Becomes, Does, Tests, Stops_too, Traps_too, IsSkipped, IsChange}
 use Rattle.pc_pass.proofs.Changes.{change_agrees, node_there, reachable_there}
 use Rattle.pc_scalar.specs.declared.plan.Plan.{Plan}
-use Rattle.pc_scalar.specs.Folded.{IsFolded}
+use Rattle.pc_scalar.specs.Folded.{IsFolded, is_foldable}
+use Rattle.pc_scalar.specs.Tally.{AreMany, without_edges, IsWorkedOn}
 use Rattle.pc_scalar.specs.LoopTests.{KeepsLoopTests}
 use Rattle.pc_scalar.specs.models.Plan.{Fits, planned}
 use Rattle.pc_scalar.specs.models.Ends.{Jump, FallsAlong, NodeThere, led}
 use Rattle.pc_scalar.specs.models.Folding.{folded_item, folded, taken, AreTaken, IsFolding}
 use Rattle.pc_scalar.proofs.Skipping.{sides_there, fits_there, KeepsEdges, IsSkipping, new_there, new_made_of, new_as_many, skipping_fits, end_leads, reachable_stays, skipping_keeps_tests}
+use Rattle.pc_scalar.proofs.Skipped.{Tells, skipping_counts}
 
 -- ---- folded items
 
@@ -305,6 +307,58 @@ module _ (flow : FlowGraph) (plan : Plan) (is : IsFolding flow plan) where
   folding_keeps_tests = skipping_keeps_tests flow plan is.table is.ends folded (is_skipping flow plan is)
       (λ to turn test. is.taken_sides.each to test.node test.there ∙ taken_of_loop to turn test.node test.tests)
 
+  -- ---- what is counted
+
+  -- an item that becomes a copy is another one
+  folded_other : (op : OpCode) (dest to : ℕ) (left right value : ℤ) → without_edges (Op (Copy dest (Lit value)) to) ≢ without_edges (Op (Bin op dest (Lit left) (Lit right)) to)
+  folded_other op dest to left right value e = cc
+
+  -- a test that may be skipped is
+  place_taken : (at on_yes on_no : ℕ) (value : ℤ) → slice_get flow.nodes at ≡ Some (Test (Lit value) on_yes on_no None) → slice_index is.table at ≢ at
+  place_taken at on_yes on_no value there stays = no_literal_test at (slice_index is.ends on_yes) (slice_index is.ends on_no) value (Test (Lit value) on_yes on_no None) there stays refl
+
+  folding_works : (at : ℕ) (node : FlowNode) → slice_get flow.nodes at ≡ Some node → is_foldable node ≡ true
+      → (without_edges (folded node) ≢ without_edges node) ⊎ (slice_index is.table at ≢ at)
+  folding_works at (Op (Bin op dest (Lit left) (Lit right)) to) there e = inl (folded_other op dest to left right (word_apply op left right))
+  folding_works at (Op (Bin op dest (Lit left) (Name right)) to) there e = absurd (cc)
+  folding_works at (Op (Bin op dest (Name left) right) to) there e = absurd (cc)
+  folding_works at (Op (Copy dest from) to) there e = absurd (cc)
+  folding_works at (Op (Load dest array index) to) there e = absurd (cc)
+  folding_works at (Op (Store array index value) to) there e = absurd (cc)
+  folding_works at (Op (Print value) to) there e = absurd (cc)
+  folding_works at (Op (Read dest) to) there e = absurd (cc)
+  folding_works at (Op (More dest) to) there e = absurd (cc)
+  folding_works at (Test (Name name) on_yes on_no turn) there e = absurd (cc)
+  folding_works at (Test (Lit value) on_yes on_no None) there e = inr (place_taken at on_yes on_no value there)
+  folding_works at (Test (Lit value) on_yes on_no (Some turn)) there e = absurd (cc)
+  folding_works at Stop there e = absurd (cc)
+  folding_works at (Trap kind line) there e = absurd (cc)
+
+  unfolded : (node : FlowNode) (at : ℕ) → is_foldable node ≡ false → (without_edges (folded node) ≡ without_edges node) × (taken at node ≡ at)
+  unfolded (Op (Bin op dest (Lit left) (Lit right)) to) at e = absurd (cc)
+  unfolded (Op (Bin op dest (Lit left) (Name right)) to) at e = (refl, refl)
+  unfolded (Op (Bin op dest (Name left) right) to) at e = (refl, refl)
+  unfolded (Op (Copy dest from) to) at e = (refl, refl)
+  unfolded (Op (Load dest array index) to) at e = (refl, refl)
+  unfolded (Op (Store array index value) to) at e = (refl, refl)
+  unfolded (Op (Print value) to) at e = (refl, refl)
+  unfolded (Op (Read dest) to) at e = (refl, refl)
+  unfolded (Op (More dest) to) at e = (refl, refl)
+  unfolded (Test (Name name) on_yes on_no turn) at e = (refl, refl)
+  unfolded (Test (Lit value) on_yes on_no None) at e = absurd (cc)
+  unfolded (Test (Lit value) on_yes on_no (Some turn)) at e = (refl, refl)
+  unfolded Stop at e = (refl, refl)
+  unfolded (Trap kind line) at e = (refl, refl)
+
+  folding_tells : Tells flow is.table folded is_foldable
+  folding_tells = record {
+    worked = folding_works;
+    left = λ at node there e. let it = unfolded node at e in (it.0, is.taken_sides.each at node there ∙ it.1);
+  }
+
+  pub folding_counts : AreMany (IsWorkedOn flow new) (length flow.nodes) plan.changed
+  folding_counts = skipping_counts flow plan is.table is.ends folded (is_skipping flow plan is) is_foldable folding_tells is.changed
+
 pub ruleset plan_laws = (taken_falls)
 
-pub ruleset fold_laws = (folding_fits, folding_keeps, folding_folds, folding_keeps_tests)
+pub ruleset fold_laws = (folding_fits, folding_keeps, folding_folds, folding_keeps_tests, folding_counts)

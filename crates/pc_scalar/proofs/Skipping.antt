@@ -85,15 +85,19 @@ module _ (flow : FlowGraph) (plan : Plan) (table ends : List ℕ) (made : FlowNo
   pub end_leads : (to : ℕ) → IsTarget flow to → LeadsPast (Jump table) to (slice_index ends to)
   end_leads to there = end_leads_past table to (slice_index ends to) (is.are_ends.each to (omega (arith, is.falls.as_many)))
 
+  -- no other node takes the place of one to which it leads
+  pub end_stays : (to : ℕ) → IsTarget flow to → slice_index table (slice_index ends to) ≡ slice_index ends to
+  end_stays to there = (is.are_ends.each to (omega (arith, is.falls.as_many))).stays
+
   -- the place of a node that can be reached is its own
   pub reachable_stays : (at : ℕ) → IsReachableNode new at → slice_index table at ≡ at
-  reachable_stays _ Entry = rw is.entry ((is.are_ends.each flow.entry (omega (arith, is.falls.as_many, is.is_flow.begins))).stays)
+  reachable_stays _ Entry = rw is.entry (end_stays flow.entry is.is_flow.begins)
   reachable_stays _ (Behind {from = from} {to = at} {node = node} reached there edge) =
       let before = new_made_of from node there in
       let led_edge : HasEdge (led ends (made before.0)) at = subst (λ (n : FlowNode). HasEdge n at) (sym before.2) edge in
       let next = edge_led_from ends (made before.0) at led_edge in
       let target = edge_target flow from next.0 before.0 (is.is_flow.nodes_fit from before.0 before.1) (is.keeps.edge_from before.0 next.0 next.1) in
-      subst (λ (n : ℕ). slice_index table n ≡ n) next.2 (is.are_ends.each next.0 (omega (arith, is.falls.as_many, target))).stays
+      subst (λ (n : ℕ). slice_index table n ≡ n) next.2 (end_stays next.0 target)
 
   -- where no test of a loop is skipped, all are kept
   module _ (stay : (to turn : ℕ) → IsLoopTest flow to turn → slice_index table to ≡ to) where

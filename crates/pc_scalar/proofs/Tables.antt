@@ -1,9 +1,7 @@
 -- Lists that are made of the nodes of a graph, one after the other.
-use Rattle.std.proofs.Common.{◌≡◌, ◌≢◌, ◌⊎◌, ℕ, zero, suc, ◌+◌, ◌<◌, ◌≤◌, Bool, cond, List, [], ◌∷◌, ◌++◌, length, map, take, drop, get_or}
+use Rattle.std.proofs.Common.{◌≡◌, ◌≢◌, ◌⊎◌, ℕ, zero, suc, ◌+◌, ◌<◌, ◌≤◌, List, [], ◌∷◌, ◌++◌, length, map, take, drop, get_or}
 use Rattle.std.proofs.Common.{set, append_assoc, Some, refl, sym, ◌∙◌, ap, subst, arith, inl, inr}
 use Rattle.std.specs.Prelude.{slice_get, slice_set, slice_index}
-use Rattle.std.specs.List.{count_by}
-use Rattle.pc_word.proofs.Lists.{count_both, count_more}
 use Rattle.std.proofs.lemmas.Bool.{cases_eq}
 use Rattle.std.proofs.lemmas.List.{get_or_default, map-append, length-map, length-take-le, drop_more, get_or_at, set_at, take_more, take_all, get_or_append_left, get_or_push}
 use Rattle.std.proofs.lemmas.Option.{slice_get_within, slice_get-get_or}
@@ -49,14 +47,6 @@ pub mapped_from : {X Y : Type 0} (f : X → Y) (xs : List X) (i : ℕ) (y : Y) �
 mapped_from f [] i y e = absurd (cc)
 mapped_from f (x ∷ xs) zero y e = (x, refl, let same : f x ≡ y = (cc) in same)
 mapped_from f (x ∷ xs) (suc i) y e = mapped_from f xs i y e
-
--- the count with one element more
-pub counted_more : {X : Type 0} (p : X → Bool) (xs : List X) (i : ℕ) (x : X) → slice_get xs i ≡ Some x
-    → count_by p (take (i + 1) xs) ≡ count_by p (take i xs) + cond (p x) 1 0
-counted_more p xs i x there =
-    let one_more = take_more xs i x (slice_get_within xs i x there) ∙ ap (λ z. take i xs ++ z ∷ []) (stands_at xs i x x there) in
-    let taken = ap (count_by p) one_more in
-    omega (arith, taken, count_both p (take i xs) (x ∷ []), count_more p x [])
 
 -- a list whose elements are changed one after the other
 pub changed_more : {X : Type 0} (f : X → X) (xs now : List X) (i : ℕ) (x : X) → i < length xs → now ≡ map f (take i xs) ++ drop i xs

@@ -1,12 +1,10 @@
 -- After values were reused, none is computed that stands.
-use Rattle.std.proofs.Common.{◌≡◌, ℕ, zero, suc, Bool, true, false, not, ◌&&◌, List, [], ◌∷◌, Option, Some, None, refl, sym, ◌∙◌, ap, subst, eq-eqb}
+use Rattle.std.proofs.Common.{◌≡◌, ℕ, zero, suc, Bool, true, false, not, ◌&&◌, List, length, [], ◌∷◌, Option, Some, None, refl, sym, ◌∙◌, ap, subst, eq-eqb}
 use Rattle.std.specs.Prelude.{if◌then◌else◌, nat_eq, slice_get}
-use Rattle.std.proofs.lemmas.Bool.Decides.{Decides-int_eq}
 use Rattle.pc_word.specs.declared.item.Item.{Item}
 use Rattle.pc_word.specs.declared.item.Item.TheVariants.{Bin, Copy, Load, Store, Print, Read, More}
 use Rattle.pc_word.specs.declared.item.OpCode.{OpCode}
 use Rattle.pc_word.specs.declared.item.Operand.{Operand}
-use Rattle.pc_word.specs.declared.item.Operand.TheVariants.{Name, Lit}
 use Rattle.pc_word.specs.Items.{dest_of}
 use Rattle.pc_word.proofs.Truth.{and_made}
 use Rattle.pc_flow.specs.declared.node.FlowNode.TheVariants.{Op}
@@ -17,17 +15,15 @@ use Rattle.pc_scalar.specs.declared.plan.Plan.{Plan}
 use Rattle.pc_scalar.specs.declared.rule.Rule.TheVariants.{KnownValues}
 use Rattle.pc_scalar.specs.Valued.{ComputesNoneAgain}
 use Rattle.pc_scalar.specs.LoopTests.{KeepsLoopTests}
+use Rattle.pc_scalar.specs.Tally.{AreMany, IsWorkedOn}
 use Rattle.pc_scalar.specs.models.Plan.{Fits, planned}
 use Rattle.pc_scalar.specs.models.Known.{op_number, same_operand, computes, holder, reused, valued_item, rewritten}
 use Rattle.pc_scalar.specs.models.Rewriting.{IsRewriting}
 use Rattle.pc_scalar.proofs.Rewrites.{of_item}
 use Rattle.pc_scalar.proofs.Rewritten.{rewriting_keeps, rewriting_keeps_tests, reached_before}
+use Rattle.pc_scalar.proofs.Differing.{rewriting_counts}
+use Rattle.pc_scalar.proofs.Operands.{same_self}
 use Rattle.pc_scalar.proofs.Standing.{rewriting_fits, stands_known, stands_small}
-
--- an operand is the same as itself
-same_self : (operand : Operand) → same_operand operand operand ≡ true
-same_self (Name name) = eq-eqb name name refl
-same_self (Lit value) = (Decides-int_eq value value).1 refl
 
 -- an item computes what it computes
 computes_self : (op : OpCode) (dest : ℕ) (left right : Operand) → computes op left right (Bin op dest left right) ≡ true
@@ -112,4 +108,7 @@ valuing_keeps flow plan is = rewriting_keeps flow KnownValues plan is
 pub valuing_keeps_tests : (flow : FlowGraph) (plan : Plan) → IsRewriting flow KnownValues plan → KeepsLoopTests flow (planned plan flow)
 valuing_keeps_tests flow plan is = rewriting_keeps_tests flow KnownValues plan is
 
-pub ruleset value_laws = (valuing_fits, valuing_keeps, valuing_reuses, valuing_keeps_tests)
+pub valuing_counts : (flow : FlowGraph) (plan : Plan) → IsRewriting flow KnownValues plan → AreMany (IsWorkedOn flow (planned plan flow)) (length flow.nodes) plan.changed
+valuing_counts flow plan is = rewriting_counts flow KnownValues plan is
+
+pub ruleset value_laws = (valuing_fits, valuing_keeps, valuing_reuses, valuing_keeps_tests, valuing_counts)

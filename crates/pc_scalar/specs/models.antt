@@ -1,4 +1,5 @@
 pub mod Before
+pub mod Counted
 pub mod Ends
 pub mod Example
 pub mod Folding

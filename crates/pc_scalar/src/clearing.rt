@@ -1,16 +1,19 @@
 //! Removal of dead writes.
-ghost use Rattle.std.specs.Prelude.{◌≡◌, ◌<◌, ℕ, map, length, slice_get, Some, IfOk, OnOk, OnErr};
-ghost use Rattle.std.specs.List.{count_by};
+ghost use Rattle.std.specs.Prelude.{◌≡◌, ◌<◌, ℕ, true, false, map, length, slice_get, Some, IfOk, OnOk, OnErr};
 ghost use Rattle.pc_flow.specs.declared.node.FlowNode.{FlowNode};
 ghost use Rattle.pc_pass.specs.Pass.{Keeps};
 ghost use Rattle.pc_scalar.specs.Cleared.{WritesAreLive};
 ghost use Rattle.pc_scalar.specs.LoopTests.{KeepsLoopTests};
+ghost use Rattle.pc_scalar.specs.Tally.{AreMany, IsWorkedOn};
+ghost use Rattle.pc_scalar.specs.models.Counted.{IsReachedAnd};
+ghost use Rattle.pc_scalar.specs.models.Met.{AreReached};
 ghost use Rattle.pc_scalar.specs.models.Ends.{led};
 ghost use Rattle.pc_scalar.specs.models.Needed.{AreNeeded, node_needless, cleared, AreCleared, IsClearing};
 
 use crate::ends::{chain_ends, led};
 use crate::needed::{is_needless, needed};
 use crate::plan::{Plan, install};
+use crate::reach::reached;
 use pc_flow::{Flow, FlowNode, FlowNodeList};
 use pc_live::VariableSet;
 use std::alloc::{AllocError, Global};
@@ -22,6 +25,7 @@ pub(crate) fn clear_flow(alloc: Global, flow: &mut Flow) -> Result<u32, AllocErr
     ensures undone { OnErr result (flow.new ≡ flow.old) }
     ensures cleared { OnOk result (WritesAreLive flow.new) }
     ensures loop_tests { OnOk result (KeepsLoopTests flow.old flow.new) }
+    ensures counted { IfOk result (λ nodes. AreMany (IsWorkedOn flow.old flow.new) (length flow.old.nodes) nodes) }
 {
     let plan = plan_of(alloc, flow)?;
     install(flow, &plan);
@@ -37,35 +41,51 @@ fn plan_of(alloc: Global, flow: &Flow) -> Result<Plan, AllocError>
     let mut table = places(alloc, flow, sets.as_slice())?;
     let ends = chain_ends(alloc, flow, table.as_mut_slice())?;
     let nodes = led_nodes(alloc, flow, ends.as_slice())?;
+    let changed = skipped(alloc, flow, sets.as_slice())?;
     let entry = ends[flow.entry() as usize];
     Ok(Plan {
         nodes,
         entry,
-        changed: count_skipped(flow, sets.as_slice()),
+        changed,
     })
 }
 
-/// How many nodes are skipped.
-fn count_skipped(flow: &Flow, sets: &[VariableSet]) -> u32
+/// How many nodes are skipped, of those that can be reached.
+fn skipped(alloc: Global, flow: &Flow, sets: &[VariableSet]) -> Result<u32, AllocError>
     requires { AreNeeded flow.now sets.now }
-    ensures { result ≡ count_by (node_needless sets.now) flow.now.nodes }
+    ensures { IfOk result (λ count. AreMany (IsReachedAnd (node_needless sets.now) flow.now) (length flow.now.nodes) count) }
+{
+    let flags = reached(alloc, flow)?;
+    Ok(count_skipped(flow, sets, flags.as_slice()))
+}
+
+/// How many of the flagged nodes are skipped.
+fn count_skipped(flow: &Flow, sets: &[VariableSet], flags: &[bool]) -> u32
+    requires needed { AreNeeded flow.now sets.now }
+    requires reached { AreReached flow.now flags.now }
+    ensures { AreMany (IsReachedAnd (node_needless sets.now) flow.now) (length flow.now.nodes) result }
 {
     let mut count = 0;
     for at in 0..flow.count() {
-        if is_skipped(flow, sets, at) {
+        if is_skipped(flow, sets, flags, at) {
             count += 1;
         }
     }
     count
 }
 
-/// Whether a node is skipped.
-#[tactic(auto, using(crate::proofs::Clears::place_laws))]
-fn is_skipped(flow: &Flow, sets: &[VariableSet], at: u32) -> bool
+/// Whether a node can be reached and is skipped.
+#[tactic(auto, using(crate::proofs::Clears::place_laws, crate::proofs::Tallies::counting_laws))]
+fn is_skipped(flow: &Flow, sets: &[VariableSet], flags: &[bool], at: u32) -> bool
     requires needed { AreNeeded flow.now sets.now }
+    requires reached { AreReached flow.now flags.now }
     requires there { at < length flow.now.nodes }
-    ensures { (node : FlowNode) → slice_get flow.now.nodes at ≡ Some node → result ≡ node_needless sets.now node }
+    ensures counted { result ≡ true → IsReachedAnd (node_needless sets.now) flow.now at }
+    ensures left { result ≡ false → IsReachedAnd (node_needless sets.now) flow.now at → ⊥ }
 {
+    if !flags[at as usize] {
+        return false;
+    }
     match flow.node(at) {
         FlowNode::Op { item, next } => is_needless(&item, sets[next as usize]),
         FlowNode::Test { .. } | FlowNode::Stop | FlowNode::Trap { .. } => false,

@@ -4,6 +4,7 @@ ghost use Rattle.pc_word.specs.Count.{Rose};
 ghost use Rattle.pc_pass.specs.Pass.{Keeps};
 ghost use Rattle.pc_scalar.specs.Copied.{NamesNoCopy};
 ghost use Rattle.pc_scalar.specs.LoopTests.{KeepsLoopTests};
+ghost use Rattle.pc_scalar.specs.Tally.{Tallied};
 
 use crate::copying::copy_flow;
 use crate::tally::Tally;
@@ -45,6 +46,7 @@ impl Pass for Copies {
         self.tally.changes
     }
 
+    #[tactic(auto, using(crate::proofs::Tallies::are_tallied))]
     fn apply(&mut self, flow: &mut Flow) -> Result<(), PassMemory>
         ensures keeps { OnOk result (Keeps flow.old flow.new) }
         ensures undone { OnErr result (flow.new ≡ flow.old) }
@@ -54,6 +56,7 @@ impl Pass for Copies {
         ensures no_fall { self.old.tally.runs ≤ self.new.tally.runs }
         ensures copied { OnOk result (NamesNoCopy flow.new) }
         ensures loop_tests { OnOk result (KeepsLoopTests flow.old flow.new) }
+        ensures tallied { OnOk result (Tallied flow.old flow.new self.old.tally.changes self.new.tally.changes) }
     {
         let nodes = copy_flow(self.alloc, flow)?;
         self.tally.add(nodes);

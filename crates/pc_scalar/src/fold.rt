@@ -2,9 +2,8 @@
 ghost use Rattle.std.specs.Prelude.{◌≡◌, ◌≤◌, codes, OnOk, OnErr};
 ghost use Rattle.pc_word.specs.Count.{Rose};
 ghost use Rattle.pc_pass.specs.Pass.{Keeps};
-ghost use Rattle.std.specs.List.{count_by};
-ghost use Rattle.pc_scalar.specs.Folded.{IsFolded, is_foldable};
-ghost use Rattle.pc_scalar.specs.Tally.{counted};
+ghost use Rattle.pc_scalar.specs.Folded.{IsFolded};
+ghost use Rattle.pc_scalar.specs.Tally.{Tallied};
 ghost use Rattle.pc_scalar.specs.LoopTests.{KeepsLoopTests};
 
 use crate::folding::fold_flow;
@@ -48,6 +47,7 @@ impl Pass for Fold {
         self.tally.changes
     }
 
+    #[tactic(auto, using(crate::proofs::Tallies::are_tallied))]
     fn apply(&mut self, flow: &mut Flow) -> Result<(), PassMemory>
         ensures keeps { OnOk result (Keeps flow.old flow.new) }
         ensures undone { OnErr result (flow.new ≡ flow.old) }
@@ -57,7 +57,7 @@ impl Pass for Fold {
         ensures no_fall { self.old.tally.runs ≤ self.new.tally.runs }
         ensures folded { OnOk result (IsFolded flow.new) }
         ensures loop_tests { OnOk result (KeepsLoopTests flow.old flow.new) }
-        ensures tallied { OnOk result (self.new.tally.changes ≡ counted self.old.tally.changes (count_by is_foldable flow.old.nodes)) }
+        ensures tallied { OnOk result (Tallied flow.old flow.new self.old.tally.changes self.new.tally.changes) }
     {
         let nodes = fold_flow(self.alloc, flow)?;
         self.tally.add(nodes);

@@ -1,14 +1,17 @@
 //! Folding of constants.
-ghost use Rattle.std.specs.Prelude.{◌≡◌, ℕ, map, length, IfOk, OnOk, OnErr};
+ghost use Rattle.std.specs.Prelude.{◌≡◌, ◌<◌, true, false, map, length, IfOk, OnOk, OnErr};
 ghost use Rattle.pc_pass.specs.Pass.{Keeps};
-ghost use Rattle.std.specs.List.{count_by};
 ghost use Rattle.pc_scalar.specs.Folded.{IsFolded, is_foldable};
 ghost use Rattle.pc_scalar.specs.LoopTests.{KeepsLoopTests};
+ghost use Rattle.pc_scalar.specs.Tally.{AreMany, IsWorkedOn};
+ghost use Rattle.pc_scalar.specs.models.Counted.{IsReachedAnd};
+ghost use Rattle.pc_scalar.specs.models.Met.{AreReached};
 ghost use Rattle.pc_scalar.specs.models.Ends.{led};
 ghost use Rattle.pc_scalar.specs.models.Folding.{folded, taken, AreTaken, IsFolding};
 
 use crate::ends::{chain_ends, led};
 use crate::plan::{Plan, install};
+use crate::reach::reached;
 use pc_flow::{Flow, FlowNode, FlowNodeList};
 use pc_word::{Item, Operand, apply};
 use std::alloc::{AllocError, Global};
@@ -20,7 +23,7 @@ pub(crate) fn fold_flow(alloc: Global, flow: &mut Flow) -> Result<u32, AllocErro
     ensures undone { OnErr result (flow.new ≡ flow.old) }
     ensures folded { OnOk result (IsFolded flow.new) }
     ensures loop_tests { OnOk result (KeepsLoopTests flow.old flow.new) }
-    ensures counted { IfOk result (λ nodes. nodes ≡ count_by is_foldable flow.old.nodes) }
+    ensures counted { IfOk result (λ nodes. AreMany (IsWorkedOn flow.old flow.new) (length flow.old.nodes) nodes) }
 {
     let plan = plan_of(alloc, flow)?;
     install(flow, &plan);
@@ -35,25 +38,41 @@ fn plan_of(alloc: Global, flow: &Flow) -> Result<Plan, AllocError>
     let mut table = places(alloc, flow)?;
     let ends = chain_ends(alloc, flow, table.as_mut_slice())?;
     let nodes = folded_nodes(alloc, flow, ends.as_slice())?;
+    let flags = reached(alloc, flow)?;
     let entry = ends[flow.entry() as usize];
     Ok(Plan {
         nodes,
         entry,
-        changed: foldable(flow),
+        changed: foldable(flow, flags.as_slice()),
     })
 }
 
-/// How many nodes folding changes or skips.
-fn foldable(flow: &Flow) -> u32
-    ensures { result ≡ count_by is_foldable flow.now.nodes }
+/// How many nodes folding changes or skips, of those that can be reached.
+fn foldable(flow: &Flow, flags: &[bool]) -> u32
+    requires { AreReached flow.now flags.now }
+    ensures { AreMany (IsReachedAnd is_foldable flow.now) (length flow.now.nodes) result }
 {
     let mut count = 0;
     for at in 0..flow.count() {
-        if is_foldable(flow.node(at)) {
+        if is_folded(flow, flags, at) {
             count += 1;
         }
     }
     count
+}
+
+/// Whether a node can be reached and is changed or skipped.
+#[tactic(auto, using(crate::proofs::Tallies::counting_laws))]
+fn is_folded(flow: &Flow, flags: &[bool], at: u32) -> bool
+    requires reached { AreReached flow.now flags.now }
+    requires there { at < length flow.now.nodes }
+    ensures counted { result ≡ true → IsReachedAnd is_foldable flow.now at }
+    ensures left { result ≡ false → IsReachedAnd is_foldable flow.now at → ⊥ }
+{
+    if !flags[at as usize] {
+        return false;
+    }
+    is_foldable(flow.node(at))
 }
 
 /// Whether folding changes or skips a node.

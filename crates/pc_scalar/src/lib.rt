@@ -6,6 +6,7 @@ mod clearing;
 mod copies;
 mod copying;
 mod dead;
+mod difference;
 mod ends;
 mod fold;
 mod folding;

@@ -1,13 +1,16 @@
 //! Nodes are rewritten by what is known there, along chains of items.
-ghost use Rattle.std.specs.Prelude.{◌≡◌, ◌<◌, ◌≤◌, ℕ, Some, None, length, replicate, slice_get, slice_set, IfOk, MatchOption};
+ghost use Rattle.std.specs.Prelude.{◌≡◌, ◌<◌, ℕ, true, false, Some, None, length, replicate, slice_get, slice_set, IfOk, MatchOption};
 ghost use Rattle.pc_flow.specs.declared.node.FlowNode.{FlowNode};
 ghost use Rattle.pc_flow.specs.FlowGraph.{IsFlow, variables};
 ghost use Rattle.pc_scalar.specs.Chain.{FollowsAlone};
+ghost use Rattle.pc_scalar.specs.Tally.{AreMany};
 ghost use Rattle.pc_scalar.specs.models.Before.{AreBefore};
+ghost use Rattle.pc_scalar.specs.models.Counted.{Differ, TellByOperands};
 ghost use Rattle.pc_scalar.specs.models.Known.{KnownAt, rewritten};
 ghost use Rattle.pc_scalar.specs.models.Rewriting.{follows, begins, ChainFrom, Written, AreWritten, Rewrites, IsRewriting};
 
 use crate::before::{Predecessor, predecessors};
+use crate::difference::differs;
 use crate::known::learn;
 use crate::plan::Plan;
 use crate::reach::reached;
@@ -55,16 +58,26 @@ fn nodes_of(alloc: Global, flow: &Flow) -> Result<FlowNodeList, AllocError>
 
 /// How many nodes differ from those of a graph.
 fn changes(flow: &Flow, nodes: &FlowNodeList) -> u32
-    requires { length nodes.now ≡ length flow.now.nodes }
-    ensures { result ≤ length flow.now.nodes }
+    requires { TellByOperands flow.now.nodes nodes.now }
+    ensures { AreMany (Differ flow.now.nodes nodes.now) (length flow.now.nodes) result }
 {
     let mut count = 0;
     for at in 0..flow.count() {
-        if flow.node(at) != nodes.as_slice()[at as usize] {
+        if is_changed(flow, nodes, at) {
             count += 1;
         }
     }
     count
+}
+
+/// Whether the node at a place differs from that of a graph.
+fn is_changed(flow: &Flow, nodes: &FlowNodeList, at: u32) -> bool
+    requires tell { TellByOperands flow.now.nodes nodes.now }
+    requires there { at < length flow.now.nodes }
+    ensures counted { result ≡ true → Differ flow.now.nodes nodes.now at }
+    ensures left { result ≡ false → Differ flow.now.nodes nodes.now at → ⊥ }
+{
+    differs(flow.node(at), nodes.as_slice()[at as usize])
 }
 
 /// Rewrites the nodes of each chain.

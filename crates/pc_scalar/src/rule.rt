@@ -168,7 +168,7 @@ fn computes(op: OpCode, left: Operand, right: Operand, item: &Item) -> bool
 }
 
 /// Whether two operands are the same.
-fn same_operand(one: Operand, other: Operand) -> bool
+pub(crate) fn same_operand(one: Operand, other: Operand) -> bool
     ensures { result ≡ same_operand one other }
 {
     match (one, other) {

@@ -7,8 +7,9 @@ use Rattle.pc_word.specs.Word.{holds, word_apply}
 use Rattle.pc_flow.specs.declared.node.FlowNode.{FlowNode}
 use Rattle.pc_flow.specs.declared.node.FlowNode.TheVariants.{Op, Test, Stop, Trap}
 use Rattle.pc_flow.specs.FlowGraph.{FlowGraph, IsFlow}
-use Rattle.std.specs.List.{count_by}
 use Rattle.pc_scalar.specs.Folded.{is_foldable}
+use Rattle.pc_scalar.specs.Tally.{AreMany}
+use Rattle.pc_scalar.specs.models.Counted.{IsReachedAnd}
 use Rattle.pc_scalar.specs.declared.plan.Plan.{Plan}
 use Rattle.pc_scalar.specs.models.Ends.{AreEnds, led}
 
@@ -42,4 +43,4 @@ pub record IsFolding (flow : FlowGraph) (plan : Plan) : Type 0 where
   pub are_ends : AreEnds table ends
   pub nodes : plan.nodes ≡ map (λ node. led ends (folded node)) flow.nodes
   pub entry : plan.entry ≡ slice_index ends flow.entry
-  pub changed : plan.changed ≡ count_by is_foldable flow.nodes
+  pub changed : AreMany (IsReachedAnd is_foldable flow) (length flow.nodes) plan.changed

@@ -1,6 +1,5 @@
 -- Which variables are needed at a node, where what is read by items that are removed is not.
 use Rattle.std.specs.Prelude.{◌≡◌, ◌<◌, ◌≤◌, ◌^◌, ◌||◌, ◌&&◌, ℕ, Bool, true, false, not, if◌then◌else◌, List, length, map, Option, Some, None, slice_get, slice_index, All}
-use Rattle.std.specs.List.{count_by}
 use Rattle.pc_word.specs.declared.item.Item.{Item}
 use Rattle.pc_flow.specs.declared.node.FlowNode.{FlowNode}
 use Rattle.pc_flow.specs.declared.node.FlowNode.TheVariants.{Op, Test, Stop, Trap}
@@ -11,6 +10,8 @@ use Rattle.pc_live.specs.Liveness.{member, set_at}
 use Rattle.pc_live.specs.models.Rounds.{behind}
 use Rattle.pc_scalar.specs.declared.plan.Plan.{Plan}
 use Rattle.pc_scalar.specs.Cleared.{only_writes}
+use Rattle.pc_scalar.specs.Tally.{AreMany}
+use Rattle.pc_scalar.specs.models.Counted.{IsReachedAnd}
 use Rattle.pc_scalar.specs.models.Ends.{AreEnds, led}
 
 -- the same of a node
@@ -115,4 +116,4 @@ pub record IsClearing (flow : FlowGraph) (plan : Plan) : Type 0 where
   pub are_ends : AreEnds table ends
   pub nodes : plan.nodes ≡ map (λ node. led ends node) flow.nodes
   pub entry : plan.entry ≡ slice_index ends flow.entry
-  pub changed : plan.changed ≡ count_by (node_needless sets) flow.nodes
+  pub changed : AreMany (IsReachedAnd (node_needless sets) flow) (length flow.nodes) plan.changed

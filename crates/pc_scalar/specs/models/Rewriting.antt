@@ -9,6 +9,8 @@ use Rattle.pc_scalar.specs.declared.before.Predecessor.TheVariants.{Nothing, Onl
 use Rattle.pc_scalar.specs.declared.plan.Plan.{Plan}
 use Rattle.pc_scalar.specs.declared.rule.Rule.{Rule}
 use Rattle.pc_scalar.specs.Chain.{FollowsAlone}
+use Rattle.pc_scalar.specs.Tally.{AreMany}
+use Rattle.pc_scalar.specs.models.Counted.{Differ}
 use Rattle.pc_scalar.specs.models.Known.{KnownAt, rewritten}
 
 -- whether a node is led to by the item of this node alone
@@ -52,3 +54,4 @@ pub record IsRewriting (flow : FlowGraph) (rule : Rule) (plan : Plan) : Type 0 w
   pub rewrites : Rewrites flow rule plan.nodes
   pub written : (at : ℕ) → IsReachableNode flow at → Written flow rule plan.nodes at
   pub entry : plan.entry ≡ flow.entry
+  pub changed : AreMany (Differ flow.nodes plan.nodes) (length flow.nodes) plan.changed

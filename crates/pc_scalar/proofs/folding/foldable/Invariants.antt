@@ -1,7 +1,8 @@
-use Rattle.std.proofs.Common.{◌≡◌, ◌≤◌, take}
-use Rattle.std.specs.List.{count_by}
+use Rattle.std.proofs.Common.{◌≤◌}
 use Rattle.pc_scalar.specs.Folded.{is_foldable}
+use Rattle.pc_scalar.specs.Tally.{AreMany}
+use Rattle.pc_scalar.specs.models.Counted.{IsReachedAnd}
 use Rattle.pc_scalar.proofs.folding.foldable.Given as goal
 
 abbrev pub invariant-loop-at : goal.invariant-loop-at
-invariant-loop-at l = record { counted : l.count ≡ count_by is_foldable (take l.at l.flow.nodes); few : l.count ≤ l.at }
+invariant-loop-at l = record { counted : AreMany (IsReachedAnd is_foldable l.flow) l.at l.count; few : l.count ≤ l.at }

@@ -1,5 +1,7 @@
 use Rattle.std.proofs.Common.{◌≤◌}
+use Rattle.pc_scalar.specs.Tally.{AreMany}
+use Rattle.pc_scalar.specs.models.Counted.{Differ}
 use Rattle.pc_scalar.proofs.rewriting.changes.Given as goal
 
 abbrev pub invariant-loop-at : goal.invariant-loop-at
-invariant-loop-at l = l.count ≤ l.at
+invariant-loop-at l = record { counted : AreMany (Differ l.flow.nodes l.nodes) l.at l.count; few : l.count ≤ l.at }

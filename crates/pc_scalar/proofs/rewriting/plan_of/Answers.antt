@@ -1,6 +1,10 @@
 use Rattle.pc_scalar.specs.models.Before.{AreBefore}
 use Rattle.pc_scalar.proofs.Rewrites.{has_head}
+use Rattle.pc_scalar.proofs.Differing.{rewrites_tell}
 use Rattle.pc_scalar.proofs.rewriting.plan_of.Goals as goal
+
+pub changes-changed-requires : goal.changes-changed-requires
+changes-changed-requires c = rewrites_tell c.args.flow.now c.args.rule c.rewrite_all.new.nodes c.rewrite_all.ensures.rewrites
 
 pub returns : goal.returns
 returns c =
@@ -12,4 +16,5 @@ returns c =
           let head = has_head c.args.flow.now c.as_slice-2.result.now at c.rewrite_all.ensures.kept are reached in
           c.rewrite_all.ensures.written head.head head.there head.begins at head.chain;
       entry = c.entry.ensures;
+      changed = c.changes-changed.ensures;
     }

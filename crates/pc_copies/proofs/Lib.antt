@@ -1,0 +1,11 @@
+pub mod Arranged
+pub mod Copies
+pub mod Counts
+pub mod Follows
+pub mod Given
+pub mod Kept
+pub mod Places
+pub mod Rings
+pub mod Rows
+pub mod Singles
+pub mod Unwinding

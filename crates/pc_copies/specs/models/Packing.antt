@@ -1,0 +1,79 @@
+-- Copies that are packed into rows, those that run last first.
+use Rattle.std.specs.Prelude.{◌≡◌, ◌≢◌, ◌⊎◌, ◌+◌, ◌<◌, ℕ, List, [], ◌∷◌, ◌++◌, length, Option, None}
+use Rattle.std.specs.List.{AllByRecursion}
+use Rattle.pc_word.specs.declared.item.Operand.{Operand}
+use Rattle.pc_word.specs.declared.item.Operand.TheVariants.{Name}
+use Rattle.pc_copies.specs.declared.moves.Move.{Move}
+use Rattle.pc_copies.specs.Moves.{Leads_to, copies_in}
+use Rattle.pc_copies.specs.models.Sources.{source_in, over, IsRead, Unread, IsWritten, Apart, Do}
+
+-- ---- what is put into rows
+
+-- copies are put behind those of the first row; where it is full then, it stands behind the other rows
+pub data Puts (ops : ℕ) (group : List Move) (rows : List (List Move)) (first : List Move) (later : List (List Move)) (now : List Move) : Type 0 where
+  Fills : length first + length group ≡ ops → later ≡ rows ++ (first ++ group) ∷ [] → now ≡ [] → Puts ops group rows first later now
+  Fits : length first + length group < ops → later ≡ rows → now ≡ first ++ group → Puts ops group rows first later now
+
+-- no register is written twice
+abbrev pub WritesOnce : List Move → Type 0
+WritesOnce [] = Unit {0}
+WritesOnce (move ∷ moves) = (source_in moves move.dest ≡ None) × WritesOnce moves
+
+-- rows of so many copies each, and a first row with fewer: none writes a register twice
+pub record IsFull (ops : ℕ) (row : List Move) : Type 0 where
+  pub many : length row ≡ ops
+  pub once : WritesOnce row
+
+pub record RowsFit (ops : ℕ) (rows : List (List Move)) (first : List Move) : Type 0 where
+  pub full : AllByRecursion (IsFull ops) rows
+  pub once : WritesOnce first
+
+-- what rows do with these sources more
+pub record Adds (ops scratch : ℕ) (sources : ℕ → Option Operand) (rows : List (List Move)) (first : List Move) (later : List (List Move)) (now : List Move) : Type 0 where
+  pub does : (placed : ℕ → Option Operand) → Do scratch rows first placed → Unread placed sources → Unread (source_in first) sources
+      → Do scratch later now (over placed sources)
+  pub reads : (register : ℕ) → IsRead (source_in now) register → IsRead (source_in first) register ⊎ IsRead sources register
+  pub fits : Apart (source_in first) sources → RowsFit ops rows first → RowsFit ops later now
+  pub writes : (register : ℕ) → IsWritten (source_in now) register → IsWritten (source_in first) register ⊎ IsWritten sources register
+
+-- the same where scratch may be needed for it
+pub record AddsRing (ops scratch : ℕ) (sources : ℕ → Option Operand) (rows : List (List Move)) (first : List Move) (later : List (List Move)) (now : List Move) : Type 0 where
+  pub does : (placed : ℕ → Option Operand) → (IsRead placed scratch → ⊥) → Do scratch rows first placed → Unread placed sources → Unread (source_in first) sources
+      → Do scratch later now (over placed sources)
+  pub reads : (register : ℕ) → IsRead (source_in now) register → (register ≡ scratch) ⊎ IsRead (source_in first) register ⊎ IsRead sources register
+  pub fits : Apart (source_in first) sources → RowsFit ops rows first → RowsFit ops later now
+  pub writes : (register : ℕ) → IsWritten (source_in now) register → (register ≡ scratch) ⊎ IsWritten (source_in first) register ⊎ IsWritten sources register
+
+-- ---- moves that follow one another
+
+-- a move leaves a register alone
+pub record Avoids (register : ℕ) (move : Move) : Type 0 where
+  pub writes : move.dest ≢ register
+  pub reads : move.from ≢ Name register
+
+-- moves that may be done one after the other, the last first: none reads what one before it writes
+abbrev pub Unwinds : List Move → Type 0
+Unwinds [] = Unit {0}
+Unwinds (move ∷ moves) = (source_in moves move.dest ≡ None) × (IsRead (source_in moves) move.dest → ⊥) × Unwinds moves
+
+-- a cycle of moves: each reads what the next one writes, and the last what the first one writes
+pub record IsRing (moves : List Move) : Type 0 where
+  pub head : Move
+  pub tail : List Move
+  pub is : moves ≡ head ∷ tail
+  pub leads : Leads_to moves (Name head.dest)
+  pub once : WritesOnce moves
+
+-- ---- how the first row grows
+
+-- no copy of a row names this register
+pub record IsClean (register : ℕ) (row : List Move) : Type 0 where
+  pub unread : IsRead (source_in row) register → ⊥
+  pub unwritten : source_in row register ≡ None
+
+-- moves were put one after the other, the last first: the first row grew by them, or has begun anew since
+pub record Unwound (ops scratch : ℕ) (moves : List Move) (rows : List (List Move)) (first : List Move) (later : List (List Move)) (now : List Move) : Type 0 where
+  pub adds : Adds ops scratch (source_in moves) rows first later now
+  pub grows : (length now ≡ length first + length moves) ⊎ IsClean scratch now
+  pub clean : IsClean scratch first → IsClean scratch now
+  pub counted : copies_in later + length now ≡ copies_in rows + length first + length moves

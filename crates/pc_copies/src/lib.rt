@@ -1,0 +1,15 @@
+//! Parallel copies: moves between registers that are done at once, as rows of copies.
+#![tactic(auto)]
+
+mod arranging;
+mod error;
+mod follow;
+mod moves;
+mod packing;
+mod place;
+#[cfg(test)]
+mod tests;
+
+pub use arranging::arrange;
+pub use error::CopyError;
+pub use moves::{CopyRow, CopyRows, Move};
