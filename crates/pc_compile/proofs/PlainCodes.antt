@@ -20,9 +20,9 @@ use Rattle.pc_machine.specs.MachineCode.{Leaf, Leads_to, Ends, Traps, CodeRow}
 use Rattle.pc_machine.specs.WellFormed.{IsOperand, IsItem, IsLeaf, IsPath, IsRow, AreArrays, WellFormed}
 use Rattle.pc_word.specs.Ranges.{AreLimits}
 use Rattle.pc_object.specs.ObjectText.{CodeWithNotes, u32_text, operand_text, item_text, leaf_text, row_text, header_text, notes_text, object_text}
-use Rattle.pc_compile.specs.Plain.{root_leaf, leaf_to, tree_rows, region_rows, entries_from, leaf_alone, IsPlain}
+use Rattle.pc_compile.specs.Plain.{root_leaf, leaf_to, tree_rows, region_rows, entries_from, leaf_alone, first_row, IsPlain}
 use Rattle.pc_compile.specs.models.Emitted.{all_units}
-use Rattle.pc_compile.proofs.Standing.{IsRoot, entry, first_row, as_many_rows_in_all, one_before}
+use Rattle.pc_compile.proofs.Standing.{IsRoot, entry, as_many_rows_in_all, one_before}
 
 -- ---- names and arrays
 
@@ -110,8 +110,8 @@ module _ (table : Table) (limits : Limits) (fine : AreLimits limits) (keeps : Ta
   region_within : (number : ℕ) (region : TableRegion) → slice_get table.regions number ≡ Some region → entry table rows plain number + units region.tree ≤ length rows
   region_within number region there =
       let many = as_many_rows_in_all table rows plain in
-      subst (λ (n : ℕ). n + units region.tree ≤ length rows) (sym (ap (λ (entries : List ℕ). slice_index entries number) plain.begin))
-      (let within = inside table.regions (first_row table rows plain) number region there in omega (arith, many, within))
+      subst (λ (n : ℕ). n + units region.tree ≤ length rows) (sym (ap (λ (entries : List ℕ). slice_index entries number) plain.entries_are))
+      (let within = inside table.regions (first_row table) number region there in omega (arith, many, within))
     where
       inside : (regions : List TableRegion) (row number : ℕ) (region : TableRegion) → slice_get regions number ≡ Some region
           → slice_index (entries_from row regions) number + units region.tree ≤ row + all_units regions
@@ -180,9 +180,9 @@ module _ (table : Table) (limits : Limits) (fine : AreLimits limits) (keeps : Ta
   all_fit : AllByRecursion Fits rows
   all_fit =
       let many = as_many_rows_in_all table rows plain in
-      subst (λ (l : List CodeRow). AllByRecursion Fits l) (sym plain.are)
-      (all_both Fits (leaf_alone (region_tree table 0)) (region_rows table plain.entries (first_row table rows plain) table.regions)
-      (alone_fits (region_tree table 0)) (regions_fit table.regions (first_row table rows plain) (λ number region at. (keeps.each number region at).there) (omega (arith, many))))
+      subst (λ (l : List CodeRow). AllByRecursion Fits l) (sym plain.rows_are)
+      (all_both Fits (leaf_alone (region_tree table 0)) (region_rows table plain.entries (first_row table) table.regions)
+      (alone_fits (region_tree table 0)) (regions_fit table.regions (first_row table) (λ number region at. (keeps.each number region at).there) (omega (arith, many))))
 
   -- there is a row
   some_row : 1 ≤ length rows
@@ -307,9 +307,9 @@ module _ (table : Table) (limits : Limits) (rows : List CodeRow) (plain : IsPlai
   -- the text of plain code is far from too long
   pub plain_is_short : TableKeeps table → all_units table.regions ≤ most_nodes → length (object_text object) ≤ most_object
   plain_is_short keeps few_units =
-      let each : AllByRecursion IsShort rows = subst (λ (l : List CodeRow). AllByRecursion IsShort l) (sym plain.are)
-      (all_both IsShort (leaf_alone (region_tree table 0)) (region_rows table plain.entries (first_row table rows plain) table.regions)
-      (alone_short (region_tree table 0)) (regions_short table plain.entries (first_row table rows plain) table.regions)) in
+      let each : AllByRecursion IsShort rows = subst (λ (l : List CodeRow). AllByRecursion IsShort l) (sym plain.rows_are)
+      (all_both IsShort (leaf_alone (region_tree table 0)) (region_rows table plain.entries (first_row table) table.regions)
+      (alone_short (region_tree table 0)) (regions_short table plain.entries (first_row table) table.regions)) in
       let of_rows = flat_map_short row_text 19 rows each in
       let of_arrays = flat_map_short u32_text 4 table.arrays (lengths_short table.arrays) in
       let header = length-append (flat_map u32_text table.arrays) (u32_text (length rows)) in

@@ -1,7 +1,8 @@
 -- Leaves lead to each row of plain code from row 0.
-use Rattle.std.proofs.Common.{◌≡◌, inl, inr, ℕ, zero, suc, ◌+◌, ◌<◌, ◌≤◌, List, [], ◌∷◌, length, Option, Some, refl, sym, ap, subst, arith}
+use Rattle.std.proofs.Common.{◌≡◌, inl, inr, ℕ, suc, ◌+◌, ◌<◌, ◌≤◌, List, [], ◌∷◌, length, Option, Some, refl, sym, ap, subst, arith}
 use Rattle.std.specs.Prelude.{slice_get, slice_index}
 use Rattle.std.specs.List.{AllByRecursion}
+use Rattle.std.proofs.lemmas.Option.{slice_get_within}
 use Rattle.std.proofs.lemmas.List.Elements.{Contains-append_left, Contains-append_right, Contains-push}
 use Rattle.pc_word.specs.Row.{At_leaf}
 use Rattle.pc_word.proofs.Lists.{all_both}
@@ -12,10 +13,10 @@ use Rattle.pc_table.specs.TableKeeps.{units}
 use Rattle.pc_regions.specs.Cut.{nexts_of, IsCutOf}
 use Rattle.pc_machine.specs.MachineCode.{Leaf, Leads_to, CodeRow}
 use Rattle.pc_machine.specs.Reachable.{HasLeafTo, IsReachable, Entry, Behind}
-use Rattle.pc_compile.specs.Plain.{root_leaf, leaf_to, entries_from, leaf_alone, IsPlain}
+use Rattle.pc_compile.specs.Plain.{root_leaf, leaf_to, entries_from, leaf_alone, first_row, IsPlain}
 use Rattle.pc_compile.specs.models.Emitted.{all_units}
 use Rattle.pc_compile.proofs.Found.{found_all}
-use Rattle.pc_compile.proofs.Standing.{IsRoot, roots, Stands, entry, first_row, entry_first, region_here, as_many_rows_in_all, one_before}
+use Rattle.pc_compile.proofs.Standing.{IsRoot, roots, Stands, entry, entry_first, region_here, as_many_rows_in_all, one_before}
 
 -- a leaf is its own
 leaf_has : (leaf : Leaf) (number : ℕ) → leaf ≡ Leads_to number → HasLeafTo (At_leaf leaf) number
@@ -50,8 +51,9 @@ module _ (table : Table) (rows : List CodeRow) (plain : IsPlain table rows) wher
   ]
 
   -- leaves of a row that is reached
-  led_by_item : (row : ℕ) (made : CodeRow) (leaf : Leaf) → IsReachable rows row → slice_get rows row ≡ Some made → ((number : ℕ) → HasLeafTo (At_leaf leaf) number → HasLeafTo made number) → IsLed leaf
-  led_by_item row made leaf reached at has number e = Behind reached at (has number (leaf_has leaf number e))
+  led_by_row : (row : ℕ) (made : CodeRow) (leaf : Leaf) → IsReachable rows row → slice_get rows row ≡ Some made
+      → ((number : ℕ) → HasLeafTo (At_leaf leaf) number → HasLeafTo made number) → IsLed leaf
+  led_by_row row made leaf reached at has number e = Behind reached at (has number (leaf_has leaf number e))
 
   -- all rows of a tree are reached where its root is, and the regions that it names
   record TreeReached (row : ℕ) (tree : TableTree) : Type 0 where
@@ -64,15 +66,15 @@ module _ (table : Table) (rows : List CodeRow) (plain : IsPlain table rows) wher
   tree_reached : (tree : TableTree) (row : ℕ) → Here row tree → IsLed (leaf_to table plain.entries row tree) → TreeReached row tree
   tree_reached (Does origin item rest) row here led =
       let reached = led row refl in
-      let below = tree_reached rest (suc row) here.1 (led_by_item row _ (leaf_to table plain.entries (suc row) rest) reached here.0 (λ number has. has)) in
+      let below = tree_reached rest (suc row) here.1 (led_by_row row _ (leaf_to table plain.entries (suc row) rest) reached here.0 (λ number has. has)) in
       record { own = one_reached row (units rest) reached below.own; named = below.named }
   tree_reached (Asks origin on on_yes on_no) row here led =
       let reached = led row refl in
       let one = leaf_to table plain.entries (suc row) on_yes in
       let other = leaf_to table plain.entries (suc row + units on_yes) on_no in
-      let first = tree_reached on_yes (suc row) here.1 (led_by_item row _ one reached here.0 (λ number has. Contains-append_left (one ∷ []) (other ∷ []) (Leads_to number) has)) in
+      let first = tree_reached on_yes (suc row) here.1 (led_by_row row _ one reached here.0 (λ number has. Contains-append_left (one ∷ []) (other ∷ []) (Leads_to number) has)) in
       let second = tree_reached on_no (suc row + units on_yes) here.2
-      (led_by_item row _ other reached here.0 (λ number has. Contains-append_right (one ∷ []) (other ∷ []) (Leads_to number) has)) in
+      (led_by_row row _ other reached here.0 (λ number has. Contains-append_right (one ∷ []) (other ∷ []) (Leads_to number) has)) in
       record {
         own = one_reached row (units on_yes + units on_no) reached (both_reached (suc row) (units on_yes) (units on_no) first.own second.own);
         named = all_both RootIsLed (nexts_of on_yes) (nexts_of on_no) first.named second.named;
@@ -126,26 +128,21 @@ module _ (table : Table) (rows : List CodeRow) (plain : IsPlain table rows) wher
 
     -- so each row is
     pub rows_reached : (number : ℕ) → number < length rows → IsReachable rows number
-    rows_reached number lt = elim (decide_le (suc number) (first_row table rows plain)) [
+    rows_reached number lt = elim (decide_le (suc number) (first_row table)) [
       | inl below ↦
           let one = one_before table rows plain in
           let same : 0 ≡ number = omega (arith, below, one) in
           subst (IsReachable rows) same Entry
       | inr above ↦
           let many = as_many_rows_in_all table rows plain in
-          regions_reached table.regions (first_row table rows plain) each number (omega (arith, above)) (omega (arith, lt, many))
+          regions_reached table.regions (first_row table) each number (omega (arith, above)) (omega (arith, lt, many))
     ]
       where
         each : (number : ℕ) (region : TableRegion) → slice_get table.regions number ≡ Some region
-            → AreReached (slice_index (entries_from (first_row table rows plain) table.regions) number) (units region.tree)
+            → AreReached (slice_index (entries_from (first_row table) table.regions) number) (units region.tree)
         each number region there =
-            let own = (region_reached number (root_led number (within table.regions number region there))).own in
-            let at : entry table rows plain number ≡ slice_index (entries_from (first_row table rows plain) table.regions) number =
-            ap (λ (entries : List ℕ). slice_index entries number) plain.begin in
+            let own = (region_reached number (root_led number (slice_get_within table.regions number region there))).own in
+            let at : entry table rows plain number ≡ slice_index (entries_from (first_row table) table.regions) number =
+            ap (λ (entries : List ℕ). slice_index entries number) plain.entries_are in
             subst (λ (n : ℕ). AreReached n (units region.tree)) at
             (subst (λ (it : Option TableRegion). AreReached (entry table rows plain number) (units (tree_of it))) there own)
-          where
-            within : (regions : List TableRegion) (number : ℕ) (region : TableRegion) → slice_get regions number ≡ Some region → number < length regions
-            within [] number region e = absurd (cc)
-            within (other ∷ regions) zero region e = omega arith
-            within (other ∷ regions) (suc number) region e = let rest = within regions number region e in omega (arith, rest)

@@ -8,7 +8,8 @@ use Rattle.pc_table.specs.TableKeeps.{units}
 use Rattle.pc_machine.specs.MachineCode.{CodeRow}
 use Rattle.pc_flow.specs.FlowGraph.{FlowGraph}
 use Rattle.pc_regions.specs.Cut.{IsTreeOf, An_item, A_test, A_stop, A_trap, IsHead, IsCutOf, heads_of}
-use Rattle.pc_compile.specs.Plain.{leaf_to, tree_rows, region_rows, entries_from, leaf_alone, IsPlain}
+use Rattle.pc_regions.proofs.Places.{length_more}
+use Rattle.pc_compile.specs.Plain.{leaf_to, tree_rows, region_rows, entries_from, leaf_alone, first_row, IsPlain}
 use Rattle.pc_compile.specs.models.Emitted.{all_units}
 use Rattle.pc_compile.proofs.Emitting.{as_many_rows}
 
@@ -16,10 +17,6 @@ use Rattle.pc_compile.proofs.Emitting.{as_many_rows}
 get_behind : {X : Type 0} (xs ys : List X) (y : X) → slice_get (xs ++ y ∷ ys) (length xs) ≡ Some y
 get_behind [] ys y = refl
 get_behind (x ∷ xs) ys y = get_behind xs ys y
-
-length_one : {X : Type 0} (xs : List X) (y : X) → length (xs ++ y ∷ []) ≡ suc (length xs)
-length_one [] y = refl
-length_one (x ∷ xs) y = ap suc (length_one xs y)
 
 -- a list with one element more, and what follows
 one_first : {X : Type 0} (xs ys : List X) (y : X) → xs ++ y ∷ ys ≡ (xs ++ y ∷ []) ++ ys
@@ -67,7 +64,7 @@ module _ (table : Table) (entries : List ℕ) (rows : List CodeRow) where
       let made : CodeRow = Then item (At_leaf (leaf_to table entries (suc row) rest)) in
       let behind = tree_rows table entries (suc row) rest ++ after in (
         row_stands before behind made row e at,
-        tree_stands rest (before ++ made ∷ []) after (suc row) (e ∙ one_first before behind made) (length_one before made ∙ ap suc at),
+        tree_stands rest (before ++ made ∷ []) after (suc row) (e ∙ one_first before behind made) (length_more before made ∙ ap suc at),
       )
   tree_stands (Asks origin on on_yes on_no) before after row e at =
       let made : CodeRow = Either on (At_leaf (leaf_to table entries (suc row) on_yes)) (At_leaf (leaf_to table entries (suc row + units on_yes) on_no)) in
@@ -75,7 +72,7 @@ module _ (table : Table) (entries : List ℕ) (rows : List CodeRow) where
       let second = tree_rows table entries (suc row + units on_yes) on_no in
       let parted : rows ≡ (before ++ made ∷ []) ++ (first ++ (second ++ after)) =
       e ∙ one_first before ((first ++ second) ++ after) made ∙ ap (λ (l : List CodeRow). (before ++ made ∷ []) ++ l) (append_assoc first second after) in
-      let next : length (before ++ made ∷ []) ≡ suc row = length_one before made ∙ ap suc at in (
+      let next : length (before ++ made ∷ []) ≡ suc row = length_more before made ∙ ap suc at in (
         row_stands before ((first ++ second) ++ after) made row e at,
         tree_stands on_yes (before ++ made ∷ []) (second ++ after) (suc row) parted next,
         tree_stands on_no ((before ++ made ∷ []) ++ first) after (suc row + units on_yes)
@@ -114,9 +111,6 @@ as_many_of_regions table entries row (region ∷ regions) =
     omega (arith, both, one, rest)
 
 module _ (table : Table) (rows : List CodeRow) (plain : IsPlain table rows) where
-  abbrev pub first_row : ℕ
-  first_row = length (leaf_alone (region_tree table 0))
-
   -- the row at which a region begins
   abbrev pub entry : ℕ → ℕ
   entry region = slice_index plain.entries region
@@ -124,8 +118,8 @@ module _ (table : Table) (rows : List CodeRow) (plain : IsPlain table rows) wher
   -- the rows of a region stand from there on
   pub region_stands : (number : ℕ) (region : TableRegion) → slice_get table.regions number ≡ Some region → Stands table plain.entries rows (entry number) region.tree
   region_stands number region there =
-      subst (λ (entries : List ℕ). Stands table plain.entries rows (slice_index entries number) region.tree) (sym plain.begin)
-      (regions_stand table plain.entries rows table.regions (leaf_alone (region_tree table 0)) first_row plain.are refl number region there)
+      subst (λ (entries : List ℕ). Stands table plain.entries rows (slice_index entries number) region.tree) (sym plain.entries_are)
+      (regions_stand table plain.entries rows table.regions (leaf_alone (region_tree table 0)) (first_row table) plain.rows_are refl number region there)
 
   -- and so those of what stands behind its number
   pub region_here : (number : ℕ) → Stands table plain.entries rows (entry number) (region_tree table number)
@@ -137,26 +131,26 @@ module _ (table : Table) (rows : List CodeRow) (plain : IsPlain table rows) wher
 
   -- region 0 begins at row 0, unless it is a stop or a trap
   pub entry_first : length (leaf_alone (region_tree table 0)) ≡ 0 → entry 0 ≡ 0
-  entry_first none = ap (λ (entries : List ℕ). slice_index entries 0) plain.begin ∙ begins table.regions first_row none ∙ none
+  entry_first none = ap (λ (entries : List ℕ). slice_index entries 0) plain.entries_are ∙ begins table.regions (first_row table) none ∙ none
     where
       begins : (regions : List TableRegion) (row : ℕ) → length (leaf_alone (tree_of (slice_get regions 0))) ≡ 0 → slice_index (entries_from row regions) 0 ≡ row
       begins [] row e = absurd (omega (arith, e))
       begins (region ∷ regions) row e = refl
 
   -- so many rows there are
-  pub as_many_rows_in_all : length rows ≡ first_row + all_units table.regions
+  pub as_many_rows_in_all : length rows ≡ first_row table + all_units table.regions
   as_many_rows_in_all =
-      let whole = ap (λ (l : List CodeRow). length l) plain.are in
-      let both = length-append (leaf_alone (region_tree table 0)) (region_rows table plain.entries first_row table.regions) in
-      let many = as_many_of_regions table plain.entries first_row table.regions in
-      sum (length rows) (length (leaf_alone (region_tree table 0) ++ region_rows table plain.entries first_row table.regions)) first_row
-      (length (region_rows table plain.entries first_row table.regions)) (all_units table.regions) whole both many
+      let whole = ap (λ (l : List CodeRow). length l) plain.rows_are in
+      let both = length-append (leaf_alone (region_tree table 0)) (region_rows table plain.entries (first_row table) table.regions) in
+      let many = as_many_of_regions table plain.entries (first_row table) table.regions in
+      sum (length rows) (length (leaf_alone (region_tree table 0) ++ region_rows table plain.entries (first_row table) table.regions)) (first_row table)
+      (length (region_rows table plain.entries (first_row table) table.regions)) (all_units table.regions) whole both many
     where
       sum : (r w a b u : ℕ) → r ≡ w → w ≡ a + b → b ≡ u → r ≡ a + u
       sum r w a b u p q s = omega (arith, p, q, s)
 
   -- at most one stands before those of the regions
-  pub one_before : first_row ≤ 1
+  pub one_before : first_row table ≤ 1
   one_before = one (region_tree table 0)
     where
       one : (tree : TableTree) → length (leaf_alone tree) ≤ 1
@@ -169,4 +163,4 @@ module _ (table : Table) (rows : List CodeRow) (plain : IsPlain table rows) wher
   -- the row before those of the regions is the leaf of region 0
   pub before_is : (leaf : CodeRow) → leaf_alone (region_tree table 0) ≡ leaf ∷ [] → slice_get rows 0 ≡ Some leaf
   before_is leaf e =
-      ap (λ (l : List CodeRow). slice_get l 0) (plain.are ∙ ap (λ (l : List CodeRow). l ++ region_rows table plain.entries first_row table.regions) e)
+      ap (λ (l : List CodeRow). slice_get l 0) (plain.rows_are ∙ ap (λ (l : List CodeRow). l ++ region_rows table plain.entries (first_row table) table.regions) e)

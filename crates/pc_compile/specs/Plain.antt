@@ -61,8 +61,12 @@ leaf_alone (Next region) = []
 leaf_alone Stops_here = At_leaf Ends ∷ []
 leaf_alone (Traps_here kind line) = At_leaf (Traps kind line) ∷ []
 
--- The rows are those of the table's regions. So row 0 is the root of region 0.
+-- the row at which region 0 begins
+abbrev pub first_row : Table → ℕ
+first_row table = length (leaf_alone (region_tree table 0))
+
+-- The rows are those of the table's regions, so a table has one plain code. Row 0 is the root of region 0.
 pub record IsPlain (table : Table) (rows : List CodeRow) : Type 0 where
   pub entries : List ℕ
-  pub begin : entries ≡ entries_from (length (leaf_alone (region_tree table 0))) table.regions
-  pub are : rows ≡ leaf_alone (region_tree table 0) ++ region_rows table entries (length (leaf_alone (region_tree table 0))) table.regions
+  pub entries_are : entries ≡ entries_from (first_row table) table.regions
+  pub rows_are : rows ≡ leaf_alone (region_tree table 0) ++ region_rows table entries (first_row table) table.regions
