@@ -29,6 +29,7 @@ use Rattle.pc_compile.specs.models.Emitted.{all_units}
 use Rattle.pc_compile.specs.models.Made.{IsObjectOf, object_with}
 use Rattle.pc_compile.proofs.PlainCodes.{plain_is_well_formed, plain_is_short}
 use Rattle.pc_compile.proofs.PlainRuns.{rows_show}
+use Rattle.pc_compile.proofs.FewRows.{few_rows}
 use Rattle.pc_compile.proofs.Origins.{few_units}
 use Rattle.pc_compile.proofs.Reached.{rows_reached}
 use Rattle.pc_compile.proofs.Standing.{roots}
@@ -49,9 +50,9 @@ pub are_arrays : (arrays : List ℕ) → length arrays ≤ most_arrays → list_
 are_arrays arrays few sized elements = record { count = few; each = lengths_between arrays sized; elements = elements }
 
 -- the regions of a program's graph have no more items and tests than a graph may have nodes
-pub few_rows : (program : ResolvedProgram) (first flow : FlowGraph) (table : Table) → IsLowered program first → Keeps first flow → IsCutOf flow table
+pub few_units_in_all : (program : ResolvedProgram) (first flow : FlowGraph) (table : Table) → IsLowered program first → Keeps first flow → IsCutOf flow table
     → all_units table.regions ≤ most_nodes
-few_rows program first flow table lowered kept cut =
+few_units_in_all program first flow table lowered kept cut =
     let units = few_units flow table cut in
     let as_many = kept.as_many in
     let counted = lowered.counted in
@@ -67,7 +68,7 @@ is_compiled program limits first flow table object fine arrays lowered kept cut 
     let rooted = roots flow table cut in
     let code = (object_with limits table.arrays made.rows).code in
     let same_arrays = cut.arrays ∙ kept.same_arrays ∙ lowered.arrays in
-    let few = few_rows program first flow table lowered kept cut in
+    let few = few_units_in_all program first flow table lowered kept cut in
     let of_flow = AgreeOnInputs-trans (flow_run flow) (flow_run first) (source_run program) kept.agrees lowered.agree in
     let of_table = AgreeOnInputs-trans (table_run table) (flow_run flow) (source_run program) cut_agrees of_flow in
     let of_code = AgreeOnInputs-trans (machine_run code) (table_run table) (source_run program) (rows_show table made.rows plain rooted limits) of_table in
@@ -87,5 +88,6 @@ is_compiled program limits first flow table object fine arrays lowered kept cut 
       kept = kept;
       cut = cut;
       plain = plain;
+      few = few_rows flow table cut made.rows plain;
       reached = rows_reached table made.rows plain flow cut;
     })

@@ -1,5 +1,6 @@
 pub mod Compilations
 pub mod Emitting
+pub mod FewRows
 pub mod Found
 pub mod Origins
 pub mod PlainCodes

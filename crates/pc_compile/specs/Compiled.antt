@@ -19,7 +19,7 @@ use Rattle.pc_compile.specs.declared.error.CompileError.TheVariants.{TooLarge, M
 
 -- The object does what the program does, for every input of words, and may be written; it has the given limits, the
 -- program's arrays and no notes. Its rows are those of the table, which is the cut of the graph, which passes made of the
--- program's; leaves lead to each from row 0.
+-- program's. They are no more than the graph's nodes, and leaves lead to each from row 0.
 pub record IsCompiled (program : ResolvedProgram) (limits : Limits) (flow : FlowGraph) (table : Table) (object : CodeWithNotes) : Type 0 where
   pub agree : AgreeOnInputs (source_run program) (machine_run object.code)
   pub is_object : IsObject object
@@ -31,6 +31,7 @@ pub record IsCompiled (program : ResolvedProgram) (limits : Limits) (flow : Flow
   pub kept : Keeps first flow
   pub cut : IsCutOf flow table
   pub plain : IsPlain table object.code.rows
+  pub few : length object.code.rows ≤ length flow.nodes
   pub reached : (row : ℕ) → row < length object.code.rows → IsReachable object.code.rows row
 
 -- Why a program of a size has no object: its flow graph would have too many nodes, and they are told, as far as a number

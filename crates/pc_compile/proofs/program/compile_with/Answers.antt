@@ -2,12 +2,12 @@ use Rattle.std.proofs.Common.{arith}
 use Rattle.pc_check.specs.Checks.{resolved_of}
 use Rattle.pc_object.specs.ObjectText.{object_of}
 use Rattle.pc_table.specs.Table.{table_of}
-use Rattle.pc_compile.proofs.Compilations.{are_arrays, few_rows, is_compiled}
+use Rattle.pc_compile.proofs.Compilations.{are_arrays, few_units_in_all, is_compiled}
 use Rattle.pc_compile.proofs.program.compile_with.Goals as goal
 
 pub object_of-requires-clause-few : goal.object_of-requires-clause-few
 object_of-requires-clause-few g c =
-    let few = few_rows (resolved_of c.args.checked.now) c.in_ok-flow.flow c.run_list.new.flow (table_of c.in_ok-table.table)
+    let few = few_units_in_all (resolved_of c.args.checked.now) c.in_ok-flow.flow c.run_list.new.flow (table_of c.in_ok-table.table)
     c.in_ok-flow.ensures.lowered c.run_list.ensures.keeps c.in_ok-table.ensures.cut in
     omega (arith, few)
 
