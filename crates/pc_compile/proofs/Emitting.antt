@@ -1,176 +1,147 @@
--- The loop that makes the rows: what it keeps from row to row.
-use Rattle.std.proofs.Common.{◌≡◌, ℕ, zero, suc, ◌-◌, ◌<◌, ◌≤◌, inl, inr, List, [], ◌∷◌, ◌++◌, length, Option, Some, None, refl, sym, ◌∙◌, ap, subst, arith}
-use Rattle.std.specs.Prelude.{is_some, slice_get}
-use Rattle.std.proofs.lemmas.List.Sums.{count_by-le-length}
-use Rattle.std.proofs.lemmas.Option.{slice_get_within}
-use Rattle.pc_word.proofs.Truth.{decide_le}
-use Rattle.pc_flow.specs.FlowGraph.{FlowGraph}
-use Rattle.std.proofs.lemmas.List.{length-map, length-append, length-replicate, map-append}
+-- The rows that are put behind others, tree by tree and region by region.
+use Rattle.std.proofs.Common.{◌≡◌, ℕ, zero, suc, ◌+◌, ◌<◌, List, [], ◌∷◌, ◌++◌, length, Some, refl, sym, ◌∙◌, ap, subst, arith, append_assoc, append-nil, drop, drop-cons, get_or}
+use Rattle.std.specs.Prelude.{slice_get}
+use Rattle.std.proofs.lemmas.List.{length-map, length-append, map-append}
+use Rattle.std.proofs.lemmas.Option.{slice_get-get_or}
+use Rattle.pc_word.specs.declared.item.Item.{Item}
+use Rattle.pc_word.specs.declared.item.Operand.{Operand}
+use Rattle.pc_word.specs.Row.{Then, Either, At_leaf}
+use Rattle.pc_table.specs.Table.{TableTree, Does, Asks, Next, Stops_here, Traps_here, TableRegion, Table, table_tree, table_region, table_regions, table_of}
+use Rattle.pc_table.specs.declared.table.RegionTable.{RegionTable}
+use Rattle.pc_table.specs.declared.table.Region.{Region}
+use Rattle.pc_table.specs.TableKeeps.{TreeIsThere, units, TableKeeps}
 use Rattle.pc_machine.specs.declared.tree.Tree.{Tree}
 use Rattle.pc_machine.specs.MachineCode.{CodeRow, row_of, rows_of}
-use Rattle.pc_compile.specs.Plain.{IsRowAt, IsPlain}
-use Rattle.pc_machine.specs.Reachable.{IsReachable, Entry, Behind}
-use Rattle.pc_compile.specs.models.Numbered.{Numbered, IsNumbered, none_met, Meets, GrowsBehind}
-use Rattle.pc_compile.proofs.Orders.{get_front, get_last, get_more, length_more, row_at_later}
+use Rattle.pc_compile.specs.Plain.{leaf_to, tree_rows, region_rows, entries_from}
+use Rattle.pc_compile.specs.models.Emitted.{NamesWithin, Adds}
 
--- the rows so far are those of the nodes that were met first, and a leaf of them leads to each node that was met
-pub record Emitting (flow : FlowGraph) (it : Numbered) (rows : List CodeRow) : Type 0 where
-  pub nodes : length it.rows ≡ length flow.nodes
-  pub entry : slice_get it.order 0 ≡ Some flow.entry
-  pub few : length rows ≤ length it.order
-  pub each : (number node : ℕ) (row : CodeRow) → slice_get it.order number ≡ Some node → slice_get rows number ≡ Some row
-      → IsRowAt flow.nodes it.order node row
-  pub reached : (number : ℕ) → number < length it.order → IsReachable rows number
+-- there are as many rows of a tree as items and tests
+pub as_many_rows : (table : Table) (entries : List ℕ) (row : ℕ) (tree : TableTree) → length (tree_rows table entries row tree) ≡ units tree
+as_many_rows table entries row (Does origin item rest) = ap suc (as_many_rows table entries (suc row) rest)
+as_many_rows table entries row (Asks origin on on_yes on_no) =
+    let both = length-append (tree_rows table entries (suc row) on_yes) (tree_rows table entries (suc row + units on_yes) on_no) in
+    let one = as_many_rows table entries (suc row) on_yes in
+    let other = as_many_rows table entries (suc row + units on_yes) on_no in
+    omega (arith, both, one, other)
+as_many_rows table entries row (Next region) = refl
+as_many_rows table entries row Stops_here = refl
+as_many_rows table entries row (Traps_here kind line) = refl
 
--- ---- before the first row
+-- so many trees more than before
+pub as_many_more : (old new : List Tree) (rows : List CodeRow) → Adds old new rows → length new ≡ length old + length rows
+as_many_more old new rows adds =
+    let whole = ap (λ (l : List CodeRow). length l) adds in
+    let both = length-append (rows_of old) rows in
+    let one = length-map old row_of in
+    let other = length-map new row_of in
+    omega (arith, whole, both, one, other)
 
--- the first number of all
-first_of : (it new : Numbered) (node row : ℕ) → it.order ≡ [] → Meets it new node row → new.order ≡ node ∷ []
-first_of it new node row none meets = elim meets.grown [
-  | inl same ↦
-      let there : slice_get [] row ≡ Some node = subst (λ (order : List ℕ). slice_get order row ≡ Some node) (same ∙ none) meets.there in
-      absurd (cc)
-  | inr more ↦ more.0 ∙ ap (λ (order : List ℕ). order ++ node ∷ []) none
-]
+-- one tree more
+pub adds_one : (old new : List Tree) (tree : Tree) (row : CodeRow) → new ≡ old ++ tree ∷ [] → row_of tree ≡ row → Adds old new (row ∷ [])
+adds_one old new tree row e is = ap rows_of e ∙ map-append row_of old (tree ∷ []) ∙ ap (λ (r : CodeRow). rows_of old ++ r ∷ []) is
 
-only_entry : (number : ℕ) → number < 1 → IsReachable [] number
-only_entry zero lt = Entry
-only_entry (suc number) lt = absurd (omega arith)
+-- rows, and then more
+pub adds_both : (old mid new : List Tree) (rows more : List CodeRow) → Adds old mid rows → Adds mid new more → Adds old new (rows ++ more)
+adds_both old mid new rows more one other = other ∙ ap (λ (l : List CodeRow). l ++ more) one ∙ append_assoc (rows_of old) rows more
 
--- the entry is met first
-pub emitting_begins : (flow : FlowGraph) (it new : Numbered) (row : ℕ) → it ≡ none_met (length flow.nodes) → Meets it new flow.entry row → Emitting flow new []
-emitting_begins flow it new row is meets =
-    let nothing : Option ℕ = None in
-    let as_many : length it.rows ≡ length flow.nodes = ap (λ (x : Numbered). length x.rows) is ∙ length-replicate (length flow.nodes) nothing in
-    let order = first_of it new flow.entry row (ap (λ (x : Numbered). x.order) is) meets in
-    record {
-      nodes = meets.as_many_nodes ∙ as_many;
-      entry = ap (λ (l : List ℕ). slice_get l 0) order;
-      few = omega arith;
-      each = λ number node row there at. absurd (cc);
-      reached = λ number lt. only_entry number (subst (λ (l : List ℕ). number < length l) order lt);
-    }
+module _ (table : Table) (entries : List ℕ) (origin : ℕ) where
+  -- an item's row, and those behind it
+  pub item_added : (item : Item) (rest : TableTree) (old mid new : List Tree) (tree : Tree) → mid ≡ old ++ tree ∷ []
+      → row_of tree ≡ Then item (At_leaf (leaf_to table entries (length old + 1) rest)) → Adds mid new (tree_rows table entries (length mid) rest)
+      → Adds old new (tree_rows table entries (length old) (Does origin item rest))
+  item_added item rest old mid new tree e is adds =
+      let row = length old + 1 in
+      let made : CodeRow = Then item (At_leaf (leaf_to table entries row rest)) in
+      let one = adds_one old mid tree made e is in
+      let more = as_many_more old mid (made ∷ []) one in
+      let next : length mid ≡ row = omega (arith, more) in
+      let same : row ≡ suc (length old) = omega arith in
+      subst (λ (n : ℕ). Adds old new (Then item (At_leaf (leaf_to table entries n rest)) ∷ tree_rows table entries n rest)) same
+      (adds_both old mid new (made ∷ []) (tree_rows table entries row rest) one (subst (λ (n : ℕ). Adds mid new (tree_rows table entries n rest)) next adds))
 
--- ---- a row more
+  -- a test's row, and those of its sides
+  pub test_added : (on : Operand) (on_yes on_no : TableTree) (old mid behind new : List Tree) (tree : Tree) → mid ≡ old ++ tree ∷ []
+      → row_of tree ≡ Either on (At_leaf (leaf_to table entries (length old + 1) on_yes)) (At_leaf (leaf_to table entries (length old + 1 + units on_yes) on_no))
+      → Adds mid behind (tree_rows table entries (length mid) on_yes) → Adds behind new (tree_rows table entries (length behind) on_no)
+      → Adds old new (tree_rows table entries (length old) (Asks origin on on_yes on_no))
+  test_added on on_yes on_no old mid behind new tree e is adds adds_too =
+      let row = length old + 1 in
+      let same : row ≡ suc (length old) = omega arith in
+      let made : CodeRow = Either on (At_leaf (leaf_to table entries row on_yes)) (At_leaf (leaf_to table entries (row + units on_yes) on_no)) in
+      let one = adds_one old mid tree made e is in
+      let more = as_many_more old mid (made ∷ []) one in
+      let next : length mid ≡ row = omega (arith, more) in
+      let first : Adds mid behind (tree_rows table entries row on_yes) = subst (λ (n : ℕ). Adds mid behind (tree_rows table entries n on_yes)) next adds in
+      let longer = as_many_more mid behind (tree_rows table entries row on_yes) first in
+      let many = as_many_rows table entries row on_yes in
+      let last : length behind ≡ row + units on_yes = sum (length behind) (length mid) (length (tree_rows table entries row on_yes)) row (units on_yes) longer next many in
+      let second : Adds behind new (tree_rows table entries (row + units on_yes) on_no) = subst (λ (n : ℕ). Adds behind new (tree_rows table entries n on_no)) last adds_too in
+      subst (λ (n : ℕ). Adds old new
+      (Either on (At_leaf (leaf_to table entries n on_yes)) (At_leaf (leaf_to table entries (n + units on_yes) on_no))
+      ∷ (tree_rows table entries n on_yes ++ tree_rows table entries (n + units on_yes) on_no))) same
+      (adds_both old mid new (made ∷ []) (tree_rows table entries row on_yes ++ tree_rows table entries (row + units on_yes) on_no) one
+      (adds_both mid behind new (tree_rows table entries row on_yes) (tree_rows table entries (row + units on_yes) on_no) first second))
+    where
+      sum : (b m l r u : ℕ) → b ≡ m + l → m ≡ r → l ≡ u → b ≡ r + u
+      sum b m l r u p q s = omega (arith, p, q, s)
 
--- what stands at a place of a list stands there in a longer one
-get_within : {X : Type 0} (xs ys : List X) (i : ℕ) → i < length xs → slice_get (xs ++ ys) i ≡ slice_get xs i
-get_within [] ys i lt = absurd (omega arith)
-get_within (x ∷ xs) ys zero lt = refl
-get_within (x ∷ xs) ys (suc i) lt = get_within xs ys i (omega arith)
+-- a tree without rows
+pub none_added : (rows : List Tree) → Adds rows rows []
+none_added rows = sym (append-nil (rows_of rows))
 
--- what leads to a row still does where there are more rows
-reached_later : (rows more : List CodeRow) (number : ℕ) → IsReachable rows number → IsReachable (rows ++ more) number
-reached_later rows more _ Entry = Entry
-reached_later rows more _ (Behind from at leads) = Behind (reached_later rows more _ from) (get_front rows more _ _ at) leads
+pub ruleset trees = (item_added, test_added, none_added)
 
-module _ (flow : FlowGraph) (it new : Numbered) (rows : List CodeRow) (node : ℕ) (row : CodeRow) (h : Emitting flow it rows)
-    (at : slice_get it.order (length rows) ≡ Some node) (is_row : IsRowAt flow.nodes new.order node row) (grows : GrowsBehind row it new) where
-  -- the rows before are those of their nodes, and so is the new one
-  each_more : (number other : ℕ) (made : CodeRow) → slice_get new.order number ≡ Some other → slice_get (rows ++ row ∷ []) number ≡ Some made
-      → IsRowAt flow.nodes new.order other made
-  each_more number other made there found = elim (get_more rows row number made found) [
-    | inl before ↦
-        let within = slice_get_within rows number made before in
-        let inside : number < length it.order = omega (arith, within, h.few) in
-        let was : slice_get it.order number ≡ Some other =
-        sym (get_within it.order grows.more number inside) ∙ ap (λ (l : List ℕ). slice_get l number) (sym grows.grown) ∙ there in
-        subst (λ (order : List ℕ). IsRowAt flow.nodes order other made) (sym grows.grown)
-        (row_at_later flow.nodes it.order grows.more other made (h.each number other made was before))
-    | inr last ↦
-        let inside : number < length it.order = subst (λ (n : ℕ). n < length it.order) (sym last.0) (slice_get_within it.order (length rows) node at) in
-        let was : slice_get it.order number ≡ Some other =
-        sym (get_within it.order grows.more number inside) ∙ ap (λ (l : List ℕ). slice_get l number) (sym grows.grown) ∙ there in
-        let now : slice_get it.order number ≡ Some node = subst (λ (n : ℕ). slice_get it.order n ≡ Some node) (sym last.0) at in
-        let same : node ≡ other = (cc) in
-        subst (λ (n : ℕ). IsRowAt flow.nodes new.order n made) same (subst (λ (r : CodeRow). IsRowAt flow.nodes new.order node r) last.1 is_row)
-  ]
+-- ---- region by region
 
-  -- the nodes before were reached, and the row leads to the new ones
-  reached_more : (number : ℕ) → number < length new.order → IsReachable (rows ++ row ∷ []) number
-  reached_more number lt = elim (decide_le (suc number) (length it.order)) [
-    | inl before ↦ reached_later rows (row ∷ []) number (h.reached number before)
-    | inr behind ↦
-        let here = h.reached (length rows) (slice_get_within it.order (length rows) node at) in
-        Behind (reached_later rows (row ∷ []) (length rows) here) (get_last rows row) (grows.led number (omega arith) lt)
-  ]
+-- what is left of the regions begins with the one that comes next
+pub left_is : (regions : List Region) (i : ℕ) (region : Region) → i < length regions → region ≡ get_or regions i region
+    → table_regions (drop i regions) ≡ table_region region ∷ table_regions (drop (suc i) regions)
+left_is regions i region lt is = ap table_regions (drop-cons regions i region lt ∙ ap (λ (r : Region). r ∷ drop (suc i) regions) (sym is))
 
-  -- a row more
-  pub emitting_goes_on : Emitting flow new (rows ++ row ∷ [])
-  emitting_goes_on = record {
-    nodes = grows.as_many_nodes ∙ h.nodes;
-    entry = subst (λ (order : List ℕ). slice_get order 0 ≡ Some flow.entry) (sym grows.grown) (get_front it.order grows.more 0 flow.entry h.entry);
-    few =
-        let within = slice_get_within it.order (length rows) node at in
-        let more = length_more rows row in
-        let longer = ap (λ (l : List ℕ). length l) grows.grown in
-        let both = length-append it.order grows.more in
-        omega (arith, within, more, longer, both);
-    each = each_more;
-    reached = reached_more;
-  }
+-- the entries of regions, with one more found
+pub entry_more : (all found now : List ℕ) (row : ℕ) (region : TableRegion) (rest : List TableRegion) → now ≡ found ++ row ∷ []
+    → found ++ entries_from row (region ∷ rest) ≡ all → now ++ entries_from (row + units region.tree) rest ≡ all
+entry_more all found now row region rest e h =
+    ap (λ (l : List ℕ). l ++ entries_from (row + units region.tree) rest) e ∙ append_assoc found (row ∷ []) (entries_from (row + units region.tree) rest) ∙ h
 
--- ---- behind the last row
+-- the rows of regions, with those of one more
+pub rows_more : (table : Table) (entries : List ℕ) (all : List CodeRow) (old new : List Tree) (region : TableRegion) (rest : List TableRegion)
+    → Adds old new (tree_rows table entries (length old) region.tree) → rows_of old ++ region_rows table entries (length old) (region ∷ rest) ≡ all
+    → rows_of new ++ region_rows table entries (length new) rest ≡ all
+rows_more table entries all old new region rest adds h =
+    let more = as_many_more old new (tree_rows table entries (length old) region.tree) adds in
+    let many = as_many_rows table entries (length old) region.tree in
+    let longer : length new ≡ length old + units region.tree = omega (arith, more, many) in
+    let behind = region_rows table entries (length old + units region.tree) rest in
+    ap (λ (l : List CodeRow). l ++ region_rows table entries (length new) rest) adds
+    ∙ append_assoc (rows_of old) (tree_rows table entries (length old) region.tree) (region_rows table entries (length new) rest)
+    ∙ ap (λ (n : ℕ). rows_of old ++ (tree_rows table entries (length old) region.tree ++ region_rows table entries n rest)) longer
+    ∙ h
 
--- no node is left
-none_left : (xs : List ℕ) (i : ℕ) → slice_get xs i ≡ None → length xs ≤ i
-none_left [] i e = omega arith
-none_left (x ∷ xs) zero e = absurd (cc)
-none_left (x ∷ xs) (suc i) e = let rest = none_left xs i e in omega (arith, rest)
+-- each region has an entry
+pub as_many_entries : (row : ℕ) (regions : List Region) → length (entries_from row (table_regions regions)) ≡ length regions
+as_many_entries row [] = refl
+as_many_entries row (region ∷ regions) = ap suc (as_many_entries (row + units (table_tree region.tree)) regions)
 
--- the rows are those of the graph
-pub emitted_is_plain : (flow : FlowGraph) (it : Numbered) (rows : List CodeRow) → Emitting flow it rows → IsNumbered it
-    → slice_get it.order (length rows) ≡ None → IsPlain flow rows
-emitted_is_plain flow it rows h is none = record {
-  order = it.order;
-  rows_of_nodes = record {
-    entry = h.entry;
-    once = λ one other node p q. let e = sym (is.node_there one node p) ∙ is.node_there other node q in (cc);
-    as_many = let fewer = none_left it.order (length rows) none in let few = h.few in omega (arith, fewer, few);
-    few =
-        let few = h.few in
-        let counted = count_by-le-length is_some it.rows in
-        let as_many = is.as_many in
-        let nodes = h.nodes in
-        omega (arith, few, counted, as_many, nodes);
-    each = h.each;
-  };
-}
+-- the regions that a tree names are there where all is that it names
+names_within : (arrays regions : ℕ) (tree : TableTree) → TreeIsThere arrays regions tree → NamesWithin regions tree
+names_within arrays regions (Does origin item rest) there = names_within arrays regions rest there.1
+names_within arrays regions (Asks origin on on_yes on_no) there = (names_within arrays regions on_yes there.1, names_within arrays regions on_no there.2)
+names_within arrays regions (Next region) there = there
+names_within arrays regions Stops_here there = tt
+names_within arrays regions (Traps_here kind line) there = tt
 
--- and each of them is reached
-pub emitted_are_reached : (flow : FlowGraph) (it : Numbered) (rows : List CodeRow) → Emitting flow it rows → (number : ℕ) → number < length rows → IsReachable rows number
-emitted_are_reached flow it rows h number lt = h.reached number (let few = h.few in omega (arith, few, lt))
+-- a region in memory is one of the table
+region_stored : (regions : List Region) (number : ℕ) (region : Region) → slice_get regions number ≡ Some region → slice_get (table_regions regions) number ≡ Some (table_region region)
+region_stored [] number region e = absurd (cc)
+region_stored (other ∷ regions) zero region e = let same : other ≡ region = (cc) in ap (λ (r : Region). Some (table_region r)) same
+region_stored (other ∷ regions) (suc number) region e = region_stored regions number region e
 
--- a node that was met is one of the graph
-pub node_within : (flow : FlowGraph) (it : Numbered) (rows : List CodeRow) (number node : ℕ) → Emitting flow it rows → IsNumbered it
-    → slice_get it.order number ≡ Some node → node < length flow.nodes
-node_within flow it rows number node h is at =
-    subst (λ (n : ℕ). node < n) h.nodes (slice_get_within it.rows node (Some number) (is.node_there number node at))
-
--- there are no more rows than nodes
-pub rows_within : (flow : FlowGraph) (it : Numbered) (rows : List CodeRow) (node : ℕ) → Emitting flow it rows → IsNumbered it
-    → slice_get it.order (length rows) ≡ Some node → length rows < length flow.nodes
-rows_within flow it rows node h is at =
-    let within = slice_get_within it.order (length rows) node at in
-    let counted = count_by-le-length is_some it.rows in
-    let as_many = is.as_many in
-    let nodes = h.nodes in
-    omega (arith, within, counted, as_many, nodes)
-
--- what stands behind the rows so far, in terms of the trees in memory
-pub behind_trees : (order : List ℕ) (trees : List Tree) (count : ℕ) (found : Option ℕ) → found ≡ slice_get order count → count ≡ length trees
-    → slice_get order (length (rows_of trees)) ≡ found
-behind_trees order trees count found e same =
-    ap (λ (n : ℕ). slice_get order n) (length-map trees row_of ∙ sym same) ∙ sym e
-
--- a tree more is a row more
-pub tree_more : (trees new : List Tree) (tree : Tree) → new ≡ trees ++ tree ∷ [] → rows_of new ≡ rows_of trees ++ row_of tree ∷ []
-tree_more trees new tree e = ap rows_of e ∙ map-append row_of trees (tree ∷ [])
-
--- and fewer are left
-pub fewer_left : (count : ℕ) (trees new : List Tree) (tree : Tree) → new ≡ trees ++ tree ∷ [] → length (rows_of trees) < count
-    → count - length new < count - length trees
-fewer_left count trees new tree e within =
-    let more : length new ≡ suc (length trees) = ap (λ (l : List Tree). length l) e ∙ length_more trees tree in
-    let as_many = length-map trees row_of in
-    omega (arith, more, as_many, within)
+-- so the regions that its tree names are there
+pub region_names : (table : RegionTable) (number : ℕ) (region : Region) → TableKeeps (table_of table) → number < length table.regions → region ≡ get_or table.regions number region
+    → NamesWithin (length table.regions) (table_tree region.tree)
+region_names table number region keeps lt is =
+    let there = slice_get-get_or table.regions number region lt ∙ ap (λ (r : Region). Some r) (sym is) in
+    let kept = keeps.each number (table_region region) (region_stored table.regions number region there) in
+    subst (λ (n : ℕ). NamesWithin n (table_tree region.tree)) (length-map table.regions table_region)
+    (names_within (length table.arrays) (length (table_regions table.regions)) (table_tree region.tree) kept.there)

@@ -1,6 +1,10 @@
 pub mod Compilations
-pub mod Edges
 pub mod Emitting
-pub mod Orders
+pub mod FewRows
+pub mod Found
+pub mod Origins
 pub mod PlainCodes
 pub mod PlainRuns
+pub mod Reached
+pub mod Standing
+pub mod Sums

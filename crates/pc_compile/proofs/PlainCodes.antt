@@ -1,11 +1,11 @@
 -- Plain code is well formed, and its text is not long.
-use Rattle.std.proofs.Common.{◌≡◌, ℕ, suc, ◌*◌, ◌<◌, ◌≤◌, List, [], ◌∷◌, ◌++◌, length, Some, refl, sym, subst, arith}
-use Rattle.std.specs.Prelude.{slice_get, nat_eq}
+use Rattle.std.proofs.Common.{◌≡◌, ℕ, zero, suc, ◌+◌, ◌*◌, ◌≤◌, List, [], ◌∷◌, ◌++◌, length, Option, Some, None, refl, sym, ap, subst, arith}
+use Rattle.std.specs.Prelude.{slice_get, slice_index, nat_eq}
 use Rattle.std.specs.List.{AllByRecursion, IsDistinct, filter_map, flat_map}
 use Rattle.std.proofs.lemmas.List.{length-append}
 use Rattle.std.proofs.lemmas.List.Sums.{count_by-le-length}
-use Rattle.std.proofs.lemmas.Option.{slice_get_within}
 use Rattle.pc_word.specs.MachineLimits.{most_object}
+use Rattle.pc_word.specs.SourceLimits.{most_nodes}
 use Rattle.pc_word.specs.declared.item.Item.{Item}
 use Rattle.pc_word.specs.declared.item.Item.TheVariants.{Bin, Copy, Load, Store, Print, Read, More}
 use Rattle.pc_word.specs.declared.item.Operand.{Operand}
@@ -13,29 +13,26 @@ use Rattle.pc_word.specs.declared.item.Operand.TheVariants.{Name, Lit}
 use Rattle.pc_word.specs.declared.item.Limits.{Limits}
 use Rattle.pc_word.specs.Items.{dest_of, is_effect, is_memory}
 use Rattle.pc_word.specs.Row.{Then, Either, At_leaf}
-use Rattle.pc_flow.specs.declared.node.FlowNode.{FlowNode}
-use Rattle.pc_flow.specs.FlowGraph.{FlowGraph, IsFlow, IsVariable, ItemFits, NodeFits}
+use Rattle.pc_word.proofs.Lists.{all_both}
+use Rattle.pc_table.specs.Table.{TableTree, Does, Asks, Next, Stops_here, Traps_here, TableRegion, Table, tree_of, region_tree}
+use Rattle.pc_table.specs.TableKeeps.{NamesVariable, ItemIsThere, TreeIsThere, units, TableKeeps}
 use Rattle.pc_machine.specs.MachineCode.{Leaf, Leads_to, Ends, Traps, CodeRow}
 use Rattle.pc_machine.specs.WellFormed.{IsOperand, IsItem, IsLeaf, IsPath, IsRow, AreArrays, WellFormed}
 use Rattle.pc_word.specs.Ranges.{AreLimits}
 use Rattle.pc_object.specs.ObjectText.{CodeWithNotes, u32_text, operand_text, item_text, leaf_text, row_text, header_text, notes_text, object_text}
-use Rattle.pc_compile.specs.Plain.{IsEdge, To_stop, To_trap, To_row, IsRowOf, Does, Tests, Stops, Traps_here, IsRowAt, AreRowsOf}
-use Rattle.pc_compile.proofs.Orders.{found_within}
-
--- what holds of what stands at each place holds of each element
-pub all_from_places : {X : Type 0} (P : X → Type 0) (xs : List X) → ((i : ℕ) (x : X) → slice_get xs i ≡ Some x → P x) → AllByRecursion P xs
-all_from_places P [] h = tt
-all_from_places P (x ∷ xs) h = (h 0 x refl, all_from_places P xs (λ i y e. h (suc i) y e))
+use Rattle.pc_compile.specs.Plain.{root_leaf, leaf_to, tree_rows, region_rows, entries_from, leaf_alone, first_row, IsPlain}
+use Rattle.pc_compile.specs.models.Emitted.{all_units}
+use Rattle.pc_compile.proofs.Standing.{IsRoot, entry, as_many_rows_in_all, one_before}
 
 -- ---- names and arrays
 
 -- a variable is a register
-operand_fits : (operand : Operand) → IsVariable operand → IsOperand operand
+operand_fits : (operand : Operand) → NamesVariable operand → IsOperand operand
 operand_fits (Name name) h = omega (arith, h)
 operand_fits (Lit value) h = tt
 
--- an item of a graph is one of the machine
-item_fits : (arrays : ℕ) (item : Item) → ItemFits arrays item → IsItem arrays item
+-- an item of a table is one of the machine
+item_fits : (arrays : ℕ) (item : Item) → ItemIsThere arrays item → IsItem arrays item
 item_fits arrays (Bin op dest left right) h =
     (let w = h.writes in omega (arith, w), operand_fits left h.reads.0, operand_fits right h.reads.1.0)
 item_fits arrays (Copy dest from) h = (let w = h.writes in omega (arith, w), operand_fits from h.reads.0)
@@ -66,44 +63,39 @@ none_is_path : IsPath []
 unfolding IsDistinct
 none_is_path = record { writes_once = tt; one_effect = omega arith }
 
-module _ (flow : FlowGraph) (limits : Limits) (order : List ℕ) (rows : List CodeRow) (plain : AreRowsOf flow order rows) where
-  -- the row of a node
+module _ (table : Table) (limits : Limits) (fine : AreLimits limits) (keeps : TableKeeps table) (roots : (region : ℕ) → IsRoot (region_tree table region)) (rows : List CodeRow)
+    (plain : IsPlain table rows) where
+  -- a row of the code
   abbrev Fits : CodeRow → Type 0
-  Fits row = IsRow limits (length flow.arrays) (length rows) row
+  Fits row = IsRow limits (length table.arrays) (length rows) row
 
-  -- what stands behind an edge is a leaf
-  data IsOneLeaf : CodeRow → Type 0 where
-    leaf_only : (leaf : Leaf) → IsLeaf (length rows) leaf → IsOneLeaf (At_leaf leaf)
+  -- a leaf of the code
+  abbrev FitsLeaf : Leaf → Type 0
+  FitsLeaf leaf = IsLeaf (length rows) leaf
 
-  edge_leaf : (to : ℕ) (rest : CodeRow) → IsEdge flow.nodes order to rest → IsOneLeaf rest
-  edge_leaf to _ (To_stop stop) = leaf_only Ends tt
-  edge_leaf to _ (To_trap {kind} {line} trap) = leaf_only (Traps kind line) tt
-  edge_leaf to _ (To_row {row} {node} at has there) =
-      leaf_only (Leads_to row) (subst (λ (n : ℕ). row < n) (sym plain.as_many) (slice_get_within order row to there))
-
-  item_row : AreLimits limits → (item : Item) (rest : CodeRow) → ItemFits (length flow.arrays) item → IsOneLeaf rest → Fits (Then item rest)
-  item_row fine item _ fits (leaf_only leaf is) = record {
+  item_row : (item : Item) (leaf : Leaf) → ItemIsThere (length table.arrays) item → FitsLeaf leaf → Fits (Then item (At_leaf leaf))
+  item_row item leaf fits is = record {
     ops = let low = fine.ops.0 in omega (arith, low);
     tests = omega arith;
     mem = let low = fine.mem.0 in let few = count_by-le-length is_memory (item ∷ []) in omega (arith, low, few);
-    items = (item_fits (length flow.arrays) item fits, tt);
+    items = (item_fits (length table.arrays) item fits, tt);
     operands = tt;
     leaves = (is, tt);
     paths = (alone_is_path item, tt);
   }
 
-  test_row : AreLimits limits → (on : Operand) (one other : CodeRow) → IsVariable on → IsOneLeaf one → IsOneLeaf other → Fits (Either on one other)
-  test_row fine on _ _ fits (leaf_only leaf is) (leaf_only leaf' is') = record {
+  test_row : (on : Operand) (one other : Leaf) → NamesVariable on → FitsLeaf one → FitsLeaf other → Fits (Either on (At_leaf one) (At_leaf other))
+  test_row on one other fits is is_too = record {
     ops = omega arith;
     tests = let low = fine.tests.0 in omega (arith, low);
     mem = omega arith;
     items = tt;
     operands = (operand_fits on fits, tt);
-    leaves = (is, (is', tt));
+    leaves = (is, (is_too, tt));
     paths = (none_is_path, (none_is_path, tt));
   }
 
-  leaf_row : (leaf : Leaf) → IsLeaf (length rows) leaf → Fits (At_leaf leaf)
+  leaf_row : (leaf : Leaf) → FitsLeaf leaf → Fits (At_leaf leaf)
   leaf_row leaf is = record {
     ops = omega arith;
     tests = omega arith;
@@ -114,30 +106,107 @@ module _ (flow : FlowGraph) (limits : Limits) (order : List ℕ) (rows : List Co
     paths = (none_is_path, tt);
   }
 
-  row_fits : AreLimits limits → (number : ℕ) (node : FlowNode) (row : CodeRow) → NodeFits flow number node → IsRowOf flow.nodes order node row → Fits row
-  row_fits fine number _ _ fits (Does edge) = item_row fine _ _ fits.0 (edge_leaf _ _ edge)
-  row_fits fine number _ _ fits (Tests one other) = test_row fine _ _ _ fits.0 (edge_leaf _ _ one) (edge_leaf _ _ other)
-  row_fits fine number _ _ fits Stops = leaf_row Ends tt
-  row_fits fine number _ _ fits (Traps_here {kind} {line}) = leaf_row (Traps kind line) tt
+  -- the rows of a region end where the code does, or before
+  region_within : (number : ℕ) (region : TableRegion) → slice_get table.regions number ≡ Some region → entry table rows plain number + units region.tree ≤ length rows
+  region_within number region there =
+      let many = as_many_rows_in_all table rows plain in
+      subst (λ (n : ℕ). n + units region.tree ≤ length rows) (sym (ap (λ (entries : List ℕ). slice_index entries number) plain.entries_are))
+      (let within = inside table.regions (first_row table) number region there in omega (arith, many, within))
+    where
+      inside : (regions : List TableRegion) (row number : ℕ) (region : TableRegion) → slice_get regions number ≡ Some region
+          → slice_index (entries_from row regions) number + units region.tree ≤ row + all_units regions
+      inside [] row number region e = absurd (cc)
+      inside (other ∷ regions) row zero region e = let same : units other.tree ≡ units region.tree = units_same e in omega (arith, same)
+        where
+          units_same : Some other ≡ Some region → units other.tree ≡ units region.tree
+          units_same e = let same : other ≡ region = (cc) in ap (λ (r : TableRegion). units r.tree) same
+      inside (other ∷ regions) row (suc number) region e = let rest = inside regions (row + units other.tree) number region e in omega (arith, rest)
 
-  -- each row has its node
-  pub row_is_of_node : (number : ℕ) (row : CodeRow) → slice_get rows number ≡ Some row → (node : ℕ) × IsRowAt flow.nodes order node row
-  row_is_of_node number row at =
-      let within : number < length order = subst (λ (n : ℕ). number < n) plain.as_many (slice_get_within rows number row at) in
-      let found = found_within order number within in
-      (found.0, plain.each number found.0 row found.1 at)
+  -- a leaf to the root of a tree whose rows are there
+  root_fits : (row : ℕ) (tree : TableTree) → IsRoot tree → row + units tree ≤ length rows → FitsLeaf (root_leaf row tree)
+  root_fits row (Does origin item rest) root within = omega (arith, within)
+  root_fits row (Asks origin on on_yes on_no) root within = omega (arith, within)
+  root_fits row (Next region) root within = absurd root
+  root_fits row Stops_here root within = tt
+  root_fits row (Traps_here kind line) root within = tt
+
+  region_fits : (number : ℕ) → FitsLeaf (root_leaf (entry table rows plain number) (region_tree table number))
+  region_fits number = found (slice_get table.regions number) refl (roots number)
+    where
+      found : (it : Option TableRegion) → slice_get table.regions number ≡ it → IsRoot (tree_of it) → FitsLeaf (root_leaf (entry table rows plain number) (tree_of it))
+      found None e root = tt
+      found (Some region) e root = root_fits (entry table rows plain number) region.tree root (region_within number region e)
+
+  leaf_fits : (row : ℕ) (tree : TableTree) → row + units tree ≤ length rows → FitsLeaf (leaf_to table plain.entries row tree)
+  leaf_fits row (Does origin item rest) within = omega (arith, within)
+  leaf_fits row (Asks origin on on_yes on_no) within = omega (arith, within)
+  leaf_fits row (Next region) within = region_fits region
+  leaf_fits row Stops_here within = tt
+  leaf_fits row (Traps_here kind line) within = tt
+
+  tree_fits : (tree : TableTree) (row regions : ℕ) → TreeIsThere (length table.arrays) regions tree → row + units tree ≤ length rows
+      → AllByRecursion Fits (tree_rows table plain.entries row tree)
+  tree_fits (Does origin item rest) row regions there within =
+      let behind : suc row + units rest ≤ length rows = omega (arith, within) in
+      (item_row item (leaf_to table plain.entries (suc row) rest) there.0 (leaf_fits (suc row) rest behind), tree_fits rest (suc row) regions there.1 behind)
+  tree_fits (Asks origin on on_yes on_no) row regions there within =
+      let first : suc row + units on_yes ≤ length rows = omega (arith, within) in
+      let second : suc row + units on_yes + units on_no ≤ length rows = omega (arith, within) in (
+        test_row on (leaf_to table plain.entries (suc row) on_yes) (leaf_to table plain.entries (suc row + units on_yes) on_no) there.0
+            (leaf_fits (suc row) on_yes first) (leaf_fits (suc row + units on_yes) on_no second),
+        all_both Fits (tree_rows table plain.entries (suc row) on_yes) (tree_rows table plain.entries (suc row + units on_yes) on_no)
+            (tree_fits on_yes (suc row) regions there.1 first) (tree_fits on_no (suc row + units on_yes) regions there.2 second),
+      )
+  tree_fits (Next region) row regions there within = tt
+  tree_fits Stops_here row regions there within = tt
+  tree_fits (Traps_here kind line) row regions there within = tt
+
+  regions_fit : (regions : List TableRegion) (row : ℕ)
+      → ((number : ℕ) (region : TableRegion) → slice_get regions number ≡ Some region → TreeIsThere (length table.arrays) (length table.regions) region.tree)
+      → row + all_units regions ≤ length rows → AllByRecursion Fits (region_rows table plain.entries row regions)
+  regions_fit [] row there within = tt
+  regions_fit (region ∷ regions) row there within =
+      all_both Fits (tree_rows table plain.entries row region.tree) (region_rows table plain.entries (row + units region.tree) regions)
+      (tree_fits region.tree row (length table.regions) (there 0 region refl) (omega (arith, within)))
+      (regions_fit regions (row + units region.tree) (λ number it at. there (suc number) it at) (omega (arith, within)))
+
+  alone_fits : (tree : TableTree) → AllByRecursion Fits (leaf_alone tree)
+  alone_fits (Does origin item rest) = tt
+  alone_fits (Asks origin on on_yes on_no) = tt
+  alone_fits (Next region) = tt
+  alone_fits Stops_here = (leaf_row Ends tt, tt)
+  alone_fits (Traps_here kind line) = (leaf_row (Traps kind line) tt, tt)
+
+  all_fit : AllByRecursion Fits rows
+  all_fit =
+      let many = as_many_rows_in_all table rows plain in
+      subst (λ (l : List CodeRow). AllByRecursion Fits l) (sym plain.rows_are)
+      (all_both Fits (leaf_alone (region_tree table 0)) (region_rows table plain.entries (first_row table) table.regions)
+      (alone_fits (region_tree table 0)) (regions_fit table.regions (first_row table) (λ number region at. (keeps.each number region at).there) (omega (arith, many))))
+
+  -- there is a row
+  some_row : 1 ≤ length rows
+  some_row =
+      let many = as_many_rows_in_all table rows plain in
+      let some = one_at_least table.regions keeps.some_region (roots 0) in
+      omega (arith, many, some)
+    where
+      one_at_least : (regions : List TableRegion) → 1 ≤ length regions → IsRoot (tree_of (slice_get regions 0)) → 1 ≤ length (leaf_alone (tree_of (slice_get regions 0))) + all_units regions
+      one_at_least [] some root = absurd (omega (arith, some))
+      one_at_least (region ∷ regions) some root = of_tree region.tree (all_units regions) root
+        where
+          of_tree : (tree : TableTree) (rest : ℕ) → IsRoot tree → 1 ≤ length (leaf_alone tree) + (units tree + rest)
+          of_tree (Does origin item behind) rest root = omega arith
+          of_tree (Asks origin on on_yes on_no) rest root = omega arith
+          of_tree (Next region) rest root = absurd root
+          of_tree Stops_here rest root = omega arith
+          of_tree (Traps_here kind line) rest root = omega arith
 
   -- the code is well formed
-  pub plain_is_well_formed : AreLimits limits → IsFlow flow → AreArrays flow.arrays → WellFormed (record { limits = limits; arrays = flow.arrays; rows = rows })
-  plain_is_well_formed fine is arrays = record {
-    limits = fine;
-    arrays = arrays;
-    entry = let some = slice_get_within order 0 flow.entry plain.entry in let as_many = plain.as_many in omega (arith, some, as_many);
-    rows = all_from_places Fits rows (λ number row at.
-        let made = row_is_of_node number row at in
-        row_fits fine made.0 made.1.node row (is.nodes_fit made.0 made.1.node made.1.there) made.1.is_row);
-  }
-  -- ---- the text
+  pub plain_is_well_formed : AreArrays table.arrays → WellFormed (record { limits = limits; arrays = table.arrays; rows = rows })
+  plain_is_well_formed arrays = record { limits = fine; arrays = arrays; entry = some_row; rows = all_fit }
+
+-- ---- the text
 
 -- a list of short texts is short
 flat_map_short : {X : Type 0} (f : X → List ℕ) (most : ℕ) (xs : List X) → AllByRecursion (λ x. length (f x) ≤ most) xs → length (flat_map f xs) ≤ most * length xs
@@ -177,51 +246,76 @@ leaf_short (Leads_to row) = omega arith
 leaf_short Ends = omega arith
 leaf_short (Traps kind line) = omega arith
 
--- what stands behind an edge is a leaf
-edge_short : (nodes : List FlowNode) (order : List ℕ) (to : ℕ) (rest : CodeRow) → IsEdge nodes order to rest → length (row_text rest) ≤ 6
-edge_short nodes order to _ (To_stop stop) = leaf_short Ends
-edge_short nodes order to _ (To_trap {kind} {line} trap) = leaf_short (Traps kind line)
-edge_short nodes order to _ (To_row {row} {node} at has there) = leaf_short (Leads_to row)
-
--- the row of a node has at most nineteen bytes
-row_short : (nodes : List FlowNode) (order : List ℕ) (node : FlowNode) (row : CodeRow) → IsRowOf nodes order node row → length (row_text row) ≤ 19
-row_short nodes order _ _ (Does {item} {to} {rest} edge) =
-    let both = length-append (item_text item) (row_text rest) in
+-- the row of an item or a test has at most nineteen bytes
+item_row_short : (item : Item) (leaf : Leaf) → length (row_text (Then item (At_leaf leaf))) ≤ 19
+item_row_short item leaf =
+    let both = length-append (item_text item) (leaf_text leaf) in
     let one = item_short item in
-    let other = edge_short nodes order to rest edge in
+    let other = leaf_short leaf in
     omega (arith, both, one, other)
-row_short nodes order _ _ (Tests {on} {on_yes} {on_no} {turn} {rest_yes} {rest_no} one other) =
-    let all = length-append (operand_text on) (row_text rest_yes ++ row_text rest_no) in
-    let both = length-append (row_text rest_yes) (row_text rest_no) in
+
+test_row_short : (on : Operand) (one other : Leaf) → length (row_text (Either on (At_leaf one) (At_leaf other))) ≤ 19
+test_row_short on one other =
+    let all = length-append (operand_text on) (leaf_text one ++ leaf_text other) in
+    let both = length-append (leaf_text one) (leaf_text other) in
     let tested = operand_short on in
-    let first = edge_short nodes order on_yes rest_yes one in
-    let second = edge_short nodes order on_no rest_no other in
+    let first = leaf_short one in
+    let second = leaf_short other in
     omega (arith, all, both, tested, first, second)
-row_short nodes order _ _ Stops = omega arith
-row_short nodes order _ _ Traps_here = omega arith
+
+-- so has each row
+abbrev IsShort : CodeRow → Type 0
+IsShort row = length (row_text row) ≤ 19
+
+tree_short : (table : Table) (entries : List ℕ) (row : ℕ) (tree : TableTree) → AllByRecursion IsShort (tree_rows table entries row tree)
+tree_short table entries row (Does origin item rest) = (item_row_short item (leaf_to table entries (suc row) rest), tree_short table entries (suc row) rest)
+tree_short table entries row (Asks origin on on_yes on_no) = (
+  test_row_short on (leaf_to table entries (suc row) on_yes) (leaf_to table entries (suc row + units on_yes) on_no),
+  all_both IsShort (tree_rows table entries (suc row) on_yes) (tree_rows table entries (suc row + units on_yes) on_no)
+      (tree_short table entries (suc row) on_yes) (tree_short table entries (suc row + units on_yes) on_no),
+)
+tree_short table entries row (Next region) = tt
+tree_short table entries row Stops_here = tt
+tree_short table entries row (Traps_here kind line) = tt
+
+regions_short : (table : Table) (entries : List ℕ) (row : ℕ) (regions : List TableRegion) → AllByRecursion IsShort (region_rows table entries row regions)
+regions_short table entries row [] = tt
+regions_short table entries row (region ∷ regions) =
+    all_both IsShort (tree_rows table entries row region.tree) (region_rows table entries (row + units region.tree) regions)
+    (tree_short table entries row region.tree) (regions_short table entries (row + units region.tree) regions)
+
+alone_short : (tree : TableTree) → AllByRecursion IsShort (leaf_alone tree)
+alone_short (Does origin item rest) = tt
+alone_short (Asks origin on on_yes on_no) = tt
+alone_short (Next region) = tt
+alone_short Stops_here = (omega arith, tt)
+alone_short (Traps_here kind line) = (omega arith, tt)
 
 -- a length has four bytes
 u32_short : (n : ℕ) → length (u32_text n) ≤ 4
 u32_short n = omega arith
 
-module _ (flow : FlowGraph) (limits : Limits) (order : List ℕ) (rows : List CodeRow) (plain : AreRowsOf flow order rows) where
+-- each length is short
+lengths_short : (lengths : List ℕ) → AllByRecursion (λ (n : ℕ). length (u32_text n) ≤ 4) lengths
+lengths_short [] = tt
+lengths_short (n ∷ lengths) = (u32_short n, lengths_short lengths)
+
+module _ (table : Table) (limits : Limits) (rows : List CodeRow) (plain : IsPlain table rows) where
   abbrev object : CodeWithNotes
-  object = record { code = record { limits = limits; arrays = flow.arrays; rows = rows }; notes = [] }
+  object = record { code = record { limits = limits; arrays = table.arrays; rows = rows }; notes = [] }
 
   -- the text of plain code is far from too long
-  pub plain_is_short : IsFlow flow → length (object_text object) ≤ most_object
-  plain_is_short is =
-      let each : AllByRecursion (λ (row : CodeRow). length (row_text row) ≤ 19) rows =
-      all_from_places (λ (row : CodeRow). length (row_text row) ≤ 19) rows (λ number row at.
-      let made = row_is_of_node flow limits order rows plain number row at in
-      row_short flow.nodes order made.1.node row made.1.is_row)
-      in
+  pub plain_is_short : TableKeeps table → all_units table.regions ≤ most_nodes → length (object_text object) ≤ most_object
+  plain_is_short keeps few_units =
+      let each : AllByRecursion IsShort rows = subst (λ (l : List CodeRow). AllByRecursion IsShort l) (sym plain.rows_are)
+      (all_both IsShort (leaf_alone (region_tree table 0)) (region_rows table plain.entries (first_row table) table.regions)
+      (alone_short (region_tree table 0)) (regions_short table plain.entries (first_row table) table.regions)) in
       let of_rows = flat_map_short row_text 19 rows each in
-      let of_arrays = flat_map_short u32_text 4 flow.arrays (all_from_places (λ (n : ℕ). length (u32_text n) ≤ 4) flow.arrays (λ i n at. u32_short n)) in
-      let header = length-append (flat_map u32_text flow.arrays) (u32_text (length rows)) in
+      let of_arrays = flat_map_short u32_text 4 table.arrays (lengths_short table.arrays) in
+      let header = length-append (flat_map u32_text table.arrays) (u32_text (length rows)) in
       let all = length-append (header_text object.code) (flat_map row_text rows ++ notes_text []) in
       let behind = length-append (flat_map row_text rows) (notes_text []) in
-      let few = plain.few in
-      let few_nodes = is.few_nodes in
-      let few_arrays = is.few_arrays in
-      omega (arith, of_rows, of_arrays, header, all, behind, few, few_nodes, few_arrays)
+      let many = as_many_rows_in_all table rows plain in
+      let one = one_before table rows plain in
+      let few_arrays = keeps.few_arrays in
+      omega (arith, of_rows, of_arrays, header, all, behind, many, one, few_units, few_arrays)

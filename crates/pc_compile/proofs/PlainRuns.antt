@@ -1,116 +1,149 @@
--- Plain code shows what its graph shows: a row does what the node does whose row it is.
-use Rattle.std.proofs.Common.{◌≡◌, ℕ, ◌<◌, Bool, true, false, List, [], ◌∷◌, length, Option, Some, None, refl, sym, ap, subst, append-nil}
-use Rattle.std.specs.Prelude.{ℤ, if◌then◌else◌, slice_get}
-use Rattle.std.proofs.lemmas.Option.{slice_get_within}
-use Rattle.pc_compile.proofs.Orders.{found_within}
+-- Plain code shows what its table shows: a row does what the item or test does whose row it is.
+use Rattle.std.proofs.Common.{◌≡◌, ℕ, suc, ◌+◌, Bool, true, false, List, [], ◌∷◌, length, Option, Some, None, refl, sym, ap, subst, append-nil}
+use Rattle.std.specs.Prelude.{ℤ, slice_get}
 use Rattle.pc_word.specs.declared.item.Item.{Item}
 use Rattle.pc_word.specs.declared.item.Operand.{Operand}
 use Rattle.pc_word.specs.declared.item.End.{End}
 use Rattle.pc_word.specs.declared.item.MachineFault.{MachineFault}
 use Rattle.pc_word.specs.declared.item.Limits.{Limits}
+use Rattle.pc_word.specs.declared.item.TrapKind.{TrapKind}
 use Rattle.pc_word.specs.Word.{holds}
 use Rattle.pc_word.specs.State.{State}
 use Rattle.pc_word.specs.Items.{operand_value}
-use Rattle.pc_word.specs.Commit.{fault_of, state_after}
+use Rattle.pc_word.specs.Commit.{fault_of, prints_of, state_after}
 use Rattle.pc_word.specs.Row.{Then, Either, At_leaf, commit_of, row_step}
 use Rattle.pc_word.specs.Run.{Step, Goes, Stops, AgreeOnInputs}
 use Rattle.pc_word.specs.models.Simulation.{MeetsAgain, Simulates}
 use Rattle.pc_word.proofs.Runs.{Agree-simulated}
-use Rattle.pc_flow.specs.declared.node.FlowNode.{FlowNode}
-use Rattle.pc_flow.specs.declared.node.FlowNode.TheVariants.{Op, Test}
-use Rattle.pc_flow.specs.FlowGraph.{FlowGraph}
-use Rattle.pc_flow.specs.FlowRun.{FlowState, after_item, run_node, flow_step, flow_start, flow_run}
-use Rattle.pc_machine.specs.MachineCode.{Leaf, Ends, CodeRow, RowCode}
+use Rattle.pc_table.specs.Table.{TableTree, Does, Asks, Next, Stops_here, Traps_here, Table, region_tree}
+use Rattle.pc_table.specs.TableKeeps.{units}
+use Rattle.pc_table.specs.RegionRun.{Place, arrive, place_at, lead_on, region_step, region_step_at, table_run}
+use Rattle.pc_machine.specs.MachineCode.{Leaf, Leads_to, Ends, Traps, CodeRow, RowCode}
 use Rattle.pc_machine.specs.MachineRun.{Cycle, after_row, run_row, machine_step, machine_start, machine_run}
-use Rattle.pc_compile.specs.Plain.{IsEdge, To_stop, To_trap, To_row, IsRowOf, Does, Tests, Stops as Stops_here, Traps_here, AreRowsOf}
+use Rattle.pc_word.specs.State.{start_state}
+use Rattle.pc_compile.specs.Plain.{root_leaf, leaf_to, leaf_alone, IsPlain}
+use Rattle.pc_compile.proofs.Standing.{IsRoot, Stands, entry, entry_first, region_here, before_is}
 
-module _ (flow : FlowGraph) (order : List ℕ) where
-  -- the machine is at the row of the graph's node, in the same state
-  record Beside (cycle : Cycle) (here : FlowState) : Type 0 where
-    at : slice_get order cycle.row ≡ Some here.node
-    same : cycle.state ≡ here.state
+module _ (table : Table) (rows : List CodeRow) (plain : IsPlain table rows) (roots : (region : ℕ) → IsRoot (region_tree table region)) where
+  abbrev Here : (row : ℕ) → TableTree → Type 0
+  Here row tree = Stands table plain.entries rows row tree
 
-  -- a step of each: both go on side by side, both end, or the machine ends where the graph comes to its stop or trap
-  data Joined : Step Cycle → Step FlowState → Type 0 where
-    both_go : {out : List ℤ} {cycle : Cycle} {here : FlowState} → Beside cycle here → Joined (Goes out cycle) (Goes out here)
+  -- this row is the root of a tree
+  abbrev IsAt : (row : ℕ) → TableTree → Type 0
+  IsAt row (Does origin item rest) = Here row (Does origin item rest)
+  IsAt row (Asks origin on on_yes on_no) = Here row (Asks origin on on_yes on_no)
+  IsAt row (Next region) = ⊥
+  IsAt row Stops_here = slice_get rows row ≡ Some (At_leaf Ends)
+  IsAt row (Traps_here kind line) = slice_get rows row ≡ Some (At_leaf (Traps kind line))
+
+  -- the machine is at the row of what is still to be done, in the same state
+  record Beside (cycle : Cycle) (place : Place) : Type 0 where
+    at : IsAt cycle.row place.tree
+    same : cycle.state ≡ place.state
+
+  -- what a leaf leads to is what comes next: the root of a tree, or the end or trap that it is
+  data LeadsOn : Leaf → TableTree → Type 0 where
+    to_row : {row : ℕ} {tree : TableTree} → IsAt row tree → LeadsOn (Leads_to row) tree
+    to_end : LeadsOn Ends Stops_here
+    to_trap : {kind : TrapKind} {line : ℕ} → LeadsOn (Traps kind line) (Traps_here kind line)
+
+  root_leads : (row : ℕ) (tree : TableTree) → IsRoot tree → Here row tree → LeadsOn (root_leaf row tree) tree
+  root_leads row (Does origin item rest) root stands = to_row stands
+  root_leads row (Asks origin on on_yes on_no) root stands = to_row stands
+  root_leads row (Next region) root stands = absurd root
+  root_leads row Stops_here root stands = to_end
+  root_leads row (Traps_here kind line) root stands = to_trap
+
+  leaf_leads : (row : ℕ) (tree : TableTree) → Here row tree → LeadsOn (leaf_to table plain.entries row tree) (arrive table tree)
+  leaf_leads row (Does origin item rest) stands = to_row stands
+  leaf_leads row (Asks origin on on_yes on_no) stands = to_row stands
+  leaf_leads row (Next region) stands = root_leads (entry table rows plain region) (region_tree table region) (roots region) (region_here table rows plain region)
+  leaf_leads row Stops_here stands = to_end
+  leaf_leads row (Traps_here kind line) stands = to_trap
+
+  -- a step of each: both go on side by side, both end, or the machine ends where the table comes to its stop or trap
+  data Joined : Step Cycle → Step Place → Type 0 where
+    both_go : {out : List ℤ} {cycle : Cycle} {place : Place} → Beside cycle place → Joined (Goes out cycle) (Goes out place)
     both_end : {out : List ℤ} {end : End} → Joined (Stops out end) (Stops out end)
-    one_ends : {out : List ℤ} {end : End} {here : FlowState} → flow_step flow here ≡ Stops [] end → Joined (Stops out end) (Goes out here)
+    one_ends : {out : List ℤ} {end : End} {place : Place} → region_step table place ≡ Stops [] end → Joined (Stops out end) (Goes out place)
 
-  -- ---- an edge
+  -- ---- an item or a test
 
-  -- what has committed, with what stands behind an edge
-  edge_committed : (to : ℕ) (leaf : Leaf) (s : State) (items : List Item) → IsEdge flow.nodes order to (At_leaf leaf) → (fault : Option MachineFault)
-      → Joined (after_row (commit_of flow.arrays s items leaf fault)) (after_item (commit_of flow.arrays s items to fault))
-  edge_committed to _ s items (To_stop stop) (Some fault) = both_end
-  edge_committed to _ s items (To_stop stop) None =
-      one_ends (ap (λ (node : Option FlowNode). run_node flow.arrays (state_after flow.arrays s items) node) stop)
-  edge_committed to _ s items (To_trap trap) (Some fault) = both_end
-  edge_committed to _ s items (To_trap trap) None =
-      one_ends (ap (λ (node : Option FlowNode). run_node flow.arrays (state_after flow.arrays s items) node) trap)
-  edge_committed to _ s items (To_row at has there) (Some fault) = both_end
-  edge_committed to _ s items (To_row at has there) None = both_go (record { at = there; same = refl })
+  -- what has committed, with what follows
+  committed : (leaf : Leaf) (rest : TableTree) (s : State) (items : List Item) → LeadsOn leaf (arrive table rest) → (fault : Option MachineFault)
+      → Joined (after_row (commit_of table.arrays s items leaf fault)) (lead_on (commit_of table.arrays s items rest fault) (place_at table))
+  committed leaf rest s items leads (Some fault) = both_end
+  committed leaf rest s items leads None = goes leaf (arrive table rest) leads
+    where
+      goes : (leaf : Leaf) (tree : TableTree) → LeadsOn leaf tree
+          → Joined (after_row (commit_of table.arrays s items leaf None)) (Goes (prints_of s items) (record { tree = tree; state = state_after table.arrays s items }))
+      goes _ tree (to_row at) = both_go (record { at = at; same = refl })
+      goes _ _ to_end = one_ends refl
+      goes _ _ to_trap = one_ends refl
 
-  -- an item before an edge
-  item_joined : (item : Item) (to : ℕ) (rest : CodeRow) (s : State) → IsEdge flow.nodes order to rest
-      → Joined (after_row (row_step flow.arrays (Then item rest) s)) (run_node flow.arrays s (Some (Op item to)))
-  item_joined item to _ s (To_stop stop) = edge_committed to Ends s (item ∷ []) (To_stop stop) (fault_of flow.arrays s (item ∷ []))
-  item_joined item to (At_leaf leaf) s (To_trap trap) = edge_committed to leaf s (item ∷ []) (To_trap trap) (fault_of flow.arrays s (item ∷ []))
-  item_joined item to (At_leaf leaf) s (To_row at has there) = edge_committed to leaf s (item ∷ []) (To_row at has there) (fault_of flow.arrays s (item ∷ []))
+  item_joined : (item : Item) (leaf : Leaf) (rest : TableTree) (s : State) → LeadsOn leaf (arrive table rest) → (origin : ℕ)
+      → Joined (after_row (row_step table.arrays (Then item (At_leaf leaf)) s)) (region_step_at table (Does origin item rest) s)
+  item_joined item leaf rest s leads origin = committed leaf rest s (item ∷ []) leads (fault_of table.arrays s (item ∷ []))
 
-  -- an edge alone
-  edge_joined : (to : ℕ) (rest : CodeRow) (s : State) → IsEdge flow.nodes order to rest
-      → Joined (after_row (row_step flow.arrays rest s)) (Goes [] (record { node = to; state = s }))
-  edge_joined to _ s (To_stop stop) = one_ends (ap (λ (node : Option FlowNode). run_node flow.arrays s node) stop)
-  edge_joined to _ s (To_trap trap) = one_ends (ap (λ (node : Option FlowNode). run_node flow.arrays s node) trap)
-  edge_joined to _ s (To_row at has there) = both_go (record { at = there; same = refl })
+  -- a leaf alone
+  leaf_joined : (leaf : Leaf) (tree : TableTree) (s : State) → LeadsOn leaf tree
+      → Joined (after_row (row_step table.arrays (At_leaf leaf) s)) (Goes [] (record { tree = tree; state = s }))
+  leaf_joined _ tree s (to_row at) = both_go (record { at = at; same = refl })
+  leaf_joined _ _ s to_end = one_ends refl
+  leaf_joined _ _ s to_trap = one_ends refl
 
   -- the side that a test takes
-  side_joined : (taken : Bool) (on : Operand) (on_yes on_no : ℕ) (rest_yes rest_no : CodeRow) (s : State) → holds (operand_value s.names on) ≡ taken
-      → IsEdge flow.nodes order on_yes rest_yes → IsEdge flow.nodes order on_no rest_no
-      → Joined (after_row (row_step flow.arrays (Either on rest_yes rest_no) s))
-      (Goes [] (record { node = if holds (operand_value s.names on) then on_yes else on_no; state = s }))
-  side_joined true on on_yes on_no rest_yes rest_no s e one other = simp e (edge_joined on_yes rest_yes s one)
-  side_joined false on on_yes on_no rest_yes rest_no s e one other = simp e (edge_joined on_no rest_no s other)
+  side_joined : (taken : Bool) (on : Operand) (one other : Leaf) (on_yes on_no : TableTree) (s : State) → holds (operand_value s.names on) ≡ taken
+      → LeadsOn one (arrive table on_yes) → LeadsOn other (arrive table on_no) → (origin : ℕ)
+      → Joined (after_row (row_step table.arrays (Either on (At_leaf one) (At_leaf other)) s)) (region_step_at table (Asks origin on on_yes on_no) s)
+  side_joined true on one other on_yes on_no s e first second origin = simp e (leaf_joined one (arrive table on_yes) s first)
+  side_joined false on one other on_yes on_no s e first second origin = simp e (leaf_joined other (arrive table on_no) s second)
 
-  -- ---- a row
-
-  row_joined : (node : FlowNode) (row : CodeRow) (s : State) → IsRowOf flow.nodes order node row
-      → Joined (after_row (row_step flow.arrays row s)) (run_node flow.arrays s (Some node))
-  row_joined _ _ s (Does edge) = item_joined _ _ _ s edge
-  row_joined (Test on on_yes on_no turn) (Either _ rest_yes rest_no) s (Tests one other) =
-      side_joined (holds (operand_value s.names on)) on on_yes on_no rest_yes rest_no s refl one other
-  row_joined _ _ s Stops_here = both_end
-  row_joined _ _ s Traps_here = both_end
-
-  module _ (limits : Limits) (rows : List CodeRow) (plain : AreRowsOf flow order rows) where
+  module _ (limits : Limits) where
     abbrev code : RowCode
-    code = record { limits = limits; arrays = flow.arrays; rows = rows }
+    code = record { limits = limits; arrays = table.arrays; rows = rows }
 
     -- steps that are joined meet
-    joined_meets : (cycle : Cycle) (here : FlowState) (one : Step Cycle) (other : Step FlowState)
-        → machine_step code cycle ≡ one → flow_step flow here ≡ other → Joined one other → MeetsAgain (machine_step code) (flow_step flow) Beside cycle here
-    joined_meets cycle here _ _ p q (both_go beside) = record { more_steps = 0; other_steps = 0; meet = rw (p, q) (refl, beside) }
-    joined_meets cycle here _ _ p q both_end = record { more_steps = 0; other_steps = 0; meet = rw (p, q) (refl, refl) }
-    joined_meets cycle here _ _ p q (one_ends {out} {end} {here = next} ends) = record { more_steps = 0; other_steps = 1; meet = rw (p, q, ends) (sym (append-nil out), refl) }
+    joined_meets : (cycle : Cycle) (place : Place) (one : Step Cycle) (other : Step Place)
+        → machine_step code cycle ≡ one → region_step table place ≡ other → Joined one other → MeetsAgain (machine_step code) (region_step table) Beside cycle place
+    joined_meets cycle place _ _ p q (both_go beside) = record { more_steps = 0; other_steps = 0; meet = rw (p, q) (refl, beside) }
+    joined_meets cycle place _ _ p q both_end = record { more_steps = 0; other_steps = 0; meet = rw (p, q) (refl, refl) }
+    joined_meets cycle place _ _ p q (one_ends {out} {end} {place = next} ends) = record { more_steps = 0; other_steps = 1; meet = rw (p, q, ends) (sym (append-nil out), refl) }
 
-    -- side by side, a row and its node are joined
-    here_meets : (row node : ℕ) (s : State) → slice_get order row ≡ Some node
-        → MeetsAgain (machine_step code) (flow_step flow) Beside (record { row = row; state = s }) (record { node = node; state = s })
-    here_meets row node s at =
-        let within : row < length rows = subst (λ (n : ℕ). row < n) (sym plain.as_many) (slice_get_within order row node at) in
-        let found = found_within rows row within in
-        let made = plain.each row node found.0 at found.1 in
-        joined_meets (record { row = row; state = s }) (record { node = node; state = s })
-        (after_row (row_step flow.arrays found.0 s)) (run_node flow.arrays s (Some made.node))
-        (ap (run_row flow.arrays s) found.1) (ap (run_node flow.arrays s) made.there) (row_joined made.node found.0 s made.is_row)
+    -- side by side, a row and what it stands for are joined
+    here_meets : (row : ℕ) (tree : TableTree) (s : State) → IsAt row tree
+        → MeetsAgain (machine_step code) (region_step table) Beside (record { row = row; state = s }) (record { tree = tree; state = s })
+    here_meets row (Does origin item rest) s at =
+        joined_meets (record { row = row; state = s }) (record { tree = Does origin item rest; state = s }) _ _ (ap (run_row table.arrays s) at.0) refl
+        (item_joined item (leaf_to table plain.entries (suc row) rest) rest s (leaf_leads (suc row) rest at.1) origin)
+    here_meets row (Asks origin on on_yes on_no) s at =
+        joined_meets (record { row = row; state = s }) (record { tree = Asks origin on on_yes on_no; state = s }) _ _ (ap (run_row table.arrays s) at.0) refl
+        (side_joined (holds (operand_value s.names on)) on (leaf_to table plain.entries (suc row) on_yes) (leaf_to table plain.entries (suc row + units on_yes) on_no) on_yes on_no s refl
+        (leaf_leads (suc row) on_yes at.1) (leaf_leads (suc row + units on_yes) on_no at.2) origin)
+    here_meets row (Next region) s at = absurd at
+    here_meets row Stops_here s at =
+        joined_meets (record { row = row; state = s }) (record { tree = Stops_here; state = s }) _ _ (ap (run_row table.arrays s) at) refl both_end
+    here_meets row (Traps_here kind line) s at =
+        joined_meets (record { row = row; state = s }) (record { tree = Traps_here kind line; state = s }) _ _ (ap (run_row table.arrays s) at) refl both_end
 
-    -- so the rows simulate the graph
-    rows_simulate : Simulates (machine_step code) (flow_step flow) Beside
-    rows_simulate cycle here beside =
-        subst (λ (s : State). MeetsAgain (machine_step code) (flow_step flow) Beside cycle (record { node = here.node; state = s })) beside.same
-        (here_meets cycle.row here.node cycle.state beside.at)
+    -- so the rows simulate the table
+    rows_simulate : Simulates (machine_step code) (region_step table) Beside
+    rows_simulate cycle place beside =
+        subst (λ (s : State). MeetsAgain (machine_step code) (region_step table) Beside cycle (record { tree = place.tree; state = s })) beside.same
+        (here_meets cycle.row place.tree cycle.state beside.at)
+
+    -- row 0 is the root of region 0
+    first_here : (tree : TableTree) → region_tree table 0 ≡ tree → length (leaf_alone (region_tree table 0)) ≡ 0 → Here 0 tree
+    first_here tree e none = subst (λ (t : TableTree). Here 0 t) e (subst (λ (n : ℕ). Here n (region_tree table 0)) (entry_first table rows plain none) (region_here table rows plain 0))
+
+    begins : (tree : TableTree) → region_tree table 0 ≡ tree → IsRoot tree → IsAt 0 tree
+    begins (Does origin item rest) e root = first_here (Does origin item rest) e (ap (λ (tree : TableTree). length (leaf_alone tree)) e)
+    begins (Asks origin on on_yes on_no) e root = first_here (Asks origin on on_yes on_no) e (ap (λ (tree : TableTree). length (leaf_alone tree)) e)
+    begins (Next region) e root = absurd root
+    begins Stops_here e root = before_is table rows plain (At_leaf Ends) (ap leaf_alone e)
+    begins (Traps_here kind line) e root = before_is table rows plain (At_leaf (Traps kind line)) (ap leaf_alone e)
 
     -- and show what it shows
-    pub rows_show : AgreeOnInputs (machine_run code) (flow_run flow)
-    rows_show input words = Agree-simulated (machine_step code) (flow_step flow) Beside rows_simulate
-        (machine_start input) (flow_start flow.entry input) (record { at = plain.entry; same = refl })
+    pub rows_show : AgreeOnInputs (machine_run code) (table_run table)
+    rows_show input words = Agree-simulated (machine_step code) (region_step table) Beside rows_simulate
+        (machine_start input) (place_at table (Next 0) (start_state input)) (record { at = begins (region_tree table 0) refl (roots 0); same = refl })

@@ -1,4 +1,3 @@
-pub mod Endings
+pub mod Emitted
 pub mod Errors
 pub mod Made
-pub mod Numbered

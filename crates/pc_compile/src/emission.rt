@@ -1,86 +1,188 @@
-//! The rows of a flow graph, one a node, in the order in which they are first met from the entry.
-ghost use Rattle.std.specs.Prelude.{◌≡◌, ℕ, ◌<◌, length, IfOk, MatchOption};
-ghost use Rattle.pc_flow.specs.FlowGraph.{IsFlow};
+//! The rows of a region table: each item and each test is one.
+ghost use Rattle.std.specs.Prelude.{◌≡◌, ℕ, ◌+◌, ◌<◌, ◌≤◌, ◌^◌, length, slice_index, IfOk, OnOk};
+ghost use Rattle.pc_word.specs.Row.{Then, Either, At_leaf};
+ghost use Rattle.pc_table.specs.Table.{table_tree, table_regions, table_of, region_tree};
+ghost use Rattle.pc_table.specs.TableKeeps.{units, TableKeeps};
 ghost use Rattle.pc_machine.specs.MachineCode.{row_of, rows_of};
-ghost use Rattle.pc_compile.specs.Plain.{HasRow, IsEdge, IsRowAt, IsPlain};
-ghost use Rattle.pc_machine.specs.Reachable.{IsReachable};
-ghost use Rattle.pc_compile.specs.models.Endings.{IsEnding};
-ghost use Rattle.pc_compile.specs.models.Numbered.{GrowsBehind};
+ghost use Rattle.pc_compile.specs.Plain.{root_leaf, leaf_to, tree_rows, entries_from, leaf_alone, IsPlain};
+ghost use Rattle.pc_compile.specs.models.Emitted.{NamesWithin, all_units, Adds};
 
-use crate::numbering::Numbering;
-use pc_flow::{Flow, FlowNode};
 use pc_machine::{Tree, TreeList};
+use pc_table::{Region, RegionTable, RegionTree};
+use pc_word::{Item, Operand};
 use std::alloc::{AllocError, Global};
 
-/// The row of each node that is met from the entry, where an edge to a stop or a trap is that leaf.
-pub(crate) fn emit(alloc: Global, flow: &Flow) -> Result<TreeList, AllocError>
-    ensures kept { IsFlow flow.now }
-    ensures plain { IfOk result (λ rows. IsPlain flow.now (rows_of rows)) }
-    ensures reached { IfOk result (λ rows. (row : ℕ) → row < length rows → IsReachable (rows_of rows) row) }
+/// The rows of a table, region by region.
+///
+/// A region's rows are as many as its items and tests, so where each region begins is found before any row
+/// is made. Regions have their numbers in the order in which they are first named, from region 0 on, so each
+/// of them is led to.
+pub(crate) fn emit(alloc: Global, table: &RegionTable) -> Result<TreeList, AllocError>
+    requires kept { TableKeeps (table_of table.now) }
+    requires few { all_units (table_regions table.now.regions) < 2 ^ 31 }
+    ensures { IfOk result (λ rows. IsPlain (table_of table.now) (rows_of rows)) }
 {
-    let mut numbering = Numbering::new(alloc, flow.count())?;
-    numbering.row(flow.entry())?;
-    let mut rows = TreeList::new(alloc);
-    while let Some(node) = numbering.node(rows.len()) {
-        let row = node_row(alloc, flow, node, &mut numbering)?;
-        rows.push(row)?;
+    let regions = table.regions.as_slice();
+    let mut rows = leaf_alone(alloc, &regions[0].tree)?;
+    let entries = entries(alloc, regions, rows.len() as u32)?;
+    for region in regions {
+        add_rows(alloc, table, &entries, &region.tree, &mut rows)?;
     }
     Ok(rows)
 }
 
-/// The row of a node.
-#[tactic(auto, using(crate::proofs::Edges::rows))]
-fn node_row(
+/// The row of a tree that is a stop or a trap, and none of another tree.
+fn leaf_alone(alloc: Global, tree: &RegionTree) -> Result<TreeList, AllocError>
+    ensures { IfOk result (λ rows. rows_of rows ≡ leaf_alone (table_tree tree.now)) }
+{
+    let mut rows = TreeList::new(alloc);
+    match tree {
+        RegionTree::Stop | RegionTree::Trap { .. } => rows.push(root_leaf(tree, 0))?,
+        RegionTree::Step { .. } | RegionTree::Test { .. } | RegionTree::Next { .. } => {}
+    }
+    Ok(rows)
+}
+
+/// The row at which each region begins; the first of them begins at this one.
+fn entries(alloc: Global, regions: &[Region], first: u32) -> Result<Vec<u32>, AllocError>
+    requires few { first + all_units (table_regions regions.now) < 2 ^ 32 }
+    ensures { IfOk result (λ entries. entries.items ≡ entries_from first (table_regions regions.now)) }
+{
+    let mut entries = Vec::new(alloc);
+    let mut row = first;
+    for region in regions {
+        entries.push(row)?;
+        row += units(&region.tree);
+    }
+    Ok(entries)
+}
+
+/// The items and tests of a tree.
+fn units(tree: &RegionTree) -> u32
+    requires { units (table_tree tree.now) < 2 ^ 32 }
+    ensures { result ≡ units (table_tree tree.now) }
+{
+    match tree {
+        RegionTree::Step { next, .. } => units(next) + 1,
+        RegionTree::Test { yes, no, .. } => units(yes) + units(no) + 1,
+        RegionTree::Next { .. } | RegionTree::Stop | RegionTree::Trap { .. } => 0,
+    }
+}
+
+/// Puts the rows of a tree behind others.
+///
+/// The items and tests on the yes side of each test are counted, so it takes time in proportion to the
+/// square of a tree at most, which is small.
+#[tactic(auto, using(crate::proofs::Emitting::trees))]
+fn add_rows(
     alloc: Global,
-    flow: &Flow,
-    id: u32,
-    numbering: &mut Numbering,
+    table: &RegionTable,
+    entries: &[u32],
+    tree: &RegionTree,
+    rows: &mut TreeList,
+) -> Result<(), AllocError>
+    requires entries { length entries.now ≡ length table.now.regions }
+    requires names { NamesWithin (length table.now.regions) (table_tree tree.now) }
+    requires few { length rows.old + units (table_tree tree.now) < 2 ^ 32 }
+    ensures rows { OnOk result (Adds rows.old rows.new (tree_rows (table_of table.now) entries.now (length rows.old) (table_tree tree.now))) }
+    ensures count { OnOk result (length rows.new ≡ length rows.old + units (table_tree tree.now)) }
+{
+    match tree {
+        RegionTree::Step { item, next, .. } => {
+            let behind = rows.len() as u32 + 1;
+            rows.push(item_row(alloc, table, entries, *item, next, behind)?)?;
+            add_rows(alloc, table, entries, next, rows)
+        }
+        RegionTree::Test { on, yes, no, .. } => {
+            let behind = rows.len() as u32 + 1;
+            rows.push(test_row(alloc, table, entries, *on, yes, no, behind)?)?;
+            add_rows(alloc, table, entries, yes, rows)?;
+            add_rows(alloc, table, entries, no, rows)
+        }
+        RegionTree::Next { .. } | RegionTree::Stop | RegionTree::Trap { .. } => Ok(()),
+    }
+}
+
+/// The row of an item, where this row is the next one.
+fn item_row(
+    alloc: Global,
+    table: &RegionTable,
+    entries: &[u32],
+    item: Item,
+    next: &RegionTree,
+    behind: u32,
 ) -> Result<Tree, AllocError>
-    requires kept { IsFlow flow.now }
-    requires nodes { length numbering.old.rows ≡ length flow.now.nodes }
-    requires there { id < length flow.now.nodes }
-    ensures row { IfOk result (λ tree. IsRowAt flow.now.nodes numbering.new.order id (row_of tree)) }
-    ensures grown { IfOk result (λ tree. GrowsBehind (row_of tree) numbering.old numbering.new) }
+    requires entries { length entries.now ≡ length table.now.regions }
+    requires names { NamesWithin (length table.now.regions) (table_tree next.now) }
+    ensures { IfOk result (λ tree. row_of tree ≡ Then item (At_leaf (leaf_to (table_of table.now) entries.now behind (table_tree next.now)))) }
 {
-    match flow.node(id) {
-        FlowNode::Op { item, next } => {
-            let next = Box::new(alloc, edge(flow, next, numbering)?)?;
-            Ok(Tree::Step { item, next })
-        }
-        FlowNode::Test { on, yes, no, .. } => {
-            let yes = Box::new(alloc, edge(flow, yes, numbering)?)?;
-            let no = Box::new(alloc, edge(flow, no, numbering)?)?;
-            Ok(Tree::Test { on, yes, no })
-        }
-        FlowNode::Stop => Ok(Tree::Stop),
-        FlowNode::Trap { kind, line } => Ok(Tree::Trap { kind, line }),
+    let next = Box::new(alloc, leaf_to(table, entries, next, behind))?;
+    Ok(Tree::Step { item, next })
+}
+
+/// The row of a test, where this row is the next one: the rows of its yes side stand before those of its no
+/// side.
+fn test_row(
+    alloc: Global,
+    table: &RegionTable,
+    entries: &[u32],
+    on: Operand,
+    on_yes: &RegionTree,
+    on_no: &RegionTree,
+    behind: u32,
+) -> Result<Tree, AllocError>
+    requires entries { length entries.now ≡ length table.now.regions }
+    requires yes_names { NamesWithin (length table.now.regions) (table_tree on_yes.now) }
+    requires no_names { NamesWithin (length table.now.regions) (table_tree on_no.now) }
+    requires few { behind + units (table_tree on_yes.now) < 2 ^ 32 }
+    ensures { IfOk result (λ tree. row_of tree
+        ≡ Either on (At_leaf (leaf_to (table_of table.now) entries.now behind (table_tree on_yes.now)))
+        (At_leaf (leaf_to (table_of table.now) entries.now (behind + units (table_tree on_yes.now)) (table_tree on_no.now)))) }
+{
+    let after_yes = behind + units(on_yes);
+    let yes = Box::new(alloc, leaf_to(table, entries, on_yes, behind))?;
+    let no = Box::new(alloc, leaf_to(table, entries, on_no, after_yes))?;
+    Ok(Tree::Test { on, yes, no })
+}
+
+/// The leaf that leads to what stands behind an item or a test: to this row, or, where a region follows, to
+/// its root.
+fn leaf_to(table: &RegionTable, entries: &[u32], tree: &RegionTree, row: u32) -> Tree
+    requires entries { length entries.now ≡ length table.now.regions }
+    requires names { NamesWithin (length table.now.regions) (table_tree tree.now) }
+    ensures { row_of result ≡ At_leaf (leaf_to (table_of table.now) entries.now row (table_tree tree.now)) }
+{
+    match tree {
+        RegionTree::Next { region } => root_of_region(table, entries, *region),
+        RegionTree::Step { .. }
+        | RegionTree::Test { .. }
+        | RegionTree::Stop
+        | RegionTree::Trap { .. } => root_leaf(tree, row),
     }
 }
 
-/// What stands where an edge leads to a node.
-#[tactic(auto, using(crate::proofs::Edges::edges))]
-fn edge(flow: &Flow, to: u32, numbering: &mut Numbering) -> Result<Tree, AllocError>
-    requires nodes { length numbering.old.rows ≡ length flow.now.nodes }
-    requires there { to < length flow.now.nodes }
-    ensures edge { IfOk result (λ tree. IsEdge flow.now.nodes numbering.new.order to (row_of tree)) }
-    ensures grown { IfOk result (λ tree. GrowsBehind (row_of tree) numbering.old numbering.new) }
+/// The leaf that leads to the root of a region.
+fn root_of_region(table: &RegionTable, entries: &[u32], region: u32) -> Tree
+    requires entries { length entries.now ≡ length table.now.regions }
+    requires there { region < length table.now.regions }
+    ensures { row_of result ≡ At_leaf (root_leaf (slice_index entries.now region) (region_tree (table_of table.now) region)) }
 {
-    match ending(flow.node(to)) {
-        Some(leaf) => Ok(leaf),
-        None => {
-            let row = numbering.row(to)?;
-            Ok(Tree::Goto { row })
-        }
-    }
+    let root = &table.regions.as_slice()[region as usize].tree;
+    root_leaf(root, entries[region as usize])
 }
 
-/// The leaf of a stop or a trap; nothing for a node that has a row.
-fn ending(node: FlowNode) -> Option<Tree>
-    ensures { MatchOption result (HasRow node) (λ leaf. IsEnding node (row_of leaf)) }
+/// The leaf that leads to the root of a tree that has this row: a goto, or the stop or trap that it is.
+fn root_leaf(tree: &RegionTree, row: u32) -> Tree
+    ensures { row_of result ≡ At_leaf (root_leaf row (table_tree tree.now)) }
 {
-    match node {
-        FlowNode::Stop => Some(Tree::Stop),
-        FlowNode::Trap { kind, line } => Some(Tree::Trap { kind, line }),
-        FlowNode::Op { .. } | FlowNode::Test { .. } => None,
+    match tree {
+        RegionTree::Step { .. } | RegionTree::Test { .. } | RegionTree::Next { .. } => {
+            Tree::Goto { row }
+        }
+        RegionTree::Stop => Tree::Stop,
+        RegionTree::Trap { kind, line } => Tree::Trap {
+            kind: *kind,
+            line: *line,
+        },
     }
 }

@@ -3,8 +3,10 @@ ghost use Rattle.std.specs.Prelude.{◌≡◌};
 ghost use Rattle.pc_compile.specs.declared.error.CompileError.TheVariants.{Memory};
 ghost use Rattle.pc_compile.specs.models.Errors.{error_of_lowering};
 
+use pc_live::LiveError;
 use pc_lower::LowerError;
 use pc_pass::PassMemory;
+use pc_regions::RegionError;
 use std::alloc::AllocError;
 use thiserror::Error;
 
@@ -35,6 +37,22 @@ impl From<PassMemory> for CompileError {
     ghost from_gives = { λ _ error. error ≡ Memory };
 
     fn from(_error: PassMemory) -> CompileError {
+        CompileError::Memory
+    }
+}
+
+impl From<LiveError> for CompileError {
+    ghost from_gives = { λ _ error. error ≡ Memory };
+
+    fn from(_error: LiveError) -> CompileError {
+        CompileError::Memory
+    }
+}
+
+impl From<RegionError> for CompileError {
+    ghost from_gives = { λ _ error. error ≡ Memory };
+
+    fn from(_error: RegionError) -> CompileError {
         CompileError::Memory
     }
 }

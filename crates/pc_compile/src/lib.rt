@@ -1,9 +1,9 @@
-//! From a checked program to its object: the flow graph, passes over it, and its nodes as rows.
+//! From a checked program to its object: the flow graph, passes over it, its regions, and their items and
+//! tests as rows.
 #![tactic(auto)]
 
 mod emission;
 mod error;
-mod numbering;
 mod program;
 
 pub use error::CompileError;

@@ -40,7 +40,7 @@ pub(crate) fn translate<P: Pass>(
     ensures ran { OnOk result (EachRose (map P.runs passes.old.items) (map P.runs passes.new.items)) }
 {
     let checked = read_program(alloc, text)?;
-    let Compiled { flow, object } = compile_with(alloc, &checked, passes, limits)?;
+    let Compiled { flow, object, .. } = compile_with(alloc, &checked, passes, limits)?;
     let bytes = encode(alloc, &object)?;
     let Object { code, notes } = object;
     Ok(Translation {

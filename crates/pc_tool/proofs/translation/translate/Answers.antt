@@ -5,6 +5,7 @@ use Rattle.std.proofs.lemmas.List.{length-map}
 use Rattle.pc_check.specs.Checks.{resolved_of}
 use Rattle.pc_machine.specs.MachineCode.{row_of}
 use Rattle.pc_object.specs.ObjectText.{object_of}
+use Rattle.pc_table.specs.Table.{table_of}
 use Rattle.pc_tool.proofs.Translations.{is_translation, uncompiled}
 use Rattle.pc_tool.proofs.translation.translate.Goals as goal
 
@@ -17,6 +18,6 @@ returns-in_err-flow-clause-translation g c =
 pub returns-clause-translation : goal.returns-clause-translation
 returns-clause-translation g c =
     let made = c.in_ok-flow.field-0 in
-    is_translation c.args.limits c.args.text.now (resolved_of c.in_ok-checked.checked) made.flow (object_of made.object) _ c.in_ok-checked.ensures
+    is_translation c.args.limits c.args.text.now (resolved_of c.in_ok-checked.checked) made.flow (table_of made.table) (object_of made.object) _ c.in_ok-checked.ensures
     c.in_ok-flow.ensures.compiled c.in_ok-bytes.ensures.words c.in_ok-bytes.ensures.text c.count.ensures.number
     (c.len.ensures ∙ sym (length-map made.object.code.rows row_of)) refl

@@ -1,5 +1,0 @@
-use Rattle.pc_compile.proofs.Orders.{none_met_is_numbered}
-use Rattle.pc_compile.proofs.numbering.Numbering.new.Goals as goal
-
-pub invariant_of-result : goal.invariant_of-result
-invariant_of-result c = rw (c.new.ensures, c.in_ok-rows.ensures) (none_met_is_numbered c.args.count c.requires)
