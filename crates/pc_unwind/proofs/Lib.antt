@@ -1,0 +1,10 @@
+pub mod SingleNodes
+pub mod TableRegions
+pub mod Ranking
+pub mod Bringing
+pub mod Turning
+pub mod Walks
+pub mod Replacements
+pub mod WalkSteps
+pub mod Opened
+pub mod StubHomes
