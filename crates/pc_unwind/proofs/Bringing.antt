@@ -1,18 +1,18 @@
 -- What a region's tree brings into a window.
-use Rattle.std.proofs.Common.{◌≡◌, ℕ, zero, suc, ◌+◌, ◌*◌, ◌<◌, ◌≤◌, List, [], ◌∷◌, Option, Some, None, length, refl, sym, ◌∙◌, ap, subst, arith}
-use Rattle.std.specs.Prelude.{Bool, true, false, if◌then◌else◌, ◌||◌, nat_eq}
+use Rattle.std.proofs.Common.{◌≡◌, ℕ, suc, ◌+◌, ◌*◌, ◌<◌, ◌≤◌, List, [], ◌∷◌, Option, Some, None, length, refl, sym, ◌∙◌, ap, arith}
+use Rattle.std.specs.Prelude.{Bool, true, false, if◌then◌else◌, nat_eq, slice_get}
 use Rattle.std.specs.List.{AllByRecursion, list_any}
 use Rattle.pc_word.specs.declared.item.Item.{Item}
 use Rattle.pc_word.specs.declared.item.Item.TheVariants.{Bin, Copy, Load, Store, Print, Read, More}
 use Rattle.pc_word.specs.declared.item.Operand.{Operand}
 use Rattle.pc_word.specs.declared.item.TrapKind.{TrapKind}
 use Rattle.pc_linear.specs.Form.{Form}
-use Rattle.pc_table.specs.Table.{TableTree, Does, Asks, Next, Stops_here, Traps_here, Table, region_live}
-use Rattle.pc_table.specs.TableKeeps.{TableKeeps, TreeIsThere, untested}
+use Rattle.pc_table.specs.Table.{TableTree, Does, Asks, Next, Stops_here, Traps_here, TableRegion, Table, tree_of, region_tree, region_live}
+use Rattle.pc_table.specs.TableKeeps.{TableKeeps, TreeIsThere, units, untested}
 use Rattle.pc_window.specs.declared.home.Home.{Home}
 use Rattle.pc_window.specs.Tree.{Tree, Pending, Undecided, Exit, Stop_exit, Trap_exit, tree_size}
-use Rattle.pc_window.specs.Opening.{Supply, first_new, with_name, same_loop, stub_tag, homes_at, graft}
-use Rattle.pc_unwind.specs.Unwindable.{TagsAtMost, StubIsThere, StubsAreThere}
+use Rattle.pc_window.specs.Opening.{Supply, first_new, with_name, stub_tag, homes_at, graft}
+use Rattle.pc_unwind.specs.Unwindable.{TagsAtMost, StubsAreThere}
 use Rattle.pc_window.specs.Unwinding.{lesser_tag, least_tag}
 use Rattle.pc_window.proofs.Live.{or_first, or_second}
 use Rattle.pc_window.proofs.Grafts.{nat_eq-same}
@@ -72,6 +72,20 @@ pub least_of_two : (tag : ℕ) (a b : Option ℕ) → AtMostLeast tag a → AtMo
 least_of_two tag None b p q = q
 least_of_two tag (Some a) None p q = p
 least_of_two tag (Some a) (Some b) p q = omega arith
+
+-- it brings no more than there is
+pub brought_few : (from : TableTree) → brought_size from ≤ units from
+brought_few (Does origin (Bin op dest left right) rest) = let le = brought_few rest in omega arith
+brought_few (Does origin (Copy dest from) rest) = let le = brought_few rest in omega arith
+brought_few (Does origin (Load dest array index) rest) = let le = brought_few rest in omega arith
+brought_few (Does origin (Store array index value) rest) = let le = brought_few rest in omega arith
+brought_few (Does origin (Print value) rest) = let le = brought_few rest in omega arith
+brought_few (Does origin (Read dest) rest) = let le = brought_few rest in omega arith
+brought_few (Does origin (More dest) rest) = let le = brought_few rest in omega arith
+brought_few (Asks origin on on_yes on_no) = let le = brought_few on_yes in let le' = brought_few on_no in omega arith
+brought_few (Next region) = omega arith
+brought_few Stops_here = omega arith
+brought_few (Traps_here kind line) = omega arith
 
 module _ (table : Table) (loop : Option ℕ) (tag : ℕ) where
   -- the items and tests that it has
@@ -162,19 +176,27 @@ module _ (table : Table) (loop : Option ℕ) (tag : ℕ) where
 -- ---- stubs
 
 -- a table's tree leads to no region that is not there
-module _ (table : Table) (keeps : TableKeeps table) (loop : Option ℕ) (tag : ℕ) where
+module _ (table : Table) (keeps : TableKeeps table) where
   homes_there : (homes : ℕ → Operand) (variables : List ℕ) → ((x : ℕ) → list_any (nat_eq x) variables ≡ true → x < first_new)
       → AllByRecursion (λ (home : Home). home.variable < first_new) (homes_at homes variables)
   homes_there homes [] small = tt
   homes_there homes (v ∷ variables) small =
       (small v (or_first (nat_eq v v) (list_any (nat_eq v) variables) (nat_eq-same v)), homes_there homes variables (λ x is. small x (or_second (nat_eq x v) (list_any (nat_eq x) variables) is)))
 
+  -- what a region's tree names is there
+  pub tree_there : (region : ℕ) → TreeIsThere (length table.arrays) (length table.regions) (region_tree table region)
+  tree_there region = by_region (slice_get table.regions region) refl
+    where
+      by_region : (r : Option TableRegion) → slice_get table.regions region ≡ r → TreeIsThere (length table.arrays) (length table.regions) (tree_of r)
+      by_region None at = tt
+      by_region (Some r) at = (keeps.each region r at).there
+
   -- what comes in has its stubs there
-  pub brought_there : {from : TableTree} {old new : Supply} {tree : Tree} → TreeIsThere (length table.arrays) (length table.regions) from → Brings table loop tag from old tree new
+  pub brought_there : (loop : Option ℕ) (tag : ℕ) {from : TableTree} {old new : Supply} {tree : Tree} → TreeIsThere (length table.arrays) (length table.regions) from → Brings table loop tag from old tree new
       → StubsAreThere table tree
-  brought_there there (brings_none origin dest at b) = brought_there there.1 b
-  brought_there there (brings_item origin item given is grows b) = brought_there there.1 b
-  brought_there there (brings_test origin on at b d) = (brought_there there.1 b, brought_there there.2 d)
-  brought_there there (brings_stub region homes names) = record { leads = there; variables = homes_there homes (region_live table region) (keeps.small region) }
-  brought_there there (brings_stop names) = tt
-  brought_there there (brings_trap kind line names) = tt
+  brought_there loop tag there (brings_none origin dest at b) = brought_there loop tag there.1 b
+  brought_there loop tag there (brings_item origin item given is grows b) = brought_there loop tag there.1 b
+  brought_there loop tag there (brings_test origin on at b d) = (brought_there loop tag there.1 b, brought_there loop tag there.2 d)
+  brought_there loop tag there (brings_stub region homes names) = record { leads = there; variables = homes_there homes (region_live table region) (keeps.small region) }
+  brought_there loop tag there (brings_stop names) = tt
+  brought_there loop tag there (brings_trap kind line names) = tt

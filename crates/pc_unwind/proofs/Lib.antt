@@ -6,5 +6,10 @@ pub mod Turning
 pub mod Walks
 pub mod Replacements
 pub mod WalkSteps
+pub mod Replaced
+pub mod Reaching
+pub mod TagWalks
+pub mod Grown
+pub mod UnwoundWindows
 pub mod Opened
 pub mod StubHomes

@@ -1,10 +1,10 @@
 -- A stub's region in place of the stub, in memory.
-use Rattle.std.proofs.Common.{◌≡◌, ℕ, ◌+◌, ◌<◌, ◌≤◌, Option, Some, List, refl, sym, ◌∙◌, ap, subst, arith}
+use Rattle.std.proofs.Common.{◌≡◌, ℕ, ◌+◌, ◌<◌, ◌≤◌, Option, Some, List, sym, ◌∙◌, ap, arith}
 use Rattle.std.specs.Prelude.{true, slice_get}
 use Rattle.pc_word.specs.declared.item.Operand.{Operand}
 use Rattle.pc_table.specs.declared.table.Region.{Region}
 use Rattle.pc_table.specs.declared.table.RegionTable.{RegionTable}
-use Rattle.pc_table.specs.Table.{TableTree, Table, table_tree, table_of, region_tree}
+use Rattle.pc_table.specs.Table.{table_tree, table_of, region_tree}
 use Rattle.pc_window.specs.declared.home.Home.{Home}
 use Rattle.pc_window.specs.declared.names.NameTable.{NameTable}
 use Rattle.pc_window.specs.declared.tree.WindowTree.{WindowTree}

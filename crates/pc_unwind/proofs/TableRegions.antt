@@ -1,6 +1,6 @@
 -- Regions of a table in memory.
 use Rattle.std.proofs.Common.{◌≡◌, ℕ, Option, Some, suc, List, [], ◌∷◌, map, length, ◌<◌, ◌≤◌, refl, sym, ◌∙◌, ap, subst, arith}
-use Rattle.std.specs.Prelude.{Bool, slice_get, option_map}
+use Rattle.std.specs.Prelude.{slice_get, option_map}
 use Rattle.std.proofs.lemmas.Option.{slice_get-map}
 use Rattle.pc_table.specs.declared.table.Region.{Region}
 use Rattle.pc_table.specs.declared.table.RegionTable.{RegionTable}

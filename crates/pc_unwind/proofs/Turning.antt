@@ -1,12 +1,11 @@
 -- The turns of a part of a tree are turns of the whole.
-use Rattle.std.proofs.Common.{◌≡◌, ℕ, suc, ◌+◌, ◌<◌, ◌≤◌, Option, Some, None, refl, sym, ◌∙◌, ap, subst, arith}
+use Rattle.std.proofs.Common.{◌≡◌, ℕ, suc, ◌+◌, Option, Some, None, refl, ap, arith}
 use Rattle.std.specs.Prelude.{Bool, true, false, if◌then◌else◌, nat_eq, ◌&&◌}
 use Rattle.pc_word.specs.declared.item.Item.{Item}
 use Rattle.pc_word.specs.declared.item.Operand.{Operand}
-use Rattle.pc_table.specs.Table.{Table, region_tree}
-use Rattle.pc_window.specs.Tree.{Tree, Pending, Undecided, Exit, Stop_exit, Trap_exit, tree_size, home_of}
-use Rattle.pc_window.specs.Opening.{Supply, Grafted, below_item, under_item, under_test, unwound_at, is_inside, graft}
-use Rattle.pc_window.specs.Unwinding.{most_unwound}
+use Rattle.pc_table.specs.Table.{Table}
+use Rattle.pc_window.specs.Tree.{Tree, Pending, Undecided, Exit, Stop_exit, Trap_exit, tree_size}
+use Rattle.pc_window.specs.Opening.{Supply, Grafted, below_item, under_item, under_test, unwound_at, is_inside}
 use Rattle.pc_unwind.specs.models.Walking.{Turns, turns_no_more, turns_once, IsFull, EndsTurns}
 
 -- a tree below a test, with the other side
@@ -22,11 +21,11 @@ module _ (table : Table) (loop : Option ℕ) (tag : ℕ) where
   turns_again (turns_once g h k is le p) q = turns_once g h _ is le (turns_again p q)
 
   -- whether a stub is left does not hang on the names
-  item_none : (t o : ℕ) (item : Item) (r : Option Grafted) → under_item t o item r ≡ None → r ≡ None
+  pub item_none : (t o : ℕ) (item : Item) (r : Option Grafted) → under_item t o item r ≡ None → r ≡ None
   item_none t o item None e = refl
   item_none t o item (Some g) e = absurd (cc)
 
-  test_none : (t o : ℕ) (on : Operand) (one other : Tree) (r q : Option Grafted) → under_test t o on one other r q ≡ None → (r ≡ None) × (q ≡ None)
+  pub test_none : (t o : ℕ) (on : Operand) (one other : Tree) (r q : Option Grafted) → under_test t o on one other r q ≡ None → (r ≡ None) × (q ≡ None)
   test_none t o on one other (Some g) q e = absurd (cc)
   test_none t o on one other None (Some g) e = absurd (cc)
   test_none t o on one other None None e = (refl, refl)

@@ -1,23 +1,23 @@
 -- A walk comes to an end: each part has fewer steps to go, and so has what comes in place of a stub.
-use Rattle.std.proofs.Common.{◌≡◌, ℕ, zero, suc, ◌+◌, ◌-◌, ◌*◌, ◌^◌, ◌<◌, ◌≤◌, Option, Some, None, List, length, refl, sym, ◌∙◌, ap, subst, arith}
-use Rattle.std.specs.Prelude.{Bool, true, false, slice_get}
+use Rattle.std.proofs.Common.{◌≡◌, ℕ, zero, suc, ◌+◌, ◌-◌, ◌*◌, ◌^◌, ◌<◌, ◌≤◌, Option, Some, List, length, refl, sym, ap, subst, arith}
+use Rattle.std.specs.Prelude.{Bool, true}
 use Rattle.pc_word.specs.SourceLimits.{most_nodes}
 use Rattle.pc_table.specs.declared.table.RegionTable.{RegionTable}
-use Rattle.pc_table.specs.Table.{Table, TableRegion, table_of, tree_of, region_tree}
-use Rattle.pc_table.specs.TableKeeps.{TableKeeps, TreeIsThere, untested}
+use Rattle.pc_table.specs.Table.{table_of, region_tree}
+use Rattle.pc_table.specs.TableKeeps.{TableKeeps, untested}
 use Rattle.pc_window.specs.declared.home.Home.{Home}
 use Rattle.pc_window.specs.declared.tree.WindowTree.{WindowTree}
 use Rattle.pc_window.specs.declared.tree.WindowTree.TheVariants as stored
 use Rattle.pc_window.specs.Tree.{Tree, Pending, Undecided, Exit, Stop_exit, Trap_exit, tree_size, home_of}
-use Rattle.pc_window.specs.Opening.{Supply, Grafted, graft}
+use Rattle.pc_window.specs.Opening.{Grafted}
 use Rattle.pc_window.specs.StoredWindow.{tree_in, supply_in, InNodes}
 use Rattle.pc_unwind.specs.declared.growth.Growth.{Growth}
 use Rattle.pc_unwind.specs.Unwindable.{StubIsThere, StubsAreThere}
 use Rattle.pc_unwind.specs.models.Ranks.{rank, stub_turns, tree_steps, node_steps, walk_steps}
-use Rattle.pc_unwind.specs.models.Walking.{with_growth, HasRoom, Replaces, RootStaysAtMost, Walks}
+use Rattle.pc_unwind.specs.models.Walking.{HasRoom, Replaces, RootStaysAtMost, Walks}
 use Rattle.pc_unwind.proofs.TableRegions.{as_many}
 use Rattle.pc_unwind.proofs.Ranking.{rank_falls, rank_most}
-use Rattle.pc_unwind.proofs.Bringing.{Brings, graft_brings, brought_names, brought_there, brought_root, brought_steps, brought_turns}
+use Rattle.pc_unwind.proofs.Bringing.{Brings, graft_brings, brought_names, tree_there, brought_there, brought_root, brought_steps, brought_turns}
 
 one_node : (tree : WindowTree) → node_steps tree ≤ 1
 one_node (stored.Step' tag origin item p rest) = omega arith
@@ -71,13 +71,6 @@ module _ (table : RegionTable) (keeps : TableKeeps (table_of table)) (few : leng
 
   -- ---- what comes in place of a stub
 
-  tree_there : (region : ℕ) → TreeIsThere (length (table_of table).arrays) (length (table_of table).regions) (region_tree (table_of table) region)
-  tree_there region = by_region (slice_get (table_of table).regions region) refl
-    where
-      by_region : (r : Option TableRegion) → slice_get (table_of table).regions region ≡ r → TreeIsThere (length (table_of table).arrays) (length (table_of table).regions) (tree_of r)
-      by_region None at = tt
-      by_region (Some r) at = (keeps.each region r at).there
-
   module _ (loop : Option ℕ) (tag region : ℕ) (homes : List Home) (stub : StubIsThere (table_of table) region homes) (old mid : Growth) (tree : WindowTree)
       (replaces : Replaces (table_of table) loop tag region homes old mid tree) where
     replaced_brings : Brings (table_of table) loop tag (region_tree (table_of table) region) (supply_in old.names) (tree_in tree) (supply_in mid.names)
@@ -89,7 +82,7 @@ module _ (table : RegionTable) (keeps : TableKeeps (table_of table)) (few : leng
     followed next is = rank_falls (table_of table) keeps region next stub.leads is
 
     pub replaced_there : StubsAreThere (table_of table) (tree_in tree)
-    replaced_there = brought_there (table_of table) keeps loop tag (tree_there region) replaced_brings
+    replaced_there = brought_there (table_of table) keeps loop tag (tree_there (table_of table) keeps region) replaced_brings
 
     pub replaced_room : HasRoom old → HasRoom mid
     replaced_room room =

@@ -1,18 +1,17 @@
 -- A walk, constructor by constructor.
-use Rattle.std.proofs.Common.{◌≡◌, ℕ, suc, ◌+◌, ◌<◌, ◌≤◌, Option, Some, None, refl, sym, ◌∙◌, ap, subst, arith}
+use Rattle.std.proofs.Common.{◌≡◌, ℕ, suc, ◌+◌, Option, Some, None, refl, sym, ◌∙◌, ap, subst, arith}
 use Rattle.std.specs.Prelude.{Bool, true, false, if◌then◌else◌, nat_eq, ◌&&◌, List}
 use Rattle.pc_word.specs.declared.item.Item.{Item}
 use Rattle.pc_word.specs.declared.item.Operand.{Operand}
-use Rattle.pc_table.specs.Table.{Table, region_tree}
+use Rattle.pc_table.specs.Table.{Table}
 use Rattle.pc_window.specs.declared.home.Home.{Home}
 use Rattle.pc_window.specs.declared.tree.WindowTree.{WindowTree}
-use Rattle.pc_window.specs.Tree.{Tree, Pending, Undecided, Exit, Stop_exit, Trap_exit, tree_size, home_of}
-use Rattle.pc_window.specs.Opening.{Supply, Grafted, unwound_at, is_inside, graft}
-use Rattle.pc_window.specs.Unwinding.{most_unwound}
+use Rattle.pc_window.specs.Tree.{Tree, Pending, Undecided, Exit, tree_size}
+use Rattle.pc_window.specs.Opening.{Supply, Grafted, unwound_at, is_inside}
 use Rattle.pc_window.specs.StoredWindow.{tree_in, supply_in}
 use Rattle.pc_window.proofs.Grafts.{nat_eq-same}
 use Rattle.pc_unwind.specs.declared.growth.Growth.{Growth}
-use Rattle.pc_unwind.specs.models.Walking.{with_growth, replacement, Replaces, MayReplace, Turns, turns_no_more, turns_once, IsFull, EndsTurns, WalksFrom, Walks}
+use Rattle.pc_unwind.specs.models.Walking.{with_growth, replacement, Replaces, MayReplace, turns_no_more, turns_once, WalksFrom, Walks}
 use Rattle.pc_unwind.proofs.Turning.{none_left, turns_again, turns_below, ends_below, turns_yes, full_yes, turns_no, ends_no}
 
 module _ (table : Table) (loop : Option ℕ) (tag : ℕ) where
@@ -106,7 +105,7 @@ module _ (table : Table) (loop : Option ℕ) (tag : ℕ) where
       let e = ap tree_size same in
       let w = walks elsewhere (omega arith) in
       let becomes : replacement table loop tag region homes (supply_in old.names) ≡ with_growth placed mid =
-          sym replaces.grafts ∙ ap (λ (t : Tree). with_growth t mid) (sym same) in
+      sym replaces.grafts ∙ ap (λ (t : Tree). with_growth t mid) (sym same) in
       subst (λ (tree : Tree). WalksFrom table loop tag elsewhere full tree old after new) is (record {
         turns = turns_once (with_growth (Exit region tag homes) old) (with_growth placed mid) (with_growth after new)
             (unwound_stub region homes (supply_in old.names) within ∙ ap (λ (g : Grafted). Some g) becomes) (omega arith) w.turns;

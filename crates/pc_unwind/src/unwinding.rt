@@ -48,15 +48,40 @@ pub fn unwind(
     } = window;
     let mut tree = in_single_nodes(alloc, tree)?;
     let mut growth = Growth { names, size };
-    if number >= 2 {
-        unwind_stub(alloc, table, inside, number as u32, &mut growth, &mut tree)?;
-    }
+    unwind_tree(alloc, table, inside, number as u32, &mut growth, &mut tree)?;
     Ok(Window {
         tree,
         names: growth.names,
         limits,
         inside,
     })
+}
+
+/// Unwinds a window, where its loop may be unwound at all.
+#[tactic(auto, using(crate::proofs::Reaching::few))]
+fn unwind_tree(
+    alloc: Global,
+    table: &RegionTable,
+    inside: Option<u16>,
+    number: u32,
+    growth: &mut Growth,
+    tree: &mut WindowTree,
+) -> Result<(), AllocError>
+    requires kept { TableKeeps (table_of table.now) }
+    requires few { length table.now.regions ≤ most_nodes }
+    requires number { number < 2 ^ 8 }
+    requires nodes { InNodes true tree.old }
+    requires stubs { StubsAreThere (table_of table.now) (tree_in tree.old) }
+    requires room { HasRoom growth.old }
+    requires size { growth.old.size ≡ tree_size (tree_in tree.old) }
+    requires root { RootStaysAtMost (table_of table.now) most_tag (tree_in tree.old) }
+    ensures unwinds { OnOk result (Unwinds (table_of table.now) inside number (with_growth (tree_in tree.old) growth.old) (with_growth (tree_in tree.new) growth.new)) }
+    ensures nodes { OnOk result (InNodes true tree.new) }
+{
+    if number < 2 {
+        return Ok(());
+    }
+    unwind_stub(alloc, table, inside, number, growth, tree)
 }
 
 /// Unwinds a window that may be a stub alone: this as long as it is one, and then all tags.
@@ -85,7 +110,15 @@ fn unwind_stub(
             if !is_inside(table, inside, *region) {
                 return Ok(());
             }
-            match replacement(alloc, table, inside, *tag, growth, *region, homes.as_slice())? {
+            match replacement(
+                alloc,
+                table,
+                inside,
+                *tag,
+                growth,
+                *region,
+                homes.as_slice(),
+            )? {
                 Some(new) => {
                     *tree = new;
                     unwind_stub(alloc, table, inside, number, growth, tree)
