@@ -9,6 +9,8 @@ mod nodes;
 mod regions;
 mod replacing;
 mod tags;
+#[cfg(test)]
+mod tests;
 mod unwinding;
 mod walking;
 

@@ -5,7 +5,8 @@ ghost use Rattle.pc_table.specs.Table.{table_of};
 ghost use Rattle.pc_table.specs.TableKeeps.{TableKeeps};
 ghost use Rattle.pc_window.specs.Tree.{tree_size};
 ghost use Rattle.pc_window.specs.Unwinding.{least_inside, Unwinds};
-ghost use Rattle.pc_window.specs.Steps.{UnwindsTo};
+ghost use Rattle.pc_window.specs.Kept.{WindowKeeps};
+ghost use Rattle.pc_window.specs.Steps.{UnwindsTo, IsProper};
 ghost use Rattle.pc_window.specs.StoredWindow.{tree_in, window_in, InNodes};
 ghost use Rattle.pc_unwind.specs.Unwindable.{StubsAreThere, CanUnwind, HasGrown};
 ghost use Rattle.pc_unwind.specs.models.Walking.{HasRoom, AtMostLeast, RootAtMost, RootStaysAtMost, most_tag, with_growth};
@@ -38,6 +39,8 @@ pub fn unwind(
     ensures unwinds { IfOk result (λ later. UnwindsTo (table_of table.now) number (window_in window) (window_in later)) }
     ensures nodes { IfOk result (λ later. InNodes true later.tree) }
     ensures grown { IfOk result (λ later. HasGrown (table_of table.now) number (window_in window) (window_in later)) }
+    ensures proper { IfOk result (λ later. IsProper (window_in window) → IsProper (window_in later)) }
+    ensures keeps { IfOk result (λ later. IsProper (window_in window) → WindowKeeps (table_of table.now) (window_in window) (window_in later)) }
 {
     let size = window.size();
     let Window {

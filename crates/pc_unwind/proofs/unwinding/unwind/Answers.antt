@@ -1,5 +1,7 @@
 use Rattle.pc_table.specs.Table.{table_of}
 use Rattle.pc_window.specs.StoredWindow.{window_in}
+use Rattle.pc_window.proofs.Proper.{unwinds_proper}
+use Rattle.pc_window.proofs.Settling.{unwinds_keep}
 use Rattle.pc_unwind.proofs.Grown.{has_grown}
 use Rattle.pc_unwind.proofs.UnwoundWindows.{single_size, single_stubs, single_room, single_root, unwinds_to}
 use Rattle.pc_unwind.proofs.unwinding.unwind.Goals as goal
@@ -26,3 +28,9 @@ returns-clause-unwinds c =
 pub returns-clause-grown : goal.returns-clause-grown
 returns-clause-grown c =
     has_grown (table_of c.args.table.now) c.requires.kept c.args.number (window_in c.args.window) _ (returns-clause-unwinds c) c.requires.able.stubs
+
+pub returns-clause-proper : goal.returns-clause-proper
+returns-clause-proper c = unwinds_proper (table_of c.args.table.now) c.args.number (window_in c.args.window) _ (returns-clause-unwinds c)
+
+pub returns-clause-keeps : goal.returns-clause-keeps
+returns-clause-keeps c = unwinds_keep (table_of c.args.table.now) c.requires.kept c.args.number (window_in c.args.window) _ (returns-clause-unwinds c)
