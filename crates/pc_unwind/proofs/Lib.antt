@@ -13,4 +13,3 @@ pub mod Grown
 pub mod UnwoundWindows
 pub mod Opened
 pub mod StubHomes
-pub mod Looping

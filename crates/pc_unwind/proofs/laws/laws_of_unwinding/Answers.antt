@@ -1,4 +1,3 @@
-use Rattle.pc_unwind.proofs.Looping.{looping_keeps}
 use Rattle.pc_unwind.proofs.Opened.{opened_unwinds}
 use Rattle.pc_unwind.proofs.laws.laws_of_unwinding.Goals as goal
 
