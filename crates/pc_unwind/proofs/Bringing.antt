@@ -31,8 +31,10 @@ pub data Brings (table : Table) (loop : Option ℕ) (tag : ℕ) : TableTree → 
   brings_item : (origin : ℕ) (item given : Item) {rest : TableTree} {old mid new : Supply} {tree : Tree} → brought_size (Does origin item rest) ≡ suc (brought_size rest)
       → GrowsBy 1 old mid → Brings table loop tag rest mid tree new → Brings table loop tag (Does origin item rest) old (Pending tag origin given tree) new
   brings_test : (origin : ℕ) (on at : Operand) {on_yes on_no : TableTree} {old mid new : Supply} {yes_tree no_tree : Tree}
-      → Brings table loop tag on_yes old yes_tree mid → Brings table loop tag on_no mid no_tree new → Brings table loop tag (Asks origin on on_yes on_no) old (Undecided tag origin at yes_tree no_tree) new
-  brings_stub : (region : ℕ) (homes : ℕ → Operand) (names : Supply) → Brings table loop tag (Next region) names (Exit region (stub_tag table loop region tag) (homes_at homes (region_live table region))) names
+      → Brings table loop tag on_yes old yes_tree mid → Brings table loop tag on_no mid no_tree new
+      → Brings table loop tag (Asks origin on on_yes on_no) old (Undecided tag origin at yes_tree no_tree) new
+  brings_stub : (region : ℕ) (homes : ℕ → Operand) (names : Supply)
+      → Brings table loop tag (Next region) names (Exit region (stub_tag table loop region tag) (homes_at homes (region_live table region))) names
   brings_stop : (names : Supply) → Brings table loop tag Stops_here names Stop_exit names
   brings_trap : (kind : TrapKind) (line : ℕ) (names : Supply) → Brings table loop tag (Traps_here kind line) names (Trap_exit kind line) names
 
@@ -192,8 +194,8 @@ module _ (table : Table) (keeps : TableKeeps table) where
       by_region (Some r) at = (keeps.each region r at).there
 
   -- what comes in has its stubs there
-  pub brought_there : (loop : Option ℕ) (tag : ℕ) {from : TableTree} {old new : Supply} {tree : Tree} → TreeIsThere (length table.arrays) (length table.regions) from → Brings table loop tag from old tree new
-      → StubsAreThere table tree
+  pub brought_there : (loop : Option ℕ) (tag : ℕ) {from : TableTree} {old new : Supply} {tree : Tree} → TreeIsThere (length table.arrays) (length table.regions) from
+      → Brings table loop tag from old tree new → StubsAreThere table tree
   brought_there loop tag there (brings_none origin dest at b) = brought_there loop tag there.1 b
   brought_there loop tag there (brings_item origin item given is grows b) = brought_there loop tag there.1 b
   brought_there loop tag there (brings_test origin on at b d) = (brought_there loop tag there.1 b, brought_there loop tag there.2 d)

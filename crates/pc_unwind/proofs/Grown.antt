@@ -1,18 +1,18 @@
 -- What a window that was unwound has, by what it had.
-use Rattle.std.proofs.Common.{◌≡◌, ℕ, ◌+◌, ◌≤◌, Option, Some, None, length, refl, sym, subst, arith}
+use Rattle.std.proofs.Common.{◌≡◌, ℕ, ◌+◌, ◌≤◌, Option, length, refl, sym, subst, arith}
 use Rattle.std.specs.Prelude.{max}
 use Rattle.pc_table.specs.Table.{Table}
 use Rattle.pc_table.specs.TableKeeps.{TableKeeps}
 use Rattle.pc_window.specs.Tree.{Tree, Pending, Undecided, Exit, Stop_exit, Trap_exit, whole, front_of, tree_size}
 use Rattle.pc_window.specs.Opening.{Grafted}
 use Rattle.pc_window.specs.WindowRun.{Window}
-use Rattle.pc_window.specs.Unwinding.{lesser_tag, least_tag, or_zero, front_tag, most_unwound, Unwinds, unwinds_no_more, unwinds_once}
+use Rattle.pc_window.specs.Unwinding.{lesser_tag, least_tag, front_tag, most_unwound, Unwinds, unwinds_no_more, unwinds_once}
 use Rattle.pc_window.specs.Steps.{UnwindsTo}
 use Rattle.pc_unwind.specs.Unwindable.{TagsAtMost, StubsAreThere, HasGrown}
 use Rattle.pc_unwind.specs.models.Walking.{RootStaysAtMost}
 use Rattle.pc_unwind.proofs.Reaching.{once_is}
 use Rattle.pc_unwind.proofs.Replaced.{replaced_at, stubs_kept, names_kept, tags_kept, stays_kept}
-use Rattle.pc_unwind.proofs.TagWalks.{tags_stay}
+use Rattle.pc_unwind.proofs.TagWalks.{lesser_most, tags_stay}
 
 -- the front of a tree and what stands behind it are the tree
 pub whole_front : (tree : Tree) → whole (front_of tree) ≡ tree
@@ -28,10 +28,6 @@ higher most more (Undecided t o on one other) le h = let first = h.0 in (omega a
 higher most more (Exit region t homes) le h = omega arith
 higher most more Stop_exit le h = tt
 higher most more (Trap_exit kind line) le h = tt
-
-lesser_most : (a : ℕ) (b : Option ℕ) → or_zero (lesser_tag (Some a) b) ≤ a
-lesser_most a None = omega arith
-lesser_most a (Some b) = omega arith
 
 front_stays : (table : Table) (most : ℕ) (tree : Tree) → RootStaysAtMost table most tree → front_tag tree ≤ most
 front_stays table most (Pending t o item rest) h = let le = lesser_most t (least_tag rest) in omega arith

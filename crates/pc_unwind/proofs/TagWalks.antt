@@ -19,7 +19,7 @@ use Rattle.pc_unwind.proofs.Walks.{unwound_stub, too_large}
 
 -- ---- the least tag
 
-lesser_most : (a : ℕ) (b : Option ℕ) → or_zero (lesser_tag (Some a) b) ≤ a
+pub lesser_most : (a : ℕ) (b : Option ℕ) → or_zero (lesser_tag (Some a) b) ≤ a
 lesser_most a None = omega arith
 lesser_most a (Some b) = omega arith
 

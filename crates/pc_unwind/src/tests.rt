@@ -1,10 +1,12 @@
-ghost use Rattle.std.specs.Prelude.{◌≡◌, IfOk};
+ghost use Rattle.std.specs.Prelude.{◌≡◌, ◌<◌, IfOk};
 ghost use Rattle.pc_table.specs.Table.{table_tree, table_of};
+ghost use Rattle.pc_window.specs.StoredWindow.{window_in};
+ghost use Rattle.pc_unwind.specs.Unwindable.{CanUnwind};
 ghost use Rattle.pc_unwind.specs.models.Looping.{turn_tree, copy_tree, after_tree, looping_table};
 
 use super::*;
 use pc_table::{Region, RegionList, RegionTable, RegionTree, VarList};
-use pc_window::{Window, WindowError};
+use pc_window::{FormList, HomeList, NameTable, Window, WindowError, WindowTree};
 use pc_word::{Item, LengthList, Limits, LoopList, LoopMark, Operand};
 use std::alloc::{AllocError, Global};
 use std::test::Fail;
@@ -108,22 +110,66 @@ fn looping(alloc: Global) -> Result<RegionTable, AllocError>
     })
 }
 
-/// The size of the loop's window, unwound with a window number.
-fn unwound_size(alloc: Global, table: &RegionTable, number: u8) -> Result<u32, WindowError>
-    requires { table_of table.now ≡ looping_table }
+/// The limits of each window.
+const LIMITS: Limits = Limits {
+    ops: 4,
+    tests: 1,
+    mem: 1,
+};
+
+/// The size of a window, unwound with a window number.
+fn unwound_size(
+    alloc: Global,
+    table: &RegionTable,
+    window: Window,
+    number: u8,
+) -> Result<u32, WindowError>
+    requires table { table_of table.now ≡ looping_table }
+    requires able { CanUnwind (table_of table.now) (window_in window) }
 {
-    let limits = Limits {
-        ops: 4,
-        tests: 1,
-        mem: 1,
-    };
-    let window = Window::of_region(alloc, table, 0, limits)?;
     let unwound = unwind(alloc, window, table, number)?;
     Ok(unwound.size())
 }
 
+/// The size of a region's window, unwound.
+fn region_size(
+    alloc: Global,
+    table: &RegionTable,
+    region: u32,
+    number: u8,
+) -> Result<u32, WindowError>
+    requires table { table_of table.now ≡ looping_table }
+    requires region { region < 3 }
+{
+    let window = Window::of_region(alloc, table, region, LIMITS)?;
+    unwound_size(alloc, table, window, number)
+}
+
+/// The size of a window that is a stub inside the loop, which leads to the copy, unwound.
+fn stub_size(alloc: Global, table: &RegionTable, number: u8) -> Result<u32, WindowError>
+    requires { table_of table.now ≡ looping_table }
+{
+    let tree = WindowTree::Exit {
+        region: 1,
+        tag: 0,
+        homes: HomeList::new(alloc),
+    };
+    let names = NameTable {
+        forms: FormList::new(alloc),
+        next_variable: 0,
+    };
+    let window = Window {
+        tree,
+        names,
+        limits: LIMITS,
+        inside: Some(0),
+    };
+    unwound_size(alloc, table, window, number)
+}
+
 /// Each turn has three items and tests and two ways on, so `number` turns have 3 * (2^number - 1),
-/// as long as there is room: 1,533 in nine turns and 171 more.
+/// as long as there is room: 1,533 in nine turns and 171 more. The windows of the other two regions
+/// have no loop, and stay as they are.
 #[test]
 fn a_loop_is_unwound(rt: HostRuntime) -> Result<(), Fail> {
     let table = looping(rt.alloc())?;
@@ -136,9 +182,25 @@ fn a_loop_is_unwound(rt: HostRuntime) -> Result<(), Fail> {
         (10, 2046),
         (255, 2046),
     ] {
-        let unwound = unwound_size(rt.alloc(), &table, number);
+        let unwound = region_size(rt.alloc(), &table, 0, number);
         assert!(&rt; unwound == Ok(size));
     }
+    let copied = region_size(rt.alloc(), &table, 1, 8);
+    assert!(&rt; copied == Ok(0));
+    let left = region_size(rt.alloc(), &table, 2, 8);
+    assert!(&rt; left == Ok(1));
     laws_of_unwinding();
+    Ok(())
+}
+
+/// A stub alone becomes the stub of the next turn, at the next tag, and this the turn: the least tag
+/// is then 1, and two turns are unwound again.
+#[test]
+fn a_stub_alone_is_unwound(rt: HostRuntime) -> Result<(), Fail> {
+    let table = looping(rt.alloc())?;
+    for (number, size) in [(1, 0), (2, 9), (3, 21)] {
+        let unwound = stub_size(rt.alloc(), &table, number);
+        assert!(&rt; unwound == Ok(size));
+    }
     Ok(())
 }

@@ -120,8 +120,10 @@ returns-in-None-clause-unwinds t c =
 
 pub returns-in-Stop-clause-unwinds : goal.returns-in-Stop-clause-unwinds
 returns-in-Stop-clause-unwinds t c =
-    unwinds_none (table_of c.args.table.now) c.args.inside c.args.number (tree_in c.args.tree.now) _ (ap (λ (tree : Tree). least_inside (table_of c.args.table.now) c.args.inside tree) (ap tree_in c.in-Stop.is))
+    unwinds_none (table_of c.args.table.now) c.args.inside c.args.number (tree_in c.args.tree.now) _
+    (ap (λ (tree : Tree). least_inside (table_of c.args.table.now) c.args.inside tree) (ap tree_in c.in-Stop.is))
 
 pub returns-in-Trap-clause-unwinds : goal.returns-in-Trap-clause-unwinds
 returns-in-Trap-clause-unwinds t c =
-    unwinds_none (table_of c.args.table.now) c.args.inside c.args.number (tree_in c.args.tree.now) _ (ap (λ (tree : Tree). least_inside (table_of c.args.table.now) c.args.inside tree) (ap tree_in c.in-Trap.is))
+    unwinds_none (table_of c.args.table.now) c.args.inside c.args.number (tree_in c.args.tree.now) _
+    (ap (λ (tree : Tree). least_inside (table_of c.args.table.now) c.args.inside tree) (ap tree_in c.in-Trap.is))
