@@ -1,0 +1,15 @@
+pub mod SingleNodes
+pub mod TableRegions
+pub mod Ranking
+pub mod Bringing
+pub mod Turning
+pub mod Walks
+pub mod Replacements
+pub mod WalkSteps
+pub mod Replaced
+pub mod Reaching
+pub mod TagWalks
+pub mod Grown
+pub mod UnwoundWindows
+pub mod Opened
+pub mod StubHomes

@@ -1,0 +1,129 @@
+use Rattle.std.proofs.Common.{◌≡◌, ℕ, ◌∙◌, sym, ap, subst, arith}
+use Rattle.std.specs.Prelude.{◌<◌, None}
+use Rattle.std.proofs.lemmas.Result.{IfOk-weaker}
+use Rattle.pc_table.specs.Table.{table_of}
+use Rattle.pc_window.specs.Tree.{Tree, Exit, tree_size}
+use Rattle.pc_window.specs.Opening.{Grafted}
+use Rattle.pc_window.specs.Unwinding.{least_inside, least_tag, Unwinds}
+use Rattle.pc_window.specs.StoredWindow.{tree_in}
+use Rattle.pc_unwind.specs.Unwindable.{StubIsThere, StubsAreThere}
+use Rattle.pc_unwind.specs.models.Ranks.{stub_turns}
+use Rattle.pc_unwind.specs.models.Walking.{most_tag, with_growth, AtMostLeast, Replaces, MayReplace, RootStaysAtMost}
+use Rattle.pc_unwind.proofs.Replaced.{inside_least}
+use Rattle.pc_unwind.proofs.Reaching.{front_least}
+use Rattle.pc_unwind.proofs.WalkSteps.{replaced_there, replaced_room, replaced_turns, replaced_root}
+use Rattle.pc_unwind.proofs.TagWalks.{unwinds_out, unwinds_large, unwinds_stub, unwinds_none}
+use Rattle.pc_unwind.proofs.unwinding.+unwind_stub.Goals as goal
+
+pub returns-then-not-is_inside-clause-unwinds : goal.returns-then-not-is_inside-clause-unwinds
+returns-then-not-is_inside-clause-unwinds t c =
+    let stub = Exit c.in-Exit.region c.in-Exit.tag c.in-Exit.homes in
+    let here : stub ≡ tree_in c.args.tree.now = sym (ap tree_in c.in-Exit.is) in
+    subst (λ (tree : Tree). Unwinds (table_of c.args.table.now) c.args.inside c.args.number (with_growth tree c.args.growth.now) (with_growth stub c.args.growth.now)) here
+    (unwinds_out (table_of c.args.table.now) c.args.inside c.args.number c.in-Exit.region c.in-Exit.tag c.in-Exit.homes _ (sym c.if-not-is_inside.ensures))
+
+pub unwind_stub-requires : goal.unwind_stub-requires
+unwind_stub-requires t c =
+    let table = table_of c.args.table.now in
+    let homes = c.as_slice.result.now in
+    let whole : Exit c.in-Exit.region c.in-Exit.tag homes ≡ tree_in c.args.tree.now =
+    ap (Exit c.in-Exit.region c.in-Exit.tag) c.as_slice.ensures ∙ sym (ap tree_in c.in-Exit.is) in
+    let stub : StubIsThere table c.in-Exit.region homes = subst (StubsAreThere table) (sym whole) c.requires.stubs in
+    let replaces : Replaces table c.args.inside c.in-Exit.tag c.in-Exit.region homes c.args.growth.now c.replacement.new.growth c.in-Some.new =
+    subst (MayReplace table c.args.inside c.in-Exit.tag c.in-Exit.region homes c.args.growth.now c.replacement.new.growth) c.in-Some.is c.in_ok-new-in-Exit.ensures in
+    let root : RootStaysAtMost table most_tag (Exit c.in-Exit.region c.in-Exit.tag homes) = subst (RootStaysAtMost table most_tag) (sym whole) c.requires.root in
+    let turns = ap (stub_turns table) whole in
+    let fewer = replaced_turns c.args.table.now c.requires.kept c.requires.few c.args.inside c.in-Exit.tag c.in-Exit.region homes stub c.args.growth.now c.replacement.new.growth
+    c.in-Some.new replaces in
+    let none = ap tree_size whole in
+    let size = c.requires.size in
+    let grown = replaces.size in
+    let measure : stub_turns table (tree_in c.args.tree.now) ≡ t = c.decreases in
+    let falls : stub_turns table (tree_in c.in-Some.new) < t = omega arith in (
+      falls,
+      (
+        c.requires.kept,
+        (
+          c.requires.few,
+          (
+            c.requires.several,
+            (
+              c.requires.number,
+              (
+                replaces.nodes,
+                (
+                  replaced_there c.args.table.now c.requires.kept c.requires.few c.args.inside c.in-Exit.tag c.in-Exit.region homes stub c.args.growth.now c.replacement.new.growth
+                      c.in-Some.new replaces,
+                  (
+                    replaced_room c.args.table.now c.requires.kept c.requires.few c.args.inside c.in-Exit.tag c.in-Exit.region homes stub c.args.growth.now c.replacement.new.growth
+                        c.in-Some.new replaces c.requires.room,
+                    (
+                      omega arith,
+                      replaced_root c.args.table.now c.requires.kept c.requires.few c.args.inside c.in-Exit.tag c.in-Exit.region homes stub c.args.growth.now
+                          c.replacement.new.growth c.in-Some.new replaces most_tag root,
+                    ),
+                  ),
+                ),
+              ),
+            ),
+          ),
+        ),
+      ),
+    )
+
+pub unwind_tags-requires-clause-least : goal.unwind_tags-requires-clause-least
+unwind_tags-requires-clause-least t c =
+    let table = table_of c.args.table.now in
+    let tree = tree_in c.args.tree.now in
+    inside_least table c.args.inside c.front_tag-tag.result tree (subst (λ (n : ℕ). AtMostLeast n (least_tag tree)) (sym c.front_tag-tag.ensures) (front_least tree))
+
+pub unwind_tags-requires-in-Test-clause-least : goal.unwind_tags-requires-in-Test-clause-least
+unwind_tags-requires-in-Test-clause-least t c =
+    let table = table_of c.args.table.now in
+    let tree = tree_in c.args.tree.now in
+    inside_least table c.args.inside c.front_tag-tag-in-Test.result tree (subst (λ (n : ℕ). AtMostLeast n (least_tag tree)) (sym c.front_tag-tag-in-Test.ensures) (front_least tree))
+
+pub returns-in-Some-clause-unwinds : goal.returns-in-Some-clause-unwinds
+returns-in-Some-clause-unwinds t c =
+    let table = table_of c.args.table.now in
+    let homes = c.as_slice.result.now in
+    let whole : Exit c.in-Exit.region c.in-Exit.tag homes ≡ tree_in c.args.tree.now =
+    ap (Exit c.in-Exit.region c.in-Exit.tag) c.as_slice.ensures ∙ sym (ap tree_in c.in-Exit.is) in
+    let replaces : Replaces table c.args.inside c.in-Exit.tag c.in-Exit.region homes c.args.growth.now c.replacement.new.growth c.in-Some.new =
+    subst (MayReplace table c.args.inside c.in-Exit.tag c.in-Exit.region homes c.args.growth.now c.replacement.new.growth) c.in-Some.is c.in_ok-new-in-Exit.ensures in
+    let none = ap tree_size whole in
+    let size = c.requires.size in
+    let later : Grafted = with_growth (tree_in c.unwind_stub.new.tree) c.unwind_stub.new.growth in
+    IfOk-weaker c.unwind_stub.result _ _
+    (λ done u.
+    subst (λ (tree : Tree). Unwinds table c.args.inside c.args.number (with_growth tree c.args.growth.now) later) whole
+    (unwinds_stub table c.args.inside c.args.number c.requires.several c.in-Exit.region c.in-Exit.tag homes c.args.growth.now c.replacement.new.growth c.in-Some.new
+    (sym c.if-not-is_inside.ensures) replaces (omega arith) later u))
+    c.unwind_stub.ensures.unwinds
+
+pub returns-in-None-clause-unwinds : goal.returns-in-None-clause-unwinds
+returns-in-None-clause-unwinds t c =
+    let table = table_of c.args.table.now in
+    let homes = c.as_slice.result.now in
+    let stub = ap (Exit c.in-Exit.region c.in-Exit.tag) c.as_slice.ensures in
+    let whole : Exit c.in-Exit.region c.in-Exit.tag homes ≡ tree_in c.args.tree.now =
+    ap (Exit c.in-Exit.region c.in-Exit.tag) c.as_slice.ensures ∙ sym (ap tree_in c.in-Exit.is) in
+    let refused : MayReplace table c.args.inside c.in-Exit.tag c.in-Exit.region homes c.args.growth.now c.replacement.new.growth None =
+    subst (MayReplace table c.args.inside c.in-Exit.tag c.in-Exit.region homes c.args.growth.now c.replacement.new.growth) c.in-None.is c.in_ok-new-in-Exit.ensures in
+    let none = ap tree_size whole in
+    let size = c.requires.size in
+    subst (λ (tree : Tree). Unwinds table c.args.inside c.args.number (with_growth tree c.args.growth.now)
+    (with_growth (Exit c.in-Exit.region c.in-Exit.tag c.in-Exit.homes) c.replacement.new.growth)) whole
+    (subst (λ (tree : Tree). Unwinds table c.args.inside c.args.number (with_growth (Exit c.in-Exit.region c.in-Exit.tag homes) c.args.growth.now)
+    (with_growth tree c.replacement.new.growth)) stub
+    (unwinds_large table c.args.inside c.args.number c.in-Exit.region c.in-Exit.tag homes c.args.growth.now c.replacement.new.growth (sym c.if-not-is_inside.ensures) refused (omega arith)))
+
+pub returns-in-Stop-clause-unwinds : goal.returns-in-Stop-clause-unwinds
+returns-in-Stop-clause-unwinds t c =
+    unwinds_none (table_of c.args.table.now) c.args.inside c.args.number (tree_in c.args.tree.now) _
+    (ap (λ (tree : Tree). least_inside (table_of c.args.table.now) c.args.inside tree) (ap tree_in c.in-Stop.is))
+
+pub returns-in-Trap-clause-unwinds : goal.returns-in-Trap-clause-unwinds
+returns-in-Trap-clause-unwinds t c =
+    unwinds_none (table_of c.args.table.now) c.args.inside c.args.number (tree_in c.args.tree.now) _
+    (ap (λ (tree : Tree). least_inside (table_of c.args.table.now) c.args.inside tree) (ap tree_in c.in-Trap.is))

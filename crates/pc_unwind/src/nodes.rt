@@ -1,0 +1,101 @@
+//! Windows whose items and tests are nodes of their own.
+ghost use Rattle.std.specs.Prelude.{◌≡◌, true, false, IfOk};
+ghost use Rattle.pc_window.specs.StoredWindow.{tree_in, InNodes};
+ghost use Rattle.pc_window.specs.models.Stored.{is_leaf};
+
+use pc_window::WindowTree;
+use std::alloc::{AllocError, Global};
+
+/// The tree with each item and each test in a node of its own.
+pub(crate) fn in_single_nodes(alloc: Global, tree: WindowTree) -> Result<WindowTree, AllocError>
+    ensures tree { IfOk result (λ single. tree_in single ≡ tree_in tree) }
+    ensures nodes { IfOk result (λ single. InNodes true single) }
+{
+    match tree {
+        WindowTree::Step {
+            tag,
+            origin,
+            item,
+            rest,
+        } => {
+            let rest = in_single_nodes(alloc, Box::into_inner(rest))?;
+            let rest = below(alloc, rest)?;
+            Ok(WindowTree::Step {
+                tag,
+                origin,
+                item,
+                rest,
+            })
+        }
+        WindowTree::Test {
+            tag,
+            origin,
+            on,
+            yes,
+            no,
+        } => {
+            let yes = in_single_nodes(alloc, Box::into_inner(yes))?;
+            let no = in_single_nodes(alloc, Box::into_inner(no))?;
+            let yes = below(alloc, yes)?;
+            let no = below(alloc, no)?;
+            Ok(WindowTree::Test {
+                tag,
+                origin,
+                on,
+                yes,
+                no,
+            })
+        }
+        WindowTree::Node { below } => in_single_nodes(alloc, Box::into_inner(below)),
+        WindowTree::Exit { region, tag, homes } => Ok(WindowTree::Exit { region, tag, homes }),
+        WindowTree::Stop => Ok(WindowTree::Stop),
+        WindowTree::Trap { kind, line } => Ok(WindowTree::Trap { kind, line }),
+    }
+}
+
+/// A tree as what stands below an item or test.
+fn below(alloc: Global, tree: WindowTree) -> Result<Box<WindowTree>, AllocError>
+    requires { InNodes true tree }
+    ensures tree { IfOk result (λ below. tree_in below.value ≡ tree_in tree) }
+    ensures nodes { IfOk result (λ below. InNodes false below.value) }
+{
+    let placed = placed(alloc, tree, false)?;
+    let below = Box::new(alloc, placed)?;
+    Ok(below)
+}
+
+/// A tree as what stands at the root of a node, or else below an item or test: there in a node of
+/// its own, where it has an item or test.
+#[tactic(auto, using(crate::proofs::SingleNodes::nodes))]
+pub(crate) fn placed(
+    alloc: Global,
+    tree: WindowTree,
+    at_root: bool,
+) -> Result<WindowTree, AllocError>
+    requires { InNodes true tree }
+    ensures tree { IfOk result (λ placed. tree_in placed ≡ tree_in tree) }
+    ensures nodes { IfOk result (λ placed. InNodes at_root placed) }
+{
+    if at_root {
+        return Ok(tree);
+    }
+    if is_leaf(&tree) {
+        return Ok(tree);
+    }
+    let below = Box::new(alloc, tree)?;
+    Ok(WindowTree::Node { below })
+}
+
+/// Whether a tree has neither item nor test at its root.
+fn is_leaf(tree: &WindowTree) -> bool
+    ensures { result ≡ is_leaf tree.now }
+{
+    match tree {
+        WindowTree::Step { .. } => false,
+        WindowTree::Test { .. } => false,
+        WindowTree::Node { .. } => true,
+        WindowTree::Exit { .. } => true,
+        WindowTree::Stop => true,
+        WindowTree::Trap { .. } => true,
+    }
+}

@@ -1,0 +1,45 @@
+//! One stub, unwound.
+ghost use Rattle.std.specs.Prelude.{◌<◌, ◌^◌, IfOk};
+ghost use Rattle.pc_table.specs.Table.{table_of};
+ghost use Rattle.pc_table.specs.TableKeeps.{TableKeeps};
+ghost use Rattle.pc_unwind.specs.Unwindable.{StubIsThere};
+ghost use Rattle.pc_unwind.specs.models.Walking.{HasRoom, MayReplace};
+
+use crate::growth::Growth;
+use crate::homes::homes_by_variable;
+use crate::regions::{brought_size, region_at};
+use pc_table::RegionTable;
+use pc_window::{Home, WindowTree, graft};
+use std::alloc::{AllocError, Global};
+
+/// The items and tests that a window may have after unwinding.
+const MOST_UNWOUND: u32 = 2048;
+
+/// The tree in place of a stub: that of its region, with homes in place of variables. `None` where
+/// the window would be too large with it.
+#[tactic(auto, using(crate::proofs::TableRegions::regions))]
+pub(crate) fn replacement(
+    alloc: Global,
+    table: &RegionTable,
+    inside: Option<u16>,
+    tag: u32,
+    growth: &mut Growth,
+    region: u32,
+    homes: &[Home],
+) -> Result<Option<WindowTree>, AllocError>
+    requires kept { TableKeeps (table_of table.now) }
+    requires stub { StubIsThere (table_of table.now) region homes.now }
+    requires tag { tag < 2 ^ 31 }
+    requires room { HasRoom growth.old }
+    ensures { IfOk result (λ tree. MayReplace (table_of table.now) inside tag region homes.now growth.old growth.new tree) }
+{
+    let from = &region_at(table, region).tree;
+    let more = brought_size(from);
+    if growth.size + more > MOST_UNWOUND {
+        return Ok(None);
+    }
+    let homes = homes_by_variable(homes);
+    let tree = graft(alloc, table, inside, tag, from, &mut growth.names, homes)?;
+    growth.size += more;
+    Ok(Some(tree))
+}

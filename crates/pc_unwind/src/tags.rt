@@ -1,0 +1,43 @@
+//! Tags of a tree.
+ghost use Rattle.std.specs.Prelude.{◌≡◌};
+ghost use Rattle.pc_window.specs.Unwinding.{lesser_tag, least_tag, front_tag};
+ghost use Rattle.pc_window.specs.StoredWindow.{tree_in};
+
+use pc_window::WindowTree;
+
+/// The least tag of a tree, and 0 where it has none.
+pub(crate) fn front_tag(tree: &WindowTree) -> u32
+    ensures { result ≡ front_tag (tree_in tree.now) }
+{
+    match least_tag(tree) {
+        Some(tag) => tag,
+        None => 0,
+    }
+}
+
+/// The least tag of items, tests and stubs.
+fn least_tag(tree: &WindowTree) -> Option<u32>
+    ensures { result ≡ least_tag (tree_in tree.now) }
+{
+    match tree {
+        WindowTree::Step { tag, rest, .. } => lesser_tag(Some(*tag), least_tag(rest)),
+        WindowTree::Test { tag, yes, no, .. } => {
+            lesser_tag(Some(*tag), lesser_tag(least_tag(yes), least_tag(no)))
+        }
+        WindowTree::Node { below } => least_tag(below),
+        WindowTree::Exit { tag, .. } => Some(*tag),
+        WindowTree::Stop => None,
+        WindowTree::Trap { .. } => None,
+    }
+}
+
+/// The lesser of two tags, where there are any.
+fn lesser_tag(one: Option<u32>, other: Option<u32>) -> Option<u32>
+    ensures { result ≡ lesser_tag one other }
+{
+    match (one, other) {
+        (Some(one), Some(other)) => Some(one.min(other)),
+        (Some(one), None) => Some(one),
+        (None, other) => other,
+    }
+}
