@@ -382,7 +382,8 @@ all_behind : (P : List Move → Type 0) (rows : List (List Move)) → AllByRecur
 all_behind P [] all = tt
 all_behind P (row ∷ rows) all = all.1
 
-first_fits : (ops scratch : ℕ) (first : List Move) (rows : List (List Move)) → length first ≤ ops → AllByRecursion (IsCopy scratch) first → WritesOnce first → AllByRecursion (IsCopyRow ops scratch) rows
+first_fits : (ops scratch : ℕ) (first : List Move) (rows : List (List Move)) → length first ≤ ops
+    → AllByRecursion (IsCopy scratch) first → WritesOnce first → AllByRecursion (IsCopyRow ops scratch) rows
     → AllByRecursion (IsCopyRow ops scratch) (if_any first ++ rows)
 first_fits ops scratch [] rows few copies once all = all
 first_fits ops scratch (move ∷ first) rows few copies once all = (record { copies = copies; some = omega arith; few = few; once = distinct_dests (move ∷ first) once }, all)

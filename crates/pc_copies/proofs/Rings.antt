@@ -83,7 +83,9 @@ adds_ring ops scratch sources rows first later now adds = record {
 
 pub put_ring : (scratch ops : ℕ) (ring : List Move) (rows : List (List Move)) (first : List Move) (later : List (List Move)) (now : List Move) → Puts ops ring rows first later now
     → AllByRecursion (Avoids scratch) ring → WritesOnce ring → AddsRing ops scratch (source_in ring) rows first later now
-put_ring scratch ops ring rows first later now puts avoids once = adds_ring ops scratch (source_in ring) rows first later now (put_adds scratch ops ring rows first later now puts (all_imply (Avoids scratch) (IsCopy scratch) ring (λ move h. h.copy) avoids) once)
+put_ring scratch ops ring rows first later now puts avoids once =
+    adds_ring ops scratch (source_in ring) rows first later now
+    (put_adds scratch ops ring rows first later now puts (all_imply (Avoids scratch) (IsCopy scratch) ring (λ move h. h.copy) avoids) once)
 
 -- ---- a cycle that is broken
 

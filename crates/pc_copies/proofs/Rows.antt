@@ -123,7 +123,11 @@ put_writes ops group rows first later now (Fits room is now_is) register h = wri
 pub put_fits : (ops scratch : ℕ) (group : List Move) (rows : List (List Move)) (first : List Move) (later : List (List Move)) (now : List Move) → Puts ops group rows first later now
     → AllByRecursion (IsCopy scratch) group → WritesOnce group → Apart (source_in first) (source_in group) → RowsFit ops scratch rows first → RowsFit ops scratch later now
 put_fits ops scratch group rows first later now (Fills full is now_is) copies once apart fit =
-    let row : IsFull ops scratch (first ++ group) = record { many = length-append first group ∙ full; copies = all_both (IsCopy scratch) first group fit.copies copies; once = once_join first group fit.once once apart } in
+    let row : IsFull ops scratch (first ++ group) = record {
+      many = length-append first group ∙ full;
+      copies = all_both (IsCopy scratch) first group fit.copies copies;
+      once = once_join first group fit.once once apart;
+    } in
     record {
       full = subst (AllByRecursion (IsFull ops scratch)) (sym is) (all_both (IsFull ops scratch) rows ((first ++ group) ∷ []) fit.full (row, tt));
       copies = subst (AllByRecursion (IsCopy scratch)) (sym now_is) tt;
