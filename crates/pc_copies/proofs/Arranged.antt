@@ -277,11 +277,11 @@ row_names lengths (move ∷ row) s x =
     ap (λ v. if nat_eq move.dest x then operand_value s.names move.from else v) (row_names lengths row s x)
     ∙ taken_test (nat_eq move.dest x) move (source_in row x) s.names x
 
-row_stores : (lengths : List ℕ) (row : List Move) (s : State) → stores_of lengths s (map copy_of row) ≡ []
+pub row_stores : (lengths : List ℕ) (row : List Move) (s : State) → stores_of lengths s (map copy_of row) ≡ []
 row_stores lengths [] s = refl
 row_stores lengths (move ∷ row) s = row_stores lengths row s
 
-row_takes : (row : List Move) → reads_of (map copy_of row) ≡ 0
+pub row_takes : (row : List Move) → reads_of (map copy_of row) ≡ 0
 row_takes [] = refl
 row_takes (move ∷ row) = row_takes row
 
