@@ -7,13 +7,13 @@ use Rattle.std.proofs.lemmas.Bool.{cases_eq}
 use Rattle.std.proofs.lemmas.List.{reverse-append}
 use Rattle.std.proofs.lemmas.Option.{slice_get_within, slice_get-get_or}
 use Rattle.pc_word.specs.declared.item.Operand.{Operand}
-use Rattle.pc_word.specs.declared.item.Operand.TheVariants.{Name}
+use Rattle.pc_word.specs.declared.item.Operand.TheVariants.{Name, Lit}
 use Rattle.pc_word.specs.State.{State}
 use Rattle.pc_word.specs.Items.{operand_value, dest_of}
 use Rattle.pc_word.specs.Commit.{names_after, stores_of, cells_after, reads_of}
 use Rattle.pc_word.proofs.Lists.{all_imply, all_both}
 use Rattle.pc_copies.specs.declared.moves.Move.{Move}
-use Rattle.pc_copies.specs.Moves.{IsSource, AreMoves, AreDone, kept, copy_of, after_row, after_rows, IsCopyRow, IsFullRow, AreCopies, IsArranged}
+use Rattle.pc_copies.specs.Moves.{IsSource, IsReadable, IsCopy, AreMoves, AreDone, kept, copy_of, after_row, after_rows, IsCopyRow, IsFullRow, AreCopies, IsArranged}
 use Rattle.pc_copies.specs.models.Sources.{taken, moved, source_in, first_of, over, IsRead, Unread, IsWritten, Apart, back, Do}
 use Rattle.pc_copies.specs.models.Packing.{AddsRing, WritesOnce, IsFull, Avoids, IsClean}
 use Rattle.pc_copies.specs.models.Placing.{IsWay}
@@ -28,8 +28,16 @@ use Rattle.pc_copies.proofs.Kept.{Found, found, all_found, all_sources, given_on
 
 -- ---- moves that leave scratch alone
 
+source_read : (scratch : ℕ) (from : Operand) → IsSource scratch from → IsReadable scratch from
+source_read scratch (Name register) is = inl is.below
+source_read scratch (Lit value) is = tt
+
+move_copy : (scratch : ℕ) (move : Move) → IsMove scratch move → IsCopy scratch move
+move_copy scratch move is = record { dest = inl is.dest.below; from = source_read scratch move.from is.from }
+
 move_avoids : (scratch : ℕ) (move : Move) → IsMove scratch move → Avoids scratch move
 move_avoids scratch move is = record {
+  copy = move_copy scratch move is;
   writes = is.dest.other;
   reads = λ e. (subst (IsSource scratch) e is.from).other refl;
 }
@@ -52,7 +60,7 @@ arranged_first ops scratch moves table is = record {
   stage = λ x. inl (is.each x, refl);
   reads = λ register h. let e = h.reads in absurd (cc);
   row_reads = λ register h. let e = h.reads in absurd (cc);
-  fit = record { full = tt; once = tt };
+  fit = record { full = tt; copies = tt; once = tt };
   row_writes = λ register h. let e = h.writes in absurd (cc);
   through = λ i move low there. absurd (omega (arith, low));
 }
@@ -269,11 +277,11 @@ row_names lengths (move ∷ row) s x =
     ap (λ v. if nat_eq move.dest x then operand_value s.names move.from else v) (row_names lengths row s x)
     ∙ taken_test (nat_eq move.dest x) move (source_in row x) s.names x
 
-row_stores : (lengths : List ℕ) (row : List Move) (s : State) → stores_of lengths s (map copy_of row) ≡ []
+pub row_stores : (lengths : List ℕ) (row : List Move) (s : State) → stores_of lengths s (map copy_of row) ≡ []
 row_stores lengths [] s = refl
 row_stores lengths (move ∷ row) s = row_stores lengths row s
 
-row_takes : (row : List Move) → reads_of (map copy_of row) ≡ 0
+pub row_takes : (row : List Move) → reads_of (map copy_of row) ≡ 0
 row_takes [] = refl
 row_takes (move ∷ row) = row_takes row
 
@@ -362,8 +370,8 @@ unfolding IsDistinct
 distinct_dests [] written = tt
 distinct_dests (move ∷ row) written = (dest_apart move row written.0, distinct_dests row written.1)
 
-full_fits : (ops : ℕ) → 1 ≤ ops → (row : List Move) → IsFull ops row → IsCopyRow ops row
-full_fits ops some row full = record { some = omega (arith, some, full.many); few = omega (arith, full.many); once = distinct_dests row full.once }
+full_fits : (ops scratch : ℕ) → 1 ≤ ops → (row : List Move) → IsFull ops scratch row → IsCopyRow ops scratch row
+full_fits ops scratch some row full = record { copies = full.copies; some = omega (arith, some, full.many); few = omega (arith, full.many); once = distinct_dests row full.once }
 
 all_reverse : (P : List Move → Type 0) (rows : List (List Move)) → AllByRecursion P rows → AllByRecursion P (reverse rows)
 all_reverse P [] all = tt
@@ -374,10 +382,11 @@ all_behind : (P : List Move → Type 0) (rows : List (List Move)) → AllByRecur
 all_behind P [] all = tt
 all_behind P (row ∷ rows) all = all.1
 
-first_fits : (ops : ℕ) (first : List Move) (rows : List (List Move)) → length first ≤ ops → WritesOnce first → AllByRecursion (IsCopyRow ops) rows
-    → AllByRecursion (IsCopyRow ops) (if_any first ++ rows)
-first_fits ops [] rows few once all = all
-first_fits ops (move ∷ first) rows few once all = (record { some = omega arith; few = few; once = distinct_dests (move ∷ first) once }, all)
+first_fits : (ops scratch : ℕ) (first : List Move) (rows : List (List Move)) → length first ≤ ops
+    → AllByRecursion (IsCopy scratch) first → WritesOnce first → AllByRecursion (IsCopyRow ops scratch) rows
+    → AllByRecursion (IsCopyRow ops scratch) (if_any first ++ rows)
+first_fits ops scratch [] rows few copies once all = all
+first_fits ops scratch (move ∷ first) rows few copies once all = (record { copies = copies; some = omega arith; few = few; once = distinct_dests (move ∷ first) once }, all)
 
 rest_full : (ops : ℕ) (first : List Move) (rows : List (List Move)) → AllByRecursion (IsFullRow ops) rows → AllByRecursion (IsFullRow ops) (drop 1 (if_any first ++ rows))
 rest_full ops [] rows all = all_behind (IsFullRow ops) rows all
@@ -390,9 +399,9 @@ arranged moves ops scratch rows first are some many packed =
     let fit = packed.fit in
     record {
       done = all_done moves ops scratch rows first are packed.does;
-      rows_fit = first_fits ops first (reverse rows) (omega (arith, packed.room)) fit.once
-          (all_reverse (IsCopyRow ops) rows (all_imply (IsFull ops) (IsCopyRow ops) rows (full_fits ops some) fit.full));
-      full = rest_full ops first (reverse rows) (all_reverse (IsFullRow ops) rows (all_imply (IsFull ops) (IsFullRow ops) rows (λ row full. record { full = full.many }) fit.full));
+      rows_fit = first_fits ops scratch first (reverse rows) (omega (arith, packed.room)) fit.copies fit.once
+          (all_reverse (IsCopyRow ops scratch) rows (all_imply (IsFull ops scratch) (IsCopyRow ops scratch) rows (full_fits ops scratch some) fit.full));
+      full = rest_full ops first (reverse rows) (all_reverse (IsFullRow ops) rows (all_imply (IsFull ops scratch) (IsFullRow ops) rows (λ row full. record { full = full.many }) fit.full));
       copies = subst (AreCopies (kept moves)) (sym (copies_in_order rows first)) packed.copies;
       one = λ few. absurd (omega (arith, few, many));
     }
@@ -413,7 +422,8 @@ arranged_in_one moves ops scratch are few =
     record {
       done = subst (λ (l : List (List Move)). (lengths : List ℕ) (old : State) → AreDone moves scratch old (after_rows lengths l old)) (only (kept moves))
           (all_done moves ops scratch [] (kept moves) are does);
-      rows_fit = subst (AllByRecursion (IsCopyRow ops)) (only (kept moves)) (first_fits ops (kept moves) [] few apart.once tt);
+      rows_fit = subst (AllByRecursion (IsCopyRow ops scratch)) (only (kept moves))
+          (first_fits ops scratch (kept moves) [] few (all_imply (IsMove scratch) (IsCopy scratch) (kept moves) (move_copy scratch) apart.all) apart.once tt);
       full = subst (λ (l : List (List Move)). AllByRecursion (IsFullRow ops) (drop 1 l)) (only (kept moves)) (rest_full ops (kept moves) [] tt);
       copies = record { cycles = []; are = tt; among = tt; apart = distinct_dests [] tt; number = let any = copies_any (kept moves) in omega (arith, any) };
       one = λ h. one_at_most (kept moves);

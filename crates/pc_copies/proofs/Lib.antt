@@ -8,4 +8,5 @@ pub mod Places
 pub mod Rings
 pub mod Rows
 pub mod Singles
+pub mod Steps
 pub mod Unwinding

@@ -234,7 +234,7 @@ module _ (path : List Move) (at : ℕ) (way : IsWay path) (ends : EndsAt path at
       ];
     }
 
-    place_fits : Apart (source_in first) (source_in path) → RowsFit ops rows first → RowsFit ops later now
+    place_fits : Apart (source_in first) (source_in path) → RowsFit ops scratch rows first → RowsFit ops scratch later now
     place_fits free fit = unwound.adds.fits (row_apart free) (ring.fits (record { apart = λ register h. ring_none register (free.apart register h) }) fit)
 
     place_writes : (register : ℕ) → IsWritten (source_in now) register → (register ≡ scratch) ⊎ IsWritten (source_in first) register ⊎ IsWritten (source_in path) register

@@ -5,11 +5,11 @@ use Rattle.std.specs.Prelude.{ℤ}
 use Rattle.std.specs.List.{AllByRecursion}
 use Rattle.std.proofs.lemmas.Bool.{cases_eq}
 use Rattle.std.proofs.lemmas.List.{take_more, take_all}
-use Rattle.pc_word.proofs.Lists.{all_front, all_back}
+use Rattle.pc_word.proofs.Lists.{all_front, all_back, all_imply}
 use Rattle.pc_word.specs.declared.item.Operand.{Operand}
 use Rattle.pc_word.specs.declared.item.Operand.TheVariants.{Name, Lit}
 use Rattle.pc_copies.specs.declared.moves.Move.{Move}
-use Rattle.pc_copies.specs.Moves.{Leads_to}
+use Rattle.pc_copies.specs.Moves.{IsCopy, Leads_to}
 use Rattle.pc_copies.specs.models.Sources.{taken, moved, source_in, first_of, over, IsRead, Unread, IsWritten, Apart, back, Do}
 use Rattle.pc_copies.specs.models.Packing.{Puts, Fills, Fits, Adds, AddsRing, RowsFit, WritesOnce, Avoids, Unwinds, IsRing, IsClean, Unwound}
 use Rattle.pc_copies.proofs.Rows.{source_both, row_more, reads_both, put_done, put_does, put_reads, put_writes, put_fits, put_adds}
@@ -82,8 +82,10 @@ adds_ring ops scratch sources rows first later now adds = record {
 }
 
 pub put_ring : (scratch ops : ℕ) (ring : List Move) (rows : List (List Move)) (first : List Move) (later : List (List Move)) (now : List Move) → Puts ops ring rows first later now
-    → WritesOnce ring → AddsRing ops scratch (source_in ring) rows first later now
-put_ring scratch ops ring rows first later now puts once = adds_ring ops scratch (source_in ring) rows first later now (put_adds scratch ops ring rows first later now puts once)
+    → AllByRecursion (Avoids scratch) ring → WritesOnce ring → AddsRing ops scratch (source_in ring) rows first later now
+put_ring scratch ops ring rows first later now puts avoids once =
+    adds_ring ops scratch (source_in ring) rows first later now
+    (put_adds scratch ops ring rows first later now puts (all_imply (Avoids scratch) (IsCopy scratch) ring (λ move h. h.copy) avoids) once)
 
 -- ---- a cycle that is broken
 
@@ -110,7 +112,7 @@ module _ (scratch ops : ℕ) (init : List Move) (last head : Move) (rows : List 
     (late : List (List Move)) (second : List Move) (later : List (List Move)) (now : List Move) (out : Puts ops (from_scratch scratch last ∷ []) rows first mid row)
     (unwound : Unwound ops scratch init mid row late second) (into : Puts ops (to_scratch scratch head ∷ []) late second later now)
     (closes : last.from ≡ Name head.dest) (once : source_in init last.dest ≡ None) (clean : IsClean scratch init) (apart : last.dest ≢ scratch)
-    (tidy : IsClean scratch second) where
+    (tidy : IsClean scratch second) (last_copy : IsCopy scratch last) (head_copy : IsCopy scratch head) where
   abbrev ring : List Move
   ring = init ++ last ∷ []
 
@@ -252,10 +254,10 @@ module _ (scratch ops : ℕ) (init : List Move) (last head : Move) (rows : List 
     apart = λ register h. one_unwritten (to_scratch scratch head) register (λ e. let none = sym (ap (source_in second) e) ∙ tidy.unwritten in let writes = h.writes in absurd (cc));
   }
 
-  ring_fits : Apart (source_in first) (source_in ring) → RowsFit ops rows first → RowsFit ops later now
+  ring_fits : Apart (source_in first) (source_in ring) → RowsFit ops scratch rows first → RowsFit ops scratch later now
   ring_fits free fit =
-      let begun = put_fits ops leaves rows first mid row out (refl, tt) (leaves_apart free) fit in
-      put_fits ops enters late second later now into (refl, tt) enters_apart (unwound.adds.fits (init_apart free) begun)
+      let begun = put_fits ops scratch leaves rows first mid row out (record { dest = last_copy.dest; from = inr refl }, tt) (refl, tt) (leaves_apart free) fit in
+      put_fits ops scratch enters late second later now into (record { dest = inr refl; from = head_copy.dest }, tt) (refl, tt) enters_apart (unwound.adds.fits (init_apart free) begun)
 
   init_written : (register : ℕ) → IsWritten (source_in init) register → IsWritten (source_in ring) register
   init_written register h = record { from = h.from; writes = source_both init (last ∷ []) register ∙ ap (λ o. first_of o (source_in (last ∷ []) register)) h.writes }
@@ -289,6 +291,8 @@ split_last moves default some =
 -- what is known of a cycle and its last move
 pub record RingEnds (ring init : List Move) (last : Move) : Type 0 where
   pub head : Move
+  pub tail : List Move
+  pub begins : ring ≡ head ∷ tail
   pub first : (other : Move) → get_or ring 0 other ≡ head
   pub split : init ++ last ∷ [] ≡ ring
   pub closes : last.from ≡ Name head.dest
@@ -308,6 +312,8 @@ ring_ends ring default is =
     let apart = once_split init (last ∷ []) (rw split is.once) in
     record {
       head = is.head;
+      tail = is.tail;
+      begins = is.is;
       first = λ other. ap (λ (l : List Move). get_or l 0 other) is.is;
       split = split;
       closes = leads.1;
@@ -339,5 +345,6 @@ break_adds scratch ops ring default other rows first mid row late second later n
     let tidy = broken_clean scratch ops init last rows first mid row late second out unwound long_split room in
     let enters = subst (λ (m : Move). Puts ops (to_scratch scratch m ∷ []) late second later now) (ends.first other) into in
     let broken = ring_broken scratch ops init last ends.head rows first mid row late second later now out unwound enters ends.closes ends.once
-    (all_clean scratch init (all_front (Avoids scratch) init (last ∷ []) all)) (all_back (Avoids scratch) init (last ∷ []) all).0.writes tidy in
+    (all_clean scratch init (all_front (Avoids scratch) init (last ∷ []) all)) (all_back (Avoids scratch) init (last ∷ []) all).0.writes tidy (all_back (Avoids scratch) init (last ∷ []) all).0.copy
+    (subst (AllByRecursion (Avoids scratch)) ends.begins avoids).0.copy in
     subst (λ (l : List Move). AddsRing ops scratch (source_in l) rows first later now) ends.split broken

@@ -6,6 +6,7 @@ use Rattle.pc_word.proofs.Lists.{all_both}
 use Rattle.pc_word.specs.declared.item.Operand.{Operand}
 use Rattle.pc_word.specs.declared.item.Operand.TheVariants.{Name, Lit}
 use Rattle.pc_copies.specs.declared.moves.Move.{Move}
+use Rattle.pc_copies.specs.Moves.{IsCopy}
 use Rattle.pc_copies.specs.models.Sources.{taken, moved, source_in, first_of, over, IsRead, Unread, IsWritten, Apart, back, Do}
 use Rattle.pc_copies.specs.models.Packing.{Puts, Fills, Fits, WritesOnce, IsFull, RowsFit, Adds}
 use Rattle.pc_copies.proofs.Singles.{head_written, tail_is_written}
@@ -119,26 +120,32 @@ put_writes ops group rows first later now (Fills full is now_is) register h =
     let none = subst (λ (l : List Move). IsWritten (source_in l) register) now_is h in let e = none.writes in absurd (cc)
 put_writes ops group rows first later now (Fits room is now_is) register h = writes_both first group register (subst (λ (l : List Move). IsWritten (source_in l) register) now_is h)
 
-pub put_fits : (ops : ℕ) (group : List Move) (rows : List (List Move)) (first : List Move) (later : List (List Move)) (now : List Move) → Puts ops group rows first later now
-    → WritesOnce group → Apart (source_in first) (source_in group) → RowsFit ops rows first → RowsFit ops later now
-put_fits ops group rows first later now (Fills full is now_is) once apart fit =
-    let row : IsFull ops (first ++ group) = record { many = length-append first group ∙ full; once = once_join first group fit.once once apart } in
+pub put_fits : (ops scratch : ℕ) (group : List Move) (rows : List (List Move)) (first : List Move) (later : List (List Move)) (now : List Move) → Puts ops group rows first later now
+    → AllByRecursion (IsCopy scratch) group → WritesOnce group → Apart (source_in first) (source_in group) → RowsFit ops scratch rows first → RowsFit ops scratch later now
+put_fits ops scratch group rows first later now (Fills full is now_is) copies once apart fit =
+    let row : IsFull ops scratch (first ++ group) = record {
+      many = length-append first group ∙ full;
+      copies = all_both (IsCopy scratch) first group fit.copies copies;
+      once = once_join first group fit.once once apart;
+    } in
     record {
-      full = subst (AllByRecursion (IsFull ops)) (sym is) (all_both (IsFull ops) rows ((first ++ group) ∷ []) fit.full (row, tt));
+      full = subst (AllByRecursion (IsFull ops scratch)) (sym is) (all_both (IsFull ops scratch) rows ((first ++ group) ∷ []) fit.full (row, tt));
+      copies = subst (AllByRecursion (IsCopy scratch)) (sym now_is) tt;
       once = subst WritesOnce (sym now_is) tt;
     }
-put_fits ops group rows first later now (Fits room is now_is) once apart fit = record {
-  full = subst (AllByRecursion (IsFull ops)) (sym is) fit.full;
+put_fits ops scratch group rows first later now (Fits room is now_is) copies once apart fit = record {
+  full = subst (AllByRecursion (IsFull ops scratch)) (sym is) fit.full;
+  copies = subst (AllByRecursion (IsCopy scratch)) (sym now_is) (all_both (IsCopy scratch) first group fit.copies copies);
   once = subst WritesOnce (sym now_is) (once_join first group fit.once once apart);
 }
 
 -- what is put is added
 pub put_adds : (scratch ops : ℕ) (group : List Move) (rows : List (List Move)) (first : List Move) (later : List (List Move)) (now : List Move) → Puts ops group rows first later now
-    → WritesOnce group → Adds ops scratch (source_in group) rows first later now
-put_adds scratch ops group rows first later now puts once = record {
+    → AllByRecursion (IsCopy scratch) group → WritesOnce group → Adds ops scratch (source_in group) rows first later now
+put_adds scratch ops group rows first later now puts copies once = record {
   does = put_does scratch ops group rows first later now puts;
   reads = put_reads ops group rows first later now puts;
-  fits = put_fits ops group rows first later now puts once;
+  fits = put_fits ops scratch group rows first later now puts copies once;
   writes = put_writes ops group rows first later now puts;
 }
 

@@ -96,10 +96,10 @@ module _ (scratch ops : ℕ) (move : Move) (moves : List Move) (rows : List (Lis
     ];
   }
 
-  more_fits : Apart (source_in first) (source_in (move ∷ moves)) → RowsFit ops rows first → RowsFit ops later now
+  more_fits : Apart (source_in first) (source_in (move ∷ moves)) → RowsFit ops scratch rows first → RowsFit ops scratch later now
   more_fits apart fit =
       let rest : Apart (source_in first) (source_in moves) = record { apart = λ register h. (unwritten move moves register (apart.apart register h)).tail } in
-      put_fits ops (move ∷ []) mid row later now puts (refl, tt) (row_apart apart) (before.adds.fits rest fit)
+      put_fits ops scratch (move ∷ []) mid row later now puts (avoids.copy, tt) (refl, tt) (row_apart apart) (before.adds.fits rest fit)
 
   more_writes : (register : ℕ) → IsWritten (source_in now) register → IsWritten (source_in first) register ⊎ IsWritten (source_in (move ∷ moves)) register
   more_writes register h = elim (put_writes ops (move ∷ []) mid row later now puts register h) [

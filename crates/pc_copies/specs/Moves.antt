@@ -1,5 +1,5 @@
 -- Moves between registers that are done at once, and rows of copies that do them.
-use Rattle.std.specs.Prelude.{◌≡◌, ◌≢◌, ◌<◌, ◌≤◌, ◌+◌, ◌++◌, ℕ, Bool, false, if◌then◌else◌, nat_eq, List, [], ◌∷◌, length, map, drop, Some, slice_get}
+use Rattle.std.specs.Prelude.{◌≡◌, ◌≢◌, ◌⊎◌, ◌<◌, ◌≤◌, ◌+◌, ◌++◌, ℕ, Bool, false, if◌then◌else◌, nat_eq, List, [], ◌∷◌, length, map, drop, Some, slice_get}
 use Rattle.std.specs.List.{AllByRecursion, filter_map, IsDistinct}
 use Rattle.pc_word.specs.declared.item.Item.{Item}
 use Rattle.pc_word.specs.declared.item.Item.TheVariants.{Copy}
@@ -65,8 +65,23 @@ after_rows lengths (row ∷ rows) old = after_rows lengths rows (after_row lengt
 
 -- ---- the whole
 
+-- a register of the machine, or scratch
+abbrev pub IsRegister : ℕ → ℕ → Type 0
+IsRegister scratch register = (register < registers) ⊎ (register ≡ scratch)
+
+-- an operand that a copy may read
+abbrev pub IsReadable : ℕ → Operand → Type 0
+IsReadable scratch (Name register) = IsRegister scratch register
+IsReadable scratch (Lit value) = Unit {0}
+
+-- a copy that names such registers alone
+pub record IsCopy (scratch : ℕ) (copy : Move) : Type 0 where
+  pub dest : IsRegister scratch copy.dest
+  pub from : IsReadable scratch copy.from
+
 -- a row of at least one and at most so many copies, no two to one register
-pub record IsCopyRow (ops : ℕ) (row : List Move) : Type 0 where
+pub record IsCopyRow (ops scratch : ℕ) (row : List Move) : Type 0 where
+  pub copies : AllByRecursion (IsCopy scratch) row
   pub some : 1 ≤ length row
   pub few : length row ≤ ops
   pub once : IsDistinct nat_eq (filter_map dest_of (map copy_of row))
@@ -112,7 +127,7 @@ pub record AreCopies (moves : List Move) (copies : ℕ) : Type 0 where
 -- rows of copies that do moves at once: each but the first is full, and one row is enough where it has room for all moves
 pub record IsArranged (moves : List Move) (ops scratch : ℕ) (rows : List (List Move)) : Type 0 where
   pub done : (lengths : List ℕ) (old : State) → AreDone moves scratch old (after_rows lengths rows old)
-  pub rows_fit : AllByRecursion (IsCopyRow ops) rows
+  pub rows_fit : AllByRecursion (IsCopyRow ops scratch) rows
   pub full : AllByRecursion (IsFullRow ops) (drop 1 rows)
   pub copies : AreCopies (kept moves) (copies_in rows)
   pub one : length (kept moves) ≤ ops → length rows ≤ 1

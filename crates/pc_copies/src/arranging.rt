@@ -14,7 +14,15 @@ use crate::place::place;
 use pc_word::{Operand, REGISTERS, Seq};
 use std::alloc::{AllocError, Global};
 
-/// Rows of at most `ops` copies that do moves at once when they run one after the other.
+/// Rows of at most `ops` copies that do moves at once when they run one after the other; moves to
+/// themselves are dropped.
+///
+/// `scratch` is a register that no move names. A cycle of moves goes whole into one row where that has
+/// room for it, and else takes one copy more, through scratch. Rows are filled from the last one on; a
+/// register is written once no move that is left reads it, as where parallel copies are done one after
+/// the other when code leaves SSA form (Boissinot and others 2009).
+///
+/// `Memory` is the only error.
 #[tactic(auto, using(crate::proofs::Arranged::arranged_laws))]
 pub fn arrange(alloc: Global, moves: &[Move], ops: u8, scratch: u32) -> Result<CopyRows, CopyError>
     requires moves { AreMoves scratch moves.now }
@@ -54,7 +62,7 @@ fn one_row(alloc: Global, row: CopyRow) -> Result<CopyRows, AllocError>
     Ok(rows)
 }
 
-/// Whether an operand is a register.
+/// Whether an operand is this register.
 fn is_name(operand: Operand, register: u32) -> bool
     ensures { result ≡ is_name operand register }
 {

@@ -4,6 +4,7 @@
 mod arranging;
 mod error;
 mod follow;
+mod laws;
 mod moves;
 mod packing;
 mod place;
@@ -12,4 +13,5 @@ mod tests;
 
 pub use arranging::arrange;
 pub use error::CopyError;
+pub use laws::law_of_copies;
 pub use moves::{CopyRow, CopyRows, Move};

@@ -44,14 +44,14 @@ pub record Arranging (ops scratch : ℕ) (moves : List Move) (at : ℕ) (table :
   pub stage : (x : ℕ) → ((source_at table x ≡ source_in moves x) × (placed x ≡ None)) ⊎ ((source_at table x ≡ None) × (placed x ≡ source_in moves x))
   pub reads : (register : ℕ) → IsRead placed register → source_at table register ≡ None
   pub row_reads : (register : ℕ) → IsRead (source_in first) register → (register ≡ scratch) ⊎ (source_at table register ≡ None)
-  pub fit : RowsFit ops rows first
+  pub fit : RowsFit ops scratch rows first
   pub row_writes : (register : ℕ) → IsWritten (source_in first) register → (register ≡ scratch) ⊎ (source_at table register ≡ None)
   pub through : (i : ℕ) (move : Move) → i < at → slice_get moves i ≡ Some move → source_at table move.dest ≡ None
 
 -- rows that do moves at once
 pub record IsPacked (ops scratch : ℕ) (moves : List Move) (rows : List (List Move)) (first : List Move) : Type 0 where
   pub does : Do scratch rows first (source_in moves)
-  pub fit : RowsFit ops rows first
+  pub fit : RowsFit ops scratch rows first
   pub room : length first < ops
   pub copies : AreCopies moves (copies_with rows first)
 

@@ -4,7 +4,7 @@ use Rattle.std.specs.List.{AllByRecursion}
 use Rattle.pc_word.specs.declared.item.Operand.{Operand}
 use Rattle.pc_word.specs.declared.item.Operand.TheVariants.{Name}
 use Rattle.pc_copies.specs.declared.moves.Move.{Move}
-use Rattle.pc_copies.specs.Moves.{Leads_to, copies_in}
+use Rattle.pc_copies.specs.Moves.{IsCopy, Leads_to, copies_in}
 use Rattle.pc_copies.specs.models.Sources.{source_in, over, IsRead, Unread, IsWritten, Apart, Do}
 
 -- ---- what is put into rows
@@ -20,12 +20,14 @@ WritesOnce [] = Unit {0}
 WritesOnce (move ∷ moves) = (source_in moves move.dest ≡ None) × WritesOnce moves
 
 -- rows of so many copies each, and a first row with fewer: none writes a register twice
-pub record IsFull (ops : ℕ) (row : List Move) : Type 0 where
+pub record IsFull (ops scratch : ℕ) (row : List Move) : Type 0 where
   pub many : length row ≡ ops
+  pub copies : AllByRecursion (IsCopy scratch) row
   pub once : WritesOnce row
 
-pub record RowsFit (ops : ℕ) (rows : List (List Move)) (first : List Move) : Type 0 where
-  pub full : AllByRecursion (IsFull ops) rows
+pub record RowsFit (ops scratch : ℕ) (rows : List (List Move)) (first : List Move) : Type 0 where
+  pub full : AllByRecursion (IsFull ops scratch) rows
+  pub copies : AllByRecursion (IsCopy scratch) first
   pub once : WritesOnce first
 
 -- what rows do with these sources more
@@ -33,7 +35,7 @@ pub record Adds (ops scratch : ℕ) (sources : ℕ → Option Operand) (rows : L
   pub does : (placed : ℕ → Option Operand) → Do scratch rows first placed → Unread placed sources → Unread (source_in first) sources
       → Do scratch later now (over placed sources)
   pub reads : (register : ℕ) → IsRead (source_in now) register → IsRead (source_in first) register ⊎ IsRead sources register
-  pub fits : Apart (source_in first) sources → RowsFit ops rows first → RowsFit ops later now
+  pub fits : Apart (source_in first) sources → RowsFit ops scratch rows first → RowsFit ops scratch later now
   pub writes : (register : ℕ) → IsWritten (source_in now) register → IsWritten (source_in first) register ⊎ IsWritten sources register
 
 -- the same where scratch may be needed for it
@@ -41,13 +43,14 @@ pub record AddsRing (ops scratch : ℕ) (sources : ℕ → Option Operand) (rows
   pub does : (placed : ℕ → Option Operand) → (IsRead placed scratch → ⊥) → Do scratch rows first placed → Unread placed sources → Unread (source_in first) sources
       → Do scratch later now (over placed sources)
   pub reads : (register : ℕ) → IsRead (source_in now) register → (register ≡ scratch) ⊎ IsRead (source_in first) register ⊎ IsRead sources register
-  pub fits : Apart (source_in first) sources → RowsFit ops rows first → RowsFit ops later now
+  pub fits : Apart (source_in first) sources → RowsFit ops scratch rows first → RowsFit ops scratch later now
   pub writes : (register : ℕ) → IsWritten (source_in now) register → (register ≡ scratch) ⊎ IsWritten (source_in first) register ⊎ IsWritten sources register
 
 -- ---- moves that follow one another
 
--- a move leaves a register alone
+-- a copy leaves a register, as scratch, alone
 pub record Avoids (register : ℕ) (move : Move) : Type 0 where
+  pub copy : IsCopy register move
   pub writes : move.dest ≢ register
   pub reads : move.from ≢ Name register
 

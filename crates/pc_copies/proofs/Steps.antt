@@ -1,0 +1,45 @@
+-- A row of copies takes its step.
+use Rattle.std.proofs.Common.{◌≡◌, ℕ, List, [], ◌∷◌, map, None, refl, ◌∙◌, ap}
+use Rattle.std.specs.Prelude.{ℤ, if◌then◌else◌, not, ◌&&◌, nat_lt, Option, Some}
+use Rattle.std.specs.List.{list_any}
+use Rattle.pc_word.specs.declared.item.Item.{Item}
+use Rattle.pc_word.specs.declared.item.MachineFault.{MachineFault}
+use Rattle.pc_word.specs.declared.item.MachineFault.TheVariants.{StoreOutOfRange, StoredTwice, ReadPastEnd}
+use Rattle.pc_word.specs.State.{State}
+use Rattle.pc_word.specs.Items.{some_left}
+use Rattle.pc_word.specs.Commit.{Stored, is_outside, some_meet, reads_of, prints_of, fault_of}
+use Rattle.pc_word.specs.Row.{path_of, leaf_of, commit_of, Commits}
+use Rattle.pc_copies.specs.declared.moves.Move.{Move}
+use Rattle.pc_copies.specs.Moves.{copy_of, after_row}
+use Rattle.pc_copies.specs.Laws.{row_of, CopiesCommit}
+use Rattle.pc_copies.proofs.Arranged.{row_stores, row_takes}
+
+path_is : (names : ℕ → ℤ) (row : List Move) (leaf : ℕ) → path_of names (row_of row leaf) ≡ map copy_of row
+path_is names [] leaf = refl
+path_is names (move ∷ row) leaf = ap (λ (l : List Item). copy_of move ∷ l) (path_is names row leaf)
+
+leaf_is : (names : ℕ → ℤ) (row : List Move) (leaf : ℕ) → leaf_of names (row_of row leaf) ≡ leaf
+leaf_is names [] leaf = refl
+leaf_is names (move ∷ row) leaf = leaf_is names row leaf
+
+prints_none : (s : State) (row : List Move) → prints_of s (map copy_of row) ≡ []
+prints_none s [] = refl
+prints_none s (move ∷ row) = prints_none s row
+
+-- the fault of a path, by its stores and its reads
+by_stores : List Stored → ℕ → State → Option MachineFault
+by_stores stores reads s =
+    if list_any is_outside stores then Some StoreOutOfRange else if some_meet stores then Some StoredTwice
+    else if nat_lt 0 reads && not (some_left s.input) then Some ReadPastEnd else None
+
+no_fault : (lengths : List ℕ) (s : State) (row : List Move) → fault_of lengths s (map copy_of row) ≡ None
+unfolding by_stores
+no_fault lengths s row =
+    ap (λ (stores : List Stored). by_stores stores (reads_of (map copy_of row)) s) (row_stores lengths row s) ∙ ap (λ (reads : ℕ). by_stores [] reads s) (row_takes row)
+
+pub copies_commit : CopiesCommit
+copies_commit lengths row leaf s =
+    ap (λ (l : List Item). commit_of lengths s l (leaf_of s.names (row_of row leaf)) (fault_of lengths s l)) (path_is s.names row leaf)
+    ∙ ap (λ (n : ℕ). commit_of lengths s (map copy_of row) n (fault_of lengths s (map copy_of row))) (leaf_is s.names row leaf)
+    ∙ ap (λ (f : Option MachineFault). commit_of lengths s (map copy_of row) leaf f) (no_fault lengths s row)
+    ∙ ap (λ (l : List ℤ). Commits l (after_row lengths row s) leaf) (prints_none s row)
