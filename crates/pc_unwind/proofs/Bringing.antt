@@ -16,7 +16,7 @@ use Rattle.pc_unwind.specs.Unwindable.{TagsAtMost, StubsAreThere}
 use Rattle.pc_window.specs.Unwinding.{lesser_tag, least_tag}
 use Rattle.pc_window.proofs.Live.{or_first, or_second}
 use Rattle.pc_window.proofs.Grafts.{nat_eq-same}
-use Rattle.pc_unwind.specs.models.Ranks.{rank, tree_steps, stub_turns}
+use Rattle.pc_unwind.specs.models.Ranks.{rank, tree_steps, stub_steps}
 use Rattle.pc_unwind.specs.models.Walking.{brought_size, AtMostLeast, RootStaysAtMost}
 
 -- names and form variables grow by at most so many
@@ -165,15 +165,15 @@ module _ (table : Table) (loop : Option ℕ) (tag : ℕ) where
   brought_steps below follows (brings_stop names) none = omega arith
   brought_steps below follows (brings_trap kind line names) none = omega arith
 
-  -- a stub has fewer turns to go
-  pub brought_turns : {from : TableTree} {old new : Supply} {tree : Tree} (below : ℕ)
-      → ((next : ℕ) → untested from ≡ Some next → rank table next < below) → Brings table loop tag from old tree new → stub_turns table tree ≤ below
-  brought_turns below follows (brings_none origin dest at b) = brought_turns below follows b
-  brought_turns below follows (brings_item origin item given is grows b) = omega arith
-  brought_turns below follows (brings_test origin on at b d) = omega arith
-  brought_turns below follows (brings_stub region homes names) = let less = follows region refl in omega arith
-  brought_turns below follows (brings_stop names) = omega arith
-  brought_turns below follows (brings_trap kind line names) = omega arith
+  -- a stub has fewer steps to go
+  pub brought_stub_steps : {from : TableTree} {old new : Supply} {tree : Tree} (below : ℕ)
+      → ((next : ℕ) → untested from ≡ Some next → rank table next < below) → Brings table loop tag from old tree new → stub_steps table tree ≤ below
+  brought_stub_steps below follows (brings_none origin dest at b) = brought_stub_steps below follows b
+  brought_stub_steps below follows (brings_item origin item given is grows b) = omega arith
+  brought_stub_steps below follows (brings_test origin on at b d) = omega arith
+  brought_stub_steps below follows (brings_stub region homes names) = let less = follows region refl in omega arith
+  brought_stub_steps below follows (brings_stop names) = omega arith
+  brought_stub_steps below follows (brings_trap kind line names) = omega arith
 
 -- ---- stubs
 

@@ -2,9 +2,9 @@ pub mod SingleNodes
 pub mod TableRegions
 pub mod Ranking
 pub mod Bringing
-pub mod Turning
+pub mod Parts
 pub mod Walks
-pub mod Replacements
+pub mod StubReplacements
 pub mod WalkSteps
 pub mod Replaced
 pub mod Reaching

@@ -1,12 +1,12 @@
--- From the turns of one tag to unwinding.
+-- From the replacements of one tag to unwinding.
 use Rattle.std.proofs.Common.{◌≡◌, ℕ, suc, ◌+◌, ◌<◌, ◌≤◌, Option, Some, None, refl, ◌∙◌, ap, subst, arith}
 use Rattle.std.specs.Prelude.{Bool, true, false, if◌then◌else◌, nat_eq, nat_lt, ◌&&◌}
 use Rattle.pc_table.specs.Table.{Table}
 use Rattle.pc_window.specs.Tree.{Tree, Pending, Undecided, Exit, Stop_exit, Trap_exit, tree_size}
 use Rattle.pc_window.specs.Opening.{Supply, Grafted, unwound_at, is_inside}
 use Rattle.pc_window.specs.Unwinding.{least_inside, least_tag, or_zero, front_tag, most_unwound, within_size, unwound_below, unwound_once, Unwinds, unwinds_no_more, unwinds_once}
-use Rattle.pc_unwind.specs.models.Walking.{AtMostLeast, Turns, turns_no_more, turns_once, IsFull, replacement}
-use Rattle.pc_unwind.proofs.Turning.{item_none, test_none}
+use Rattle.pc_unwind.specs.models.Walking.{AtMostLeast, Replacements, replaces_no_more, replaces_once, IsFull, replacement}
+use Rattle.pc_unwind.proofs.Parts.{item_none, test_none}
 use Rattle.pc_unwind.proofs.Replaced.{replaced_at, HasAtMost, least_first, least_second, inside_has, stub_there, least_kept, inside_kept}
 use Rattle.pc_unwind.proofs.Bringing.{least_of_two}
 
@@ -81,26 +81,26 @@ module _ (table : Table) (loop : Option ℕ) (number : ℕ) where
         ∙ ap (λ (b : Bool). if b then None else Some h) fits
 
     -- where all have tags from a number on
-    turns_from : (tag from : ℕ) → from ≤ tag → tag < from + number → {g h : Grafted} → Turns table loop tag 0 g h → AtMostLeast tag (least_inside table loop g.tree)
+    replaces_from : (tag from : ℕ) → from ≤ tag → tag < from + number → {g h : Grafted} → Replacements table loop tag 0 g h → AtMostLeast tag (least_inside table loop g.tree)
         → AtMostLeast from (least_tag g.tree) → (k : Grafted) → Unwinds table loop number h k → Unwinds table loop number g k
-    turns_from tag from le near (turns_no_more g) least all k u = u
-    turns_from tag from le near (turns_once g h l is small p) least all k u =
+    replaces_from tag from le near (replaces_no_more g) least all k u = u
+    replaces_from tag from le near (replaces_once g h l is small p) least all k u =
         let r = replaced_at table loop tag g.names g.tree h is in
         let has = stub_there table loop tag r in
         let itself = has_itself tag (least_tag g.tree) (inside_has table loop tag g.tree has) in
         let front = front_is from (least_tag g.tree) all itself.0 in
         let step = makes_once tag g h (is_least tag (least_inside table loop g.tree) least has) (omega arith) is (omega arith) in
         unwinds_once g h k step
-        (turns_from tag from le near p (inside_kept table loop tag tag (omega arith) r least) (least_kept table loop tag from le r all) k u)
+        (replaces_from tag from le near p (inside_kept table loop tag tag (omega arith) r least) (least_kept table loop tag from le r all) k u)
 
-    -- turns of the least tag inside the loop, below the bound
-    pub turns_unwind : (tag : ℕ) {g h : Grafted} → tag < front_tag g.tree + number → Turns table loop tag 0 g h → AtMostLeast tag (least_inside table loop g.tree)
+    -- replacements of the least tag inside the loop, below the bound
+    pub replaces_unwind : (tag : ℕ) {g h : Grafted} → tag < front_tag g.tree + number → Replacements table loop tag 0 g h → AtMostLeast tag (least_inside table loop g.tree)
         → (k : Grafted) → Unwinds table loop number h k → Unwinds table loop number g k
-    turns_unwind tag near (turns_no_more g) least k u = u
-    turns_unwind tag near (turns_once g h l is small p) least k u =
+    replaces_unwind tag near (replaces_no_more g) least k u = u
+    replaces_unwind tag near (replaces_once g h l is small p) least k u =
         let has = stub_there table loop tag (replaced_at table loop tag g.names g.tree h is) in
         let itself = has_itself tag (least_tag g.tree) (inside_has table loop tag g.tree has) in
-        turns_from tag (front_tag g.tree) itself.1 near (turns_once g h l is small p) least (front_least g.tree) k u
+        replaces_from tag (front_tag g.tree) itself.1 near (replaces_once g h l is small p) least (front_least g.tree) k u
 
   -- ---- ends
 
@@ -137,16 +137,16 @@ module _ (table : Table) (loop : Option ℕ) (number : ℕ) where
       by_bound true h = h
       by_bound false h = refl
 
-  -- fewer than two turns of the loop
+  -- a window number below 2
   pub done_few : (g : Grafted) → number < 2 → unwound_once table loop number g ≡ None
   done_few g few = let one : nat_lt number 2 ≡ true = grind arith in
       ap (λ (b : Bool). if b then None else unwound_below table loop (front_tag g.tree + number) (least_inside table loop g.tree) g) one
 
   -- so nothing is unwound
-  pub few_turns : (g : Grafted) → number < 2 → Unwinds table loop number g g
-  few_turns g less = unwinds_no_more g (done_few g less)
+  pub unwinds_few : (g : Grafted) → number < 2 → Unwinds table loop number g g
+  unwinds_few g less = unwinds_no_more g (done_few g less)
 
-pub ruleset few = (few_turns)
+pub ruleset few = (unwinds_few)
 
 module _ (table : Table) (loop : Option ℕ) where
   -- where none of a tag is left, tags are higher

@@ -11,10 +11,10 @@ use Rattle.pc_window.specs.Unwinding.{lesser_tag, least_inside, least_tag, or_ze
 use Rattle.pc_window.specs.StoredWindow.{tree_in, supply_in}
 use Rattle.pc_unwind.specs.declared.growth.Growth.{Growth}
 use Rattle.pc_unwind.specs.Unwindable.{TagsAtMost}
-use Rattle.pc_unwind.specs.models.Walking.{with_growth, Replaces, MayReplace, Turns, turns_no_more, turns_once, Walks, AtMostLeast, RootAtMost, RootStaysAtMost}
+use Rattle.pc_unwind.specs.models.Walking.{with_growth, Replaces, MayReplace, Replacements, replaces_no_more, replaces_once, Walks, AtMostLeast, RootAtMost, RootStaysAtMost}
 use Rattle.pc_unwind.proofs.Ranking.{rank_most}
 use Rattle.pc_unwind.proofs.Replaced.{replaced_at, inside_kept, root_kept}
-use Rattle.pc_unwind.proofs.Reaching.{turns_unwind, done_high, done_full, none_rises}
+use Rattle.pc_unwind.proofs.Reaching.{replaces_unwind, done_high, done_full, none_rises}
 use Rattle.pc_unwind.proofs.Walks.{unwound_stub, too_large}
 
 -- ---- the least tag
@@ -46,16 +46,16 @@ root_stays table most more (Exit region t homes) le h = omega arith
 root_stays table most more Stop_exit le h = tt
 root_stays table most more (Trap_exit kind line) le h = tt
 
--- ---- the turns of a tag
+-- ---- the stubs of a tag
 
 module _ (table : Table) (loop : Option ℕ) (tag : ℕ) where
-  turns_root : (most : ℕ) {g h : Grafted} → Turns table loop tag 0 g h → RootAtMost most g.tree → RootAtMost most h.tree
-  turns_root most (turns_no_more g) root = root
-  turns_root most (turns_once g h k is le p) root = turns_root most p (root_kept table loop tag most (replaced_at table loop tag g.names g.tree h is) root)
+  replaces_root : (most : ℕ) {g h : Grafted} → Replacements table loop tag 0 g h → RootAtMost most g.tree → RootAtMost most h.tree
+  replaces_root most (replaces_no_more g) root = root
+  replaces_root most (replaces_once g h k is le p) root = replaces_root most p (root_kept table loop tag most (replaced_at table loop tag g.names g.tree h is) root)
 
-  turns_least : {g h : Grafted} → Turns table loop tag 0 g h → AtMostLeast tag (least_inside table loop g.tree) → AtMostLeast tag (least_inside table loop h.tree)
-  turns_least (turns_no_more g) least = least
-  turns_least (turns_once g h k is le p) least = turns_least p (inside_kept table loop tag tag (omega arith) (replaced_at table loop tag g.names g.tree h is) least)
+  replaces_least : {g h : Grafted} → Replacements table loop tag 0 g h → AtMostLeast tag (least_inside table loop g.tree) → AtMostLeast tag (least_inside table loop h.tree)
+  replaces_least (replaces_no_more g) least = least
+  replaces_least (replaces_once g h k is le p) least = replaces_least p (inside_kept table loop tag tag (omega arith) (replaced_at table loop tag g.names g.tree h is) least)
 
   module _ (before after : Tree) (old new : Growth) (size : old.size ≡ tree_size before) where
     whole_size : old.size ≡ 0 + tree_size before
@@ -65,24 +65,24 @@ module _ (table : Table) (loop : Option ℕ) (tag : ℕ) where
     walked_size full walks = let w = walks 0 whole_size in let e = w.size in omega arith
 
     pub walked_root : (most : ℕ) (full : Bool) → Walks table loop tag before old after new full → RootAtMost most before → RootAtMost most after
-    walked_root most full walks root = turns_root most (walks 0 whole_size).turns root
+    walked_root most full walks root = replaces_root most (walks 0 whole_size).replacements root
 
     -- tags are higher, where it came to an end
     pub walked_least : Walks table loop tag before old after new false → AtMostLeast tag (least_inside table loop before) → AtMostLeast (suc tag) (least_inside table loop after)
-    walked_least walks least = let w = walks 0 whole_size in none_rises table loop tag (supply_in new.names) after w.ends (turns_least w.turns least)
+    walked_least walks least = let w = walks 0 whole_size in none_rises table loop tag (supply_in new.names) after w.ends (replaces_least w.replacements least)
 
     module _ (number : ℕ) (several : 2 ≤ number) (near : tag < front_tag before + number) (least : AtMostLeast tag (least_inside table loop before)) where
       -- unwinding stops, where the next one would be too large
       pub walked_full : Walks table loop tag before old after new true → Unwinds table loop number (with_growth before old) (with_growth after new)
       walked_full walks =
           let w = walks 0 whole_size in
-          turns_unwind table loop number several tag near w.turns least (with_growth after new)
-          (unwinds_no_more (with_growth after new) (done_full table loop number tag (with_growth after new) w.ends (turns_least w.turns least)))
+          replaces_unwind table loop number several tag near w.replacements least (with_growth after new)
+          (unwinds_no_more (with_growth after new) (done_full table loop number tag (with_growth after new) w.ends (replaces_least w.replacements least)))
 
       -- and else goes on
       pub walked_on : (full : Bool) → Walks table loop tag before old after new full → (k : Grafted) → Unwinds table loop number (with_growth after new) k
           → Unwinds table loop number (with_growth before old) k
-      walked_on full walks k u = turns_unwind table loop number several tag near (walks 0 whole_size).turns least k u
+      walked_on full walks k u = replaces_unwind table loop number several tag near (walks 0 whole_size).replacements least k u
 
 -- ---- a window that is a stub
 
@@ -117,9 +117,9 @@ module _ (table : Table) (loop : Option ℕ) (number : ℕ) where
       let grown = replaces.size in
       let small = replaces.within in
       let least = stub_least region tag homes in
-      turns_unwind table loop number several tag (omega arith)
-      (turns_once (with_growth (Exit region tag homes) old) (with_growth (tree_in tree) mid) (with_growth (tree_in tree) mid)
-      (unwound_stub table loop tag region homes (supply_in old.names) within ∙ ap (λ (g : Grafted). Some g) (sym replaces.grafts)) (omega arith) (turns_no_more (with_growth (tree_in tree) mid)))
+      replaces_unwind table loop number several tag (omega arith)
+      (replaces_once (with_growth (Exit region tag homes) old) (with_growth (tree_in tree) mid) (with_growth (tree_in tree) mid)
+      (unwound_stub table loop tag region homes (supply_in old.names) within ∙ ap (λ (g : Grafted). Some g) (sym replaces.grafts)) (omega arith) (replaces_no_more (with_growth (tree_in tree) mid)))
       least k u
 
   -- a window that ends at once

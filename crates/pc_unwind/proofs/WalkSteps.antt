@@ -13,11 +13,11 @@ use Rattle.pc_window.specs.Opening.{Grafted}
 use Rattle.pc_window.specs.StoredWindow.{tree_in, supply_in, InNodes}
 use Rattle.pc_unwind.specs.declared.growth.Growth.{Growth}
 use Rattle.pc_unwind.specs.Unwindable.{StubIsThere, StubsAreThere}
-use Rattle.pc_unwind.specs.models.Ranks.{rank, stub_turns, tree_steps, node_steps, walk_steps}
+use Rattle.pc_unwind.specs.models.Ranks.{rank, stub_steps, tree_steps, node_steps, walk_steps}
 use Rattle.pc_unwind.specs.models.Walking.{HasRoom, Replaces, RootStaysAtMost, Walks}
 use Rattle.pc_unwind.proofs.TableRegions.{as_many}
 use Rattle.pc_unwind.proofs.Ranking.{rank_falls, rank_most}
-use Rattle.pc_unwind.proofs.Bringing.{Brings, graft_brings, brought_names, tree_there, brought_there, brought_root, brought_steps, brought_turns}
+use Rattle.pc_unwind.proofs.Bringing.{Brings, graft_brings, brought_names, tree_there, brought_there, brought_root, brought_steps, brought_stub_steps}
 
 one_node : (tree : WindowTree) → node_steps tree ≤ 1
 one_node (stored.Step' tag origin item p rest) = omega arith
@@ -115,8 +115,8 @@ module _ (table : RegionTable) (keeps : TableKeeps (table_of table)) (few : leng
             let g = one_node placed in
             omega arith
 
-    pub replaced_turns : stub_turns (table_of table) (tree_in tree) ≤ rank (table_of table) region
-    replaced_turns = brought_turns (table_of table) loop tag (rank (table_of table) region) followed replaced_brings
+    pub replaced_steps : stub_steps (table_of table) (tree_in tree) ≤ rank (table_of table) region
+    replaced_steps = brought_stub_steps (table_of table) loop tag (rank (table_of table) region) followed replaced_brings
 
     pub replaced_root : (most : ℕ) → tag + rank (table_of table) region ≤ most → RootStaysAtMost (table_of table) most (tree_in tree)
     replaced_root most le = brought_root (table_of table) loop tag most (rank (table_of table) region) le followed replaced_brings

@@ -11,13 +11,13 @@ use Rattle.pc_window.specs.Opening.{Supply, Grafted, unwound_at, is_inside}
 use Rattle.pc_window.specs.StoredWindow.{tree_in, supply_in}
 use Rattle.pc_window.proofs.Grafts.{nat_eq-same}
 use Rattle.pc_unwind.specs.declared.growth.Growth.{Growth}
-use Rattle.pc_unwind.specs.models.Walking.{with_growth, replacement, Replaces, MayReplace, turns_no_more, turns_once, WalksFrom, Walks}
-use Rattle.pc_unwind.proofs.Turning.{none_left, turns_again, turns_below, ends_below, turns_yes, full_yes, turns_no, ends_no}
+use Rattle.pc_unwind.specs.models.Walking.{with_growth, replacement, Replaces, MayReplace, replaces_no_more, replaces_once, WalksFrom, Walks}
+use Rattle.pc_unwind.proofs.Parts.{none_left, replaces_again, replaces_below, ends_below, replaces_yes, full_yes, replaces_no, ends_no}
 
 module _ (table : Table) (loop : Option ℕ) (tag : ℕ) where
   -- nothing to unwind
   pub walks_none : (tree : Tree) (growth : Growth) → unwound_at table loop tag (supply_in growth.names) tree ≡ None → Walks table loop tag tree growth tree growth false
-  walks_none tree growth none elsewhere size = record { turns = turns_no_more (with_growth tree growth); ends = none; size = size }
+  walks_none tree growth none elsewhere size = record { replacements = replaces_no_more (with_growth tree growth); ends = none; size = size }
 
   module _ (t o : ℕ) where
     -- below an item
@@ -28,7 +28,7 @@ module _ (table : Table) (loop : Option ℕ) (tag : ℕ) where
         let w = walks (suc elsewhere) (omega arith) in
         let later = w.size in
         subst (λ (tree : Tree). WalksFrom table loop tag elsewhere full tree old (Pending t o item after) new) is (record {
-          turns = turns_below table loop tag elsewhere t o item w.turns;
+          replacements = replaces_below table loop tag elsewhere t o item w.replacements;
           ends = ends_below table loop tag elsewhere t o item full (with_growth after new) w.ends;
           size = omega arith;
         })
@@ -41,7 +41,7 @@ module _ (table : Table) (loop : Option ℕ) (tag : ℕ) where
         let w = walks (suc (elsewhere + tree_size two)) (omega arith) in
         let later = w.size in
         subst (λ (tree : Tree). WalksFrom table loop tag elsewhere true tree old (Undecided t o on one' two) new) is (record {
-          turns = turns_yes table loop tag elsewhere t o on two w.turns;
+          replacements = replaces_yes table loop tag elsewhere t o on two w.replacements;
           ends = full_yes table loop tag elsewhere t o on two (with_growth one' new) w.ends;
           size = omega arith;
         })
@@ -57,7 +57,7 @@ module _ (table : Table) (loop : Option ℕ) (tag : ℕ) where
         let v = second (suc (elsewhere + tree_size one')) (omega arith) in
         let last = v.size in
         subst (λ (tree : Tree). WalksFrom table loop tag elsewhere full tree old (Undecided t o on one' two') new) is (record {
-          turns = turns_again table loop tag (turns_yes table loop tag elsewhere t o on two w.turns) (turns_no table loop tag elsewhere t o on one' none v.turns);
+          replacements = replaces_again table loop tag (replaces_yes table loop tag elsewhere t o on two w.replacements) (replaces_no table loop tag elsewhere t o on one' none v.replacements);
           ends = ends_no table loop tag elsewhere t o on one' none full (with_growth two' new) v.ends;
           size = omega arith;
         })
@@ -89,7 +89,7 @@ module _ (table : Table) (loop : Option ℕ) (tag : ℕ) where
       → Walks table loop tag (Exit region tag homes) old (Exit region tag homes) new true
   too_large region homes old new within (same, above) elsewhere size =
       subst (λ (growth : Growth). WalksFrom table loop tag elsewhere true (Exit region tag homes) old (Exit region tag homes) growth) (sym same) (record {
-        turns = turns_no_more (with_growth (Exit region tag homes) old);
+        replacements = replaces_no_more (with_growth (Exit region tag homes) old);
         ends = record { too_large = replacement table loop tag region homes (supply_in old.names); next = unwound_stub region homes (supply_in old.names) within; above = omega arith };
         size = size;
       })
@@ -107,8 +107,8 @@ module _ (table : Table) (loop : Option ℕ) (tag : ℕ) where
       let becomes : replacement table loop tag region homes (supply_in old.names) ≡ with_growth placed mid =
       sym replaces.grafts ∙ ap (λ (t : Tree). with_growth t mid) (sym same) in
       subst (λ (tree : Tree). WalksFrom table loop tag elsewhere full tree old after new) is (record {
-        turns = turns_once (with_growth (Exit region tag homes) old) (with_growth placed mid) (with_growth after new)
-            (unwound_stub region homes (supply_in old.names) within ∙ ap (λ (g : Grafted). Some g) becomes) (omega arith) w.turns;
+        replacements = replaces_once (with_growth (Exit region tag homes) old) (with_growth placed mid) (with_growth after new)
+            (unwound_stub region homes (supply_in old.names) within ∙ ap (λ (g : Grafted). Some g) becomes) (omega arith) w.replacements;
         ends = w.ends;
         size = w.size;
       })

@@ -1,4 +1,4 @@
-//! Unwinding.
+//! Unwinding: stub by stub, the least tag first.
 ghost use Rattle.std.specs.Prelude.{◌≡◌, ◌≤◌, ◌<◌, ◌+◌, ◌^◌, length, true, OnOk, IfOk};
 ghost use Rattle.pc_word.specs.SourceLimits.{most_nodes};
 ghost use Rattle.pc_table.specs.Table.{table_of};
@@ -26,7 +26,8 @@ use std::alloc::{AllocError, Global};
 /// A stub inside the window's loop may be replaced by its region's tree where its tag is less than
 /// `number` above the least tag of the window. Those of the least tag come first, and of these the
 /// first in preorder, until there is none, or the next one would bring the window above 2,048 items
-/// and tests. Each item and each test is then a node of its own.
+/// and tests. Each item and each test is then a node of its own, also where there is nothing to
+/// unwind: where the window has no loop, or `number` is below 2.
 pub fn unwind(
     alloc: Global,
     window: Window,

@@ -21,13 +21,13 @@ untested_run table (suc most) region = one_more (untested (region_tree table reg
 unfoldable pub rank : Table → ℕ → ℕ
 rank table region = untested_run table (length table.regions) region
 
--- turns that a window that is a stub may take before it has an item or test
-abbrev pub stub_turns : Table → Tree → ℕ
-stub_turns table (Pending tag origin item rest) = 0
-stub_turns table (Undecided tag origin on on_yes on_no) = 0
-stub_turns table (Exit region tag homes) = suc (rank table region)
-stub_turns table Stop_exit = 0
-stub_turns table (Trap_exit kind line) = 0
+-- how often a window that is a stub may be unwound before it has an item or test
+abbrev pub stub_steps : Table → Tree → ℕ
+stub_steps table (Pending tag origin item rest) = 0
+stub_steps table (Undecided tag origin on on_yes on_no) = 0
+stub_steps table (Exit region tag homes) = suc (rank table region)
+stub_steps table Stop_exit = 0
+stub_steps table (Trap_exit kind line) = 0
 
 -- what is left of a walk of a tree, as long as no item and no test comes in
 abbrev pub tree_steps : Table → Tree → ℕ

@@ -58,10 +58,10 @@ MayReplace table loop tag region homes old new None = (new ≡ old) × (most_unw
 
 -- stubs inside the loop that have this tag are replaced, each time the first in preorder, so that the items and tests, with those elsewhere,
 -- are never more than the most
-pub data Turns (table : Table) (loop : Option ℕ) (tag elsewhere : ℕ) : Grafted → Grafted → Type 0 where
-  turns_no_more : (g : Grafted) → Turns table loop tag elsewhere g g
-  turns_once : (g h k : Grafted) → unwound_at table loop tag g.names g.tree ≡ Some h → elsewhere + tree_size h.tree ≤ most_unwound
-      → Turns table loop tag elsewhere h k → Turns table loop tag elsewhere g k
+pub data Replacements (table : Table) (loop : Option ℕ) (tag elsewhere : ℕ) : Grafted → Grafted → Type 0 where
+  replaces_no_more : (g : Grafted) → Replacements table loop tag elsewhere g g
+  replaces_once : (g h k : Grafted) → unwound_at table loop tag g.names g.tree ≡ Some h → elsewhere + tree_size h.tree ≤ most_unwound
+      → Replacements table loop tag elsewhere h k → Replacements table loop tag elsewhere g k
 
 -- the next replacement would be too large
 pub record IsFull (table : Table) (loop : Option ℕ) (tag elsewhere : ℕ) (g : Grafted) : Type 0 where
@@ -70,14 +70,14 @@ pub record IsFull (table : Table) (loop : Option ℕ) (tag elsewhere : ℕ) (g :
   pub above : most_unwound < elsewhere + tree_size too_large.tree
 
 -- no such stub is left, or the next replacement would be too large
-abbrev pub EndsTurns : Table → Option ℕ → ℕ → ℕ → (full : Bool) → Grafted → Type 0
-EndsTurns table loop tag elsewhere true g = IsFull table loop tag elsewhere g
-EndsTurns table loop tag elsewhere false g = unwound_at table loop tag g.names g.tree ≡ None
+abbrev pub EndsReplacements : Table → Option ℕ → ℕ → ℕ → (full : Bool) → Grafted → Type 0
+EndsReplacements table loop tag elsewhere true g = IsFull table loop tag elsewhere g
+EndsReplacements table loop tag elsewhere false g = unwound_at table loop tag g.names g.tree ≡ None
 
 -- a whole walk, with so many items and tests elsewhere
 pub record WalksFrom (table : Table) (loop : Option ℕ) (tag elsewhere : ℕ) (full : Bool) (before : Tree) (old : Growth) (after : Tree) (new : Growth) : Type 0 where
-  pub turns : Turns table loop tag elsewhere (with_growth before old) (with_growth after new)
-  pub ends : EndsTurns table loop tag elsewhere full (with_growth after new)
+  pub replacements : Replacements table loop tag elsewhere (with_growth before old) (with_growth after new)
+  pub ends : EndsReplacements table loop tag elsewhere full (with_growth after new)
   pub size : new.size ≡ elsewhere + tree_size after
 
 -- a walk of a part of a window: of the items and tests that there are, those of the part stand here, and the others elsewhere
@@ -87,7 +87,7 @@ Walks table loop tag before old after new full =
 
 -- ---- tags that may come
 
--- a tag that all tags of a window stay below
+-- the highest tag that the first item or test of a window may come to have
 abbrev pub most_tag : ℕ
 most_tag = 2 ^ 30 + most_nodes
 

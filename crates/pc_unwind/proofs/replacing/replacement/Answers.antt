@@ -1,6 +1,6 @@
 use Rattle.std.proofs.Common.{refl}
 use Rattle.pc_window.specs.StoredWindow.{supply_in}
-use Rattle.pc_unwind.proofs.Replacements.{refused, replaced}
+use Rattle.pc_unwind.proofs.StubReplacements.{refused, replaced}
 use Rattle.pc_unwind.proofs.replacing.replacement.Goals as goal
 
 pub returns-then-growth-more-gt-MOST_UNWOUND : goal.returns-then-growth-more-gt-MOST_UNWOUND

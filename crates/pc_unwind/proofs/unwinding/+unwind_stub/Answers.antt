@@ -7,11 +7,11 @@ use Rattle.pc_window.specs.Opening.{Grafted}
 use Rattle.pc_window.specs.Unwinding.{least_inside, least_tag, Unwinds}
 use Rattle.pc_window.specs.StoredWindow.{tree_in}
 use Rattle.pc_unwind.specs.Unwindable.{StubIsThere, StubsAreThere}
-use Rattle.pc_unwind.specs.models.Ranks.{stub_turns}
+use Rattle.pc_unwind.specs.models.Ranks.{stub_steps}
 use Rattle.pc_unwind.specs.models.Walking.{most_tag, with_growth, AtMostLeast, Replaces, MayReplace, RootStaysAtMost}
 use Rattle.pc_unwind.proofs.Replaced.{inside_least}
 use Rattle.pc_unwind.proofs.Reaching.{front_least}
-use Rattle.pc_unwind.proofs.WalkSteps.{replaced_there, replaced_room, replaced_turns, replaced_root}
+use Rattle.pc_unwind.proofs.WalkSteps.{replaced_there, replaced_room, replaced_steps, replaced_root}
 use Rattle.pc_unwind.proofs.TagWalks.{unwinds_out, unwinds_large, unwinds_stub, unwinds_none}
 use Rattle.pc_unwind.proofs.unwinding.+unwind_stub.Goals as goal
 
@@ -32,14 +32,14 @@ unwind_stub-requires t c =
     let replaces : Replaces table c.args.inside c.in-Exit.tag c.in-Exit.region homes c.args.growth.now c.replacement.new.growth c.in-Some.new =
     subst (MayReplace table c.args.inside c.in-Exit.tag c.in-Exit.region homes c.args.growth.now c.replacement.new.growth) c.in-Some.is c.in_ok-new-in-Exit.ensures in
     let root : RootStaysAtMost table most_tag (Exit c.in-Exit.region c.in-Exit.tag homes) = subst (RootStaysAtMost table most_tag) (sym whole) c.requires.root in
-    let turns = ap (stub_turns table) whole in
-    let fewer = replaced_turns c.args.table.now c.requires.kept c.requires.few c.args.inside c.in-Exit.tag c.in-Exit.region homes stub c.args.growth.now c.replacement.new.growth
+    let steps = ap (stub_steps table) whole in
+    let fewer = replaced_steps c.args.table.now c.requires.kept c.requires.few c.args.inside c.in-Exit.tag c.in-Exit.region homes stub c.args.growth.now c.replacement.new.growth
     c.in-Some.new replaces in
     let none = ap tree_size whole in
     let size = c.requires.size in
     let grown = replaces.size in
-    let measure : stub_turns table (tree_in c.args.tree.now) ≡ t = c.decreases in
-    let falls : stub_turns table (tree_in c.in-Some.new) < t = omega arith in (
+    let measure : stub_steps table (tree_in c.args.tree.now) ≡ t = c.decreases in
+    let falls : stub_steps table (tree_in c.in-Some.new) < t = omega arith in (
       falls,
       (
         c.requires.kept,

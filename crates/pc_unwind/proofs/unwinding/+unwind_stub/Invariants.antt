@@ -1,7 +1,7 @@
 use Rattle.pc_table.specs.Table.{table_of}
 use Rattle.pc_window.specs.StoredWindow.{tree_in}
-use Rattle.pc_unwind.specs.models.Ranks.{stub_turns}
+use Rattle.pc_unwind.specs.models.Ranks.{stub_steps}
 use Rattle.pc_unwind.proofs.unwinding.+unwind_stub.Given as goal
 
 abbrev pub decreases-unwind_stub : goal.decreases-unwind_stub
-decreases-unwind_stub l = stub_turns (table_of l.table.now) (tree_in l.tree.now)
+decreases-unwind_stub l = stub_steps (table_of l.table.now) (tree_in l.tree.now)
