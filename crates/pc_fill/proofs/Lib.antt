@@ -6,3 +6,13 @@ pub mod Nodes
 pub mod Ways
 pub mod Marks
 pub mod Searching
+pub mod Taken
+pub mod Landed
+pub mod Entered
+pub mod Signatures
+pub mod Twins
+pub mod FirstJump
+pub mod Coming
+pub mod Named
+pub mod StaysNew
+pub mod Jumps

@@ -120,7 +120,7 @@ stands_free known forms tag origin place what front (Ready_on_no t o on n w p q 
 -- ---- and what stands there and has a free way is ready
 
 -- an item can rise from there, or a test can divide
-abbrev ComesUp : (ℕ → Form) → Node → Option Item → ℕ → Tree → Type 0
+abbrev pub ComesUp : (ℕ → Form) → Node → Option Item → ℕ → Tree → Type 0
 ComesUp forms node (Some x) place tree = (node.operands ≡ operands_of x) × ((crosses : Bool) × CanRise forms x node.tag node.origin place crosses tree)
 ComesUp forms node None place tree = (on : Operand) × (node.operands ≡ on ∷ []) × CanDivide on node.tag node.origin place tree
 
@@ -153,7 +153,7 @@ of_sides m n = elim (decide_le m n) [
 here_up : (forms : ℕ → Form) (tree : Tree) (node head : Node) (rest : List Node) → slice_get (head ∷ rest) 0 ≡ Some node → head ≡ node
 here_up forms tree node head rest e = cc
 
-comes_up : (forms : ℕ → Form) (tree : Tree) (place : ℕ) (node : Node) → slice_get (nodes_of tree) place ≡ Some node → MayRise forms node.what tree place
+pub comes_up : (forms : ℕ → Form) (tree : Tree) (place : ℕ) (node : Node) → slice_get (nodes_of tree) place ≡ Some node → MayRise forms node.what tree place
     → ComesUp forms node node.what place tree
 comes_up forms (Pending t o x rest) zero node at way =
     let same = here_up forms rest node (record { tag = t; origin = o; what = Some x; operands = operands_of x }) (nodes_of rest) at in

@@ -3,3 +3,7 @@ pub mod Places
 pub mod Extent
 pub mod Known
 pub mod Search
+pub mod Taking
+pub mod Landing
+pub mod Signature
+pub mod CanFill

@@ -2,9 +2,16 @@
 #![tactic(auto)]
 
 mod conflict;
+mod filling;
 mod first;
+mod jump;
 mod known;
+mod landing;
 mod readiness;
 mod room;
+mod signature;
+mod taking;
+mod twin;
 
+pub use filling::fill;
 pub use first::{ReadyNode, first_ready};
