@@ -1,24 +1,20 @@
 -- The first of all that is ready comes in the first jump.
-use Rattle.std.proofs.Common.{◌≡◌, ℕ, zero, suc, ◌+◌, ◌<◌, ◌≤◌, ◌⊎◌, inl, inr, Bool, true, false, List, Option, Some, None, refl, sym, ◌∙◌, ap, subst, arith}
+use Rattle.std.proofs.Common.{◌≡◌, ℕ, ◌<◌, ◌≤◌, ◌⊎◌, inl, inr, Bool, List, Option, Some, None, refl, sym, ◌∙◌, ap, subst, arith}
 use Rattle.std.specs.Prelude.{◌||◌, is_some, slice_get}
 use Rattle.pc_word.proofs.Truth.{decide_le}
 use Rattle.pc_word.specs.declared.item.Item.{Item}
 use Rattle.pc_word.specs.declared.item.Limits.{Limits}
 use Rattle.pc_word.specs.declared.item.Operand.{Operand}
-use Rattle.pc_word.specs.Items.{dest_of, is_memory}
-use Rattle.pc_linear.specs.Form.{Form}
 use Rattle.pc_window.specs.Tree.{Front, whole}
 use Rattle.pc_window.specs.Rename.{with_dest}
-use Rattle.pc_window.specs.Opening.{Supply}
 use Rattle.pc_window.specs.WindowRun.{Window, supply_of}
-use Rattle.pc_window.specs.Filled.{Priority, InOrder, priority_of, given_supply, IsNext, IsWindow, HasSpace, item_count, memory_count, Jump, IsFirstJump}
-use Rattle.pc_window.specs.Ready.{IsReadyAt, HasFresh, ReadyPlace, NotBehind}
-use Rattle.pc_window.proofs.Readiness.{Alike, alike, dest_named, ready_jumps, jumps_were_ready}
-use Rattle.pc_fill.specs.declared.landing.Coming.{Coming}
+use Rattle.pc_window.specs.Filled.{Priority, InOrder, priority_of, given_supply, IsNext, IsWindow, HasSpace, Jump, IsFirstJump}
+use Rattle.pc_window.specs.Ready.{HasFresh, ReadyPlace, NotBehind}
+use Rattle.pc_window.proofs.Readiness.{alike, dest_named, ready_jumps, jumps_were_ready}
 use Rattle.pc_fill.specs.declared.first.ReadyNode.{ReadyNode}
-use Rattle.pc_fill.specs.FirstReady.{StandsReady, IsFirstReady}
+use Rattle.pc_fill.specs.FirstReady.{IsFirstReady}
 use Rattle.pc_fill.specs.models.Places.{Node, nodes_of}
-use Rattle.pc_fill.specs.models.Landing.{landed, crosses, came, new_name, TwinIn, FirstIn, FirstTwinOf, renames, coming_of, names_after, landed_window, HasCome}
+use Rattle.pc_fill.specs.models.Landing.{landed, crosses, came, new_name, TwinIn, FirstTwinOf, renames, coming_of, names_after, landed_window, HasCome}
 use Rattle.pc_fill.proofs.Nodes.{stands_free, StandsFree}
 use Rattle.pc_fill.proofs.Entered.{IsTwin, EnteredAs, entered_as}
 use Rattle.pc_fill.proofs.FirstJump.{TwinFor, HadTwin, had_twin, kinds, ComesTwice, comes_twice}

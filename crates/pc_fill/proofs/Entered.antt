@@ -1,5 +1,5 @@
 -- What comes into the front is determined by its place, its twin, and the next name.
-use Rattle.std.proofs.Common.{◌≡◌, ℕ, zero, suc, ◌+◌, ◌-◌, ◌<◌, ◌≤◌, ◌⊎◌, inl, inr, Bool, true, false, List, [], ◌∷◌, ◌++◌, Option, Some, None, refl, sym, ◌∙◌, ap, subst, lt-ltb, arith}
+use Rattle.std.proofs.Common.{◌≡◌, ℕ, suc, ◌+◌, ◌-◌, ◌<◌, ◌≤◌, Bool, true, false, List, [], ◌∷◌, Option, Some, None, refl, sym, ◌∙◌, ap, subst, lt-ltb, arith}
 use Rattle.std.specs.Prelude.{nat_eq, nat_lt, if◌then◌else◌, ◌||◌, is_some, slice_get}
 use Rattle.pc_word.proofs.Truth.{of_most}
 use Rattle.pc_word.specs.declared.item.Item.{Item}
@@ -10,13 +10,13 @@ use Rattle.pc_linear.specs.Form.{Form}
 use Rattle.pc_window.specs.Hold.{Side}
 use Rattle.pc_window.specs.Tree.{Tree, Pending, Undecided, Front, Issued, Split, Unfinished, whole, tree_size}
 use Rattle.pc_window.specs.Rename.{with_dest, mapped, renamed}
-use Rattle.pc_window.specs.Jump.{is_quiet, Rises, Root, Past_item, Past_yes, Past_no, DividesTree, Root_test, Past, EntersFront, Lands, Lands_renamed, Lands_test, Lands_once, Behind_item, On_yes, On_no}
-use Rattle.pc_window.specs.Filled.{risen_place, divided_place, priority_of, IsNext, TwinsAlike}
-use Rattle.pc_window.proofs.Readiness.{Alike, alike, clear_alike}
+use Rattle.pc_window.specs.Jump.{Rises, Root, Past_item, Past_yes, Past_no, DividesTree, Root_test, Past, EntersFront, Lands, Lands_renamed, Lands_test, Lands_once, Behind_item, On_yes, On_no}
+use Rattle.pc_window.specs.Filled.{risen_place, divided_place, priority_of, IsNext}
+use Rattle.pc_window.proofs.Readiness.{Alike, clear_alike}
 use Rattle.pc_fill.specs.declared.landing.Coming.{Coming}
-use Rattle.pc_fill.specs.models.Places.{Node, nodes_of, MayPass, MayCross, MayRise}
+use Rattle.pc_fill.specs.models.Places.{nodes_of, MayPass, MayCross, MayRise}
 use Rattle.pc_fill.specs.models.Taking.{taken_out, divided_on, divided_yes, divided_no}
-use Rattle.pc_fill.specs.models.Landing.{both_unfinished, joins, behind_leaf, above_test, place_or_root, landed, crossed, crosses, came, new_name, TwinHere, TwinIn}
+use Rattle.pc_fill.specs.models.Landing.{both_unfinished, joins, above_test, place_or_root, landed, crossed, crosses, came, new_name}
 use Rattle.pc_fill.proofs.Sides.{not_zero, to_below, to_yes, to_no}
 use Rattle.pc_fill.proofs.Nodes.{node_on_yes, node_on_no, node_within}
 
@@ -50,7 +50,8 @@ risen_within forms tag origin stood x c from left (Past_yes t o on d p q l is un
 risen_within forms tag origin stood x c from left (Past_no t o on d p q l is unwritten rises) = let a = risen_within forms tag origin stood x d q l rises in omega arith
 
 -- it leaves the tree without it
-pub rises_taken : (forms : ℕ → Form) (tag origin : ℕ) (stood x : Item) (c : Bool) (from left : Tree) → (r : Rises forms tag origin stood x c from left) → left ≡ taken_out (dest_of x) from (risen_place r)
+pub rises_taken : (forms : ℕ → Form) (tag origin : ℕ) (stood x : Item) (c : Bool) (from left : Tree) → (r : Rises forms tag origin stood x c from left)
+    → left ≡ taken_out (dest_of x) from (risen_place r)
 rises_taken forms tag origin stood x c from left (Root rest unwritten) = refl
 rises_taken forms tag origin stood x c from left (Past_item t o y d rest l clear apart rises) =
     ap (λ (u : Tree). Pending t o y u) (rises_taken forms tag origin stood x d rest l rises)
@@ -214,7 +215,8 @@ module _ (next : ℕ) (twin : Option ℕ) (new : Option ℕ) (comes : Option Ite
         comes_is = k.comes_is ∙ ap (λ (b : Bool). came next (is_some twin || b) k.what) same;
         new_is = k.new_is ∙ ap (λ (b : Bool). new_name next (is_some twin || b) k.what) same;
         lands = ap (λ (f : Front). Split t o on f q) k.lands ∙ ap (λ (b : Bool). if b then at_test n else further n) (sym apart)
-            ∙ sym (on_yes_side (Split t o on p q) (λ m. if joins twin p q then at_test m else further m) (λ m. Split t o on p (landed c q (m - tree_size (whole p)))) place n (tree_size (whole p)) e less);
+            ∙ sym (on_yes_side (Split t o on p q) (λ m. if joins twin p q then at_test m else further m) (λ m. Split t o on p (landed c q (m - tree_size (whole p)))) place n
+            (tree_size (whole p)) e less);
       }
 
   below_no : (t o : ℕ) (on : Operand) (p q q' : Front) (place : ℕ) → place ≡ suc (tree_size (whole p) + n) → EnteredAs next twin new comes q q' tag origin n

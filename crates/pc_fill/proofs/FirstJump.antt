@@ -1,10 +1,8 @@
 -- What is first of all that is ready jumps first, with its first twin where it has one.
-use Rattle.std.proofs.Common.{◌≡◌, ◌≢◌, ℕ, zero, suc, ◌+◌, ◌-◌, ◌<◌, ◌≤◌, ◌⊎◌, inl, inr, Bool, true, false, List, [], ◌∷◌, ◌++◌, Option, Some, None, refl, sym, ◌∙◌, ap, subst, lt-ltb, arith}
-use Rattle.std.specs.Prelude.{nat_eq, nat_lt, ◌||◌, ◌&&◌, is_some, slice_get}
+use Rattle.std.proofs.Common.{◌≡◌, ℕ, suc, ◌+◌, ◌-◌, ◌<◌, ◌⊎◌, inl, inr, Bool, false, List, Option, Some, None, refl, sym, ◌∙◌, ap, subst, lt-ltb, arith}
+use Rattle.std.specs.Prelude.{nat_lt, ◌&&◌, slice_get}
 use Rattle.std.specs.List.{AllByRecursion}
-use Rattle.pc_word.proofs.Truth.{decide_le}
 use Rattle.pc_word.specs.declared.item.Item.{Item}
-use Rattle.pc_word.specs.declared.item.Limits.{Limits}
 use Rattle.pc_word.specs.declared.item.Operand.{Operand}
 use Rattle.pc_word.specs.Items.{dest_of, operands_of, is_effect}
 use Rattle.pc_word.specs.Commit.{writes}
@@ -14,22 +12,17 @@ use Rattle.pc_window.specs.Hold.{Side}
 use Rattle.pc_window.specs.Tree.{Tree, Pending, Undecided, Front, Issued, Split, Unfinished, whole, tree_size}
 use Rattle.pc_window.specs.Rename.{with_dest, mapped, renamed}
 use Rattle.pc_window.specs.Names.{IsKnown, IsNew, ReadsKnown, Unwritten, NotWritten}
-use Rattle.pc_window.specs.Opening.{Supply, with_name, changed}
-use Rattle.pc_window.specs.WindowRun.{Window, supply_of}
+use Rattle.pc_window.specs.Opening.{with_name, changed}
 use Rattle.pc_window.specs.Conflict.{Touch, touch_of, NoStoreDependence, MayFollow}
-use Rattle.pc_window.specs.Jump.{combined, Without, NewForm, GivesForm, Rises, Root, Past_item, Past_yes, Past_no, EntersFront, Lands, Lands_renamed, Lands_test, Lands_once, Behind_item, On_yes, On_no}
-use Rattle.pc_window.specs.Filled.{Priority, InOrder, risen_place, priority_of, deeper, TwinsAlike, given_supply, IsNext, IsWindow, HasSpace, Jump, IsFirstJump}
+use Rattle.pc_window.specs.Jump.{combined, Without, NewForm, Root, Past_item, Past_yes, Past_no, EntersFront, Lands, Lands_renamed, Lands_test, Lands_once, Behind_item, On_yes, On_no}
+use Rattle.pc_window.specs.Filled.{risen_place, priority_of, deeper, TwinsAlike, given_supply}
 use Rattle.pc_window.specs.Ready.{CanRise, Stands_here, Stands_below, Stands_on_yes, Stands_on_no, MayStandBehind, IsReadyAt, Item_ready, Test_ready, Ready_below, Ready_on_yes, Ready_on_no}
-use Rattle.pc_window.specs.Ready.{HasFresh, ReadyPlace, NotBehind}
-use Rattle.pc_window.proofs.Readiness.{Alike, alike, dest_named, clear_alike, Risen, not_written_named, ready_jumps, jumps_were_ready}
-use Rattle.pc_fill.specs.declared.landing.Coming.{Coming}
-use Rattle.pc_fill.specs.declared.first.ReadyNode.{ReadyNode}
-use Rattle.pc_fill.specs.FirstReady.{StandsReady, IsFirstReady}
-use Rattle.pc_fill.specs.models.Places.{Node, nodes_of, MayRise}
-use Rattle.pc_fill.specs.models.Landing.{both_unfinished, landed, crosses, came, new_name, TwinHere, TwinIn, FirstIn, FirstTwinOf, renames, coming_of, names_after, landed_window, HasCome}
+use Rattle.pc_window.proofs.Readiness.{Alike, alike, dest_named, clear_alike, Risen, not_written_named}
+use Rattle.pc_fill.specs.models.Places.{Node, nodes_of}
+use Rattle.pc_fill.specs.models.Landing.{both_unfinished, TwinHere, TwinIn}
 use Rattle.pc_fill.proofs.Sides.{to_below, from_below, to_no, from_no, side_first, first_only, side_second, second_only}
 use Rattle.pc_fill.proofs.Nodes.{node_on_yes, node_on_no, node_within, stands_free, StandsFree, comes_up}
-use Rattle.pc_fill.proofs.Entered.{rises_at, rises_free, risen_within, renamed_again, twin_above, IsTwin, EnteredAs, entered_as}
+use Rattle.pc_fill.proofs.Entered.{rises_at, rises_free, risen_within, renamed_again, twin_above}
 
 -- ---- another name changes nothing but the name
 
@@ -98,7 +91,8 @@ module _ (forms : ℕ → Form) (next tag origin n k : ℕ) where
     twin = subst (λ (j : ℕ). TwinIn forms next tag origin h.item (Issued t o y rest) j k) e (to_below ⊥ (λ j. TwinIn forms next tag origin h.item rest j k) n h.twin);
   }
 
-  had_yes : (t o : ℕ) (on : Operand) (p q : Front) (place : ℕ) → suc n ≡ place → both_unfinished p q ≡ false → HadTwin forms next tag origin n k p → HadTwin forms next tag origin place k (Split t o on p q)
+  had_yes : (t o : ℕ) (on : Operand) (p q : Front) (place : ℕ) → suc n ≡ place → both_unfinished p q ≡ false → HadTwin forms next tag origin n k p
+      → HadTwin forms next tag origin place k (Split t o on p q)
   had_yes t o on p q place e apart h =
       let s = tree_size (whole p) in
       let less : n < s = node_within (whole p) n _ h.at in
@@ -142,7 +136,8 @@ had_twin known forms forms' new comes from to (Lands_once t o on tag origin tag'
     record {
       item = stood;
       at = node_on_yes p q n less ∙ rises_at forms tag origin stood x c p l rises;
-      twin = to_below ⊥ (λ j. Side (nat_lt j (tree_size p)) (TwinHere forms next tag origin stood q (risen_place rises')) ⊥) n (side_first (nat_lt n (tree_size p)) _ _ (lt-ltb n (tree_size p) less) here);
+      twin = to_below ⊥ (λ j. Side (nat_lt j (tree_size p)) (TwinHere forms next tag origin stood q (risen_place rises')) ⊥) n
+          (side_first (nat_lt n (tree_size p)) _ _ (lt-ltb n (tree_size p) less) here);
     }
 had_twin known forms forms' new comes from to (Behind_item t o y c rest rest' may apart enters) twins h next =
     had_below forms next (priority_of enters).0 (priority_of enters).1 (priority_of enters).2 (priority_of enters).4 t o y rest (1 + (priority_of enters).2) (omega arith)

@@ -1,23 +1,21 @@
 -- Filling goes on from jump to jump, and ends.
-use Rattle.std.proofs.Common.{◌≡◌, ℕ, suc, ◌+◌, ◌-◌, ◌*◌, ◌<◌, ◌≤◌, ◌^◌, Bool, true, false, Option, Some, None, Result, Ok, Err, length, refl, sym, ◌∙◌, ap, subst, arith}
-use Rattle.std.specs.Prelude.{IfOk, IfSome}
+use Rattle.std.proofs.Common.{◌≡◌, ℕ, suc, ◌+◌, ◌-◌, ◌*◌, ◌<◌, ◌≤◌, ◌^◌, Bool, Option, Some, None, length, refl, sym, ◌∙◌, ap, subst, arith}
 use Rattle.pc_word.specs.declared.item.Item.{Item}
 use Rattle.pc_word.specs.declared.item.Limits.{Limits}
 use Rattle.pc_word.specs.declared.item.Operand.{Operand}
 use Rattle.pc_table.specs.TableKeeps.{reads}
 use Rattle.pc_linear.specs.Form.{Form}
-use Rattle.pc_window.specs.declared.tree.WindowTree.{WindowTree}
 use Rattle.pc_window.specs.declared.window.Window.{Window as StoredWindow}
 use Rattle.pc_window.specs.Tree.{Tree, Pending, Undecided, Exit, Stop_exit, Trap_exit, Front, Issued, Split, Unfinished, whole, tree_size}
 use Rattle.pc_window.specs.Names.{uses}
 use Rattle.pc_window.specs.Rename.{mapped}
 use Rattle.pc_window.specs.Jump.{Rises, Root, Past_item, Past_yes, Past_no, DividesTree, Root_test, Past, EntersFront, Lands, Lands_renamed, Lands_test, Lands_once, Behind_item, On_yes, On_no}
-use Rattle.pc_window.specs.WindowRun.{Window}
-use Rattle.pc_window.specs.Filled.{item_count, test_count, MostBehind, front_size, HasSpace, IsWindow, Jump, Filled, Full, Goes_on}
+use Rattle.pc_window.specs.Filled.{item_count, test_count, MostBehind, front_size, HasSpace, IsWindow, Filled, Full, Goes_on}
 use Rattle.pc_window.specs.Ready.{HasFresh, ReadyPlace}
 use Rattle.pc_window.specs.Steps.{IsProper, FillsTo}
 use Rattle.pc_window.specs.StoredWindow.{tree_in, front_in, window_in}
 use Rattle.pc_window.proofs.Filling.{jump_window}
+use Rattle.pc_window.proofs.Proper.{fills_proper}
 use Rattle.pc_window.proofs.Readiness.{jumps_were_ready}
 use Rattle.pc_window.proofs.Sizes.{filling_bounded, jumps_count}
 use Rattle.pc_window.proofs.Unwinding.{used_below}
@@ -171,6 +169,9 @@ module _ (w : StoredWindow) (proper : IsProper (window_in w)) (fillable : IsFill
 
   pub fills_whole : (known : ℕ → Bool) → known ≡ uses (whole (front_in w.tree)) → (v : StoredWindow) → Filled known (window_in w) (window_in v) → FillsTo (window_in w) (window_in v)
   fills_whole known is v filled = subst (λ (k : ℕ → Bool). Filled k (window_in w) (window_in v)) is filled
+
+  pub proper_after : (known : ℕ → Bool) → known ≡ uses (whole (front_in w.tree)) → (v : StoredWindow) → Filled known (window_in w) (window_in v) → IsProper (window_in v)
+  proper_after known is v filled = fills_proper (window_in w) (window_in v) (fills_whole known is v filled) proper
 
   pub filled_from : (known : ℕ → Bool) (v : StoredWindow) → Filled known (window_in w) (window_in v) → GrowsTo w v → FilledFrom w v
   filled_from known v filled h =

@@ -1,5 +1,5 @@
 -- Windows in memory once something has come into the front.
-use Rattle.std.proofs.Common.{◌≡◌, ◌≢◌, ℕ, zero, suc, ◌-◌, ◌<◌, ◌≤◌, ◌⊎◌, inl, inr, Bool, true, false, Option, Some, None, Result, Ok, Err, refl, sym, ◌∙◌, ap, subst, arith}
+use Rattle.std.proofs.Common.{◌≡◌, ◌≢◌, ℕ, zero, suc, ◌-◌, ◌<◌, ◌≤◌, ◌⊎◌, inl, inr, Bool, true, false, Option, Some, Result, Ok, Err, refl, sym, ◌∙◌, ap, subst, arith}
 use Rattle.std.specs.Prelude.{nat_eq, nat_lt, if◌then◌else◌, OnOk, IfOk}
 use Rattle.pc_word.specs.Items.{dest_of}
 use Rattle.pc_word.proofs.Truth.{decide_le}
@@ -11,7 +11,7 @@ use Rattle.pc_fill.proofs.Stored.{whole_in}
 use Rattle.pc_fill.proofs.Entered.{at_below, on_yes_side, on_no_side}
 use Rattle.pc_window.specs.declared.tree.WindowTree.{WindowTree}
 use Rattle.pc_window.specs.declared.tree.WindowTree.TheVariants as stored
-use Rattle.pc_window.specs.Tree.{Tree, Front, Issued, Split, Unfinished, whole, tree_size}
+use Rattle.pc_window.specs.Tree.{Front, Issued, Split, Unfinished, whole, tree_size}
 use Rattle.pc_window.specs.StoredWindow.{tree_in, front_in, InNodes}
 use Rattle.pc_fill.specs.models.Taking.{taken_out}
 use Rattle.pc_fill.specs.Fillable.{NodesBehind}
@@ -59,7 +59,8 @@ module _ (c : Coming) (tag origin place : ℕ) where
     other_side : ℕ → Front
     other_side m = Split tag origin on p (landed c q (m - tree_size (whole p)))
 
-    unfolds : landed c (Split tag origin on p q) place ≡ (if nat_eq place 0 then Split tag origin on p q else if nat_lt (place - 1) (tree_size (whole p)) then (if joins c.twin p q then at_test (place - 1) else further (place - 1)) else other_side (place - 1))
+    unfolds : landed c (Split tag origin on p q) place ≡ (if nat_eq place 0 then Split tag origin on p q else if nat_lt (place - 1) (tree_size (whole p)) then
+        (if joins c.twin p q then at_test (place - 1) else further (place - 1)) else other_side (place - 1))
     unfolding at_test further other_side
     unfolds = refl
 
@@ -103,7 +104,8 @@ module _ (c : Coming) (tag origin place : ℕ) where
             → (place ≢ 0) × (joins c.twin p q ≡ true) × (landed c (Split tag origin on p q) place ≡ above_test c c.item tag origin on (whole p) (whole q) (place - 1) (place_or_root c.twin))
         by_side ne (inl most) =
             let step : place ≡ suc (place - 1) = omega arith in
-            absurd (let none : joins_at c.twin (Split tag origin on p q) place ≡ false = on_no_side false (λ (m : ℕ). joins c.twin p q) (λ m. false) place (place - 1) (tree_size (whole p)) step most in cc)
+            absurd (let none : joins_at c.twin (Split tag origin on p q) place ≡ false = on_no_side false (λ (m : ℕ). joins c.twin p q) (λ m. false) place (place - 1)
+            (tree_size (whole p)) step most in cc)
         by_side ne (inr less) =
             let step : place ≡ suc (place - 1) = omega arith in
             let here : joins c.twin p q ≡ true = sym (on_yes_side false (λ (m : ℕ). joins c.twin p q) (λ m. false) place (place - 1) (tree_size (whole p)) step less) ∙ h in
@@ -119,7 +121,8 @@ pub ok_all : {X E : Type 0} (P Q : X → Type 0) (r : Result X E) → ((x : X) �
 ok_all P Q (Ok x) f h = f x h
 ok_all P Q (Err e) f h = tt
 
-module _ (front : Front) (tag origin : ℕ) (on : Operand) (p q : WindowTree) (is : front ≡ Split tag origin on (front_in p) (front_in q)) (place n : ℕ) (size : n ≡ tree_size (tree_in p)) (ne : place ≢ 0) where
+module _ (front : Front) (tag origin : ℕ) (on : Operand) (p q : WindowTree) (is : front ≡ Split tag origin on (front_in p) (front_in q)) (place n : ℕ) (size : n ≡ tree_size (tree_in p))
+    (ne : place ≢ 0) where
   size_yes : n ≡ tree_size (whole (front_in p))
   size_yes = size ∙ ap tree_size (sym (whole_in p))
 
@@ -191,7 +194,8 @@ module _ (c : Coming) (item : Item) (twin : ℕ) (is_item : c.item ≡ Some item
   pub joined_place : place ≢ 0
   joined_place = at_this.0
 
-  pub joined_front : (it : Front) → it ≡ Issued c.tag c.origin item (Split tag origin on (Unfinished (taken_out (dest_of item) (tree_in p) (place - 1))) (Unfinished (taken_out (dest_of item) (tree_in q) twin)))
+  pub joined_front : (it : Front) → it ≡ Issued c.tag c.origin item (Split tag origin on (Unfinished (taken_out (dest_of item) (tree_in p) (place - 1)))
+      (Unfinished (taken_out (dest_of item) (tree_in q) twin)))
       → it ≡ landed c front place
   joined_front it e =
       e ∙ (λ i. above_test c (sym is_item i) tag origin on (sym (whole_in p) i) (sym (whole_in q) i) (place - 1) (place_or_root (sym is_twin i)))

@@ -16,3 +16,5 @@ pub mod Coming
 pub mod Named
 pub mod StaysNew
 pub mod Jumps
+pub mod Opened
+pub mod TwoStepsKept

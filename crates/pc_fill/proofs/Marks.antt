@@ -21,7 +21,8 @@ use Rattle.pc_fill.specs.models.Places.{known_in}
 use Rattle.pc_fill.specs.models.Known.{with_operand, with_reads, with_homes, without_dest, used_with}
 
 -- a mark that is set
-written : (table : List Bool) (name : ℕ) (value : Bool) → name < length table → (f : Bool → Bool → Bool) → f true (known_in table name) ≡ value → ((x : ℕ) → f false (known_in table x) ≡ known_in table x)
+written : (table : List Bool) (name : ℕ) (value : Bool) → name < length table → (f : Bool → Bool → Bool) → f true (known_in table name) ≡ value
+    → ((x : ℕ) → f false (known_in table x) ≡ known_in table x)
     → (x : ℕ) → known_in (slice_set table name value) x ≡ f (nat_eq name x) (known_in table x)
 written table name value less f at_name at_other x = by_test (nat_eq name x) refl
   where

@@ -1,8 +1,7 @@
 -- What comes, with its name, and the window that it comes to.
-use Rattle.std.proofs.Common.{◌≡◌, ℕ, suc, ◌+◌, ◌<◌, ◌≤◌, Bool, true, false, List, Option, Some, None, length, refl, sym, ◌∙◌, ap, subst, arith}
+use Rattle.std.proofs.Common.{◌≡◌, ℕ, Bool, true, false, Option, Some, None, length, refl, sym, ◌∙◌, ap, subst}
 use Rattle.pc_word.specs.declared.item.Item.{Item}
 use Rattle.pc_word.specs.declared.item.Item.TheVariants.{Bin, Copy, Load, Store, Print, Read, More}
-use Rattle.pc_word.specs.declared.item.Limits.{Limits}
 use Rattle.pc_word.specs.Items.{dest_of}
 use Rattle.pc_linear.specs.Form.{Form}
 use Rattle.pc_window.specs.declared.tree.WindowTree.{WindowTree}
@@ -13,11 +12,9 @@ use Rattle.pc_window.specs.Rename.{with_dest}
 use Rattle.pc_window.specs.Opening.{Supply, with_name}
 use Rattle.pc_window.specs.Jump.{combined}
 use Rattle.pc_window.specs.Filled.{given_supply}
-use Rattle.pc_window.specs.WindowRun.{Window, supply_of}
 use Rattle.pc_window.specs.StoredWindow.{front_in, forms_in, supply_in, window_in}
 use Rattle.pc_fill.specs.declared.first.ReadyNode.{ReadyNode}
-use Rattle.pc_fill.specs.declared.landing.Coming.{Coming}
-use Rattle.pc_fill.specs.models.Landing.{landed, came, new_name, FirstIn, FirstTwinOf, renames, coming_of, names_after, landed_window, HasCome}
+use Rattle.pc_fill.specs.models.Landing.{landed, came, new_name, FirstIn, FirstTwinOf, renames, coming_of, names_after, HasCome}
 
 -- ---- names
 
@@ -57,7 +54,8 @@ module _ (names : NameTable) (item : Item) (renamed : Bool) where
   kept_names e = ap (λ (b : Bool). given_supply (supply_in names) (new_name (length names.forms) b (Some item)) (came (length names.forms) b (Some item))) (sym e)
 
   -- with a name for an item that writes none
-  pub plain_names : renamed ≡ true → dest_of item ≡ None → supply_in names ≡ given_supply (supply_in names) (new_name (length names.forms) renamed (Some item)) (came (length names.forms) renamed (Some item))
+  pub plain_names : renamed ≡ true → dest_of item ≡ None → supply_in names ≡ given_supply (supply_in names) (new_name (length names.forms) renamed (Some item))
+      (came (length names.forms) renamed (Some item))
   plain_names e none =
       ap (λ (d : Option ℕ). given_supply (supply_in names) d (Some (with_dest (length names.forms) item))) (sym (unnamed (length names.forms) item none))
       ∙ ap (λ (b : Bool). given_supply (supply_in names) (new_name (length names.forms) b (Some item)) (came (length names.forms) b (Some item))) (sym e)

@@ -206,7 +206,8 @@ free_ready known forms (Split t o on p q) (suc n) node at reads way =
         → Side (nat_lt k (tree_size (whole p))) (MayComeFrom forms node.what p k) (MayComeFrom forms node.what q (k - tree_size (whole p)))
         → IsReadyAt known forms node.tag node.origin (suc k) node.what (Split t o on p q)
     by_side on_p on_q k (Of_yes k' less) h e =
-        Ready_on_yes t o on k node.what p q (on_p k (sym (node_on_yes (whole p) (whole q) k less) ∙ h) (from_yes (MayComeFrom forms node.what p) (MayComeFrom forms node.what q) k (tree_size (whole p)) less e))
+        Ready_on_yes t o on k node.what p q (on_p k (sym (node_on_yes (whole p) (whole q) k less) ∙ h)
+        (from_yes (MayComeFrom forms node.what p) (MayComeFrom forms node.what q) k (tree_size (whole p)) less e))
     by_side on_p on_q k (Of_no j) h e =
         Ready_on_no t o on j node.what p q (on_q j (sym (node_on_no (whole p) (whole q) j) ∙ h) (from_no (MayComeFrom forms node.what p) (MayComeFrom forms node.what q) j (tree_size (whole p)) e))
 free_ready known forms (Unfinished tree) place node at reads way = up_ready known forms node node.what place tree reads (comes_up forms tree place node at way)

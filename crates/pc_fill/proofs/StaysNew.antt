@@ -1,6 +1,6 @@
 -- What is new to a window stays new as items and tests come into its front. What stands here of names and forms in filling
 -- is as pc_window proves it for whole fillings.
-use Rattle.std.proofs.Common.{◌≡◌, ℕ, ◌+◌, ◌<◌, ◌≤◌, ◌⊎◌, List, [], ◌∷◌, Option, Some, None, refl, sym, ◌∙◌, ap, subst, arith, inl, inr}
+use Rattle.std.proofs.Common.{◌≡◌, ℕ, ◌<◌, ◌≤◌, ◌⊎◌, List, [], ◌∷◌, Option, Some, None, refl, sym, subst, arith, inl, inr}
 use Rattle.std.specs.Prelude.{IfSome, Bool, true, false, if◌then◌else◌, nat_eq}
 use Rattle.std.specs.List.{AllByRecursion}
 use Rattle.pc_word.specs.declared.item.Item.{Item}
@@ -14,9 +14,9 @@ use Rattle.pc_linear.specs.Form.{Form}
 use Rattle.pc_linear.specs.declared.term.Term.{Term}
 use Rattle.pc_window.specs.declared.home.Home.{Home}
 use Rattle.pc_window.specs.Hold.{operand_form}
-use Rattle.pc_window.specs.Tree.{Tree, Pending, Undecided, Exit, Stop_exit, Trap_exit, Front, Issued, Split, Unfinished, whole}
+use Rattle.pc_window.specs.Tree.{Tree, Pending, Undecided, Exit, Stop_exit, Trap_exit, Front, whole}
 use Rattle.pc_window.specs.Rename.{map_operands, map_homes, mapped, renamed, with_dest}
-use Rattle.pc_window.specs.Names.{Unwritten, uses, Scoped}
+use Rattle.pc_window.specs.Names.{Unwritten}
 use Rattle.pc_window.specs.Opening.{Supply, with_name, OperandBelow, ItemBelow, StubBelow, TreeBelow, FormsBelow, FormBelow, TermsBelow}
 use Rattle.pc_window.specs.WindowRun.{Window, supply_of}
 use Rattle.pc_window.specs.Filled.{given_supply, IsNext, Jump}

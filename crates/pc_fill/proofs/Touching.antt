@@ -31,7 +31,8 @@ module _ (forms : ℕ → Form) (x y : Item) (a b : StoredTouch) (c : Bool) (p q
   touch_y = sym (ap touched is_b) ∙ at_y
 
   pub of_touches : (c ≡ true) ↔ NoDependence forms (Some (touch_in a)) (Some (touch_in b)) → (c ≡ true) ↔ NoDependence forms (touch_of x) (touch_of y)
-  of_touches iff = subst (λ (t : Option Touch). (c ≡ true) ↔ NoDependence forms t (touch_of y)) touch_x (subst (λ (t : Option Touch). (c ≡ true) ↔ NoDependence forms (Some (touch_in a)) t) touch_y iff)
+  of_touches iff = subst (λ (t : Option Touch). (c ≡ true) ↔ NoDependence forms t (touch_of y)) touch_x
+      (subst (λ (t : Option Touch). (c ≡ true) ↔ NoDependence forms (Some (touch_in a)) t) touch_y iff)
 
   pub behind_touches : (c ≡ true) ↔ NoStoreDependence forms (Some (touch_in a)) (Some (touch_in b)) → (c ≡ true) ↔ NoStoreDependence forms (touch_of x) (touch_of y)
   behind_touches iff =

@@ -1,17 +1,16 @@
 -- The search for the twin of an item.
-use Rattle.std.proofs.Common.{◌≡◌, ◌≢◌, ◌↔◌, ℕ, zero, suc, ◌+◌, ◌-◌, ◌<◌, ◌≤◌, ◌⊎◌, inl, inr, Bool, true, false, List, [], ◌∷◌, ◌++◌, Option, Some, None, refl, sym, ◌∙◌, ap, subst, lt-ltb, arith}
-use Rattle.std.specs.Prelude.{nat_eq, nat_lt, slice_get}
+use Rattle.std.proofs.Common.{◌≡◌, ◌≢◌, ◌↔◌, ℕ, ◌+◌, ◌-◌, ◌<◌, ◌≤◌, inl, inr, Bool, true, false, [], ◌∷◌, Option, Some, None, sym, ◌∙◌, ap, subst, lt-ltb, arith}
+use Rattle.std.specs.Prelude.{nat_lt, slice_get}
 use Rattle.pc_word.proofs.Truth.{decide_le, of_most}
 use Rattle.pc_word.specs.declared.item.Item.{Item}
 use Rattle.pc_word.specs.declared.item.Operand.{Operand}
 use Rattle.pc_word.specs.Items.{operands_of}
 use Rattle.pc_linear.specs.Form.{Form}
-use Rattle.pc_window.specs.Hold.{Side}
 use Rattle.pc_window.specs.Tree.{Tree, Pending, Undecided, Front, Issued, Split, Unfinished, whole, tree_size}
 use Rattle.pc_window.specs.Rename.{with_dest}
 use Rattle.pc_fill.specs.models.Places.{Node, nodes_of, MayRise}
 use Rattle.pc_fill.specs.models.Search.{StandsAt}
-use Rattle.pc_fill.specs.models.Landing.{TwinsAt, TwinHere, TwinIn, both_unfinished, IsFirstFrom, FirstFrom, IsFirstIn, FirstIn}
+use Rattle.pc_fill.specs.models.Landing.{TwinsAt, TwinHere, TwinIn, both_unfinished, FirstFrom, FirstIn}
 use Rattle.pc_fill.proofs.Sides.{fails_here, failed, held, same_fact, root_only, below_only, under_root, first_only, side_first, second_only, side_second}
 use Rattle.pc_fill.proofs.Nodes.{node_within}
 use Rattle.pc_fill.proofs.Searching.{item_stands, test_stands}

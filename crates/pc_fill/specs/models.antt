@@ -7,3 +7,4 @@ pub mod Taking
 pub mod Landing
 pub mod Signature
 pub mod CanFill
+pub mod TwoSteps

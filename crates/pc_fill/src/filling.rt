@@ -20,6 +20,7 @@ pub fn fill(alloc: Global, window: Window) -> Result<Window, WindowError>
     requires proper { IsProper (window_in window) }
     requires fillable { IsFillable window }
     ensures fills { IfOk result (λ later. FillsTo (window_in window) (window_in later)) }
+    ensures proper { IfOk result (λ later. IsProper (window_in later)) }
     ensures left { IfOk result (λ later. FilledFrom window later) }
 {
     let known = parameters(alloc, &window)?;

@@ -7,11 +7,15 @@ mod first;
 mod jump;
 mod known;
 mod landing;
+mod laws;
 mod readiness;
 mod room;
 mod signature;
 mod taking;
+#[cfg(test)]
+mod tests;
 mod twin;
 
 pub use filling::fill;
 pub use first::{ReadyNode, first_ready};
+pub use laws::law_of_opened_windows;

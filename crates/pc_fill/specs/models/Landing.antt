@@ -1,5 +1,5 @@
 -- What comes into the front, and the front with it.
-use Rattle.std.specs.Prelude.{◌≡◌, ℕ, ◌-◌, ◌<◌, ◌≤◌, Bool, true, false, ◌||◌, if◌then◌else◌, nat_eq, nat_lt, [], Option, Some, None, is_some, slice_get}
+use Rattle.std.specs.Prelude.{◌≡◌, ℕ, ◌-◌, ◌<◌, ◌≤◌, Bool, true, false, ◌||◌, if◌then◌else◌, nat_eq, nat_lt, Option, Some, None, is_some, slice_get}
 use Rattle.pc_word.specs.declared.item.Item.{Item}
 use Rattle.pc_word.specs.declared.item.Operand.{Operand}
 use Rattle.pc_word.specs.Items.{dest_of, operands_of}

@@ -1,6 +1,5 @@
 -- What is left of a tree when an item is taken out of it, or a test divides it.
-use Rattle.std.specs.Prelude.{ℕ, ◌-◌, Bool, true, false, pos, if◌then◌else◌, nat_eq, nat_lt, Option, Some, None}
-use Rattle.pc_word.specs.declared.item.Item.{Item}
+use Rattle.std.specs.Prelude.{ℕ, ◌-◌, Bool, true, false, pos, if◌then◌else◌, nat_eq, nat_lt, Option}
 use Rattle.pc_word.specs.declared.item.Operand.{Operand}
 use Rattle.pc_word.specs.declared.item.Operand.TheVariants.{Lit}
 use Rattle.pc_word.specs.Items.{dest_of}

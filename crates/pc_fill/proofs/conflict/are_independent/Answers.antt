@@ -7,4 +7,5 @@ returns-then-first c = first_stores (forms_in c.args.names.now.forms) c.args.fir
 
 pub returns-then-second : goal.returns-then-second
 returns-then-second c =
-    second_stores (forms_in c.args.names.now.forms) c.args.first c.args.second c.never_equal-then-second.result c.if-first-second.false c.never_equal-then-second.ensures c.if-first.false c.if-second.true
+    second_stores (forms_in c.args.names.now.forms) c.args.first c.args.second c.never_equal-then-second.result c.if-first-second.false c.never_equal-then-second.ensures c.if-first.false
+    c.if-second.true

@@ -1,4 +1,4 @@
-use Rattle.std.proofs.Common.{ℕ, ◌≡◌, ◌∙◌, Option, Some, None, subst}
+use Rattle.std.proofs.Common.{Option, subst}
 use Rattle.std.specs.Prelude.{IfSome}
 use Rattle.pc_window.specs.Filled.{Filled}
 use Rattle.pc_window.specs.StoredWindow.{window_in}
@@ -6,7 +6,7 @@ use Rattle.pc_window.specs.declared.window.Window.{Window as StoredWindow}
 use Rattle.pc_fill.specs.declared.first.ReadyNode.{ReadyNode}
 use Rattle.pc_fill.specs.FirstReady.{IsFirstReady}
 use Rattle.pc_fill.specs.models.Places.{known_in}
-use Rattle.pc_fill.specs.models.CanFill.{CanFill, GrowsTo}
+use Rattle.pc_fill.specs.models.CanFill.{GrowsTo}
 use Rattle.pc_fill.proofs.Landed.{ok_all}
 use Rattle.pc_fill.proofs.Jumps.{filling_small, names_left, is_full, less_room, can_go_on, fills_on, grows_on}
 use Rattle.pc_fill.proofs.filling.+fill_on.Goals as goal

@@ -1,5 +1,5 @@
 use Rattle.std.proofs.Common.{◌-◌, ◌∙◌, ap}
-use Rattle.pc_window.specs.Tree.{Front, tree_size}
+use Rattle.pc_window.specs.Tree.{tree_size}
 use Rattle.pc_window.specs.declared.tree.WindowTree.{WindowTree}
 use Rattle.pc_window.specs.StoredWindow.{tree_in, front_in}
 use Rattle.pc_fill.specs.models.Landing.{crosses}

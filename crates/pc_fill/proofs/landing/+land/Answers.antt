@@ -1,7 +1,7 @@
-use Rattle.std.proofs.Common.{◌≡◌, ◌-◌, ◌∙◌, sym, ap}
-use Rattle.pc_window.specs.Tree.{Front, tree_size}
+use Rattle.std.proofs.Common.{◌-◌, ◌∙◌, sym, ap}
+use Rattle.pc_window.specs.Tree.{tree_size}
 use Rattle.pc_window.specs.declared.tree.WindowTree.{WindowTree}
-use Rattle.pc_window.specs.StoredWindow.{tree_in, front_in, forms_in}
+use Rattle.pc_window.specs.StoredWindow.{tree_in, front_in}
 use Rattle.pc_fill.specs.models.Landing.{landed}
 use Rattle.pc_fill.proofs.Landed.{ok_imply, landed_yes, landed_no}
 use Rattle.pc_fill.proofs.landing.+land.Goals as goal

@@ -1,7 +1,7 @@
-use Rattle.std.proofs.Common.{◌∙◌, ap, ℕ}
-use Rattle.pc_window.specs.Tree.{Front, tree_size}
+use Rattle.std.proofs.Common.{◌∙◌, ap}
+use Rattle.pc_window.specs.Tree.{tree_size}
 use Rattle.pc_window.specs.declared.tree.WindowTree.{WindowTree}
-use Rattle.pc_window.specs.StoredWindow.{tree_in, front_in, forms_in}
+use Rattle.pc_window.specs.StoredWindow.{tree_in, front_in}
 use Rattle.pc_fill.specs.models.Landing.{joins}
 use Rattle.pc_fill.proofs.Landed.{joins_off, joins_on}
 use Rattle.pc_fill.proofs.landing.joins_at.Goals as goal

@@ -1,6 +1,5 @@
-use Rattle.std.proofs.Common.{ℕ, ◌≡◌, ◌<◌, ◌+◌, ◌∙◌, List, length, sym, ap, subst, arith}
+use Rattle.std.proofs.Common.{◌+◌, ◌∙◌, sym, ap, subst, arith}
 use Rattle.std.specs.Prelude.{slice_set}
-use Rattle.pc_window.specs.declared.home.Home.{Home}
 use Rattle.pc_fill.proofs.Taken.{HomesSoFar, none_renamed, one_renamed, all_renamed}
 use Rattle.pc_fill.proofs.taking.rename_homes.Goals as goal
 

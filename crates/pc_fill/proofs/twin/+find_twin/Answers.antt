@@ -1,7 +1,7 @@
-use Rattle.std.proofs.Common.{◌≡◌, ◌↔◌, ℕ, suc, ◌+◌, ◌∙◌, true, refl, None, Option, sym, ap, subst, arith, length}
+use Rattle.std.proofs.Common.{◌≡◌, ℕ, suc, ◌+◌, ◌∙◌, refl, None, sym, ap, subst, arith, length}
 use Rattle.pc_window.specs.Tree.{Tree, Pending, Undecided, tree_size}
 use Rattle.pc_window.specs.declared.tree.WindowTree.{WindowTree}
-use Rattle.pc_window.specs.StoredWindow.{tree_in, front_in, forms_in}
+use Rattle.pc_window.specs.StoredWindow.{tree_in, forms_in}
 use Rattle.pc_fill.specs.models.Extent.{extent}
 use Rattle.pc_fill.specs.models.Search.{StandsAt}
 use Rattle.pc_fill.specs.models.Landing.{FirstFrom}
@@ -31,7 +31,8 @@ find_twin-requires-in-None t c =
     let falls = ap extent c.in-Test.is ∙ ap (λ (it : WindowTree). suc (extent c.in-Test.yes.value + extent it)) (sym c.deref-in-None.ensures) in
     let is : tree_in c.args.tree.now ≡ Undecided c.in-Test.tag c.in-Test.origin c.in-Test.on (tree_in c.deref-in-None-2.result.now) (tree_in c.deref-in-None.result.now) =
     ap tree_in c.in-Test.is ∙ (λ i. Undecided c.in-Test.tag c.in-Test.origin c.in-Test.on (tree_in (sym c.deref-in-None-2.ensures i)) (tree_in (sym c.deref-in-None.ensures i))) in
-    let below = behind_yes (tree_in c.args.tree.now) (tree_in c.deref-in-None-2.result.now) (tree_in c.deref-in-None.result.now) c.in-Test.tag c.in-Test.origin c.in-Test.on c.args.place (c.args.place + 1)
+    let below = behind_yes (tree_in c.args.tree.now) (tree_in c.deref-in-None-2.result.now) (tree_in c.deref-in-None.result.now) c.in-Test.tag c.in-Test.origin c.in-Test.on c.args.place
+    (c.args.place + 1)
     (c.args.place + 1 + c.size.result) (tree_in c.args.all.now) is refl (ap (λ (n : ℕ). c.args.place + 1 + n) c.size.ensures) c.requires.place c.requires.stands in
     (omega (arith, c.decreases, falls), (c.requires.small, (c.requires.names, (below.0, below.1))))
 
@@ -59,8 +60,10 @@ returns-in-None t c =
     ap (λ (it : WindowTree). tree_size (tree_in it)) (c.deref-in-Test.ensures ∙ sym c.deref-in-None-2.ensures) ∙ sym count in
     let forms = forms_in c.args.names.now.forms in let next = length c.args.names.now.forms in let seeker = c.args.seeker in let all = tree_in c.args.all.now in
     let none : FirstFrom forms next seeker.tag seeker.origin seeker.item all (c.args.place + 1) (c.args.place + 1 + tree_size (tree_in c.deref-in-Test.result.now)) None =
-    subst (FirstFrom forms next seeker.tag seeker.origin seeker.item all (c.args.place + 1) (c.args.place + 1 + tree_size (tree_in c.deref-in-Test.result.now))) c.in-None.is c.find_twin-in-Test.ensures in
-    on_no forms next seeker.tag seeker.origin seeker.item all c.args.place (c.args.place + 1) (c.args.place + 1 + c.size.result) (c.args.place + tree_size (tree_in c.args.tree.now)) c.find_twin-in-None.result
+    subst (FirstFrom forms next seeker.tag seeker.origin seeker.item all (c.args.place + 1) (c.args.place + 1 + tree_size (tree_in c.deref-in-Test.result.now))) c.in-None.is
+    c.find_twin-in-Test.ensures in
+    on_no forms next seeker.tag seeker.origin seeker.item all c.args.place (c.args.place + 1) (c.args.place + 1 + c.size.result)
+    (c.args.place + tree_size (tree_in c.args.tree.now)) c.find_twin-in-None.result
     c.in-Test.tag c.in-Test.origin c.in-Test.on p q refl (subst (λ (it : Tree). StandsAt it c.args.place all) is c.requires.stands)
     (subst (λ (n : ℕ). FirstFrom forms next seeker.tag seeker.origin seeker.item all (c.args.place + 1) (c.args.place + 1 + n) None) same none)
     (subst (λ (n : ℕ). FirstFrom forms next seeker.tag seeker.origin seeker.item all (c.args.place + 1 + c.size.result) n c.find_twin-in-None.result) end c.find_twin-in-None.ensures)

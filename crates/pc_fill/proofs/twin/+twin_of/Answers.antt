@@ -1,5 +1,5 @@
-use Rattle.std.proofs.Common.{◌≡◌, ℕ, ◌+◌, ◌-◌, ◌∙◌, true, false, sym, ap, subst, length}
-use Rattle.pc_window.specs.Tree.{Tree, Front, Split, whole, tree_size}
+use Rattle.std.proofs.Common.{◌≡◌, ◌+◌, ◌-◌, ◌∙◌, true, false, sym, ap, subst, length}
+use Rattle.pc_window.specs.Tree.{Tree, whole, tree_size}
 use Rattle.pc_window.specs.declared.tree.WindowTree.{WindowTree}
 use Rattle.pc_window.specs.StoredWindow.{tree_in, front_in, forms_in}
 use Rattle.pc_fill.specs.models.Landing.{FirstFrom, FirstIn, both_unfinished}
@@ -16,7 +16,8 @@ returns-then-place-on_yes t c =
     subst (λ (it : WindowTree). FirstIn forms next s.tag s.origin s.item (front_in it) c.args.place found) (sym c.in-Test.is)
     (front_no_side forms next s.tag s.origin s.item c.args.place c.in-Test.tag c.in-Test.origin c.in-Test.on (front_in p) (front_in q) c.size-on_yes.result size found c.if-place-eq0-2.false
     c.if-place-on_yes.true
-    (subst (λ (it : WindowTree). FirstIn forms next s.tag s.origin s.item (front_in it) (c.args.place - 1 - c.size-on_yes.result) found) c.deref-then-place-on_yes.ensures c.twin_of-then-place-on_yes.ensures))
+    (subst (λ (it : WindowTree). FirstIn forms next s.tag s.origin s.item (front_in it) (c.args.place - 1 - c.size-on_yes.result) found) c.deref-then-place-on_yes.ensures
+    c.twin_of-then-place-on_yes.ensures))
 
 pub returns-then-both_unfinished : goal.returns-then-both_unfinished
 returns-then-both_unfinished t c =
