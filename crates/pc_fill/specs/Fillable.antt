@@ -20,12 +20,17 @@ NodesBehind (stored.Trap kind line) = Unit {0}
 abbrev pub most_filled : ℕ
 most_filled = 2048
 
--- a window is small, its nodes are single behind the front, and numbers are left for new names and form variables
+-- more than the items and tests that any front may have
+abbrev pub above_front : ℕ
+above_front = 511
+
+-- a window is small, its nodes are single behind the front, and numbers are left for a name and a form variable for each item
+-- and test that may come into the front
 pub record IsFillable (w : StoredWindow) : Type 0 where
   pub size : tree_size (tree_in w.tree) ≤ most_filled
   pub nodes : NodesBehind w.tree
-  pub names : length w.names.forms < 2 ^ 30
-  pub variables : w.names.next_variable < 2 ^ 30
+  pub names : length w.names.forms + above_front < 2 ^ 31
+  pub variables : w.names.next_variable + above_front < 2 ^ 31
 
 -- what filling leaves: single nodes behind the front, no more items and tests behind a leaf than the window had, and as many
 -- new names and form variables, at most, as items and tests have come into the front

@@ -3,7 +3,7 @@ ghost use Rattle.std.specs.Prelude.{◌≡◌, ◌<◌, ◌+◌, IfOk};
 ghost use Rattle.pc_window.specs.Filled.{Filled};
 ghost use Rattle.pc_window.specs.Steps.{IsProper, FillsTo};
 ghost use Rattle.pc_window.specs.StoredWindow.{window_in};
-ghost use Rattle.pc_fill.specs.Fillable.{IsFillable, FilledFrom};
+ghost use Rattle.pc_fill.specs.Fillable.{IsFillable, FilledFrom, above_front};
 ghost use Rattle.pc_fill.specs.models.Places.{known_in};
 ghost use Rattle.pc_fill.specs.models.CanFill.{CanFill, GrowsTo};
 
@@ -34,7 +34,7 @@ pub fn fill(alloc: Global, window: Window) -> Result<Window, WindowError>
 /// How many items and tests a front may have.
 fn most_in_front(limits: Limits) -> u32
     ensures most { result ≡ limits.ops + limits.tests }
-    ensures few { result < 511 }
+    ensures few { result < above_front }
 {
     limits.ops as u32 + limits.tests as u32
 }

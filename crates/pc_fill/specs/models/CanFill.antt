@@ -5,7 +5,7 @@ use Rattle.pc_window.specs.Tree.{whole}
 use Rattle.pc_window.specs.Opening.{TreeBelow, FormsBelow}
 use Rattle.pc_window.specs.Filled.{IsWindow, MostBehind, front_size}
 use Rattle.pc_window.specs.StoredWindow.{front_in, supply_in, window_in}
-use Rattle.pc_fill.specs.Fillable.{NodesBehind, most_filled}
+use Rattle.pc_fill.specs.Fillable.{NodesBehind, most_filled, above_front}
 
 -- a window goes on being filled, where these names are known before it
 pub record CanFill (known : ℕ → Bool) (w : StoredWindow) : Type 0 where
@@ -15,7 +15,7 @@ pub record CanFill (known : ℕ → Bool) (w : StoredWindow) : Type 0 where
   pub known_below : (x : ℕ) → known x ≡ true → x < length w.names.forms
   pub most : MostBehind most_filled (front_in w.tree)
   pub nodes : NodesBehind w.tree
-  pub few : w.limits.ops + w.limits.tests < 511
+  pub few : w.limits.ops + w.limits.tests < above_front
   pub names : length w.names.forms + (w.limits.ops + w.limits.tests) < 2 ^ 31 + front_size (front_in w.tree)
   pub variables : w.names.next_variable + (w.limits.ops + w.limits.tests) < 2 ^ 31 + front_size (front_in w.tree)
 
