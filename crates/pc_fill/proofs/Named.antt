@@ -1,0 +1,123 @@
+-- What comes, with its name, and the window that it comes to.
+use Rattle.std.proofs.Common.{◌≡◌, ℕ, Bool, true, false, Option, Some, None, length, refl, sym, ◌∙◌, ap, subst}
+use Rattle.pc_word.specs.declared.item.Item.{Item}
+use Rattle.pc_word.specs.declared.item.Item.TheVariants.{Bin, Copy, Load, Store, Print, Read, More}
+use Rattle.pc_word.specs.Items.{dest_of}
+use Rattle.pc_linear.specs.Form.{Form}
+use Rattle.pc_window.specs.declared.tree.WindowTree.{WindowTree}
+use Rattle.pc_window.specs.declared.names.NameTable.{NameTable}
+use Rattle.pc_window.specs.declared.window.Window.{Window as StoredWindow}
+use Rattle.pc_window.specs.Tree.{Front}
+use Rattle.pc_window.specs.Rename.{with_dest}
+use Rattle.pc_window.specs.Opening.{Supply, with_name}
+use Rattle.pc_window.specs.Jump.{combined}
+use Rattle.pc_window.specs.Filled.{given_supply}
+use Rattle.pc_window.specs.StoredWindow.{front_in, forms_in, supply_in, window_in}
+use Rattle.pc_fill.specs.declared.first.ReadyNode.{ReadyNode}
+use Rattle.pc_fill.specs.models.Landing.{landed, came, new_name, FirstIn, FirstTwinOf, renames, coming_of, names_after, HasCome}
+
+-- ---- names
+
+unnamed : (n : ℕ) (x : Item) → dest_of x ≡ None → dest_of (with_dest n x) ≡ None
+unnamed n (Bin o d l r) e = absurd (cc)
+unnamed n (Copy d from) e = absurd (cc)
+unnamed n (Load d a index) e = absurd (cc)
+unnamed n (Store a index v) e = refl
+unnamed n (Print v) e = refl
+unnamed n (Read d) e = absurd (cc)
+unnamed n (More d) e = absurd (cc)
+
+named : (n d : ℕ) (x : Item) → dest_of x ≡ Some d → dest_of (with_dest n x) ≡ Some n
+named n e (Bin o d l r) h = refl
+named n e (Copy d from) h = refl
+named n e (Load d a index) h = refl
+named n e (Store a index v) h = absurd (cc)
+named n e (Print v) h = absurd (cc)
+named n e (Read d) h = refl
+named n e (More d) h = refl
+
+same_combined : (forms : ℕ → Form) (n : ℕ) (x : Item) → combined forms (with_dest n x) ≡ combined forms x
+same_combined forms n (Bin o d l r) = refl
+same_combined forms n (Copy d from) = refl
+same_combined forms n (Load d a index) = refl
+same_combined forms n (Store a index v) = refl
+same_combined forms n (Print v) = refl
+same_combined forms n (Read d) = refl
+same_combined forms n (More d) = refl
+
+module _ (names : NameTable) (item : Item) (renamed : Bool) where
+  -- without a new name
+  pub kept_item : renamed ≡ false → Some item ≡ came (length names.forms) renamed (Some item)
+  kept_item e = ap (λ (b : Bool). came (length names.forms) b (Some item)) (sym e)
+
+  pub kept_names : renamed ≡ false → supply_in names ≡ given_supply (supply_in names) (new_name (length names.forms) renamed (Some item)) (came (length names.forms) renamed (Some item))
+  kept_names e = ap (λ (b : Bool). given_supply (supply_in names) (new_name (length names.forms) b (Some item)) (came (length names.forms) b (Some item))) (sym e)
+
+  -- with a name for an item that writes none
+  pub plain_names : renamed ≡ true → dest_of item ≡ None → supply_in names ≡ given_supply (supply_in names) (new_name (length names.forms) renamed (Some item))
+      (came (length names.forms) renamed (Some item))
+  plain_names e none =
+      ap (λ (d : Option ℕ). given_supply (supply_in names) d (Some (with_dest (length names.forms) item))) (sym (unnamed (length names.forms) item none))
+      ∙ ap (λ (b : Bool). given_supply (supply_in names) (new_name (length names.forms) b (Some item)) (came (length names.forms) b (Some item))) (sym e)
+
+  pub named_item : (n : ℕ) (it : Item) → renamed ≡ true → n ≡ length names.forms → it ≡ with_dest n item → Some it ≡ came (length names.forms) renamed (Some item)
+  named_item n it e is h = ap Some (h ∙ ap (λ (k : ℕ). with_dest k item) is) ∙ ap (λ (b : Bool). came (length names.forms) b (Some item)) (sym e)
+
+  -- with the next name
+  pub named_names : (d : ℕ) (form : Option Form) (later : Supply) → renamed ≡ true → dest_of item ≡ Some d → form ≡ combined (forms_in names.forms) item → later ≡ with_name (supply_in names) form
+      → later ≡ given_supply (supply_in names) (new_name (length names.forms) renamed (Some item)) (came (length names.forms) renamed (Some item))
+  named_names d form later e some is h =
+      let n = length names.forms in
+      h ∙ ap (with_name (supply_in names)) (is ∙ sym (same_combined (forms_in names.forms) n item))
+      ∙ ap (λ (o : Option ℕ). given_supply (supply_in names) o (Some (with_dest n item))) (sym (named n d item some))
+      ∙ ap (λ (b : Bool). given_supply (supply_in names) (new_name n b (Some item)) (came n b (Some item))) (sym e)
+
+-- a test comes without a name
+pub test_names : (names : NameTable) (renamed : Bool) → supply_in names ≡ given_supply (supply_in names) (new_name (length names.forms) renamed None) (came (length names.forms) renamed None)
+test_names names true = refl
+test_names names false = refl
+
+-- ---- twins
+
+pub item_twin : (forms : ℕ → Form) (n tag origin : ℕ) (what : Option Item) (item : Item) (front : Front) (place : ℕ) (found : Option ℕ) → what ≡ Some item
+    → FirstIn forms n tag origin item front place found → FirstTwinOf forms n tag origin what front place found
+item_twin forms n tag origin what item front place found is h = subst (λ (w : Option Item). FirstTwinOf forms n tag origin w front place found) (sym is) h
+
+pub test_twin : (forms : ℕ → Form) (n tag origin : ℕ) (what : Option Item) (front : Front) (place : ℕ) → what ≡ None → FirstTwinOf forms n tag origin what front place None
+test_twin forms n tag origin what front place is = subst (λ (w : Option Item). FirstTwinOf forms n tag origin w front place None) (sym is) refl
+
+-- ---- the window
+
+pub has_come : (w : StoredWindow) (r : ReadyNode) (twin : Option ℕ) (renamed : Bool) (item : Option Item) (tree : WindowTree) (names : NameTable)
+    → FirstTwinOf (forms_in w.names.forms) (length w.names.forms) r.tag r.origin r.item (front_in w.tree) r.place twin
+    → renamed ≡ renames (window_in w) r twin
+    → item ≡ came (length w.names.forms) renamed r.item
+    → supply_in names ≡ given_supply (supply_in w.names) (new_name (length w.names.forms) renamed r.item) (came (length w.names.forms) renamed r.item)
+    → front_in tree ≡ landed (record { tag = r.tag; origin = r.origin; item = item; twin = twin }) (front_in w.tree) r.place
+    → HasCome (window_in w) r (window_in (record { tree = tree; names = names; limits = w.limits; inside = w.inside }))
+has_come w r twin renamed item tree names first is comes given lands =
+    let item_is : item ≡ came (length w.names.forms) (renames (window_in w) r twin) r.item = comes ∙ ap (λ (b : Bool). came (length w.names.forms) b r.item) is in
+    let front_is : front_in tree ≡ landed (coming_of (window_in w) r twin) (front_in w.tree) r.place =
+    lands ∙ ap (λ (o : Option Item). landed (record { tag = r.tag; origin = r.origin; item = o; twin = twin }) (front_in w.tree) r.place) item_is in
+    let names_is : supply_in names ≡ names_after (window_in w) r twin =
+    given ∙ ap (λ (b : Bool). given_supply (supply_in w.names) (new_name (length w.names.forms) b r.item) (came (length w.names.forms) b r.item)) is in
+    record {
+      twin = twin;
+      first = first;
+      is = λ i. record {
+        front = front_is i;
+        forms = (names_is i).forms;
+        next = (names_is i).next;
+        next_variable = (names_is i).next_variable;
+        limits = w.limits;
+        inside = w.inside;
+      };
+    }
+
+pub ruleset naming = (kept_item, kept_names, plain_names, named_item, named_names)
+
+pub ruleset coming = (test_names)
+
+pub ruleset twinned = (item_twin, test_twin)
+
+pub ruleset jumping = (has_come)

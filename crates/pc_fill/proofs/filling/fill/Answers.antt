@@ -1,0 +1,18 @@
+use Rattle.std.proofs.Common.{◌<◌, ◌∙◌, ℕ, ap, subst}
+use Rattle.pc_fill.specs.models.Places.{known_in}
+use Rattle.pc_fill.proofs.Jumps.{can_begin, proper_after, filled_from}
+use Rattle.pc_fill.proofs.filling.fill.Goals as goal
+
+pub fill_on-requires : goal.fill_on-requires
+fill_on-requires c =
+    can_begin c.args.window c.requires.proper c.requires.fillable (known_in c.deref.result.now) (ap known_in c.deref.ensures.value ∙ c.in_ok-known.ensures)
+    (subst (λ (n : ℕ). n < 511) c.most_in_front-most.ensures.most c.most_in_front-most.ensures.few)
+
+pub returns-clause-left : goal.returns-clause-left
+returns-clause-left c =
+    filled_from c.args.window c.requires.proper c.requires.fillable (known_in c.deref.result.now) c.in_ok-filled.filled c.in_ok-filled.ensures.fills c.in_ok-filled.ensures.grows
+
+pub returns-clause-proper : goal.returns-clause-proper
+returns-clause-proper c =
+    proper_after c.args.window c.requires.proper c.requires.fillable (known_in c.deref.result.now) (ap known_in c.deref.ensures.value ∙ c.in_ok-known.ensures) c.in_ok-filled.filled
+    c.in_ok-filled.ensures.fills

@@ -1,0 +1,4 @@
+pub mod models
+pub mod FirstReady
+pub mod Fillable
+pub mod Laws

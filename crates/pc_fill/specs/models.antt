@@ -1,0 +1,10 @@
+pub mod Touches
+pub mod Places
+pub mod Extent
+pub mod Known
+pub mod Search
+pub mod Taking
+pub mod Landing
+pub mod Signature
+pub mod CanFill
+pub mod TwoSteps

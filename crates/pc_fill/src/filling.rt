@@ -1,0 +1,55 @@
+//! Filling a window.
+ghost use Rattle.std.specs.Prelude.{◌≡◌, ◌<◌, ◌+◌, IfOk};
+ghost use Rattle.pc_window.specs.Filled.{Filled};
+ghost use Rattle.pc_window.specs.Steps.{IsProper, FillsTo};
+ghost use Rattle.pc_window.specs.StoredWindow.{window_in};
+ghost use Rattle.pc_fill.specs.Fillable.{IsFillable, FilledFrom, above_front};
+ghost use Rattle.pc_fill.specs.models.Places.{known_in};
+ghost use Rattle.pc_fill.specs.models.CanFill.{CanFill, GrowsTo};
+
+use crate::first::first_known;
+use crate::jump::jump;
+use crate::known::parameters;
+use pc_window::{Window, WindowError};
+use pc_word::Limits;
+use std::alloc::{AllocError, Global};
+
+/// Fills a window's front: again and again the first item or test that is ready and has room comes
+/// into it, until there is none. A window that is not given back, for want of memory, is dropped.
+pub fn fill(alloc: Global, window: Window) -> Result<Window, WindowError>
+    requires proper { IsProper (window_in window) }
+    requires fillable { IsFillable window }
+    ensures fills { IfOk result (λ later. FillsTo (window_in window) (window_in later)) }
+    ensures proper { IfOk result (λ later. IsProper (window_in later)) }
+    ensures left { IfOk result (λ later. FilledFrom window later) }
+{
+    let known = parameters(alloc, &window)?;
+    let most = most_in_front(window.limits);
+    let few = most < 511;
+    prove!(few);
+    let filled = fill_on(alloc, window, &known)?;
+    Ok(filled)
+}
+
+/// How many items and tests a front may have.
+fn most_in_front(limits: Limits) -> u32
+    ensures most { result ≡ limits.ops + limits.tests }
+    ensures few { result < above_front }
+{
+    limits.ops as u32 + limits.tests as u32
+}
+
+/// Goes on filling a window, where these names are known before it.
+fn fill_on(alloc: Global, window: Window, known: &[bool]) -> Result<Window, AllocError>
+    requires { CanFill (known_in known.now) window }
+    ensures fills { IfOk result (λ later. Filled (known_in known.now) (window_in window) (window_in later)) }
+    ensures grows { IfOk result (λ later. GrowsTo window later) }
+{
+    match first_known(&window, known) {
+        None => Ok(window),
+        Some(ready) => {
+            let next = jump(alloc, window, ready)?;
+            fill_on(alloc, next, known)
+        }
+    }
+}

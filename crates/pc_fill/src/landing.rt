@@ -1,0 +1,282 @@
+//! What comes into the front: an item at the end of its path, or a test in place of its leaf.
+ghost use Rattle.std.specs.Prelude.{◌≡◌, ◌<◌, ◌^◌, ◌-◌, true, false, Some, IfOk, OnOk};
+ghost use Rattle.pc_word.specs.Items.{dest_of};
+ghost use Rattle.pc_window.specs.Tree.{tree_size, Issued, Split, Unfinished, whole};
+ghost use Rattle.pc_window.specs.StoredWindow.{tree_in, front_in, InNodes};
+ghost use Rattle.pc_fill.specs.models.Taking.{taken_out, divided_on, divided_yes, divided_no, is_leaf};
+ghost use Rattle.pc_fill.specs.Fillable.{NodesBehind};
+ghost use Rattle.pc_fill.specs.models.Landing.{both_unfinished, joins, behind_leaf, above_test, place_or_root, landed, joins_at};
+
+use crate::readiness::size;
+use crate::taking::{Divided, dest_of, divide, is_leaf, take_out};
+use pc_window::WindowTree;
+use pc_word::{Item, Operand};
+use std::alloc::{AllocError, Global};
+
+/// What comes into the front: its tag and origin, the item, or `None` where it is a test, and the
+/// place of its twin, where it has one.
+#[derive(Clone, Copy, Debug)]
+pub(crate) struct Coming {
+    pub(crate) tag: u32,
+    pub(crate) origin: u32,
+    pub(crate) item: Option<Item>,
+    pub(crate) twin: Option<u32>,
+}
+
+/// Whether nothing of either side is finished.
+pub(crate) fn both_unfinished(yes: &WindowTree, no: &WindowTree) -> bool
+    ensures { result ≡ both_unfinished (front_in yes.now) (front_in no.now) }
+{
+    if is_leaf(yes) {
+        return is_leaf(no);
+    }
+    false
+}
+
+/// Whether an item is one with its twin at a test.
+fn joins(twin: Option<u32>, yes: &WindowTree, no: &WindowTree) -> bool
+    ensures { result ≡ joins twin (front_in yes.now) (front_in no.now) }
+{
+    match twin {
+        Some(_) => both_unfinished(yes, no),
+        None => false,
+    }
+}
+
+/// An item goes to the end of the path above a leaf.
+#[tactic(auto, using(crate::proofs::Landed::landing))]
+fn land_item(
+    alloc: Global,
+    tree: &mut WindowTree,
+    coming: Coming,
+    item: Item,
+    place: u32,
+) -> Result<(), AllocError>
+    requires small { tree_size (tree_in tree.old) < 2 ^ 31 }
+    requires nodes { InNodes false tree.old }
+    ensures front { OnOk result (front_in tree.new ≡ Issued coming.tag coming.origin item (Unfinished (taken_out (dest_of item) (tree_in tree.old) place))) }
+    ensures nodes { OnOk result (NodesBehind tree.new) }
+{
+    take_out(tree, place, dest_of(item));
+    let left = std::mem::replace(tree, WindowTree::Stop);
+    let rest = Box::new(alloc, left)?;
+    *tree = WindowTree::Step {
+        tag: coming.tag,
+        origin: coming.origin,
+        item,
+        rest,
+    };
+    Ok(())
+}
+
+/// A test replaces a leaf.
+#[tactic(auto, using(crate::proofs::Landed::landing))]
+fn land_test(alloc: Global, tree: &mut WindowTree, coming: Coming) -> Result<(), AllocError>
+    requires nodes { InNodes false tree.old }
+    ensures front { OnOk result (front_in tree.new
+        ≡ Split coming.tag coming.origin (divided_on (tree_in tree.old)) (Unfinished (divided_yes (tree_in tree.old))) (Unfinished (divided_no (tree_in tree.old)))) }
+    ensures nodes { OnOk result (NodesBehind tree.new) }
+{
+    let from = std::mem::replace(tree, WindowTree::Stop);
+    let Divided { on, yes, no } = divide(alloc, from)?;
+    let yes = Box::new(alloc, yes)?;
+    let no = Box::new(alloc, no)?;
+    *tree = WindowTree::Test {
+        tag: coming.tag,
+        origin: coming.origin,
+        on,
+        yes,
+        no,
+    };
+    Ok(())
+}
+
+/// What comes from behind a leaf comes into the front there.
+#[tactic(auto, using(crate::proofs::Landed::landing))]
+fn land_behind(
+    alloc: Global,
+    tree: &mut WindowTree,
+    coming: Coming,
+    place: u32,
+) -> Result<(), AllocError>
+    requires small { tree_size (tree_in tree.old) < 2 ^ 31 }
+    requires nodes { InNodes false tree.old }
+    ensures front { OnOk result (front_in tree.new ≡ behind_leaf coming coming.item (tree_in tree.old) place) }
+    ensures nodes { OnOk result (NodesBehind tree.new) }
+{
+    match coming.item {
+        Some(item) => land_item(alloc, tree, coming, item, place),
+        None => land_test(alloc, tree, coming),
+    }
+}
+
+/// Whether an item is one with its twin right at the root of a front.
+fn joins_at(twin: Option<u32>, tree: &WindowTree, place: u32) -> bool
+    requires { tree_size (tree_in tree.now) < 2 ^ 31 }
+    ensures { result ≡ joins_at twin (front_in tree.now) place }
+{
+    match tree {
+        WindowTree::Step { .. } => false,
+        WindowTree::Test { yes, no, .. } => {
+            if place == 0 {
+                return false;
+            }
+            if place - 1 >= size(yes) {
+                return false;
+            }
+            joins(twin, yes, no)
+        }
+        WindowTree::Node { .. } => false,
+        WindowTree::Exit { .. } => false,
+        WindowTree::Stop => false,
+        WindowTree::Trap { .. } => false,
+    }
+}
+
+/// An item that stands on both sides of a test, at these places, becomes one above it.
+#[tactic(auto, using(crate::proofs::Landed::landing))]
+fn above(
+    alloc: Global,
+    coming: Coming,
+    item: Item,
+    place: u32,
+    twin: u32,
+    tag: u32,
+    origin: u32,
+    on: Operand,
+    yes: Box<WindowTree>,
+    no: Box<WindowTree>,
+) -> Result<WindowTree, AllocError>
+    requires yes_small { tree_size (tree_in yes.value) < 2 ^ 31 }
+    requires no_small { tree_size (tree_in no.value) < 2 ^ 31 }
+    requires yes_nodes { InNodes false yes.value }
+    requires no_nodes { InNodes false no.value }
+    ensures front { IfOk result (λ it. front_in it ≡ Issued coming.tag coming.origin item
+        (Split tag origin on (Unfinished (taken_out (dest_of item) (tree_in yes.value) place)) (Unfinished (taken_out (dest_of item) (tree_in no.value) twin)))) }
+    ensures nodes { IfOk result (λ it. NodesBehind it) }
+{
+    let mut yes = yes;
+    let mut no = no;
+    take_out(&mut yes, place, dest_of(item));
+    take_out(&mut no, twin, dest_of(item));
+    let rest = Box::new(
+        alloc,
+        WindowTree::Test {
+            tag,
+            origin,
+            on,
+            yes,
+            no,
+        },
+    )?;
+    Ok(WindowTree::Step {
+        tag: coming.tag,
+        origin: coming.origin,
+        item,
+        rest,
+    })
+}
+
+/// An item and its twin become one above the test at the root.
+#[tactic(auto, using(crate::proofs::Landed::landing, crate::proofs::Landed::joining))]
+fn above_root(
+    alloc: Global,
+    tree: WindowTree,
+    coming: Coming,
+    item: Item,
+    place: u32,
+    twin: u32,
+) -> Result<WindowTree, AllocError>
+    requires small { tree_size (tree_in tree) < 2 ^ 31 }
+    requires nodes { NodesBehind tree }
+    requires item { coming.item ≡ Some item }
+    requires twin { coming.twin ≡ Some twin }
+    requires joins { joins_at coming.twin (front_in tree) place ≡ true }
+    ensures front { IfOk result (λ it. front_in it ≡ landed coming (front_in tree) place) }
+    ensures nodes { IfOk result (λ it. NodesBehind it) }
+{
+    match tree {
+        WindowTree::Test {
+            tag,
+            origin,
+            on,
+            yes,
+            no,
+        } => above(
+            alloc,
+            coming,
+            item,
+            place - 1,
+            twin,
+            tag,
+            origin,
+            on,
+            yes,
+            no,
+        ),
+        other => Ok(other),
+    }
+}
+
+/// The same in place.
+#[tactic(auto, using(crate::proofs::Landed::landing, crate::proofs::Landed::joining))]
+fn land_above(
+    alloc: Global,
+    tree: &mut WindowTree,
+    coming: Coming,
+    place: u32,
+) -> Result<(), AllocError>
+    requires small { tree_size (tree_in tree.old) < 2 ^ 31 }
+    requires nodes { NodesBehind tree.old }
+    requires joins { joins_at coming.twin (front_in tree.old) place ≡ true }
+    ensures front { OnOk result (front_in tree.new ≡ landed coming (front_in tree.old) place) }
+    ensures nodes { OnOk result (NodesBehind tree.new) }
+{
+    let Some(item) = coming.item else {
+        return Ok(());
+    };
+    let Some(twin) = coming.twin else {
+        return Ok(());
+    };
+    let whole = std::mem::replace(tree, WindowTree::Stop);
+    *tree = above_root(alloc, whole, coming, item, place, twin)?;
+    Ok(())
+}
+
+/// What is ready at a place comes into the front.
+#[tactic(auto, using(crate::proofs::Landed::landing, crate::proofs::Landed::descending))]
+pub(crate) fn land(
+    alloc: Global,
+    tree: &mut WindowTree,
+    coming: Coming,
+    place: u32,
+) -> Result<(), AllocError>
+    requires small { tree_size (tree_in tree.old) < 2 ^ 31 }
+    requires nodes { NodesBehind tree.old }
+    ensures front { OnOk result (front_in tree.new ≡ landed coming (front_in tree.old) place) }
+    ensures nodes { OnOk result (NodesBehind tree.new) }
+{
+    if is_leaf(tree) {
+        return land_behind(alloc, tree, coming, place);
+    }
+    if joins_at(coming.twin, tree, place) {
+        return land_above(alloc, tree, coming, place);
+    }
+    if place == 0 {
+        return Ok(());
+    }
+    match tree {
+        WindowTree::Step { rest, .. } => land(alloc, rest, coming, place - 1),
+        WindowTree::Test { yes, no, .. } => {
+            let on_yes = size(yes);
+            if place - 1 < on_yes {
+                return land(alloc, yes, coming, place - 1);
+            }
+            land(alloc, no, coming, place - 1 - on_yes)
+        }
+        WindowTree::Node { .. } => Ok(()),
+        WindowTree::Exit { .. } => Ok(()),
+        WindowTree::Stop => Ok(()),
+        WindowTree::Trap { .. } => Ok(()),
+    }
+}

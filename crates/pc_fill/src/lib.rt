@@ -1,0 +1,21 @@
+//! Filling: what stands behind a window's front and is ready comes into it, as long as there is room.
+#![tactic(auto)]
+
+mod conflict;
+mod filling;
+mod first;
+mod jump;
+mod known;
+mod landing;
+mod laws;
+mod readiness;
+mod room;
+mod signature;
+mod taking;
+#[cfg(test)]
+mod tests;
+mod twin;
+
+pub use filling::fill;
+pub use first::{ReadyNode, first_ready};
+pub use laws::law_of_opened_windows;

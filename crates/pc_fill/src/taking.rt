@@ -1,0 +1,314 @@
+//! Taking an item out of a tree, and dividing a tree at a test.
+ghost use Rattle.std.specs.Prelude.{◌≡◌, ◌≢◌, Bool, ◌<◌, ◌^◌, true, false, Some, IfOk, length, slice_get};
+ghost use Rattle.pc_word.specs.Items.{dest_of};
+ghost use Rattle.pc_window.specs.Tree.{tree_size, Pending};
+ghost use Rattle.pc_window.specs.Rename.{map_operands, map_homes, mapped, renamed};
+ghost use Rattle.pc_window.specs.StoredWindow.{tree_in, InNodes};
+ghost use Rattle.pc_fill.specs.models.Taking.{taken_out, starts_with_item, divided_on, divided_yes, divided_no, is_leaf};
+
+use crate::readiness::size;
+use pc_window::{Home, HomeList, WindowTree};
+use pc_word::{Item, Operand};
+use std::alloc::{AllocError, Global};
+
+/// The name that an item writes.
+pub(crate) fn dest_of(item: Item) -> Option<u32>
+    ensures { result ≡ dest_of item }
+{
+    match item {
+        Item::Bin { dest, .. } => Some(dest),
+        Item::Copy { dest, .. } => Some(dest),
+        Item::Load { dest, .. } => Some(dest),
+        Item::Store { .. } => None,
+        Item::Print { .. } => None,
+        Item::Read { dest } => Some(dest),
+        Item::More { dest } => Some(dest),
+    }
+}
+
+/// An operand with one name in place of another.
+fn renamed_operand(operand: Operand, old: u32, new: u32) -> Operand
+    ensures { result ≡ renamed (Some old) (Some new) operand }
+{
+    match operand {
+        Operand::Name(name) => {
+            if old == name {
+                Operand::Name(new)
+            } else {
+                Operand::Name(name)
+            }
+        }
+        Operand::Lit(value) => Operand::Lit(value),
+    }
+}
+
+/// An item that reads one name in place of another.
+fn renamed_item(item: Item, old: u32, new: u32) -> Item
+    ensures { result ≡ map_operands (renamed (Some old) (Some new)) item }
+{
+    match item {
+        Item::Bin {
+            op,
+            dest,
+            left,
+            right,
+        } => Item::Bin {
+            op,
+            dest,
+            left: renamed_operand(left, old, new),
+            right: renamed_operand(right, old, new),
+        },
+        Item::Copy { dest, from } => Item::Copy {
+            dest,
+            from: renamed_operand(from, old, new),
+        },
+        Item::Load { dest, array, index } => Item::Load {
+            dest,
+            array,
+            index: renamed_operand(index, old, new),
+        },
+        Item::Store {
+            array,
+            index,
+            value,
+        } => Item::Store {
+            array,
+            index: renamed_operand(index, old, new),
+            value: renamed_operand(value, old, new),
+        },
+        Item::Print { value } => Item::Print {
+            value: renamed_operand(value, old, new),
+        },
+        Item::Read { dest } => Item::Read { dest },
+        Item::More { dest } => Item::More { dest },
+    }
+}
+
+/// A home of a list.
+fn home_at(homes: &HomeList, at: usize) -> Home
+    requires { at < length homes.now }
+    ensures { slice_get homes.now at ≡ Some result }
+{
+    homes.as_slice()[at]
+}
+
+/// A home that reads one name in place of another.
+fn renamed_home(home: Home, old: u32, new: u32) -> Home
+    ensures { result ≡ record { variable = home.variable; value = renamed (Some old) (Some new) home.value } }
+{
+    Home {
+        variable: home.variable,
+        value: renamed_operand(home.value, old, new),
+    }
+}
+
+/// Homes that read one name in place of another.
+fn rename_homes(homes: &mut HomeList, old: u32, new: u32)
+    ensures { homes.new ≡ map_homes (renamed (Some old) (Some new)) homes.old }
+{
+    for at in 0..homes.len() {
+        let home = home_at(homes, at);
+        homes.set(at, renamed_home(home, old, new));
+    }
+}
+
+/// A tree that reads one name in place of another.
+fn rename(tree: &mut WindowTree, old: u32, new: u32)
+    ensures tree { tree_in tree.new ≡ mapped (renamed (Some old) (Some new)) (tree_in tree.old) }
+    ensures nodes { (at_root : Bool) → InNodes at_root tree.old → InNodes at_root tree.new }
+{
+    match tree {
+        WindowTree::Step { item, rest, .. } => {
+            *item = renamed_item(*item, old, new);
+            rename(rest, old, new);
+        }
+        WindowTree::Test { on, yes, no, .. } => {
+            *on = renamed_operand(*on, old, new);
+            rename(yes, old, new);
+            rename(no, old, new);
+        }
+        WindowTree::Node { below } => rename(below, old, new),
+        WindowTree::Exit { homes, .. } => rename_homes(homes, old, new),
+        WindowTree::Stop => {}
+        WindowTree::Trap { .. } => {}
+    }
+}
+
+/// What stands below an item, where what the item writes gets this name.
+#[tactic(auto, using(crate::proofs::Taken::taking))]
+fn rest_of(item: Item, below: WindowTree, name: Option<u32>) -> WindowTree
+    ensures tree { tree_in result ≡ mapped (renamed (dest_of item) name) (tree_in below) }
+    ensures nodes { (at_root : Bool) → InNodes at_root below → InNodes at_root result }
+{
+    let mut rest = below;
+    if let Some(old) = dest_of(item) {
+        if let Some(new) = name {
+            rename(&mut rest, old, new);
+        }
+    }
+    rest
+}
+
+/// Whether an item stands at the root of a tree.
+fn starts_with_item(tree: &WindowTree) -> bool
+    ensures { result ≡ starts_with_item (tree_in tree.now) }
+{
+    match tree {
+        WindowTree::Step { .. } => true,
+        WindowTree::Test { .. } => false,
+        WindowTree::Node { below } => starts_with_item(below),
+        WindowTree::Exit { .. } => false,
+        WindowTree::Stop => false,
+        WindowTree::Trap { .. } => false,
+    }
+}
+
+/// A tree without the item at its root.
+#[tactic(auto, using(crate::proofs::Taken::taking))]
+fn without_root(tree: WindowTree, name: Option<u32>) -> WindowTree
+    requires { starts_with_item (tree_in tree) ≡ true }
+    ensures tree { tree_in result ≡ taken_out name (tree_in tree) 0 }
+    ensures nodes { (at_root : Bool) → InNodes at_root tree → InNodes false result }
+{
+    match tree {
+        WindowTree::Step { item, rest, .. } => rest_of(item, Box::into_inner(rest), name),
+        WindowTree::Node { below } => without_root(Box::into_inner(below), name),
+        other => other,
+    }
+}
+
+/// Takes the item at the root out.
+#[tactic(auto, using(crate::proofs::Taken::taking))]
+fn take_root(tree: &mut WindowTree, name: Option<u32>)
+    ensures tree { tree_in tree.new ≡ taken_out name (tree_in tree.old) 0 }
+    ensures nodes { InNodes false tree.old → InNodes false tree.new }
+{
+    if starts_with_item(tree) {
+        let whole = std::mem::replace(tree, WindowTree::Stop);
+        *tree = without_root(whole, name);
+    }
+}
+
+/// Whether a tree is what a leaf of the front leads to.
+pub(crate) fn is_leaf(tree: &WindowTree) -> bool
+    ensures { result ≡ is_leaf tree.now }
+{
+    match tree {
+        WindowTree::Step { .. } => false,
+        WindowTree::Test { .. } => false,
+        WindowTree::Node { .. } => true,
+        WindowTree::Exit { .. } => true,
+        WindowTree::Stop => true,
+        WindowTree::Trap { .. } => true,
+    }
+}
+
+/// Takes the item at a place out, where what it writes gets this name.
+#[tactic(auto, using(crate::proofs::Taken::taking))]
+pub(crate) fn take_out(tree: &mut WindowTree, place: u32, name: Option<u32>)
+    requires { tree_size (tree_in tree.old) < 2 ^ 31 }
+    ensures tree { tree_in tree.new ≡ taken_out name (tree_in tree.old) place }
+    ensures below { InNodes false tree.old → InNodes false tree.new }
+    ensures root { place ≢ 0 → InNodes true tree.old → InNodes true tree.new }
+{
+    if place == 0 {
+        return take_root(tree, name);
+    }
+    match tree {
+        WindowTree::Step { rest, .. } => take_out(rest, place - 1, name),
+        WindowTree::Test { yes, no, .. } => {
+            let on_yes = size(yes);
+            if place - 1 < on_yes {
+                take_out(yes, place - 1, name)
+            } else {
+                take_out(no, place - 1 - on_yes, name)
+            }
+        }
+        WindowTree::Node { below } => take_out(below, place, name),
+        WindowTree::Exit { .. } => {}
+        WindowTree::Stop => {}
+        WindowTree::Trap { .. } => {}
+    }
+}
+
+/// A tree that a test divides.
+#[derive(Debug, Drop)]
+pub(crate) struct Divided {
+    pub(crate) on: Operand,
+    pub(crate) yes: WindowTree,
+    pub(crate) no: WindowTree,
+}
+
+/// The two sides of the first test of a tree, each behind the items above it.
+pub(crate) fn divide(alloc: Global, tree: WindowTree) -> Result<Divided, AllocError>
+    ensures on { IfOk result (λ it. it.on ≡ divided_on (tree_in tree)) }
+    ensures yes { IfOk result (λ it. tree_in it.yes ≡ divided_yes (tree_in tree)) }
+    ensures no { IfOk result (λ it. tree_in it.no ≡ divided_no (tree_in tree)) }
+    ensures nodes { (at_root : Bool) → InNodes at_root tree → IfOk result (λ it. InNodes false it.yes × InNodes false it.no) }
+{
+    match tree {
+        WindowTree::Step {
+            tag,
+            origin,
+            item,
+            rest,
+        } => {
+            let below = divide(alloc, Box::into_inner(rest))?;
+            behind_item(alloc, tag, origin, item, below)
+        }
+        WindowTree::Test { on, yes, no, .. } => Ok(Divided {
+            on,
+            yes: Box::into_inner(yes),
+            no: Box::into_inner(no),
+        }),
+        WindowTree::Node { below } => divide(alloc, Box::into_inner(below)),
+        other => Ok(Divided {
+            on: Operand::Lit(0),
+            yes: other,
+            no: WindowTree::Stop,
+        }),
+    }
+}
+
+/// The two sides behind one item more.
+fn behind_item(
+    alloc: Global,
+    tag: u32,
+    origin: u32,
+    item: Item,
+    below: Divided,
+) -> Result<Divided, AllocError>
+    ensures on { IfOk result (λ it. it.on ≡ below.on) }
+    ensures yes { IfOk result (λ it. tree_in it.yes ≡ Pending tag origin item (tree_in below.yes)) }
+    ensures no { IfOk result (λ it. tree_in it.no ≡ Pending tag origin item (tree_in below.no)) }
+    ensures nodes { InNodes false below.yes → InNodes false below.no → IfOk result (λ it. InNodes false it.yes × InNodes false it.no) }
+{
+    let Divided { on, yes, no } = below;
+    let yes = item_node(alloc, tag, origin, item, yes)?;
+    let no = item_node(alloc, tag, origin, item, no)?;
+    Ok(Divided { on, yes, no })
+}
+
+/// A node of one item, above a tree.
+fn item_node(
+    alloc: Global,
+    tag: u32,
+    origin: u32,
+    item: Item,
+    rest: WindowTree,
+) -> Result<WindowTree, AllocError>
+    ensures tree { IfOk result (λ it. tree_in it ≡ Pending tag origin item (tree_in rest)) }
+    ensures nodes { InNodes false rest → IfOk result (λ it. InNodes false it) }
+{
+    let rest = Box::new(alloc, rest)?;
+    let below = Box::new(
+        alloc,
+        WindowTree::Step {
+            tag,
+            origin,
+            item,
+            rest,
+        },
+    )?;
+    Ok(WindowTree::Node { below })
+}

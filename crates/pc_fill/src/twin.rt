@@ -1,0 +1,166 @@
+//! The twin of an item: an equal one on the other side of the test behind which it stands.
+ghost use Rattle.std.specs.Prelude.{◌≡◌, ◌↔◌, ◌<◌, ◌+◌, ◌^◌, true, length};
+ghost use Rattle.pc_window.specs.Tree.{tree_size, whole};
+ghost use Rattle.pc_window.specs.Rename.{with_dest};
+ghost use Rattle.pc_window.specs.StoredWindow.{tree_in, front_in, forms_in};
+ghost use Rattle.pc_fill.specs.models.Places.{MayRise};
+ghost use Rattle.pc_fill.specs.models.Search.{StandsAt};
+ghost use Rattle.pc_fill.specs.models.Landing.{TwinsAt, FirstFrom, FirstIn};
+
+use crate::landing::both_unfinished;
+use crate::readiness::{may_rise, size};
+use crate::signature::are_alike;
+use pc_window::{NameTable, WindowTree};
+use pc_word::Item;
+
+/// An item that looks for its twin.
+#[derive(Clone, Copy, Debug)]
+pub(crate) struct Seeker {
+    pub(crate) tag: u32,
+    pub(crate) origin: u32,
+    pub(crate) item: Item,
+}
+
+/// An item that writes another name.
+pub(crate) fn with_dest(name: u32, item: Item) -> Item
+    ensures { result ≡ with_dest name item }
+{
+    match item {
+        Item::Bin {
+            op,
+            left,
+            right,
+            ..
+        } => Item::Bin {
+            op,
+            dest: name,
+            left,
+            right,
+        },
+        Item::Copy { from, .. } => Item::Copy { dest: name, from },
+        Item::Load { array, index, .. } => Item::Load {
+            dest: name,
+            array,
+            index,
+        },
+        Item::Store {
+            array,
+            index,
+            value,
+        } => Item::Store {
+            array,
+            index,
+            value,
+        },
+        Item::Print { value } => Item::Print { value },
+        Item::Read { .. } => Item::Read { dest: name },
+        Item::More { .. } => Item::More { dest: name },
+    }
+}
+
+/// Whether an item at a place of a tree is a twin.
+#[tactic(auto, using(crate::proofs::Twins::telling))]
+fn is_twin(
+    names: &NameTable,
+    seeker: Seeker,
+    all: &WindowTree,
+    tag: u32,
+    origin: u32,
+    other: Item,
+    place: u32,
+) -> bool
+    requires small { tree_size (tree_in all.now) < 2 ^ 31 }
+    requires names { length names.now.forms < 2 ^ 31 }
+    ensures { (result ≡ true) ↔ TwinsAt (forms_in names.now.forms) (length names.now.forms) seeker.tag seeker.origin seeker.item tag origin other (tree_in all.now) place }
+{
+    if tag != seeker.tag {
+        return false;
+    }
+    if origin != seeker.origin {
+        return false;
+    }
+    if !are_alike(other, seeker.item) {
+        return false;
+    }
+    may_rise(names, Some(other), all, place)
+}
+
+/// The place of the first twin in a part of a tree.
+#[tactic(auto, using(crate::proofs::Twins::finding))]
+fn find_twin(
+    tree: &WindowTree,
+    names: &NameTable,
+    seeker: Seeker,
+    all: &WindowTree,
+    place: u32,
+) -> Option<u32>
+    requires small { tree_size (tree_in all.now) < 2 ^ 31 }
+    requires names { length names.now.forms < 2 ^ 31 }
+    requires place { place + tree_size (tree_in tree.now) < 2 ^ 31 }
+    requires stands { StandsAt (tree_in tree.now) place (tree_in all.now) }
+    ensures { FirstFrom (forms_in names.now.forms) (length names.now.forms) seeker.tag seeker.origin seeker.item (tree_in all.now) place (place + tree_size (tree_in tree.now)) result }
+{
+    match tree {
+        WindowTree::Step {
+            tag,
+            origin,
+            item,
+            rest,
+        } => {
+            if is_twin(names, seeker, all, *tag, *origin, *item, place) {
+                return Some(place);
+            }
+            find_twin(rest, names, seeker, all, place + 1)
+        }
+        WindowTree::Test { yes, no, .. } => {
+            match find_twin(yes, names, seeker, all, place + 1) {
+                Some(found) => Some(found),
+                None => find_twin(no, names, seeker, all, place + 1 + size(yes)),
+            }
+        }
+        WindowTree::Node { below } => find_twin(below, names, seeker, all, place),
+        WindowTree::Exit { .. } => None,
+        WindowTree::Stop => None,
+        WindowTree::Trap { .. } => None,
+    }
+}
+
+/// The place of the first twin of an item that stands at a place behind a front: on the no side of
+/// the front's test, right behind which it stands on the yes side.
+#[tactic(auto, using(crate::proofs::Twins::seeking))]
+pub(crate) fn twin_of(
+    tree: &WindowTree,
+    names: &NameTable,
+    seeker: Seeker,
+    place: u32,
+) -> Option<u32>
+    requires small { tree_size (tree_in tree.now) < 2 ^ 31 }
+    requires names { length names.now.forms < 2 ^ 31 }
+    ensures { FirstIn (forms_in names.now.forms) (length names.now.forms) seeker.tag seeker.origin seeker.item (front_in tree.now) place result }
+{
+    match tree {
+        WindowTree::Step { rest, .. } => {
+            if place == 0 {
+                return None;
+            }
+            twin_of(rest, names, seeker, place - 1)
+        }
+        WindowTree::Test { yes, no, .. } => {
+            if place == 0 {
+                return None;
+            }
+            let on_yes = size(yes);
+            if place - 1 >= on_yes {
+                return twin_of(no, names, seeker, place - 1 - on_yes);
+            }
+            if both_unfinished(yes, no) {
+                return find_twin(no, names, seeker, no, 0);
+            }
+            twin_of(yes, names, seeker, place - 1)
+        }
+        WindowTree::Node { .. } => None,
+        WindowTree::Exit { .. } => None,
+        WindowTree::Stop => None,
+        WindowTree::Trap { .. } => None,
+    }
+}
