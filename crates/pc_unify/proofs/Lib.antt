@@ -1,0 +1,3 @@
+pub mod SingleNodes
+pub mod Marked
+pub mod Tidied
