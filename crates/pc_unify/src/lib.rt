@@ -3,6 +3,8 @@
 
 mod marks;
 mod nodes;
+#[cfg(test)]
+mod tests;
 mod tidying;
 
 pub use tidying::tidy;
