@@ -1,0 +1,4 @@
+pub mod SingleNodes
+pub mod Marked
+pub mod Tidied
+pub mod DeadStepKept

@@ -1,0 +1,17 @@
+use Rattle.std.proofs.Common.{rules, ◌≡◌, length}
+use Rattle.pc_unify.proofs.Tidied.{names_below, apart, is_tidied}
+use Rattle.pc_unify.proofs.tidying.tidy.Goals as goal
+
+pub tidied-requires-clause-below : goal.tidied-requires-clause-below
+tidied-requires-clause-below c =
+    let window = c.args.window in
+    let as_many : length c.deref_mut.result.now ≡ length window.names.forms = search rules in
+    names_below window.tree window.names window.limits window.inside c.requires c.deref_mut.result.now as_many
+
+pub tidied-requires-clause-apart : goal.tidied-requires-clause-apart
+tidied-requires-clause-apart c = let window = c.args.window in apart window.tree window.names window.limits window.inside c.requires
+
+pub returns-clause-tidies : goal.returns-clause-tidies
+returns-clause-tidies c =
+    let window = c.args.window in
+    is_tidied window.tree window.names window.limits window.inside c.requires c.in_ok-tree.tree c.in_ok-tree.ensures.tree c.in_ok-tree.ensures.nodes
