@@ -1,8 +1,6 @@
 -- Rows as they lie in memory, and what is left at their leaves.
 use Rattle.std.specs.Prelude.{true}
 use Rattle.pc_word.specs.Row.{Row, Then, Either, At_leaf}
-use Rattle.pc_window.specs.declared.tree.WindowTree.{WindowTree}
-use Rattle.pc_window.specs.declared.tree.WindowTree.TheVariants as stored
 use Rattle.pc_window.specs.Kept.{Left, Rest, Gone, Finished, Trapped_at}
 use Rattle.pc_window.specs.StoredWindow.{window_in, InNodes}
 use Rattle.pc_automaton.specs.declared.row_tree.RowTree.{RowTree}
@@ -35,12 +33,3 @@ LeftInNodes (left.Rest window) = InNodes true window.tree
 LeftInNodes (left.Out region homes) = Unit {0}
 LeftInNodes left.Stop = Unit {0}
 LeftInNodes (left.Trap kind line) = Unit {0}
-
--- behind the root node each item and each test is a node of its own
-abbrev pub BehindInNodes : WindowTree → Type 0
-BehindInNodes (stored.Step' tag origin item p rest) = BehindInNodes rest
-BehindInNodes (stored.Test' tag origin on p on_yes q on_no) = BehindInNodes on_yes × BehindInNodes on_no
-BehindInNodes (stored.Node' p below) = InNodes true below
-BehindInNodes (stored.Exit region tag homes) = Unit {0}
-BehindInNodes stored.Stop = Unit {0}
-BehindInNodes (stored.Trap kind line) = Unit {0}

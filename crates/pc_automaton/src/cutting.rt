@@ -1,30 +1,48 @@
 //! Cutting: the front of a window as a row.
 ghost use Rattle.std.specs.Prelude.{◌≡◌, IfOk, true, slice_get};
 ghost use Rattle.pc_table.specs.Table.{table_of};
-ghost use Rattle.pc_window.specs.Opening.{same_loop, is_inside};
-ghost use Rattle.pc_window.specs.Kept.{Rest};
-ghost use Rattle.pc_window.specs.Steps.{Cuts, left_of, left_at_root, front_row, with_tree};
-ghost use Rattle.pc_window.specs.StoredWindow.{window_in, tree_in, front_in, supply_in, InNodes};
-ghost use Rattle.pc_automaton.specs.StoredRow.{row_in, left_in, BehindInNodes, LeftInNodes, EachLeaf};
+ghost use Rattle.pc_window.specs.Kept.{CutKeeps};
+ghost use Rattle.pc_window.specs.Laws.{IsLegal};
+ghost use Rattle.pc_window.specs.Steps.{Cuts, left_of, left_at_root, front_row, with_tree, IsProper, EachLeft};
+ghost use Rattle.pc_window.specs.StoredWindow.{window_in, tree_in, front_in, supply_in, InNodes, NodesBehind};
+ghost use Rattle.pc_automaton.specs.StoredRow.{row_in, left_in, LeftInNodes, EachLeaf};
 ghost use Rattle.pc_automaton.specs.models.Cutting.{bare_window};
 
 use crate::left::Left;
 use crate::row_tree::RowTree;
 use pc_table::RegionTable;
-use pc_window::{FormList, NameTable, Window, WindowError, WindowTree};
+use pc_window::{FormList, NameTable, Window, WindowError, WindowTree, is_inside};
 use pc_word::Limits;
 use std::alloc::{AllocError, Global};
 
 /// The front of a window as a row, and at each of its leaves what is left: a window that begins
 /// with the first item or test behind the leaf, a stub that leads out of the window's loop, the
-/// end, or a trap. A stub that is the whole window leads out.
-#[tactic(auto, using(crate::proofs::Cuts::cuts))]
+/// end, or a trap. A stub that is the whole window leads out. The window is dropped where memory
+/// runs out.
+#[tactic(auto, using(crate::proofs::Cuts::laws))]
 pub fn cut_front(
     alloc: Global,
     window: Window,
     table: &RegionTable,
 ) -> Result<RowTree<Left>, WindowError>
-    requires { BehindInNodes window.tree }
+    requires { NodesBehind window.tree }
+    ensures cut { IfOk result (λ row. Cuts (table_of table.now) (window_in window) (row_in left_in row)) }
+    ensures nodes { IfOk result (λ row. EachLeaf LeftInNodes row) }
+    ensures proper { IfOk result (λ row. IsProper (window_in window) → EachLeft IsProper (row_in left_in row)) }
+    ensures keeps { IfOk result (λ row. IsProper (window_in window) → CutKeeps (table_of table.now) (window_in window) (row_in left_in row)) }
+    ensures legal { IfOk result (λ row. IsProper (window_in window) → IsLegal (window_in window) (row_in left_in row)) }
+{
+    whole_cut(alloc, window, table)
+}
+
+/// A window that is cut.
+#[tactic(auto, using(crate::proofs::Cuts::cuts))]
+fn whole_cut(
+    alloc: Global,
+    window: Window,
+    table: &RegionTable,
+) -> Result<RowTree<Left>, WindowError>
+    requires { NodesBehind window.tree }
     ensures cut { IfOk result (λ row. Cuts (table_of table.now) (window_in window) (row_in left_in row)) }
     ensures nodes { IfOk result (λ row. EachLeaf LeftInNodes row) }
 {
@@ -58,7 +76,7 @@ fn cut(
     inside: Option<u16>,
     tree: WindowTree,
 ) -> Result<RowTree<Left>, AllocError>
-    requires { BehindInNodes tree }
+    requires { NodesBehind tree }
     ensures row { IfOk result (λ row. row_in left_in row ≡ front_row (left_of (table_of table.now) (bare_window (supply_in names.now) limits inside)) (front_in tree)) }
     ensures nodes { IfOk result (λ row. EachLeaf LeftInNodes row) }
 {
@@ -159,24 +177,4 @@ fn rest(
         limits,
         inside,
     })
-}
-
-/// Whether a region is inside a window's loop.
-fn is_inside(table: &RegionTable, inside: Option<u16>, region: u32) -> bool
-    ensures { result ≡ is_inside (table_of table.now) inside region }
-{
-    match table.regions.get(region as usize) {
-        None => false,
-        Some(region) => same_loop(region.inside, inside),
-    }
-}
-
-/// Whether two loops are there and the same.
-fn same_loop(one: Option<u16>, other: Option<u16>) -> bool
-    ensures { result ≡ same_loop one other }
-{
-    match (one, other) {
-        (Some(one), Some(other)) => one == other,
-        _ => false,
-    }
 }

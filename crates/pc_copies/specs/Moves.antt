@@ -29,7 +29,7 @@ pub record AreMoves (scratch : ℕ) (moves : List Move) : Type 0 where
   pub sources : (at : ℕ) (move : Move) → slice_get moves at ≡ Some move → IsSource scratch move.from
   pub apart : (at also : ℕ) (move other : Move) → slice_get moves at ≡ Some move → slice_get moves also ≡ Some other → move.dest ≡ other.dest → at ≡ also
 
--- whether a move reads the register that it writes
+-- whether an operand is this register
 abbrev pub is_name : Operand → ℕ → Bool
 is_name (Name register) x = nat_eq register x
 is_name (Lit value) x = false

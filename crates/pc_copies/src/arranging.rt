@@ -18,7 +18,8 @@ use std::alloc::{AllocError, Global};
 /// themselves are dropped.
 ///
 /// `scratch` is a register that no move names. A cycle of moves goes whole into one row where that has
-/// room for it, and else takes one copy more, through scratch. Rows are filled from the last one on; a
+/// room for it, and else takes one copy more, through scratch (no clause says that a cycle is broken
+/// only there, but where one row has room for all moves). Rows are filled from the last one on; a
 /// register is written once no move that is left reads it, as where parallel copies are done one after
 /// the other when code leaves SSA form (Boissinot and others 2009).
 ///

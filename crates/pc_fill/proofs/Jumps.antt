@@ -13,7 +13,7 @@ use Rattle.pc_window.specs.Jump.{Rises, Root, Past_item, Past_yes, Past_no, Divi
 use Rattle.pc_window.specs.Filled.{item_count, test_count, MostBehind, front_size, HasSpace, IsWindow, Filled, Full, Goes_on}
 use Rattle.pc_window.specs.Ready.{HasFresh, ReadyPlace}
 use Rattle.pc_window.specs.Steps.{IsProper, FillsTo}
-use Rattle.pc_window.specs.StoredWindow.{tree_in, front_in, window_in}
+use Rattle.pc_window.specs.StoredWindow.{tree_in, front_in, window_in, NodesBehind}
 use Rattle.pc_window.proofs.Filling.{jump_window}
 use Rattle.pc_window.proofs.Proper.{fills_proper}
 use Rattle.pc_window.proofs.Readiness.{jumps_were_ready}
@@ -21,12 +21,13 @@ use Rattle.pc_window.proofs.Sizes.{filling_bounded, jumps_count}
 use Rattle.pc_window.proofs.Unwinding.{used_below}
 use Rattle.pc_fill.specs.declared.first.ReadyNode.{ReadyNode}
 use Rattle.pc_fill.specs.FirstReady.{IsFirstReady}
-use Rattle.pc_fill.specs.Fillable.{NodesBehind, most_filled, IsFillable, FilledFrom}
+use Rattle.pc_fill.specs.Fillable.{most_filled, IsFillable, FilledFrom}
 use Rattle.pc_fill.specs.models.Landing.{HasCome}
 use Rattle.pc_fill.specs.models.CanFill.{CanFill, GrowsTo}
-use Rattle.pc_fill.proofs.Stored.{whole_in}
+use Rattle.pc_window.proofs.WindowsStored.{whole_in}
 use Rattle.pc_fill.proofs.Coming.{FirstJumpTo, come_first}
-use Rattle.pc_fill.proofs.StaysNew.{StaysNew, jump_below, fresh_names, next_grows}
+use Rattle.pc_window.proofs.Proper.{StaysNew, jump_below}
+use Rattle.pc_fill.proofs.StaysNew.{fresh_names, next_grows}
 
 -- ---- sizes
 

@@ -7,14 +7,13 @@ use Rattle.pc_word.specs.declared.item.Item.{Item}
 use Rattle.pc_word.specs.declared.item.Operand.{Operand}
 use Rattle.pc_fill.specs.declared.landing.Coming.{Coming}
 use Rattle.pc_fill.specs.models.Landing.{both_unfinished, joins, joins_at, above_test, place_or_root, landed, crosses}
-use Rattle.pc_fill.proofs.Stored.{whole_in}
+use Rattle.pc_window.proofs.WindowsStored.{whole_in}
 use Rattle.pc_fill.proofs.Entered.{at_below, on_yes_side, on_no_side}
 use Rattle.pc_window.specs.declared.tree.WindowTree.{WindowTree}
 use Rattle.pc_window.specs.declared.tree.WindowTree.TheVariants as stored
 use Rattle.pc_window.specs.Tree.{Front, Issued, Split, Unfinished, whole, tree_size}
-use Rattle.pc_window.specs.StoredWindow.{tree_in, front_in, InNodes}
+use Rattle.pc_window.specs.StoredWindow.{tree_in, front_in, InNodes, NodesBehind}
 use Rattle.pc_fill.specs.models.Taking.{taken_out}
-use Rattle.pc_fill.specs.Fillable.{NodesBehind}
 
 -- nothing is finished of what a leaf leads to
 pub leaf_front : (tree : WindowTree) → InNodes false tree → front_in tree ≡ Unfinished (tree_in tree)

@@ -1,5 +1,4 @@
 pub mod Sides
-pub mod Stored
 pub mod Touching
 pub mod Counting
 pub mod Nodes

@@ -22,7 +22,7 @@ use Rattle.pc_fill.specs.FirstReady.{StandsReady, IsFirstReady}
 use Rattle.pc_fill.specs.models.Places.{Node, nodes_of, MayComeFrom, IsReadyHere}
 use Rattle.pc_fill.specs.models.Search.{AreCounts, HasRoom, StandsAt, comes_before, BestBefore}
 use Rattle.pc_fill.proofs.Sides.{fails_here, failed, held, same_fact}
-use Rattle.pc_fill.proofs.Stored.{whole_in}
+use Rattle.pc_window.proofs.WindowsStored.{whole_in}
 use Rattle.pc_fill.proofs.Nodes.{node_on_yes, node_on_no, node_within, StandsFree, stands_free, free_ready}
 
 -- ---- ready here

@@ -9,7 +9,7 @@ use Rattle.pc_window.specs.Tree.{Tree, Pending, Undecided, Front, Issued, Split,
 use Rattle.pc_window.specs.Ready.{MayStandBehind}
 use Rattle.pc_window.specs.declared.tree.WindowTree.{WindowTree}
 use Rattle.pc_window.specs.StoredWindow.{tree_in, front_in}
-use Rattle.pc_fill.proofs.Stored.{whole_in}
+use Rattle.pc_window.proofs.WindowsStored.{whole_in}
 use Rattle.pc_fill.specs.models.Places.{MayPass, MayCross, MayRise, MayComeFrom}
 use Rattle.pc_fill.proofs.Sides.{holds_here, fails_here, failed, held, same_fact, at_root, root_only, under_root, below_only, side_first, first_only, side_second, second_only}
 

@@ -1,20 +1,9 @@
 -- Windows in memory that can be filled, and how far they grow.
-use Rattle.std.specs.Prelude.{ℕ, ◌+◌, ◌<◌, ◌≤◌, ◌^◌, true, length}
-use Rattle.pc_window.specs.declared.tree.WindowTree.{WindowTree}
-use Rattle.pc_window.specs.declared.tree.WindowTree.TheVariants as stored
+use Rattle.std.specs.Prelude.{ℕ, ◌+◌, ◌<◌, ◌≤◌, ◌^◌, length}
 use Rattle.pc_window.specs.declared.window.Window.{Window as StoredWindow}
 use Rattle.pc_window.specs.Tree.{tree_size}
 use Rattle.pc_window.specs.Filled.{MostBehind, front_size}
-use Rattle.pc_window.specs.StoredWindow.{tree_in, front_in, InNodes}
-
--- behind the front each item and test is a node of its own
-abbrev pub NodesBehind : WindowTree → Type 0
-NodesBehind (stored.Step' tag origin item p rest) = NodesBehind rest
-NodesBehind (stored.Test' tag origin on p on_yes q on_no) = NodesBehind on_yes × NodesBehind on_no
-NodesBehind (stored.Node' p below) = InNodes true below
-NodesBehind (stored.Exit region tag homes) = Unit {0}
-NodesBehind stored.Stop = Unit {0}
-NodesBehind (stored.Trap kind line) = Unit {0}
+use Rattle.pc_window.specs.StoredWindow.{tree_in, front_in, NodesBehind}
 
 -- the most items and tests of a window that is filled
 abbrev pub most_filled : ℕ

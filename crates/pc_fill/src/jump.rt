@@ -3,8 +3,7 @@ ghost use Rattle.std.specs.Prelude.{◌≡◌, ◌<◌, ◌≤◌, ◌+◌, ◌^
 ghost use Rattle.pc_window.specs.Tree.{tree_size};
 ghost use Rattle.pc_window.specs.Filled.{given_supply};
 ghost use Rattle.pc_window.specs.Jump.{combined};
-ghost use Rattle.pc_window.specs.StoredWindow.{tree_in, front_in, forms_in, supply_in, window_in};
-ghost use Rattle.pc_fill.specs.Fillable.{NodesBehind};
+ghost use Rattle.pc_window.specs.StoredWindow.{tree_in, front_in, forms_in, supply_in, window_in, NodesBehind};
 ghost use Rattle.pc_fill.specs.models.Landing.{crossed, crosses, came, new_name, FirstTwinOf, renames, HasCome};
 
 use crate::first::ReadyNode;

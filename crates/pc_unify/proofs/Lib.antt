@@ -1,4 +1,3 @@
-pub mod SingleNodes
 pub mod Marked
 pub mod Tidied
 pub mod DeadStepKept

@@ -22,7 +22,7 @@ use Rattle.pc_window.specs.Steps.{window_of, Tidies, IsProper}
 use Rattle.pc_window.specs.StoredWindow.{InNodes, tree_in, front_in, supply_in, window_in}
 use Rattle.pc_window.proofs.Tidying.{tidied_tidy}
 use Rattle.pc_window.proofs.Parameters.{parameters_known}
-use Rattle.pc_window.proofs.WindowsStored.{single_window}
+use Rattle.pc_window.proofs.WindowsStored.{single_window, whole_in}
 use Rattle.pc_unify.specs.models.Marks.{is_marked, is_needed, Marks, PassesItem, WritesNone, SidesApart}
 use Rattle.pc_unify.proofs.Marked.{none_more, then_more, item_below}
 
@@ -196,15 +196,6 @@ sides_apart known (Undecided tag origin on on_yes on_no) h =
 sides_apart known (Exit region tag homes) h = tt
 sides_apart known Stop_exit h = tt
 sides_apart known (Trap_exit kind line) h = tt
-
--- the whole of the front is the tree
-whole_in : (tree : WindowTree) → whole (front_in tree) ≡ tree_in tree
-whole_in (stored.Step' tag origin item p rest) = ap (λ (t : Tree). Pending tag origin item t) (whole_in rest)
-whole_in (stored.Test' tag origin on p on_yes q on_no) = λ i. Undecided tag origin on (whole_in on_yes i) (whole_in on_no i)
-whole_in (stored.Node' p below) = refl
-whole_in (stored.Exit region tag homes) = refl
-whole_in stored.Stop = refl
-whole_in (stored.Trap kind line) = refl
 
 module _ (tree : WindowTree) (names : NameTable) (limits : Limits) (inside : Option ℕ)
     (proper : IsProper (window_in (record { tree = tree; names = names; limits = limits; inside = inside }))) where

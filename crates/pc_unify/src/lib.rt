@@ -2,7 +2,6 @@
 #![tactic(auto)]
 
 mod marks;
-mod nodes;
 #[cfg(test)]
 mod tests;
 mod tidying;

@@ -1,4 +1,3 @@
-pub mod SingleNodes
 pub mod TableRegions
 pub mod Ranking
 pub mod Bringing

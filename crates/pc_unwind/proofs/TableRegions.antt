@@ -19,12 +19,6 @@ as_many (r ∷ regions) = ap suc (as_many regions)
 pub table_at : (table : RegionTable) (number : ℕ) (r : Region) → slice_get table.regions number ≡ Some r → slice_get (table_of table).regions number ≡ Some (table_region r)
 table_at table number r at = slice_get-map table_region table.regions number ∙ ap (option_map table_region) at
 
-pub inside_at : (table : RegionTable) (loop : Option ℕ) (number : ℕ) (r : Region) → slice_get table.regions number ≡ Some r
-    → same_loop r.inside loop ≡ is_inside (table_of table) loop number
-inside_at table loop number r at = ap (λ (x : Option TableRegion). same_loop (inner_loop x) loop) (sym (table_at table number r at))
-
-pub ruleset inside = (inside_at)
-
 -- ---- what a table keeps of a region
 
 pub leads_there : (table : RegionTable) (number : ℕ) (homes : List Home) → StubIsThere (table_of table) number homes → number < length table.regions

@@ -13,21 +13,12 @@ use Rattle.pc_window.specs.Opening.{Grafted}
 use Rattle.pc_window.specs.Unwinding.{Unwinds}
 use Rattle.pc_window.specs.Steps.{UnwindsTo}
 use Rattle.pc_window.specs.StoredWindow.{tree_in, front_in, supply_in, window_in, InNodes}
-use Rattle.pc_window.proofs.WindowsStored.{single_window}
+use Rattle.pc_window.proofs.WindowsStored.{single_window, whole_in}
 use Rattle.pc_unwind.specs.declared.growth.Growth.{Growth}
 use Rattle.pc_unwind.specs.Unwindable.{TagsAtMost, StubsAreThere, CanUnwind}
 use Rattle.pc_unwind.specs.models.Walking.{with_growth, HasRoom, RootStaysAtMost, most_tag}
 use Rattle.pc_unwind.proofs.TableRegions.{as_many}
 use Rattle.pc_unwind.proofs.TagWalks.{tags_stay, root_stays}
-
--- the whole of the front is the tree
-whole_in : (tree : WindowTree) → whole (front_in tree) ≡ tree_in tree
-whole_in (stored.Step' tag origin item p rest) = ap (λ (t : Tree). Pending tag origin item t) (whole_in rest)
-whole_in (stored.Test' tag origin on p on_yes q on_no) = λ i. Undecided tag origin on (whole_in on_yes i) (whole_in on_no i)
-whole_in (stored.Node' p below) = refl
-whole_in (stored.Exit region tag homes) = refl
-whole_in stored.Stop = refl
-whole_in (stored.Trap kind line) = refl
 
 module _ (table : RegionTable) (w : StoredWindow) (single : WindowTree) (same : tree_in single ≡ tree_in w.tree) where
   is_whole : whole (front_in w.tree) ≡ tree_in single

@@ -1,9 +1,8 @@
 //! Windows whose items and tests are nodes of their own.
 ghost use Rattle.std.specs.Prelude.{◌≡◌, true, false, IfOk};
 ghost use Rattle.pc_window.specs.StoredWindow.{tree_in, InNodes};
-ghost use Rattle.pc_window.specs.models.Stored.{is_leaf};
 
-use pc_window::WindowTree;
+use pc_window::{WindowTree, in_node, is_leaf};
 use std::alloc::{AllocError, Global};
 
 /// The tree with each item and each test in a node of its own.
@@ -19,7 +18,7 @@ pub(crate) fn in_single_nodes(alloc: Global, tree: WindowTree) -> Result<WindowT
             rest,
         } => {
             let rest = in_single_nodes(alloc, Box::into_inner(rest))?;
-            let rest = below(alloc, rest)?;
+            let rest = in_node(alloc, rest)?;
             Ok(WindowTree::Step {
                 tag,
                 origin,
@@ -36,8 +35,8 @@ pub(crate) fn in_single_nodes(alloc: Global, tree: WindowTree) -> Result<WindowT
         } => {
             let yes = in_single_nodes(alloc, Box::into_inner(yes))?;
             let no = in_single_nodes(alloc, Box::into_inner(no))?;
-            let yes = below(alloc, yes)?;
-            let no = below(alloc, no)?;
+            let yes = in_node(alloc, yes)?;
+            let no = in_node(alloc, no)?;
             Ok(WindowTree::Test {
                 tag,
                 origin,
@@ -53,20 +52,9 @@ pub(crate) fn in_single_nodes(alloc: Global, tree: WindowTree) -> Result<WindowT
     }
 }
 
-/// A tree as what stands below an item or test.
-fn below(alloc: Global, tree: WindowTree) -> Result<Box<WindowTree>, AllocError>
-    requires { InNodes true tree }
-    ensures tree { IfOk result (λ below. tree_in below.value ≡ tree_in tree) }
-    ensures nodes { IfOk result (λ below. InNodes false below.value) }
-{
-    let placed = placed(alloc, tree, false)?;
-    let below = Box::new(alloc, placed)?;
-    Ok(below)
-}
-
 /// A tree as what stands at the root of a node, or else below an item or test: there in a node of
 /// its own, where it has an item or test.
-#[tactic(auto, using(crate::proofs::SingleNodes::nodes))]
+#[tactic(auto, using(pc_window::proofs::GraftsStored::nodes))]
 pub(crate) fn placed(
     alloc: Global,
     tree: WindowTree,
@@ -84,18 +72,4 @@ pub(crate) fn placed(
     }
     let below = Box::new(alloc, tree)?;
     Ok(WindowTree::Node { below })
-}
-
-/// Whether a tree has neither item nor test at its root.
-fn is_leaf(tree: &WindowTree) -> bool
-    ensures { result ≡ is_leaf tree.now }
-{
-    match tree {
-        WindowTree::Step { .. } => false,
-        WindowTree::Test { .. } => false,
-        WindowTree::Node { .. } => true,
-        WindowTree::Exit { .. } => true,
-        WindowTree::Stop => true,
-        WindowTree::Trap { .. } => true,
-    }
 }

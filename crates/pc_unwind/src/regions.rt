@@ -1,8 +1,7 @@
 //! What unwinding reads in a table of regions.
 ghost use Rattle.std.specs.Prelude.{◌≡◌, ◌<◌, ◌≤◌, length, Some, slice_get};
-ghost use Rattle.pc_table.specs.Table.{table_of, table_tree};
+ghost use Rattle.pc_table.specs.Table.{table_tree};
 ghost use Rattle.pc_table.specs.TableKeeps.{units, most_region_nodes};
-ghost use Rattle.pc_window.specs.Opening.{same_loop, is_inside};
 ghost use Rattle.pc_unwind.specs.models.Walking.{brought_size};
 
 use pc_table::{Region, RegionTable, RegionTree};
@@ -14,25 +13,6 @@ pub(crate) fn region_at(table: &RegionTable, number: u32) -> &Region
     ensures { slice_get table.now.regions number ≡ Some result.now }
 {
     &table.regions.as_slice()[number as usize]
-}
-
-/// Whether a region is inside a loop.
-#[tactic(auto, using(crate::proofs::TableRegions::inside))]
-pub(crate) fn is_inside(table: &RegionTable, inside: Option<u16>, number: u32) -> bool
-    requires { number < length table.now.regions }
-    ensures { result ≡ is_inside (table_of table.now) inside number }
-{
-    same_loop(region_at(table, number).inside, inside)
-}
-
-/// Whether two are the same loop.
-fn same_loop(one: Option<u16>, other: Option<u16>) -> bool
-    ensures { result ≡ same_loop one other }
-{
-    match (one, other) {
-        (Some(one), Some(other)) => one == other,
-        _ => false,
-    }
 }
 
 /// How many items and tests a region's tree brings into a window. A copy brings none.

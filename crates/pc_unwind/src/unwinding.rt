@@ -13,12 +13,11 @@ ghost use Rattle.pc_unwind.specs.models.Walking.{HasRoom, AtMostLeast, RootAtMos
 
 use crate::growth::Growth;
 use crate::nodes::in_single_nodes;
-use crate::regions::is_inside;
 use crate::replacing::replacement;
 use crate::tags::front_tag;
 use crate::walking::walk;
 use pc_table::RegionTable;
-use pc_window::{Window, WindowError, WindowTree};
+use pc_window::{Window, WindowError, WindowTree, is_inside};
 use std::alloc::{AllocError, Global};
 
 /// Unwinds a window.

@@ -10,10 +10,9 @@ ghost use Rattle.pc_unwind.specs.models.Walking.{HasRoom, Walks};
 
 use crate::growth::Growth;
 use crate::nodes::placed;
-use crate::regions::is_inside;
 use crate::replacing::replacement;
 use pc_table::RegionTable;
-use pc_window::WindowTree;
+use pc_window::{WindowTree, is_inside};
 use std::alloc::{AllocError, Global};
 
 /// Unwinds all stubs of a tree that are inside the loop and have this tag, and in turn those of the

@@ -11,7 +11,7 @@ use Rattle.std.specs.Prelude.{true, false}
 use Rattle.pc_window.specs.declared.tree.WindowTree.{WindowTree}
 use Rattle.pc_window.specs.declared.tree.WindowTree.TheVariants as stored
 use Rattle.pc_window.specs.StoredWindow.{InNodes}
-use Rattle.pc_window.specs.models.Stored.{is_leaf}
+use Rattle.pc_window.specs.StoredWindow.{is_leaf}
 use Rattle.pc_window.specs.Grafting.{Grafts}
 
 module _ (table : Table) (loop : Option ℕ) (tag origin : ℕ) (names : Supply) (homes : ℕ → Operand) where

@@ -216,7 +216,7 @@ abbrev NameBelow : ℕ → Option ℕ → Type 0
 NameBelow n (Some x) = x < n
 NameBelow n None = Unit {0}
 
-given_next : (names : Supply) (new : Option ℕ) (comes : Option Item) → names.next ≤ (given_supply names new comes).next
+pub given_next : (names : Supply) (new : Option ℕ) (comes : Option Item) → names.next ≤ (given_supply names new comes).next
 given_next names (Some name) (Some x) = by_form (combined names.forms x)
   where
     by_form : (f : Option Form) → names.next ≤ (with_name names f).next
@@ -356,11 +356,11 @@ given_comes known forms forms' new comes from to (On_yes t o on c p q p' apart e
 given_comes known forms forms' new comes from to (On_no t o on c p q q' apart enters) = given_comes known forms forms' new c q q' enters
 
 -- what is new stays new
-record StaysNew (w : Window) : Type 0 where
-  names_below : TreeBelow w.next (whole w.front)
-  forms_below : FormsBelow (supply_of w)
+pub record StaysNew (w : Window) : Type 0 where
+  pub names_below : TreeBelow w.next (whole w.front)
+  pub forms_below : FormsBelow (supply_of w)
 
-jump_below : (known : ℕ → Bool) (w v : Window) → Jump known w v → StaysNew w → StaysNew v
+pub jump_below : (known : ℕ → Bool) (w v : Window) → Jump known w v → StaysNew w → StaysNew v
 jump_below known w v jump b =
     let given = given_supply (supply_of w) jump.new jump.comes in
     record {
@@ -438,14 +438,14 @@ dest_new m (Print v) h = refl
 dest_new m (Read d) h = grind arith
 dest_new m (More d) h = grind arith
 
-tree_new : (m : ℕ) (tree : Tree) → TreeBelow m tree → Unwritten m tree
+pub tree_new : (m : ℕ) (tree : Tree) → TreeBelow m tree → Unwritten m tree
 tree_new m (Pending t o x rest) h = (dest_new m x h.0, tree_new m rest h.1)
 tree_new m (Undecided t o on left right) h = (tree_new m left h.1, tree_new m right h.2)
 tree_new m (Exit region tag homes) h = tt
 tree_new m Stop_exit h = tt
 tree_new m (Trap_exit kind line) h = tt
 
-without_new : (m : ℕ) (ts : List Term) → TermsBelow m ts → AllByRecursion (λ term. nat_eq m term.variable ≡ false) ts
+pub without_new : (m : ℕ) (ts : List Term) → TermsBelow m ts → AllByRecursion (λ term. nat_eq m term.variable ≡ false) ts
 without_new m [] h = tt
 without_new m (t ∷ ts) h = (other t.variable h.0, without_new m ts h.1)
   where

@@ -10,20 +10,20 @@ use Rattle.pc_window.specs.declared.names.NameTable.{NameTable}
 use Rattle.pc_word.specs.declared.item.Operand.{Operand}
 use Rattle.pc_table.specs.declared.table.Region.{Region}
 use Rattle.pc_table.specs.declared.table.RegionTable.{RegionTable}
-use Rattle.pc_table.specs.Table.{Table, tree_of, table_tree, table_region, table_of, region_tree}
+use Rattle.pc_table.specs.Table.{Table, TableRegion, tree_of, table_tree, table_region, table_of, region_tree}
 use Rattle.pc_table.specs.TableKeeps.{TreeIsThere, TableKeeps, units}
 use Rattle.std.proofs.lemmas.Option.{slice_get-map}
 use Rattle.pc_window.specs.Grafting.{Grafts, HasNames, TakesNames}
 use Rattle.pc_window.specs.Tree.{Tree, Pending, Undecided, Front, Issued, Split, Unfinished, front_of, whole, tree_size}
 use Rattle.pc_window.specs.WindowRun.{Window}
-use Rattle.pc_window.specs.Opening.{Supply, Grafted, first_supply, first_home, opened, graft}
+use Rattle.pc_window.specs.Opening.{Supply, Grafted, first_supply, first_home, opened, graft, same_loop, inner_loop, is_inside}
 use Rattle.pc_window.specs.Steps.{window_of, loop_of, opened_window, IsProper}
 use Rattle.pc_word.specs.Ranges.{AreLimits}
 use Rattle.pc_window.proofs.Proper.{opens_proper}
 use Rattle.pc_window.specs.StoredWindow.{InNodes, IsJustOpened, window_in, tree_in, front_in, supply_in, homes_in}
 
 -- below an item or test that is a node of its own nothing is finished
-below_unfinished : (tree : WindowTree) → InNodes false tree → front_in tree ≡ Unfinished (tree_in tree)
+pub below_unfinished : (tree : WindowTree) → InNodes false tree → front_in tree ≡ Unfinished (tree_in tree)
 below_unfinished (stored.Step' tag origin item p rest) h = absurd h
 below_unfinished (stored.Test' tag origin on p on_yes q on_no) h = absurd h
 below_unfinished (stored.Node' p below) h = refl
@@ -76,7 +76,7 @@ any_at f (y ∷ xs) (suc at) x e is = either_one (f y) (list_any f xs) (any_at f
 pub ruleset innermost = (any_more, any_at)
 
 -- the whole of the front is the tree
-whole_in : (tree : WindowTree) → whole (front_in tree) ≡ tree_in tree
+pub whole_in : (tree : WindowTree) → whole (front_in tree) ≡ tree_in tree
 whole_in (stored.Step' tag origin item p rest) = ap (λ (t : Tree). Pending tag origin item t) (whole_in rest)
 whole_in (stored.Test' tag origin on p on_yes q on_no) = λ i. Undecided tag origin on (whole_in on_yes i) (whole_in on_no i)
 whole_in (stored.Node' p below) = refl
@@ -96,7 +96,7 @@ as_many [] = refl
 as_many (r ∷ regions) = ap suc (as_many regions)
 
 module _ (table : RegionTable) (number : ℕ) (r : Region) (at : slice_get table.regions number ≡ Some r) where
-  table_at : slice_get (table_of table).regions number ≡ Some (table_region r)
+  pub table_at : slice_get (table_of table).regions number ≡ Some (table_region r)
   table_at = slice_get-map table_region table.regions number ∙ ap (option_map table_region) at
 
   -- what a region's tree names is there
@@ -134,6 +134,13 @@ module _ (table : RegionTable) (number : ℕ) (r : Region) (at : slice_get table
       let tree_is : table_tree r.tree ≡ region_tree t number = ap tree_of (sym table_at) in
       single_window tree names limits inside g (grafts ∙ (λ i. graft t (loop_is i) 0 (tree_is i) (names_are i) (homes_are i))) single
       ∙ ap (λ (l : Option ℕ). window_of g.tree g.names limits l) loop_is
+
+-- whether it is inside a loop
+pub inside_at : (table : RegionTable) (loop : Option ℕ) (number : ℕ) (r : Region) → slice_get table.regions number ≡ Some r
+    → same_loop r.inside loop ≡ is_inside (table_of table) loop number
+inside_at table loop number r at = ap (λ (x : Option TableRegion). same_loop (inner_loop x) loop) (sym (table_at table number r at))
+
+pub ruleset inside = (inside_at)
 
 -- limits of the machine leave room for one item or test
 pub opens_within : (table : Table) (limits : Limits) (region : ℕ) (w : Window) → AreLimits limits → w ≡ opened_window table limits region → IsProper w

@@ -71,6 +71,24 @@ InNodes at_root (stored.Exit region tag homes) = Unit {0}
 InNodes at_root stored.Stop = Unit {0}
 InNodes at_root (stored.Trap kind line) = Unit {0}
 
+-- behind the root node each item and each test is a node of its own
+abbrev pub NodesBehind : WindowTree → Type 0
+NodesBehind (stored.Step' tag origin item p rest) = NodesBehind rest
+NodesBehind (stored.Test' tag origin on p on_yes q on_no) = NodesBehind on_yes × NodesBehind on_no
+NodesBehind (stored.Node' p below) = InNodes true below
+NodesBehind (stored.Exit region tag homes) = Unit {0}
+NodesBehind stored.Stop = Unit {0}
+NodesBehind (stored.Trap kind line) = Unit {0}
+
+-- whether a tree in memory has neither item nor test at its root
+abbrev pub is_leaf : WindowTree → Bool
+is_leaf (stored.Step' tag origin item p rest) = false
+is_leaf (stored.Test' tag origin on p on_yes q on_no) = false
+is_leaf (stored.Node' p below) = true
+is_leaf (stored.Exit region tag homes) = true
+is_leaf stored.Stop = true
+is_leaf (stored.Trap kind line) = true
+
 -- a window that was just opened is small: a region's tree has so many items and tests, and so many names and form variables
 -- are new beside those of the variables
 pub record IsJustOpened (w : StoredWindow) : Type 0 where

@@ -7,12 +7,13 @@ ghost use Rattle.pc_window.specs.Tree.{Exit, tree_size};
 ghost use Rattle.pc_window.specs.Opening.{first_new, changed, same_loop, stub_tag, homes_at};
 ghost use Rattle.pc_window.specs.StoredWindow.{tree_in, supply_in, homes_in, InNodes};
 ghost use Rattle.pc_window.specs.Grafting.{Grafts, HasNames, TakesNames};
-ghost use Rattle.pc_window.specs.models.Stored.{is_leaf};
 
 use crate::HomeList;
 use crate::bring::{Brought, at_home, bring};
 use crate::home::Home;
+use crate::loops::same_loop;
 use crate::names::NameTable;
+use crate::nodes::in_node;
 use crate::tree::WindowTree;
 use pc_table::{RegionTable, RegionTree};
 use pc_word::{MOST_SCALARS, MOST_TEMPORARIES, Operand};
@@ -63,7 +64,7 @@ fn stub(
 {
     let region = &table.regions.as_slice()[number as usize];
     let homes = listed(alloc, homes, region.live.as_slice())?;
-    let tag = if heads_loop(region.heads, inside) {
+    let tag = if same_loop(region.heads, inside) {
         tag + 1
     } else {
         tag
@@ -73,45 +74,6 @@ fn stub(
         tag,
         homes,
     })
-}
-
-/// Whether a region is at the header of a loop.
-fn heads_loop(heads: Option<u16>, inside: Option<u16>) -> bool
-    ensures { result ≡ same_loop heads inside }
-{
-    match (heads, inside) {
-        (Some(one), Some(other)) => one == other,
-        _ => false,
-    }
-}
-
-/// A tree as what stands below an item or test: in a node of its own, where it has an item or test.
-#[tactic(auto, using(crate::proofs::GraftsStored::nodes))]
-fn below(alloc: Global, tree: WindowTree) -> Result<Box<WindowTree>, AllocError>
-    ensures tree { IfOk result (λ below. tree_in below.value ≡ tree_in tree) }
-    ensures nodes { IfOk result (λ below. InNodes true tree → InNodes false below.value) }
-{
-    if !is_leaf(&tree) {
-        let below = Box::new(alloc, tree)?;
-        let node = Box::new(alloc, WindowTree::Node { below })?;
-        return Ok(node);
-    }
-    let leaf = Box::new(alloc, tree)?;
-    Ok(leaf)
-}
-
-/// Whether a tree has neither item nor test.
-fn is_leaf(tree: &WindowTree) -> bool
-    ensures { result ≡ is_leaf tree.now }
-{
-    match tree {
-        WindowTree::Step { .. } => false,
-        WindowTree::Test { .. } => false,
-        WindowTree::Node { .. } => true,
-        WindowTree::Exit { .. } => true,
-        WindowTree::Stop => true,
-        WindowTree::Trap { .. } => true,
-    }
 }
 
 /// A region's tree with homes in place of its variables.
@@ -148,7 +110,7 @@ pub fn graft(
                 let name = names.add(form)?;
                 let homes = moved(homes, variable, Operand::Name(name));
                 let rest = graft(alloc, table, inside, tag, next, names, homes)?;
-                let rest = below(alloc, rest)?;
+                let rest = in_node(alloc, rest)?;
                 Ok(WindowTree::Step {
                     tag,
                     origin: *origin,
@@ -158,7 +120,7 @@ pub fn graft(
             }
             Brought::StaysPlain { item } => {
                 let rest = graft(alloc, table, inside, tag, next, names, homes)?;
-                let rest = below(alloc, rest)?;
+                let rest = in_node(alloc, rest)?;
                 Ok(WindowTree::Step {
                     tag,
                     origin: *origin,
@@ -176,8 +138,8 @@ pub fn graft(
             let on = at_home(&homes, *on);
             let yes = graft(alloc, table, inside, tag, yes, names, homes)?;
             let no = graft(alloc, table, inside, tag, no, names, homes)?;
-            let yes = below(alloc, yes)?;
-            let no = below(alloc, no)?;
+            let yes = in_node(alloc, yes)?;
+            let no = in_node(alloc, no)?;
             Ok(WindowTree::Test {
                 tag,
                 origin: *origin,

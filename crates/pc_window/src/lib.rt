@@ -7,7 +7,9 @@ mod error;
 mod grafting;
 mod home;
 mod laws;
+mod loops;
 mod names;
+mod nodes;
 #[cfg(test)]
 mod tests;
 mod tree;
@@ -19,7 +21,9 @@ pub use home::Home;
 pub use laws::{
     laws_of_cutting, laws_of_filling, laws_of_moves, laws_of_opening, laws_of_settling,
 };
+pub use loops::is_inside;
 pub use names::NameTable;
+pub use nodes::{in_node, is_leaf};
 use pc_linear::LinForm;
 use pc_word::Seq;
 pub use tree::WindowTree;

@@ -12,6 +12,7 @@ ghost use Rattle.pc_window.specs.StoredWindow.{tree_in, homes_in, window_in, InN
 
 use crate::error::WindowError;
 use crate::grafting::{VARIABLES, graft};
+use crate::loops::same_loop;
 use crate::names::NameTable;
 use crate::tree::WindowTree;
 use pc_table::{Region, RegionTable};
@@ -129,19 +130,9 @@ fn is_innermost(loops: &[LoopMark], inside: u16) -> bool
     ensures { result ≡ is_innermost loops.now inside }
 {
     for at in 0..loops.len() {
-        if stands_in(loops[at].outer, inside) {
+        if same_loop(loops[at].outer, Some(inside)) {
             return false;
         }
     }
     true
-}
-
-/// Whether a loop is the one round another.
-fn stands_in(outer: Option<u16>, inside: u16) -> bool
-    ensures { result ≡ same_loop outer (Some inside) }
-{
-    match outer {
-        Some(outer) => outer == inside,
-        None => false,
-    }
 }

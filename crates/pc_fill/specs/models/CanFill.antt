@@ -4,8 +4,8 @@ use Rattle.pc_window.specs.declared.window.Window.{Window as StoredWindow}
 use Rattle.pc_window.specs.Tree.{whole}
 use Rattle.pc_window.specs.Opening.{TreeBelow, FormsBelow}
 use Rattle.pc_window.specs.Filled.{IsWindow, MostBehind, front_size}
-use Rattle.pc_window.specs.StoredWindow.{front_in, supply_in, window_in}
-use Rattle.pc_fill.specs.Fillable.{NodesBehind, most_filled, above_front}
+use Rattle.pc_window.specs.StoredWindow.{front_in, supply_in, window_in, NodesBehind}
+use Rattle.pc_fill.specs.Fillable.{most_filled, above_front}
 
 -- a window goes on being filled, where these names are known before it
 pub record CanFill (known : ℕ → Bool) (w : StoredWindow) : Type 0 where

@@ -4,8 +4,6 @@ use Rattle.pc_word.specs.declared.item.Operand.{Operand}
 use Rattle.pc_word.specs.declared.item.Operand.TheVariants.{Name, Lit}
 use Rattle.pc_linear.specs.Form.{Form}
 use Rattle.pc_linear.specs.Combine.{variable_form}
-use Rattle.pc_window.specs.declared.tree.WindowTree.{WindowTree}
-use Rattle.pc_window.specs.declared.tree.WindowTree.TheVariants as stored
 use Rattle.pc_window.specs.declared.bring.Brought.{Brought as StoredBrought}
 use Rattle.pc_window.specs.declared.bring.Brought.TheVariants as brings
 use Rattle.pc_window.specs.Opening.{Brought, Moves_home, Gets_name, Stays_plain}
@@ -20,15 +18,6 @@ brought_in (brings.StaysPlain item) = Stays_plain item
 abbrev pub variable_forms : ℕ → List Form
 variable_forms zero = []
 variable_forms (suc n) = variable_forms n ++ variable_form n ∷ []
-
--- whether a tree in memory has neither item nor test at its root
-abbrev pub is_leaf : WindowTree → Bool
-is_leaf (stored.Step' tag origin item p rest) = false
-is_leaf (stored.Test' tag origin on p on_yes q on_no) = false
-is_leaf (stored.Node' p below) = true
-is_leaf (stored.Exit region tag homes) = true
-is_leaf stored.Stop = true
-is_leaf (stored.Trap kind line) = true
 
 -- the homes of the first variables, each a name alone
 abbrev pub homes_before : ℕ → ℕ → Operand

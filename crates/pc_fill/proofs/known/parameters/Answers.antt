@@ -6,7 +6,7 @@ use Rattle.pc_window.specs.Opening.{TreeBelow}
 use Rattle.pc_window.specs.StoredWindow.{tree_in}
 use Rattle.pc_fill.specs.models.Places.{known_in}
 use Rattle.pc_fill.specs.models.Known.{used_with}
-use Rattle.pc_fill.proofs.Stored.{whole_in}
+use Rattle.pc_window.proofs.WindowsStored.{whole_in}
 use Rattle.pc_fill.proofs.Marks.{written_back, parameters_are}
 use Rattle.pc_fill.proofs.known.parameters.Goals as goal
 

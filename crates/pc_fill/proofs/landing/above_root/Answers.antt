@@ -2,9 +2,8 @@ use Rattle.std.proofs.Common.{◌≡◌, ◌-◌, ap, subst}
 use Rattle.pc_word.specs.Items.{dest_of}
 use Rattle.pc_window.specs.Tree.{Issued, Split, Unfinished}
 use Rattle.pc_window.specs.declared.tree.WindowTree.{WindowTree}
-use Rattle.pc_window.specs.StoredWindow.{tree_in, front_in}
+use Rattle.pc_window.specs.StoredWindow.{tree_in, front_in, NodesBehind}
 use Rattle.pc_fill.specs.models.Taking.{taken_out}
-use Rattle.pc_fill.specs.Fillable.{NodesBehind}
 use Rattle.pc_fill.specs.models.Landing.{landed}
 use Rattle.pc_fill.proofs.Landed.{ok_all, yes_leaf, no_leaf, joined_both, joined_front}
 use Rattle.pc_fill.proofs.landing.above_root.Goals as goal

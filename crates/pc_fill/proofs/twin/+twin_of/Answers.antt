@@ -3,7 +3,7 @@ use Rattle.pc_window.specs.Tree.{Tree, whole, tree_size}
 use Rattle.pc_window.specs.declared.tree.WindowTree.{WindowTree}
 use Rattle.pc_window.specs.StoredWindow.{tree_in, front_in, forms_in}
 use Rattle.pc_fill.specs.models.Landing.{FirstFrom, FirstIn, both_unfinished}
-use Rattle.pc_fill.proofs.Stored.{whole_in}
+use Rattle.pc_window.proofs.WindowsStored.{whole_in}
 use Rattle.pc_fill.proofs.Twins.{front_no_side, front_yes_side, front_across}
 use Rattle.pc_fill.proofs.twin.+twin_of.Goals as goal
 

@@ -21,13 +21,18 @@ tidied-requires-in-Test-2 t c =
     let new = subst (λ (t : Tree). WritesNone (is_marked c.args.marks.now) t) is c.requires.unmarked in
     let apart = subst (λ (t : Tree). SidesApart t) is c.requires.apart in
     let whole : stored_size c.args.tree ≡ suc (stored_size c.in-Test.yes.value + stored_size c.in-Test.no.value) = ap stored_size c.in-Test.is in
-    let part : stored_size c.into_inner-in-Test-2.result ≡ stored_size c.in-Test.no.value = ap stored_size taken in
-    ( omega (arith, c.decreases)
-    , ( subst (λ (w : WindowTree). TreeBelow (length c.tidied-in-Test.new.marks) (tree_in w)) (sym taken)
-          (tree_below c.args.marks.now c.tidied-in-Test.new.marks (uses (tidied one)) other marked below.2)
-      , ( subst (λ (w : WindowTree). WritesNone (is_marked c.tidied-in-Test.new.marks) (tree_in w)) (sym taken)
-            (side_unmarked c.args.marks.now c.tidied-in-Test.new.marks one other marked new.1 apart.0)
-        , subst (λ (w : WindowTree). SidesApart (tree_in w)) (sym taken) apart.2)))
+    let part : stored_size c.into_inner-in-Test-2.result ≡ stored_size c.in-Test.no.value = ap stored_size taken in (
+      omega (arith, c.decreases),
+      (
+        subst (λ (w : WindowTree). TreeBelow (length c.tidied-in-Test.new.marks) (tree_in w)) (sym taken)
+            (tree_below c.args.marks.now c.tidied-in-Test.new.marks (uses (tidied one)) other marked below.2),
+        (
+          subst (λ (w : WindowTree). WritesNone (is_marked c.tidied-in-Test.new.marks) (tree_in w)) (sym taken)
+              (side_unmarked c.args.marks.now c.tidied-in-Test.new.marks one other marked new.1 apart.0),
+          subst (λ (w : WindowTree). SidesApart (tree_in w)) (sym taken) apart.2,
+        ),
+      ),
+    )
 
 pub returns-in_ok-rest-in-Step-2-clause-marks : goal.returns-in_ok-rest-in-Step-2-clause-marks
 returns-in_ok-rest-in-Step-2-clause-marks t c =

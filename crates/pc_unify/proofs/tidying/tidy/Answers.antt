@@ -1,4 +1,6 @@
 use Rattle.std.proofs.Common.{rules, ◌≡◌, length}
+use Rattle.pc_window.proofs.Proper.{tidies_proper}
+use Rattle.pc_window.proofs.Settling.{tidies_keep}
 use Rattle.pc_unify.proofs.Tidied.{names_below, apart, is_tidied}
 use Rattle.pc_unify.proofs.tidying.tidy.Goals as goal
 
@@ -15,3 +17,15 @@ pub returns-clause-tidies : goal.returns-clause-tidies
 returns-clause-tidies c =
     let window = c.args.window in
     is_tidied window.tree window.names window.limits window.inside c.requires c.in_ok-tree.tree c.in_ok-tree.ensures.tree c.in_ok-tree.ensures.nodes
+
+pub returns-clause-proper : goal.returns-clause-proper
+returns-clause-proper c =
+    let window = c.args.window in
+    tidies_proper _ _
+    (is_tidied window.tree window.names window.limits window.inside c.requires c.in_ok-tree.tree c.in_ok-tree.ensures.tree c.in_ok-tree.ensures.nodes) c.requires
+
+pub returns-clause-keeps : goal.returns-clause-keeps
+returns-clause-keeps c table =
+    let window = c.args.window in
+    tidies_keep table _ _
+    (is_tidied window.tree window.names window.limits window.inside c.requires c.in_ok-tree.tree c.in_ok-tree.ensures.tree c.in_ok-tree.ensures.nodes)
