@@ -1,6 +1,8 @@
 //! Filling a window.
 ghost use Rattle.std.specs.Prelude.{◌≡◌, ◌<◌, ◌+◌, IfOk};
+ghost use Rattle.pc_table.specs.Table.{Table};
 ghost use Rattle.pc_window.specs.Filled.{Filled};
+ghost use Rattle.pc_window.specs.Kept.{FillKeeps};
 ghost use Rattle.pc_window.specs.Steps.{IsProper, FillsTo};
 ghost use Rattle.pc_window.specs.StoredWindow.{window_in};
 ghost use Rattle.pc_fill.specs.Fillable.{IsFillable, FilledFrom, above_front};
@@ -22,6 +24,7 @@ pub fn fill(alloc: Global, window: Window) -> Result<Window, WindowError>
     ensures fills { IfOk result (λ later. FillsTo (window_in window) (window_in later)) }
     ensures proper { IfOk result (λ later. IsProper (window_in later)) }
     ensures left { IfOk result (λ later. FilledFrom window later) }
+    ensures keeps { IfOk result (λ later. (table : Table) → FillKeeps table (window_in window) (window_in later)) }
 {
     let known = parameters(alloc, &window)?;
     let most = most_in_front(window.limits);

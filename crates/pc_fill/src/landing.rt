@@ -3,12 +3,12 @@ ghost use Rattle.std.specs.Prelude.{◌≡◌, ◌<◌, ◌^◌, ◌-◌, true, 
 ghost use Rattle.pc_word.specs.Items.{dest_of};
 ghost use Rattle.pc_window.specs.Tree.{tree_size, Issued, Split, Unfinished, whole};
 ghost use Rattle.pc_window.specs.StoredWindow.{tree_in, front_in, InNodes, NodesBehind};
-ghost use Rattle.pc_fill.specs.models.Taking.{taken_out, divided_on, divided_yes, divided_no, is_leaf};
+ghost use Rattle.pc_fill.specs.models.Taking.{taken_out, divided_on, divided_yes, divided_no};
 ghost use Rattle.pc_fill.specs.models.Landing.{both_unfinished, joins, behind_leaf, above_test, place_or_root, landed, joins_at};
 
 use crate::readiness::size;
-use crate::taking::{Divided, dest_of, divide, is_leaf, take_out};
-use pc_window::WindowTree;
+use crate::taking::{Divided, dest_of, divide, take_out};
+use pc_window::{WindowTree, is_leaf};
 use pc_word::{Item, Operand};
 use std::alloc::{AllocError, Global};
 

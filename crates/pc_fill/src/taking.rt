@@ -4,7 +4,7 @@ ghost use Rattle.pc_word.specs.Items.{dest_of};
 ghost use Rattle.pc_window.specs.Tree.{tree_size, Pending};
 ghost use Rattle.pc_window.specs.Rename.{map_operands, map_homes, mapped, renamed};
 ghost use Rattle.pc_window.specs.StoredWindow.{tree_in, InNodes};
-ghost use Rattle.pc_fill.specs.models.Taking.{taken_out, starts_with_item, divided_on, divided_yes, divided_no, is_leaf};
+ghost use Rattle.pc_fill.specs.models.Taking.{taken_out, starts_with_item, divided_on, divided_yes, divided_no};
 
 use crate::readiness::size;
 use pc_window::{Home, HomeList, WindowTree};
@@ -186,20 +186,6 @@ fn take_root(tree: &mut WindowTree, name: Option<u32>)
     if starts_with_item(tree) {
         let whole = std::mem::replace(tree, WindowTree::Stop);
         *tree = without_root(whole, name);
-    }
-}
-
-/// Whether a tree is what a leaf of the front leads to.
-pub(crate) fn is_leaf(tree: &WindowTree) -> bool
-    ensures { result ≡ is_leaf tree.now }
-{
-    match tree {
-        WindowTree::Step { .. } => false,
-        WindowTree::Test { .. } => false,
-        WindowTree::Node { .. } => true,
-        WindowTree::Exit { .. } => true,
-        WindowTree::Stop => true,
-        WindowTree::Trap { .. } => true,
     }
 }
 

@@ -1,6 +1,6 @@
 -- Tidied trees, with marks for what they use.
-use Rattle.std.proofs.Common.{◌≡◌, ◌⊎◌, inl, inr, ℕ, zero, suc, ◌≤◌, ◌<◌, ◌+◌, List, [], ◌∷◌, Option, Some, None, length, refl, sym, ◌∙◌, ap, subst, arith}
-use Rattle.std.specs.Prelude.{Bool, true, false, not, ◌||◌, ◌&&◌, nat_eq, if◌then◌else◌, replicate}
+use Rattle.std.proofs.Common.{◌≡◌, ℕ, zero, suc, ◌≤◌, List, [], Option, Some, None, length, refl, sym, ◌∙◌, ap, subst, arith}
+use Rattle.std.specs.Prelude.{Bool, true, false, not, ◌||◌, ◌&&◌, if◌then◌else◌, replicate}
 use Rattle.std.proofs.lemmas.Bool.{eqb-true}
 use Rattle.pc_word.specs.declared.item.Item.{Item}
 use Rattle.pc_word.specs.declared.item.Item.TheVariants.{Bin, Copy, Load, Store, Print, Read, More}
@@ -12,19 +12,18 @@ use Rattle.pc_word.specs.Commit.{writes}
 use Rattle.pc_table.specs.TableKeeps.{reads, reads_name}
 use Rattle.pc_window.specs.declared.home.Home.{Home}
 use Rattle.pc_window.specs.declared.tree.WindowTree.{WindowTree}
-use Rattle.pc_window.specs.declared.tree.WindowTree.TheVariants as stored
 use Rattle.pc_window.specs.declared.names.NameTable.{NameTable}
-use Rattle.pc_window.specs.Tree.{Tree, Pending, Undecided, Exit, Stop_exit, Trap_exit, Front, whole, tree_size}
+use Rattle.pc_window.specs.Tree.{Tree, Pending, Undecided, Exit, Stop_exit, Trap_exit, whole, tree_size}
 use Rattle.pc_window.specs.Names.{uses, homes_use, IsNew, and_dest, Scoped}
-use Rattle.pc_window.specs.Opening.{OperandBelow, ItemBelow, StubBelow, TreeBelow}
-use Rattle.pc_window.specs.Tidying.{kept_if_used, above, tidied}
-use Rattle.pc_window.specs.Steps.{window_of, Tidies, IsProper}
+use Rattle.pc_window.specs.Opening.{OperandBelow, ItemBelow, TreeBelow}
+use Rattle.pc_window.specs.Tidying.{above, tidied}
+use Rattle.pc_window.specs.Steps.{Tidies, IsProper}
 use Rattle.pc_window.specs.StoredWindow.{InNodes, tree_in, front_in, supply_in, window_in}
 use Rattle.pc_window.proofs.Tidying.{tidied_tidy}
 use Rattle.pc_window.proofs.Parameters.{parameters_known}
 use Rattle.pc_window.proofs.WindowsStored.{single_window, whole_in}
 use Rattle.pc_unify.specs.models.Marks.{is_marked, is_needed, Marks, PassesItem, WritesNone, SidesApart}
-use Rattle.pc_unify.proofs.Marked.{none_more, then_more, item_below}
+use Rattle.pc_unify.proofs.Marked.{none_more, item_below}
 
 -- ---- items
 

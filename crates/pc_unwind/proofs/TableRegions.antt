@@ -1,14 +1,13 @@
 -- Regions of a table in memory.
-use Rattle.std.proofs.Common.{◌≡◌, ℕ, Option, Some, suc, List, [], ◌∷◌, map, length, ◌<◌, ◌≤◌, refl, sym, ◌∙◌, ap, subst, arith}
+use Rattle.std.proofs.Common.{◌≡◌, ℕ, Some, suc, List, [], ◌∷◌, map, length, ◌<◌, ◌≤◌, refl, sym, ◌∙◌, ap, subst, arith}
 use Rattle.std.specs.Prelude.{slice_get, option_map}
 use Rattle.std.proofs.lemmas.Option.{slice_get-map}
 use Rattle.pc_table.specs.declared.table.Region.{Region}
 use Rattle.pc_table.specs.declared.table.RegionTable.{RegionTable}
-use Rattle.pc_table.specs.Table.{TableRegion, tree_of, table_tree, table_region, table_of, region_tree}
+use Rattle.pc_table.specs.Table.{tree_of, table_tree, table_region, table_of, region_tree}
 use Rattle.pc_table.specs.TableKeeps.{TreeIsThere, TableKeeps, units, most_region_nodes}
 use Rattle.pc_window.specs.declared.home.Home.{Home}
 use Rattle.pc_unwind.specs.Unwindable.{StubIsThere}
-use Rattle.pc_window.specs.Opening.{same_loop, inner_loop, is_inside}
 
 -- as many regions in memory as in the table
 pub as_many : (regions : List Region) → length (map table_region regions) ≡ length regions

@@ -6,9 +6,8 @@ use Rattle.pc_table.specs.declared.table.RegionTable.{RegionTable}
 use Rattle.pc_table.specs.Table.{table_of}
 use Rattle.pc_table.specs.TableKeeps.{TableKeeps}
 use Rattle.pc_window.specs.declared.tree.WindowTree.{WindowTree}
-use Rattle.pc_window.specs.declared.tree.WindowTree.TheVariants as stored
 use Rattle.pc_window.specs.declared.window.Window.{Window as StoredWindow}
-use Rattle.pc_window.specs.Tree.{Tree, Pending, Undecided, whole, tree_size}
+use Rattle.pc_window.specs.Tree.{Tree, whole, tree_size}
 use Rattle.pc_window.specs.Opening.{Grafted}
 use Rattle.pc_window.specs.Unwinding.{Unwinds}
 use Rattle.pc_window.specs.Steps.{UnwindsTo}

@@ -5,8 +5,6 @@ use Rattle.pc_word.specs.declared.item.Operand.TheVariants.{Lit}
 use Rattle.pc_word.specs.Items.{dest_of}
 use Rattle.pc_window.specs.Tree.{Tree, Pending, Undecided, Exit, Stop_exit, Trap_exit, tree_size}
 use Rattle.pc_window.specs.Rename.{mapped, renamed}
-use Rattle.pc_window.specs.declared.tree.WindowTree.{WindowTree}
-use Rattle.pc_window.specs.declared.tree.WindowTree.TheVariants as stored
 
 -- the item at a place of a tree is gone; below it, its name is this one
 abbrev pub taken_out : Option ℕ → Tree → ℕ → Tree
@@ -51,12 +49,3 @@ divided_no (Undecided tag origin on on_yes on_no) = on_no
 divided_no (Exit region tag homes) = Stop_exit
 divided_no Stop_exit = Stop_exit
 divided_no (Trap_exit kind line) = Stop_exit
-
--- whether a tree in memory is what a leaf of the front leads to
-abbrev pub is_leaf : WindowTree → Bool
-is_leaf (stored.Step' tag origin item p rest) = false
-is_leaf (stored.Test' tag origin on p on_yes q on_no) = false
-is_leaf (stored.Node' p below) = true
-is_leaf (stored.Exit region tag homes) = true
-is_leaf stored.Stop = true
-is_leaf (stored.Trap kind line) = true

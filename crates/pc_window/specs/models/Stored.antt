@@ -1,5 +1,5 @@
 -- What is said on the way to a window in memory.
-use Rattle.std.specs.Prelude.{Bool, true, false, if◌then◌else◌, nat_lt, ℕ, zero, suc, pos, List, [], ◌∷◌, ◌++◌}
+use Rattle.std.specs.Prelude.{if◌then◌else◌, nat_lt, ℕ, zero, suc, pos, List, [], ◌∷◌, ◌++◌}
 use Rattle.pc_word.specs.declared.item.Operand.{Operand}
 use Rattle.pc_word.specs.declared.item.Operand.TheVariants.{Name, Lit}
 use Rattle.pc_linear.specs.Form.{Form}

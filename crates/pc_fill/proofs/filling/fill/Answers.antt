@@ -1,4 +1,7 @@
-use Rattle.std.proofs.Common.{◌<◌, ◌∙◌, ℕ, ap, subst}
+use Rattle.std.proofs.Common.{◌<◌, ◌∙◌, ℕ, Bool, ap, subst}
+use Rattle.pc_window.specs.Filled.{Filled}
+use Rattle.pc_window.specs.StoredWindow.{window_in}
+use Rattle.pc_window.proofs.Filling.{fills_keep}
 use Rattle.pc_fill.specs.models.Places.{known_in}
 use Rattle.pc_fill.proofs.Jumps.{can_begin, proper_after, filled_from}
 use Rattle.pc_fill.proofs.filling.fill.Goals as goal
@@ -16,3 +19,9 @@ pub returns-clause-proper : goal.returns-clause-proper
 returns-clause-proper c =
     proper_after c.args.window c.requires.proper c.requires.fillable (known_in c.deref.result.now) (ap known_in c.deref.ensures.value ∙ c.in_ok-known.ensures) c.in_ok-filled.filled
     c.in_ok-filled.ensures.fills
+
+pub returns-clause-keeps : goal.returns-clause-keeps
+returns-clause-keeps c table =
+    fills_keep table _ _
+    (subst (λ (known : ℕ → Bool). Filled known (window_in c.args.window) (window_in c.in_ok-filled.filled)) (ap known_in c.deref.ensures.value ∙ c.in_ok-known.ensures)
+    c.in_ok-filled.ensures.fills) c.requires.proper

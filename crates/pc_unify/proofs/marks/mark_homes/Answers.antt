@@ -1,4 +1,4 @@
-use Rattle.std.proofs.Common.{rules, ◌≡◌, ◌<◌, length}
+use Rattle.std.proofs.Common.{rules, ◌<◌, length}
 use Rattle.std.specs.Prelude.{take}
 use Rattle.pc_window.specs.Names.{homes_use}
 use Rattle.pc_unify.proofs.Marked.{home_below, home_more}
