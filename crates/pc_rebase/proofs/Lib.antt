@@ -6,3 +6,4 @@ pub mod Replacing
 pub mod MadeBases
 pub mod ParameterTurns
 pub mod RebasedWindows
+pub mod TwoVariablesKept

@@ -26,7 +26,7 @@ joined : (a b c : Bool) → (a || (b || c)) ≡ ((a || b) || c)
 joined true b c = refl
 joined false b c = refl
 
-flipped : (x y : ℕ) → nat_eq x y ≡ nat_eq y x
+pub flipped : (x y : ℕ) → nat_eq x y ≡ nat_eq y x
 flipped x y = by (nat_eq x y) refl
   where
     by : (b : Bool) → nat_eq x y ≡ b → b ≡ nat_eq y x

@@ -6,6 +6,8 @@ mod listing;
 mod rebasing;
 mod rewriting;
 mod terms;
+#[cfg(test)]
+mod tests;
 mod turns;
 
 use pc_word::Seq;
