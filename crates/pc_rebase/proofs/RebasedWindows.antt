@@ -1,0 +1,62 @@
+-- Windows in memory, rebased.
+use Rattle.std.proofs.Common.{◌≡◌, ℕ, ◌<◌, List, length, refl, sym, ◌∙◌, ap, subst}
+use Rattle.std.specs.Prelude.{Option, true}
+use Rattle.std.specs.List.{AllByRecursion}
+use Rattle.pc_word.specs.declared.item.Limits.{Limits}
+use Rattle.pc_window.specs.declared.tree.WindowTree.{WindowTree}
+use Rattle.pc_window.specs.declared.tree.WindowTree.TheVariants as stored
+use Rattle.pc_window.specs.declared.names.NameTable.{NameTable}
+use Rattle.pc_window.specs.declared.window.Window.{Window as StoredWindow}
+use Rattle.pc_window.specs.Tree.{Tree, Pending, Undecided, whole}
+use Rattle.pc_window.specs.Names.{parameters_of}
+use Rattle.pc_window.specs.Opening.{Supply, TreeBelow, FormsBelow}
+use Rattle.pc_window.specs.Rebasing.{all_names, first_turns, after_first, rebased}
+use Rattle.pc_window.specs.Steps.{IsProper, Rebases}
+use Rattle.pc_window.specs.StoredWindow.{InNodes, window_in, tree_in, front_in, supply_in}
+use Rattle.pc_window.proofs.Rebasing.{rebased-kept}
+use Rattle.pc_window.proofs.WindowsStored.{single_window}
+use Rattle.pc_rebase.specs.models.Turning.{unturned}
+use Rattle.pc_rebase.proofs.Listed.{parameters-below, all_names-below}
+
+-- the whole of the front is the tree
+whole_in : (tree : WindowTree) → whole (front_in tree) ≡ tree_in tree
+whole_in (stored.Step' tag origin item p rest) = ap (λ (t : Tree). Pending tag origin item t) (whole_in rest)
+whole_in (stored.Test' tag origin on p on_yes q on_no) = λ i. Undecided tag origin on (whole_in on_yes i) (whole_in on_no i)
+whole_in (stored.Node' p below) = refl
+whole_in (stored.Exit region tag homes) = refl
+whole_in stored.Stop = refl
+whole_in (stored.Trap kind line) = refl
+
+-- a window in memory, by its parts
+abbrev pub with_parts : WindowTree → NameTable → Limits → Option ℕ → StoredWindow
+with_parts tree names limits inside = record { tree = tree; names = names; limits = limits; inside = inside }
+
+module _ (tree : WindowTree) (names : NameTable) (limits : Limits) (inside : Option ℕ) (proper : IsProper (window_in (with_parts tree names limits inside))) where
+  pub names_below : TreeBelow (length names.forms) (tree_in tree)
+  names_below = subst (λ (t : Tree). TreeBelow (length names.forms) t) (whole_in tree) proper.names_below
+
+  pub forms_below : FormsBelow (supply_in names)
+  forms_below = record { form = proper.forms_below.form }
+
+  pub parameters_there : (parameters : List ℕ) → parameters ≡ parameters_of (tree_in tree) → AllByRecursion (λ (name : ℕ). name < length names.forms) parameters
+  parameters_there parameters is =
+      subst (λ (list : List ℕ). AllByRecursion (λ (name : ℕ). name < length names.forms) list) (sym is) (parameters-below (length names.forms) (tree_in tree) names_below)
+
+  pub all_there : (all : List ℕ) → all ≡ all_names (tree_in tree) → AllByRecursion (λ (name : ℕ). name < length names.forms) all
+  all_there all is =
+      subst (λ (list : List ℕ). AllByRecursion (λ (name : ℕ). name < length names.forms) list) (sym is) (all_names-below (length names.forms) (tree_in tree) names_below)
+
+  module _ (later : NameTable) (parameters all : List ℕ) (parameters_are : parameters ≡ parameters_of (tree_in tree)) (all_are : all ≡ all_names (tree_in tree))
+      (made : supply_in later ≡ after_first all (first_turns all parameters (unturned (supply_in names)))) where
+    names_are : supply_in later ≡ rebased (tree_in tree) (supply_in names)
+    names_are = made ∙ (λ i. after_first (all_are i) (first_turns (all_are i) (parameters_are i) (unturned (supply_in names))))
+
+    pub is_rebased : InNodes true tree → Rebases (window_in (with_parts tree names limits inside)) (window_in (with_parts tree later limits inside))
+    is_rebased single =
+        single_window tree later limits inside (record { tree = whole (front_in tree); names = rebased (whole (front_in tree)) (supply_in names) })
+        (λ i. record { tree = sym (whole_in tree) i; names = (names_are ∙ ap (λ (t : Tree). rebased t (supply_in names)) (sym (whole_in tree))) i }) single
+
+    pub as_many : length later.forms ≡ length names.forms
+    as_many = ap (λ (s : Supply). s.next) names_are ∙ (rebased-kept (tree_in tree) (supply_in names) forms_below names_below).0
+
+pub ruleset windows = (forms_below, is_rebased, as_many)

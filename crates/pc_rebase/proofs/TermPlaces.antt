@@ -1,0 +1,152 @@
+-- The terms of a form, from a place on.
+use Rattle.std.proofs.Common.{◌≡◌, ◌≢◌, ◌⊎◌, inl, inr, ℕ, zero, suc, ◌+◌, ◌-◌, ◌<◌, ◌≤◌, List, [], ◌∷◌, Option, Some, None, length, drop, refl, sym, ◌∙◌, ap, subst, arith}
+use Rattle.std.specs.Prelude.{ℤ, pos, ◌+ℤ◌, Bool, true, false, if◌then◌else◌, nat_eq, slice_get}
+use Rattle.std.proofs.lemmas.Bool.Decides.{eqb_tells}
+use lib.IntN.{+ℤ_idl, +ℤ_idr}
+use Rattle.pc_linear.specs.declared.term.Term.{Term}
+use Rattle.pc_linear.specs.Form.{Form, IsForm, Rising, factor_of}
+use Rattle.pc_window.specs.Rebasing.{is_in, new_base, first_base, free_terms}
+use Rattle.pc_rebase.specs.declared.terms.FewTerms.{FewTerms}
+use Rattle.pc_rebase.specs.declared.terms.FewTerms.TheVariants.{Nothing, One, Several}
+use Rattle.pc_rebase.specs.models.Turning.{few_of, and_term}
+
+-- ---- what stands at a place
+
+none_from : (ts : List Term) (at : ℕ) → slice_get ts at ≡ None → drop at ts ≡ []
+none_from [] zero h = refl
+none_from [] (suc at) h = refl
+none_from (t ∷ ts) zero h = absurd (cc)
+none_from (t ∷ ts) (suc at) h = none_from ts at h
+
+one_from : (ts : List Term) (at : ℕ) (t : Term) → slice_get ts at ≡ Some t → drop at ts ≡ t ∷ drop (suc at) ts
+one_from [] at t h = absurd (cc)
+one_from (u ∷ ts) zero t h = let same : u ≡ t = (cc) in ap (λ (x : Term). x ∷ ts) same
+one_from (u ∷ ts) (suc at) t h = one_from ts at t h
+
+within : (ts : List Term) (at : ℕ) (t : Term) → slice_get ts at ≡ Some t → at < length ts
+within [] at t h = absurd (cc)
+within (u ∷ ts) zero t h = omega arith
+within (u ∷ ts) (suc at) t h = let lt = within ts at t h in omega arith
+
+rising_fewer : (m n : ℕ) (us : List Term) → m ≤ n → Rising n us → Rising m us
+rising_fewer m n [] le r = tt
+rising_fewer m n (u ∷ us) le r = let p = r.0 in (omega arith, r.1)
+
+rising_from : (ts : List Term) (at m n : ℕ) → m ≤ n → Rising n ts → Rising m (drop at ts)
+rising_from [] zero m n le r = tt
+rising_from [] (suc at) m n le r = tt
+rising_from (t ∷ ts) zero m n le r = rising_fewer m n (t ∷ ts) le r
+rising_from (t ∷ ts) (suc at) m n le r = let p = r.0 in rising_from ts at m (suc t.variable) (omega arith) r.1
+
+-- ---- factors
+
+-- below the first variable there is no factor
+factor-below : (x least : ℕ) (ts : List Term) → x < least → Rising least ts → factor_of ts x ≡ pos 0
+factor-below x least [] lt r = refl
+factor-below x least (t ∷ ts) lt r =
+    let le = r.0 in
+    (λ i. (if other (omega arith) i then t.factor else pos 0) +ℤ factor-below x (suc t.variable) ts (omega arith) r.1 i) ∙ +ℤ_idl (pos 0)
+  where
+    other : x < t.variable → nat_eq x t.variable ≡ false
+    other lt = grind arith
+
+factor_here : (t : Term) (ts : List Term) (x : ℕ) → t.variable ≡ x → Rising 0 (t ∷ ts) → factor_of (t ∷ ts) x ≡ t.factor
+factor_here t ts x is r =
+    (λ i. (if same i then t.factor else pos 0) +ℤ factor-below x (suc t.variable) ts (omega arith) r.1 i) ∙ +ℤ_idr t.factor
+  where
+    same : nat_eq x t.variable ≡ true
+    same = grind arith
+
+factor_there : (t : Term) (ts : List Term) (x : ℕ) → t.variable ≢ x → factor_of (t ∷ ts) x ≡ factor_of ts x
+factor_there t ts x is = ap (λ (b : Bool). (if b then t.factor else pos 0) +ℤ factor_of ts x) other ∙ +ℤ_idl (factor_of ts x)
+  where
+    other : nat_eq x t.variable ≡ false
+    other = by (eqb_tells x t.variable)
+      where
+        by : ((nat_eq x t.variable ≡ true) × (x ≡ t.variable)) ⊎ ((nat_eq x t.variable ≡ false) × (x ≢ t.variable)) → nat_eq x t.variable ≡ false
+        by (inl same) = absurd (is (sym same.1))
+        by (inr apart) = apart.0
+
+module _ (f : Form) (kept : IsForm f) (at : ℕ) where
+  pub no_factor : (x : ℕ) → slice_get f.terms at ≡ None → pos 0 ≡ factor_of (drop at f.terms) x
+  no_factor x none = ap (λ (ts : List Term). factor_of ts x) (sym (none_from f.terms at none))
+
+  pub its_factor : (x : ℕ) (t : Term) → slice_get f.terms at ≡ Some t → t.variable ≡ x → t.factor ≡ factor_of (drop at f.terms) x
+  its_factor x t is same =
+      let from = one_from f.terms at t is in
+      sym (ap (λ (ts : List Term). factor_of ts x) from
+      ∙ factor_here t (drop (suc at) f.terms) x same (subst (λ (ts : List Term). Rising 0 ts) from (rising_from f.terms at 0 0 (omega arith) kept.normal.rising)))
+
+  pub later_factor : (x : ℕ) (t : Term) (z : ℤ) → slice_get f.terms at ≡ Some t → t.variable ≢ x → z ≡ factor_of (drop (at + 1) f.terms) x → z ≡ factor_of (drop at f.terms) x
+  later_factor x t z is other later =
+      let next : at + 1 ≡ suc at = omega arith in
+      later ∙ ap (λ (n : ℕ). factor_of (drop n f.terms) x) next ∙ sym (ap (λ (ts : List Term). factor_of ts x) (one_from f.terms at t is) ∙ factor_there t (drop (suc at) f.terms) x other)
+
+  -- there are few places, and fewer behind one that is there
+  pub few_places : (t : Term) → slice_get f.terms at ≡ Some t → at < 4
+  few_places t is = let lt = within f.terms at t is in let few = kept.few in omega arith
+
+  pub fewer_places : (t : Term) → slice_get f.terms at ≡ Some t → length f.terms - (at + 1) < length f.terms - at
+  fewer_places t is = let lt = within f.terms at t is in omega arith
+
+  -- ---- terms whose variables are no bases
+
+  pub no_terms : (bases : List ℕ) → slice_get f.terms at ≡ None → Nothing ≡ few_of (free_terms bases (drop at f.terms))
+  no_terms bases none = ap (λ (ts : List Term). few_of (free_terms bases ts)) (sym (none_from f.terms at none))
+
+  pub taken_term : (bases : List ℕ) (t : Term) (more : FewTerms) → slice_get f.terms at ≡ Some t → is_in t.variable bases ≡ true
+      → more ≡ few_of (free_terms bases (drop (at + 1) f.terms)) → more ≡ few_of (free_terms bases (drop at f.terms))
+  taken_term bases t more is taken later =
+      let next : at + 1 ≡ suc at = omega arith in
+      later ∙ ap (λ (n : ℕ). few_of (free_terms bases (drop n f.terms))) next
+      ∙ sym (ap (λ (ts : List Term). few_of (free_terms bases ts)) (one_from f.terms at t is)
+      ∙ ap (λ (b : Bool). few_of (if b then free_terms bases (drop (suc at) f.terms) else t ∷ free_terms bases (drop (suc at) f.terms))) taken)
+
+  pub free_term : (bases : List ℕ) (t : Term) (more : FewTerms) → slice_get f.terms at ≡ Some t → is_in t.variable bases ≡ false
+      → more ≡ few_of (free_terms bases (drop (at + 1) f.terms)) → and_term t more ≡ few_of (free_terms bases (drop at f.terms))
+  free_term bases t more is free later =
+      let next : at + 1 ≡ suc at = omega arith in
+      ap (and_term t) (later ∙ ap (λ (n : ℕ). few_of (free_terms bases (drop n f.terms))) next)
+      ∙ one_more (free_terms bases (drop (suc at) f.terms))
+      ∙ sym (ap (λ (ts : List Term). few_of (free_terms bases ts)) (one_from f.terms at t is)
+      ∙ ap (λ (b : Bool). few_of (if b then free_terms bases (drop (suc at) f.terms) else t ∷ free_terms bases (drop (suc at) f.terms))) free)
+    where
+      one_more : (ts : List Term) → and_term t (few_of ts) ≡ few_of (t ∷ ts)
+      one_more [] = refl
+      one_more (u ∷ []) = refl
+      one_more (u ∷ v ∷ ts) = refl
+
+pub ruleset places = (no_factor, its_factor, later_factor, few_places, fewer_places, no_terms, taken_term, free_term)
+
+-- ---- a term alone
+
+none_taken : (ts : List Term) → free_terms [] ts ≡ ts
+none_taken [] = refl
+none_taken (t ∷ ts) = ap (λ (us : List Term). t ∷ us) (none_taken ts)
+
+-- what few terms give
+abbrev by_few : List ℕ → FewTerms → Option ℕ
+by_few bases Nothing = None
+by_few bases (One t) = new_base bases t
+by_few bases Several = None
+
+-- what the terms give
+base_by_few : (bases : List ℕ) (ts : List Term) → by_few bases (few_of ts) ≡ first_base bases ts
+base_by_few bases [] = refl
+base_by_few bases (t ∷ []) = refl
+base_by_few bases (t ∷ u ∷ ts) = refl
+
+module _ (bases : List ℕ) (ts : List Term) where
+  all_few : (few : FewTerms) → few ≡ few_of (free_terms [] (drop 0 ts)) → by_few bases few ≡ first_base bases ts
+  all_few few is = ap (by_few bases) (is ∙ ap few_of (none_taken ts)) ∙ base_by_few bases ts
+
+  pub no_base : Nothing ≡ few_of (free_terms [] (drop 0 ts)) → None ≡ first_base bases ts
+  no_base is = all_few Nothing is
+
+  pub one_base : (t : Term) (found : Option ℕ) → One t ≡ few_of (free_terms [] (drop 0 ts)) → found ≡ new_base bases t → found ≡ first_base bases ts
+  one_base t found is new = new ∙ all_few (One t) is
+
+  pub too_many : Several ≡ few_of (free_terms [] (drop 0 ts)) → None ≡ first_base bases ts
+  too_many is = all_few Several is
+
+pub ruleset choices = (no_base, one_base, too_many)

@@ -1,0 +1,4 @@
+pub mod Listing
+pub mod Rewriting
+pub mod Turning
+pub mod TwoVariables

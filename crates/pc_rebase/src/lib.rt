@@ -1,0 +1,17 @@
+//! Rebasing a window: its parameters become the variables in which all forms are written.
+#![tactic(auto)]
+
+mod bases;
+mod listing;
+mod rebasing;
+mod rewriting;
+mod terms;
+#[cfg(test)]
+mod tests;
+mod turns;
+
+use pc_word::Seq;
+pub use rebasing::rebase;
+
+/// Numbers of names or of form variables.
+pub(crate) type NumberList = Seq<u32>;

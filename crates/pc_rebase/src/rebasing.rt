@@ -1,0 +1,71 @@
+//! Rebasing.
+ghost use Rattle.std.specs.Prelude.{◌≡◌, ◌<◌, [], length, true, IfOk};
+ghost use Rattle.std.specs.List.{AllByRecursion};
+ghost use Rattle.pc_window.specs.Opening.{FormsBelow};
+ghost use Rattle.pc_window.specs.Rebasing.{after_first, first_turns};
+ghost use Rattle.pc_window.specs.Steps.{Rebases, IsProper};
+ghost use Rattle.pc_window.specs.StoredWindow.{supply_in, window_in, InNodes};
+ghost use Rattle.pc_rebase.specs.models.Turning.{unturned};
+
+use crate::NumberList;
+use crate::listing::{all_names, parameters_of};
+use crate::turns::{Turning, first_turns, second_turns};
+use pc_window::{NameTable, Window, WindowError};
+use std::alloc::Global;
+
+/// Writes the forms of a window anew: its parameters, in the order of first use, become the variables
+/// in which all forms are written, as far as that goes.
+///
+/// A parameter whose form is a variable with a constant becomes a base in its place. In a second turn
+/// so does each other one whose form has but one variable that is no base, with factor 1, and the
+/// others get new variables. A form that comes to have more than four terms is replaced by a new
+/// variable. The tree stays as it is. There is no memory for a form variable whose number would be
+/// 2^31.
+#[tactic(auto, using(crate::proofs::RebasedWindows::windows))]
+pub fn rebase(alloc: Global, window: Window) -> Result<Window, WindowError>
+    requires proper { IsProper (window_in window) }
+    requires nodes { InNodes true window.tree }
+    ensures rebases { IfOk result (λ later. Rebases (window_in window) (window_in later)) }
+    ensures nodes { IfOk result (λ later. InNodes true later.tree) }
+    ensures names { IfOk result (λ later. length later.names.forms ≡ length window.names.forms) }
+{
+    let Window {
+        tree,
+        names,
+        limits,
+        inside,
+    } = window;
+    let parameters = parameters_of(alloc, &tree, names.forms.len())?;
+    let all = all_names(alloc, &tree, parameters.as_slice())?;
+    let names = rebased(alloc, names, parameters.as_slice(), all.as_slice())?;
+    Ok(Window {
+        tree,
+        names,
+        limits,
+        inside,
+    })
+}
+
+/// Names with their forms rebased, by these parameters.
+#[tactic(auto, using(crate::proofs::ParameterTurns::turns))]
+fn rebased(
+    alloc: Global,
+    names: NameTable,
+    parameters: &[u32],
+    all: &[u32],
+) -> Result<NameTable, WindowError>
+    requires all { AllByRecursion (λ name. name < length names.forms) all.now }
+    requires parameters { AllByRecursion (λ name. name < length names.forms) parameters.now }
+    requires below { FormsBelow (supply_in names) }
+    ensures { IfOk result (λ later. supply_in later ≡ after_first all.now (first_turns all.now parameters.now (unturned (supply_in names)))) }
+{
+    let mut turning = Turning {
+        names,
+        bases: NumberList::new(alloc),
+    };
+    let mut left = NumberList::new(alloc);
+    first_turns(alloc, &mut turning, &mut left, all, parameters)?;
+    second_turns(alloc, &mut turning, all, left.as_slice())?;
+    let Turning { names, .. } = turning;
+    Ok(names)
+}

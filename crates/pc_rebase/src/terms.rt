@@ -1,0 +1,103 @@
+//! The terms of a form.
+ghost use Rattle.std.specs.Prelude.{◌≡◌, ◌<◌, length, drop};
+ghost use Rattle.pc_linear.specs.Form.{IsForm, factor_of};
+ghost use Rattle.pc_window.specs.Rebasing.{new_base, first_base, free_terms};
+ghost use Rattle.pc_window.specs.StoredWindow.{forms_in};
+ghost use Rattle.pc_rebase.specs.models.Turning.{few_of, and_term};
+
+use crate::listing::is_in;
+use pc_linear::{LinForm, Term};
+
+/// No term, one, or several.
+#[derive(Clone, Copy, Debug)]
+pub(crate) enum FewTerms {
+    Nothing,
+    One { term: Term },
+    Several,
+}
+
+/// The form of a name.
+#[tactic(auto, using(crate::proofs::FormTable::reading))]
+pub(crate) fn form_of(forms: &[LinForm], name: u32) -> LinForm
+    requires { name < length forms.now }
+    ensures form { result ≡ forms_in forms.now name }
+    ensures kept { IsForm result }
+{
+    let form = forms[name as usize];
+    let _offset = form.offset();
+    form
+}
+
+/// The factor of a variable in the terms of a form from a place on, and 0 where it has none.
+#[tactic(auto, using(crate::proofs::TermPlaces::places))]
+pub(crate) fn factor_from(form: &LinForm, variable: u32, place: u16) -> i32
+    requires { IsForm form.now }
+    ensures { result ≡ factor_of (drop place form.now.terms) variable }
+{
+    match form.term(place) {
+        None => 0,
+        Some(term) => {
+            if term.variable == variable {
+                term.factor
+            } else {
+                factor_from(form, variable, place + 1)
+            }
+        }
+    }
+}
+
+/// The terms of a form from a place on whose variables are no bases.
+#[tactic(auto, using(crate::proofs::TermPlaces::places))]
+pub(crate) fn free_terms(form: &LinForm, bases: &[u32], place: u16) -> FewTerms
+    requires { IsForm form.now }
+    ensures { result ≡ few_of (free_terms bases.now (drop place form.now.terms)) }
+{
+    match form.term(place) {
+        None => FewTerms::Nothing,
+        Some(term) => {
+            let more = free_terms(form, bases, place + 1);
+            if is_in(bases, term.variable) {
+                more
+            } else {
+                and_term(term, more)
+            }
+        }
+    }
+}
+
+/// A term before others.
+fn and_term(term: Term, more: FewTerms) -> FewTerms
+    ensures { result ≡ and_term term more }
+{
+    match more {
+        FewTerms::Nothing => FewTerms::One { term },
+        FewTerms::One { .. } => FewTerms::Several,
+        FewTerms::Several => FewTerms::Several,
+    }
+}
+
+/// The variable that a form is, with factor 1 and a constant, where it is no base.
+#[tactic(auto, using(crate::proofs::TermPlaces::choices))]
+pub(crate) fn first_base(form: &LinForm, bases: &[u32]) -> Option<u32>
+    requires { IsForm form.now }
+    ensures { result ≡ first_base bases.now form.now.terms }
+{
+    match free_terms(form, &[], 0) {
+        FewTerms::Nothing => None,
+        FewTerms::One { term } => new_base(bases, term),
+        FewTerms::Several => None,
+    }
+}
+
+/// The variable of a term with factor 1, where it is no base.
+pub(crate) fn new_base(bases: &[u32], term: Term) -> Option<u32>
+    ensures { result ≡ new_base bases.now term }
+{
+    if term.factor != 1 {
+        return None;
+    }
+    if is_in(bases, term.variable) {
+        return None;
+    }
+    Some(term.variable)
+}
