@@ -4,28 +4,22 @@ use Rattle.std.specs.Prelude.{Option, true}
 use Rattle.std.specs.List.{AllByRecursion}
 use Rattle.pc_word.specs.declared.item.Limits.{Limits}
 use Rattle.pc_window.specs.declared.tree.WindowTree.{WindowTree}
-use Rattle.pc_window.specs.declared.tree.WindowTree.TheVariants as stored
 use Rattle.pc_window.specs.declared.names.NameTable.{NameTable}
 use Rattle.pc_window.specs.declared.window.Window.{Window as StoredWindow}
-use Rattle.pc_window.specs.Tree.{Tree, Pending, Undecided, whole}
+use Rattle.pc_window.specs.Tree.{Tree, whole}
+use Rattle.pc_table.specs.Table.{Table}
+use Rattle.pc_window.specs.Kept.{WindowKeeps}
 use Rattle.pc_window.specs.Names.{parameters_of}
 use Rattle.pc_window.specs.Opening.{Supply, TreeBelow, FormsBelow}
 use Rattle.pc_window.specs.Rebasing.{all_names, first_turns, after_first, rebased}
 use Rattle.pc_window.specs.Steps.{IsProper, Rebases}
 use Rattle.pc_window.specs.StoredWindow.{InNodes, window_in, tree_in, front_in, supply_in}
 use Rattle.pc_window.proofs.Rebasing.{rebased-kept}
-use Rattle.pc_window.proofs.WindowsStored.{single_window}
+use Rattle.pc_window.proofs.Proper.{rebases_proper}
+use Rattle.pc_window.proofs.Settling.{rebases_keep}
+use Rattle.pc_window.proofs.WindowsStored.{single_window, whole_in}
 use Rattle.pc_rebase.specs.models.Turning.{unturned}
 use Rattle.pc_rebase.proofs.Listed.{parameters-below, all_names-below}
-
--- the whole of the front is the tree
-whole_in : (tree : WindowTree) → whole (front_in tree) ≡ tree_in tree
-whole_in (stored.Step' tag origin item p rest) = ap (λ (t : Tree). Pending tag origin item t) (whole_in rest)
-whole_in (stored.Test' tag origin on p on_yes q on_no) = λ i. Undecided tag origin on (whole_in on_yes i) (whole_in on_no i)
-whole_in (stored.Node' p below) = refl
-whole_in (stored.Exit region tag homes) = refl
-whole_in stored.Stop = refl
-whole_in (stored.Trap kind line) = refl
 
 -- a window in memory, by its parts
 abbrev pub with_parts : WindowTree → NameTable → Limits → Option ℕ → StoredWindow
@@ -56,7 +50,13 @@ module _ (tree : WindowTree) (names : NameTable) (limits : Limits) (inside : Opt
         single_window tree later limits inside (record { tree = whole (front_in tree); names = rebased (whole (front_in tree)) (supply_in names) })
         (λ i. record { tree = sym (whole_in tree) i; names = (names_are ∙ ap (λ (t : Tree). rebased t (supply_in names)) (sym (whole_in tree))) i }) single
 
+    pub stays_proper : InNodes true tree → IsProper (window_in (with_parts tree later limits inside))
+    stays_proper single = rebases_proper _ _ (is_rebased single) proper
+
+    pub keeps : InNodes true tree → (table : Table) → WindowKeeps table (window_in (with_parts tree names limits inside)) (window_in (with_parts tree later limits inside))
+    keeps single table = rebases_keep table _ _ (is_rebased single) proper
+
     pub as_many : length later.forms ≡ length names.forms
     as_many = ap (λ (s : Supply). s.next) names_are ∙ (rebased-kept (tree_in tree) (supply_in names) forms_below names_below).0
 
-pub ruleset windows = (forms_below, is_rebased, as_many)
+pub ruleset windows = (forms_below, is_rebased, stays_proper, keeps, as_many)

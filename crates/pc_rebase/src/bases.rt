@@ -15,7 +15,7 @@ use pc_window::{FormList, NameTable, WindowError};
 use std::alloc::Global;
 
 /// From this number on there are no form variables.
-const MOST_VARIABLES: u32 = 1 << 31;
+pub(crate) const MOST_VARIABLES: u32 = 1 << 30;
 
 /// Makes a parameter's form a new variable alone: in its form another variable stands with factor 1,
 /// which every form is then written without.
@@ -90,7 +90,7 @@ pub(crate) fn set_variable(names: &mut NameTable, name: u32) -> Result<(), Windo
     Ok(())
 }
 
-/// One more form variable. There is no room for it where its number would be 2^31.
+/// One more form variable. There is no room for it where its number would be 2^30.
 fn new_variable(names: &mut NameTable) -> Result<u32, WindowError>
     ensures variable { IfOk result (λ variable. variable ≡ names.old.next_variable) }
     ensures names { OnOk result (supply_in names.new ≡ one_variable_more (supply_in names.old)) }

@@ -4,7 +4,7 @@ use Rattle.pc_window.specs.Opening.{TreeBelow}
 use Rattle.pc_window.specs.Rebasing.{all_names, first_turns, after_first}
 use Rattle.pc_window.specs.StoredWindow.{tree_in, supply_in}
 use Rattle.pc_rebase.specs.models.Turning.{unturned}
-use Rattle.pc_rebase.proofs.RebasedWindows.{names_below, parameters_there, all_there, is_rebased, as_many}
+use Rattle.pc_rebase.proofs.RebasedWindows.{names_below, parameters_there, all_there, is_rebased, stays_proper, keeps, as_many}
 use Rattle.pc_rebase.proofs.rebasing.rebase.Goals as goal
 
 pub parameters_of-requires : goal.parameters_of-requires
@@ -44,3 +44,23 @@ returns-clause-names c =
     let parameters_are : parameters ≡ parameters_of (tree_in window.tree) = search rules in
     let made : supply_in c.in_ok-names.names ≡ after_first all (first_turns all parameters (unturned (supply_in window.names))) = search rules in
     as_many window.tree window.names window.limits window.inside c.requires.proper c.in_ok-names.names parameters all parameters_are all_are made
+
+pub returns-clause-proper : goal.returns-clause-proper
+returns-clause-proper c =
+    let window = c.args.window in
+    let all = c.as_slice-3.result.now in
+    let parameters = c.as_slice-2.result.now in
+    let all_are : all ≡ all_names (tree_in window.tree) = search rules in
+    let parameters_are : parameters ≡ parameters_of (tree_in window.tree) = search rules in
+    let made : supply_in c.in_ok-names.names ≡ after_first all (first_turns all parameters (unturned (supply_in window.names))) = search rules in
+    stays_proper window.tree window.names window.limits window.inside c.requires.proper c.in_ok-names.names parameters all parameters_are all_are made c.requires.nodes
+
+pub returns-clause-keeps : goal.returns-clause-keeps
+returns-clause-keeps c =
+    let window = c.args.window in
+    let all = c.as_slice-3.result.now in
+    let parameters = c.as_slice-2.result.now in
+    let all_are : all ≡ all_names (tree_in window.tree) = search rules in
+    let parameters_are : parameters ≡ parameters_of (tree_in window.tree) = search rules in
+    let made : supply_in c.in_ok-names.names ≡ after_first all (first_turns all parameters (unturned (supply_in window.names))) = search rules in
+    keeps window.tree window.names window.limits window.inside c.requires.proper c.in_ok-names.names parameters all parameters_are all_are made c.requires.nodes

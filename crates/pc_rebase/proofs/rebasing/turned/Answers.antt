@@ -4,7 +4,7 @@ use Rattle.pc_window.specs.Rebasing.{first_turns}
 use Rattle.pc_window.specs.StoredWindow.{supply_in}
 use Rattle.pc_rebase.specs.models.Turning.{turned, unturned}
 use Rattle.pc_rebase.proofs.ParameterTurns.{later_all, later_left, later_below}
-use Rattle.pc_rebase.proofs.rebasing.rebased.Goals as goal
+use Rattle.pc_rebase.proofs.rebasing.turned.Goals as goal
 
 pub second_turns-requires-clause-all : goal.second_turns-requires-clause-all
 second_turns-requires-clause-all c =
