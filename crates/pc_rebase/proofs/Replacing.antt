@@ -129,6 +129,11 @@ module _ (f g : Form) (k : ℤ) (y : ℕ) (fk : IsForm f) (gk : IsForm g) where
   abbrev whole : Form
   whole = plus f k (plus (variable_form y) (negsuc 0) g)
 
+  rest_factor : (x : ℕ) → factor_of rest.terms x ≡ int_wrap w32 (factor_of f.terms x +ℤ (negsuc 0 *ℤ int_wrap w32 (pos 0 +ℤ (k *ℤ factor_of g.terms x))))
+  rest_factor x =
+      plus-factor f (negsuc 0) (times_form g k) x fk.normal
+      ∙ ap (λ (z : ℤ). int_wrap w32 (factor_of f.terms x +ℤ (negsuc 0 *ℤ z))) (plus-factor (constant_form (pos 0)) k g x zero_normal)
+
   same_whole : plus rest (pos 1) (times_form (variable_form y) k) ≡ whole
   same_whole =
       same_form (plus rest (pos 1) (times_form (variable_form y) k)) whole
@@ -136,8 +141,7 @@ module _ (f g : Form) (k : ℤ) (y : ℕ) (fk : IsForm f) (gk : IsForm g) where
       (plus-normal f k (plus (variable_form y) (negsuc 0) g) fk.normal)
       (λ x.
       plus-factor rest (pos 1) (times_form (variable_form y) k) x (plus-normal f (negsuc 0) (times_form g k) fk.normal)
-      ∙ (λ i. int_wrap w32 ((plus-factor f (negsuc 0) (times_form g k) x fk.normal ∙ ap (λ (z : ℤ). int_wrap w32 (factor_of f.terms x +ℤ (negsuc 0 *ℤ z))) (plus-factor (constant_form (pos 0)) k g x zero_normal)) i
-      +ℤ (pos 1 *ℤ plus-factor (constant_form (pos 0)) k (variable_form y) x zero_normal i)))
+      ∙ (λ i. int_wrap w32 (rest_factor x i +ℤ (pos 1 *ℤ plus-factor (constant_form (pos 0)) k (variable_form y) x zero_normal i)))
       ∙ numbers_same (factor_of f.terms x) (factor_of g.terms x) (factor_of (variable_form y).terms x) k
       ∙ sym (plus-factor f k (plus (variable_form y) (negsuc 0) g) x fk.normal
       ∙ ap (λ (z : ℤ). int_wrap w32 (factor_of f.terms x +ℤ (k *ℤ z))) (plus-factor (variable_form y) (negsuc 0) g x (variable_normal y))))

@@ -28,7 +28,13 @@ region_keeps zero region e =
     let same : two_variables_region ≡ region = (cc) in
     subst (RegionKeeps two_variables_table) same
     (record {
-      there = (record { reads = (omega arith, (tt, tt)); writes = omega arith; array = tt }, (record { reads = (omega arith, (omega arith, tt)); writes = omega arith; array = tt }, (record { reads = (omega arith, tt); writes = tt; array = tt }, tt)));
+      there = (
+        record { reads = (omega arith, (tt, tt)); writes = omega arith; array = tt },
+        (
+          record { reads = (omega arith, (omega arith, tt)); writes = omega arith; array = tt },
+          (record { reads = (omega arith, tt); writes = tt; array = tt }, tt),
+        ),
+      );
       few = omega arith;
       rising = rises;
       inside_there = tt;

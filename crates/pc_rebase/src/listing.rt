@@ -46,7 +46,8 @@ pub(crate) fn all_names(
     Ok(NumberList::from_vec(all))
 }
 
-/// Adds the names that a tree uses and does not define above, but for those that are marked.
+/// Adds the names that a tree uses and does not define above, but for those that are marked. The marks
+/// of what is defined on the path come and go with it.
 #[tactic(auto, using(crate::proofs::Walked::paths))]
 fn add_parameters(
     tree: &WindowTree,

@@ -24,6 +24,7 @@ pub(crate) fn form_of(forms: &[LinForm], name: u32) -> LinForm
     ensures kept { IsForm result }
 {
     let form = forms[name as usize];
+    // A form's getter tells that it is a form.
     let _offset = form.offset();
     form
 }
