@@ -115,7 +115,8 @@ module _ (table : Table) (w : Window) (s : State) where
   abbrev CutAt : Tree → Type 0
   CutAt tree = (n : ℕ) → front_run table w.front s n ≡ after_printing (prints_of s path) (tree_run table tree next n)
 
-  left_rest : (σ : ℕ → ℤ) (tree : Tree) → CutAt tree → HoldUnder σ w.forms table.arrays tree next → (IsBare (whole w.front) → ⊥) → RestCut table w s (prints_of s path) next (with_tree w tree)
+  left_rest : (σ : ℕ → ℤ) (tree : Tree) → CutAt tree → HoldUnder σ w.forms table.arrays tree next
+      → (IsBare (whole w.front) → ⊥) → RestCut table w s (prints_of s path) next (with_tree w tree)
   left_rest σ tree runs holds items = record {
     same = λ n. runs n ∙ ap (λ (t : Tree). after_printing (prints_of s path) (tree_run table t next n)) (sym (whole_front_of tree));
     forms = becomes_holds table w tree next σ holds;
@@ -139,7 +140,8 @@ module _ (table : Table) (w : Window) (s : State) where
       (ap (λ (x : Seen). after_printing (prints_of s path) x) starts ∙ ap (λ (l : List ℤ). let x : Seen = record { printed = l; end = None } in x) (append-nil (prints_of s path)))
       (λ n. ap (λ (x : Seen). after_printing (prints_of s path) x) (ends n) ∙ ap (λ (l : List ℤ). let x : Seen = record { printed = l; end = Some end } in x) (append-nil (prints_of s path)))))
 
-  left_cut : (σ : ℕ → ℤ) (tree : Tree) → CutAt tree → HoldUnder σ w.forms table.arrays tree next → (IsBare (whole w.front) → ⊥) → LeftCut table w s (prints_of s path) next (left_of table w tree)
+  left_cut : (σ : ℕ → ℤ) (tree : Tree) → CutAt tree → HoldUnder σ w.forms table.arrays tree next
+      → (IsBare (whole w.front) → ⊥) → LeftCut table w s (prints_of s path) next (left_of table w tree)
   left_cut σ (Pending tag origin item below) runs holds items = left_rest σ (Pending tag origin item below) runs holds items
   left_cut σ (Undecided tag origin on on_yes on_no) runs holds items = left_rest σ (Undecided tag origin on on_yes on_no) runs holds items
   left_cut σ (Exit region tag homes) runs holds items = by_loop (is_inside table w.inside region)
@@ -150,7 +152,8 @@ module _ (table : Table) (w : Window) (s : State) where
   left_cut σ Stop_exit runs holds items = left_ends Ended Stop_exit runs refl (λ n. refl)
   left_cut σ (Trap_exit kind line) runs holds items = left_ends (Trapped kind line) (Trap_exit kind line) runs refl (λ n. refl)
 
-  left_cut_root : (σ : ℕ → ℤ) (tree : Tree) → whole w.front ≡ tree → CutAt tree → HoldUnder σ w.forms table.arrays tree next → LeftCut table w s (prints_of s path) next (left_at_root table w tree)
+  left_cut_root : (σ : ℕ → ℤ) (tree : Tree) → whole w.front ≡ tree → CutAt tree → HoldUnder σ w.forms table.arrays tree next
+      → LeftCut table w s (prints_of s path) next (left_at_root table w tree)
   left_cut_root σ (Pending tag origin item below) is runs holds = left_rest σ (Pending tag origin item below) runs holds (λ bare. subst IsBare is bare)
   left_cut_root σ (Undecided tag origin on on_yes on_no) is runs holds = left_rest σ (Undecided tag origin on on_yes on_no) runs holds (λ bare. subst IsBare is bare)
   left_cut_root σ (Exit region tag homes) is runs holds = left_gone region tag homes runs
@@ -159,7 +162,8 @@ module _ (table : Table) (w : Window) (s : State) where
 
   -- ---- the row
 
-  row_cut : (left : Tree → Left) → fault_of table.arrays s path ≡ None → LeftCut table w s (prints_of s path) next (left rest) → TakenCut table w s (row_step table.arrays (front_row left w.front) s)
+  row_cut : (left : Tree → Left) → fault_of table.arrays s path ≡ None → LeftCut table w s (prints_of s path) next (left rest)
+      → TakenCut table w s (row_step table.arrays (front_row left w.front) s)
   row_cut left none h =
       subst (λ (items : List Item). TakenCut table w s (commit_of table.arrays s items (leaf_of s.names (front_row left w.front)) (fault_of table.arrays s items)))
       (sym (row_items left w.front s.names))

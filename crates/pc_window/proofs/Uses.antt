@@ -80,7 +80,8 @@ homes_at_use homes (v ∷ vs) x h = elim (or_is (reads_name (homes v) x) (homes_
 
 module _ (table : Table) (loop : Option ℕ) (tag : ℕ) where
   graft_item-uses : (origin : ℕ) (b : Brought) (names : Supply) (homes : ℕ → Operand) (rest : Supply → (ℕ → Operand) → Grafted) (x : ℕ) → ReadsHomes names homes b
-      → ((names : Supply) (homes : ℕ → Operand) → uses (rest names homes).tree x ≡ true → IsHome homes x) → uses (graft_item tag origin b names homes rest).tree x ≡ true → IsHome homes x
+      → ((names : Supply) (homes : ℕ → Operand) → uses (rest names homes).tree x ≡ true → IsHome homes x)
+      → uses (graft_item tag origin b names homes rest).tree x ≡ true → IsHome homes x
   graft_item-uses origin (Moves_home variable from) names homes rest x r next h =
       let below = next names (changed homes variable from) h in
       elim (changed_is homes variable from x below.variable (nat_eq variable below.variable) below.is) [
