@@ -164,7 +164,7 @@ kept_skipped moves at default row within so_far own =
     let move = get_or moves at default in
     so_far
     ∙ sym (ap kept (take_more moves at default within) ∙ kept_both (take at moves) (move ∷ [])
-        ∙ ap (λ b. kept (take at moves) ++ (if b then [] else move ∷ [])) own ∙ no_more (kept (take at moves)))
+    ∙ ap (λ b. kept (take at moves) ++ (if b then [] else move ∷ [])) own ∙ no_more (kept (take at moves)))
 
 pub kept_pushed : (moves : List Move) (at : ℕ) (default : Move) (row now : List Move) → at < length moves → row ≡ kept (take at moves)
     → is_name (get_or moves at default).from (get_or moves at default).dest ≡ false → now ≡ row ++ get_or moves at default ∷ [] → now ≡ kept (take (at + 1) moves)

@@ -100,8 +100,8 @@ rises_free forms tag origin stood x c from left a (Past_yes t o on d p q l is un
     )
 rises_free forms tag origin stood x c from left a (Past_no t o on d p q l is unwritten rises) =
     to_below (Unit {0})
-        (λ k. MayCross (Some stood) × Side (nat_lt k (tree_size p)) (MayRise forms (Some stood) p k) (MayRise forms (Some stood) q (k - tree_size p)))
-        (tree_size p + risen_place rises)
+    (λ k. MayCross (Some stood) × Side (nat_lt k (tree_size p)) (MayRise forms (Some stood) p k) (MayRise forms (Some stood) q (k - tree_size p)))
+    (tree_size p + risen_place rises)
     (a.quiet ∙ is, to_no (MayRise forms (Some stood) p) (MayRise forms (Some stood) q) (risen_place rises) (tree_size p) (rises_free forms tag origin stood x d q l a rises))
 
 -- ---- what divides

@@ -145,7 +145,7 @@ module _ (front : Front) (tag origin : ℕ) (on : Operand) (p q : WindowTree) (i
       → Split tag origin on p' (front_in q) ≡ landed c front place
   landed_yes c p' less apart e =
       yes_passed c tag origin place on (front_in p) (front_in q) n size_yes p' ne less (ap (λ (f : Front). joins_at c.twin f place) (sym is) ∙ apart) e
-          ∙ ap (λ (f : Front). landed c f place) (sym is)
+      ∙ ap (λ (f : Front). landed c f place) (sym is)
 
   pub landed_no : (c : Coming) (q' : Front) → n ≤ place - 1 → q' ≡ landed c (front_in q) (place - 1 - n) → Split tag origin on (front_in p) q' ≡ landed c front place
   landed_no c q' most e = no_passed c tag origin place on (front_in p) (front_in q) n size_yes q' ne most e ∙ ap (λ (f : Front). landed c f place) (sym is)

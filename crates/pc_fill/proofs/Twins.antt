@@ -180,7 +180,7 @@ module _ (forms : ℕ → Form) (next tag origin : ℕ) (item : Item) (place : �
         carried (Split t o on p q) q (place - 1 - n) found
         (λ k t'. under_root place ⊥ _ ne (side_second (nat_lt (place - 1) (tree_size (whole p))) _ _ test (subst (λ (m : ℕ). TwinIn forms next tag origin item q (place - 1 - m) k) size t')))
         (λ k t'. subst (λ (m : ℕ). TwinIn forms next tag origin item q (place - 1 - m) k) (sym size)
-            (second_only (nat_lt (place - 1) (tree_size (whole p))) _ _ test (below_only place ⊥ _ ne t'))) h
+        (second_only (nat_lt (place - 1) (tree_size (whole p))) _ _ test (below_only place ⊥ _ ne t'))) h
 
     pub front_yes_side : place - 1 < n → both_unfinished p q ≡ false → FirstIn forms next tag origin item p (place - 1) found
         → FirstIn forms next tag origin item (Split t o on p q) place found

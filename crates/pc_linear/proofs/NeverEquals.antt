@@ -187,8 +187,11 @@ odd_times (suc n) f h =
     let next = odd_times n p.0 in
     elim p.1 [
       | inl e ↦
-          let q = next (λ m. h (record { quotient = m.quotient; is = e ∙ (λ i. m.is i +ℤ m.is i)
-              ∙ sym (distribute m.quotient m.quotient (pos (2 ^ suc n))) ∙ twice (suc n) m.quotient })) in (
+          let q = next (λ m. h (record {
+            quotient = m.quotient;
+            is = e ∙ (λ i. m.is i +ℤ m.is i)
+                ∙ sym (distribute m.quotient m.quotient (pos (2 ^ suc n))) ∙ twice (suc n) m.quotient;
+          })) in (
             q.0,
             q.1,
             ap (λ (z : ℤ). z *ℤ q.0) e ∙ distribute p.0 p.0 q.0 ∙ (λ i. q.2 i +ℤ q.2 i)
@@ -244,7 +247,7 @@ raises k least (t ∷ ts) r h = by_test (divides k t.factor) refl h (λ p. raise
       not_multiple = e;
       sum = λ σ x.
           (λ i. (t.factor *ℤ (if nat_eq-same t.variable i then σ t.variable +ℤ x else σ t.variable)) +ℤ sum_unchanged σ t.variable
-              (suc t.variable) (σ t.variable +ℤ x) ts (omega arith) r.1 i)
+          (suc t.variable) (σ t.variable +ℤ x) ts (omega arith) r.1 i)
           ∙ ap (λ (z : ℤ). z +ℤ sum_of σ ts) (distribute_left (σ t.variable) x t.factor)
           ∙ exchange_last (t.factor *ℤ σ t.variable) (t.factor *ℤ x) (sum_of σ ts);
     }

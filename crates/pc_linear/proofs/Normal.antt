@@ -105,7 +105,7 @@ add_term-length v factor (t ∷ ts) = by_order (nat_lt v t.variable) (nat_eq v t
   where
     by_order : (less equal : Bool) → length (add_term v factor ts) ≤ suc (length ts)
         → length (if less then prepended v (int_wrap w32 factor) (t ∷ ts)
-          else if equal then prepended v (int_wrap w32 (factor +ℤ t.factor)) ts else t ∷ add_term v factor ts) ≤ suc (suc (length ts))
+        else if equal then prepended v (int_wrap w32 (factor +ℤ t.factor)) ts else t ∷ add_term v factor ts) ≤ suc (suc (length ts))
     by_order true equal next = prepended-length v (int_wrap w32 factor) (t ∷ ts)
     by_order false true next = let le = prepended-length v (int_wrap w32 (factor +ℤ t.factor)) ts in omega arith
     by_order false false next = omega arith

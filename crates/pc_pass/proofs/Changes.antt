@@ -198,7 +198,7 @@ module _ (change : Change) where
       steps = 1;
       other_steps = 0;
       meet = subst (λ (x : Step FlowState). Meet (λ (a : FlowState) (b : FlowState). Corresponds change a b × (rank_of a b < rank_of here there))
-            (reached_of x (reach (flow_step change.old) 0)) (reach (flow_step change.new) 0 there)) (sym steps)
+          (reached_of x (reach (flow_step change.old) 0)) (reach (flow_step change.new) 0 there)) (sym steps)
           (refl, (corresponds, lower));
     }
 

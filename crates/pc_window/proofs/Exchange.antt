@@ -226,7 +226,7 @@ walk-exchanged lengths tag origin tag' origin' y x rest s h ok =
     (unless_fault (fault_of lengths s (y ∷ [])) (printing p (walk lengths rest (after_item lengths y (after_item lengths x s))))))) h.first.prints in
     turned
     ∙ outcome-exchanged (fault_of lengths s (y ∷ [])) (fault_of lengths s (x ∷ [])) (prints_of s (y ∷ []))
-        (prints_of s (x ∷ [])) (walk lengths rest (after_item lengths y (after_item lengths x s)))
+    (prints_of s (x ∷ [])) (walk lengths rest (after_item lengths y (after_item lengths x s)))
     (prints-one s s y x h.one_effect) (subst IsWhole equal ok)
     ∙ sym equal
 

@@ -142,7 +142,7 @@ same_next : (next : ℕ) (new new' : Option ℕ) (name name' : ℕ) (stood stood
     → stood ≡ stood' → IsNext next new → IsNext next new' → new ≡ new'
 same_next next new new' name name' stood stood' p q same u u' =
     by_kind new new' (ap (λ (d : Option ℕ). is_none d) p ∙ dest_kind name name' stood
-        ∙ ap (λ (x : Item). is_none (dest_of (with_dest name' x))) same ∙ sym (ap (λ (d : Option ℕ). is_none d) q)) u u'
+    ∙ ap (λ (x : Item). is_none (dest_of (with_dest name' x))) same ∙ sym (ap (λ (d : Option ℕ). is_none d) q)) u u'
   where
     by_kind : (a b : Option ℕ) → is_none a ≡ is_none b → IsNext next a → IsNext next b → a ≡ b
     by_kind (Some a) (Some b) e u v = ap Some (u ∙ sym v)

@@ -254,7 +254,7 @@ module _ (table : Table) (loop : Option ℕ) (tag : ℕ) where
   unfolding GraftHolds
   held_item origin item rest names homes s σ final fb h m (Moves_home variable from) below means same more holds_for =
       holds_for names (changed homes variable from) s σ final fb (HomesBelow-changed names.next homes variable from below h)
-          (HomesMean-changed σ names.forms s.names homes variable from means m) more
+      (HomesMean-changed σ names.forms s.names homes variable from means m) more
   held_item origin item rest names homes s σ final fb h m (Gets_name variable given form) below means same more holds_for =
       held_named origin item given form variable rest names homes s σ final same.new fb h m below means more holds_for
   held_item origin item rest names homes s σ final fb h m (Stays_plain given) below means same more holds_for =

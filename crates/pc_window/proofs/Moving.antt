@@ -133,7 +133,7 @@ moved lengths σ forms forms' new known from to s (Below k t o y rest rest' apar
 moved lengths σ forms forms' new known from to s (On_yes_side k t o on p q p' apart moves) scoped holds' defines ok =
     pass (outcome_at_test σ forms forms' new (holds (operand_value s.names on)) (walk lengths p s) (walk lengths q s) (walk lengths p' s) (walk lengths q s)
     (DefinedHold σ forms lengths p s) (DefinedHold σ forms lengths q s) (λ v. DefinedHold v forms' lengths p' s)
-        (λ v. DefinedHold v forms' lengths q s) 0 0 0 0 (λ n. []) (λ n. []) (λ n. []) (λ n. [])
+    (λ v. DefinedHold v forms' lengths q s) 0 0 0 0 (λ n. []) (λ n. []) (λ n. []) (λ n. [])
     (λ ok' d. moved lengths σ forms forms' new k p p' s moves scoped.1 holds' d ok')
     (λ ok' d. untouched lengths σ forms forms' new q s (moves_forms forms forms' new k p p' moves) apart d) ok defines)
   where
@@ -143,7 +143,7 @@ moved lengths σ forms forms' new known from to s (On_yes_side k t o on p q p' a
 moved lengths σ forms forms' new known from to s (On_no_side k t o on p q q' apart moves) scoped holds' defines ok =
     pass (outcome_at_test σ forms forms' new (holds (operand_value s.names on)) (walk lengths p s) (walk lengths q s) (walk lengths p s) (walk lengths q' s)
     (DefinedHold σ forms lengths p s) (DefinedHold σ forms lengths q s) (λ v. DefinedHold v forms' lengths p s)
-        (λ v. DefinedHold v forms' lengths q' s) 0 0 0 0 (λ n. []) (λ n. []) (λ n. []) (λ n. [])
+    (λ v. DefinedHold v forms' lengths q' s) 0 0 0 0 (λ n. []) (λ n. []) (λ n. []) (λ n. [])
     (λ ok' d. untouched lengths σ forms forms' new p s (moves_forms forms forms' new k q q' moves) apart d)
     (λ ok' d. moved lengths σ forms forms' new k q q' s moves scoped.2 holds' d ok') ok defines)
   where

@@ -116,7 +116,7 @@ scoped_fewer (Pending t o x rest) known' known fewer enough h = (
   new_fewer known' known fewer (dest_of x) h.1,
   scoped_fewer rest (and_dest known' x) (and_dest known x)
       (λ z e. or_cases (writes (dest_of x) z) (known' z) (and_dest known x z ≡ true) e
-          (λ k. or_first (writes (dest_of x) z) (known z) k) (λ k. or_comes (writes (dest_of x) z) (known z) (fewer z k)))
+      (λ k. or_first (writes (dest_of x) z) (known z) k) (λ k. or_comes (writes (dest_of x) z) (known z) (fewer z k)))
       (λ z e. below z (writes (dest_of x) z) refl e) h.2,
 )
   where

@@ -274,7 +274,7 @@ Tidy-test lengths tag origin on one one' other other' p q = record {
   ];
   still_holds = λ σ forms s h.
       Side-map (holds (operand_value s.names on)) (DefinedHold σ forms lengths one' s) (DefinedHold σ forms lengths other' s)
-          (DefinedHold σ forms lengths one s) (DefinedHold σ forms lengths other s)
+      (DefinedHold σ forms lengths one s) (DefinedHold σ forms lengths other s)
       (λ d. p.still_holds σ forms s d) (λ d. q.still_holds σ forms s d) h;
   below = λ n h. (h.0, p.below n h.1, q.below n h.2);
   defines_less = λ x h. elim (or_is (defines one x) (defines other x) h) [

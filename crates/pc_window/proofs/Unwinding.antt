@@ -348,14 +348,22 @@ module _ (table : Table) (loop : Option ℕ) (names after : Supply) (fb : FormsB
       let sides = side_parameters σ tag origin on one other s h.parameters in
       held_side σ names.forms after.forms table.arrays names.next_variable tag origin on one other new other s (holds (operand_value s.names on)) refl
       (λ d. unwound_held u b.1 s σ (record { parameters = sides.0; defined = d }))
-      (λ d. record { values = σ; goes_on = record { same = λ v lt. refl }; defined = defined_later names after σ σ table.arrays other s
-          (unwound-extends u) (record { same = λ v lt. refl }) fb b.2 d })
+      (λ d. record {
+        values = σ;
+        goes_on = record { same = λ v lt. refl };
+        defined = defined_later names after σ σ table.arrays other s
+            (unwound-extends u) (record { same = λ v lt. refl }) fb b.2 d;
+      })
       h.defined
   unwound_held (at_no tag origin on one {other = other} {new = new} u) b s σ h =
       let sides = side_parameters σ tag origin on one other s h.parameters in
       held_side σ names.forms after.forms table.arrays names.next_variable tag origin on one other one new s (holds (operand_value s.names on)) refl
-      (λ d. record { values = σ; goes_on = record { same = λ v lt. refl }; defined = defined_later names after σ σ table.arrays one s
-          (unwound-extends u) (record { same = λ v lt. refl }) fb b.1 d })
+      (λ d. record {
+        values = σ;
+        goes_on = record { same = λ v lt. refl };
+        defined = defined_later names after σ σ table.arrays one s
+            (unwound-extends u) (record { same = λ v lt. refl }) fb b.1 d;
+      })
       (λ d. unwound_held u b.2 s σ (record { parameters = sides.1; defined = d }))
       h.defined
 
