@@ -44,3 +44,4 @@ pub mod FirstJumps
 pub mod FilledRows
 pub mod LegalRows
 pub mod There
+pub mod Bare

@@ -6,19 +6,17 @@ use Rattle.pc_word.specs.declared.item.Item.{Item}
 use Rattle.pc_word.specs.declared.item.Item.TheVariants.{Bin, Copy, Load, Store, Print, Read, More}
 use Rattle.pc_word.specs.declared.item.Operand.{Operand}
 use Rattle.pc_word.specs.declared.item.Operand.TheVariants.{Name, Lit}
-use Rattle.pc_word.specs.declared.item.Limits.{Limits}
-use Rattle.pc_word.specs.Items.{array_of}
-use Rattle.pc_word.specs.Row.{Row, items_of, leaves_of}
+use Rattle.pc_word.specs.Row.{items_of, leaves_of}
 use Rattle.pc_word.proofs.Lists.{all_both}
 use Rattle.pc_linear.specs.Form.{Form}
 use Rattle.pc_table.specs.Table.{TableTree, Does, Asks, Next, Stops_here, Traps_here, TableRegion, Table, tree_of, region_tree, region_live}
-use Rattle.pc_table.specs.TableKeeps.{TableKeeps, TreeIsThere, ItemIsThere}
+use Rattle.pc_table.specs.TableKeeps.{TableKeeps, TreeIsThere}
 use Rattle.pc_window.specs.declared.home.Home.{Home}
 use Rattle.pc_window.specs.Tree.{Tree, Pending, Undecided, Exit, Stop_exit, Trap_exit, Front, Issued, Split, Unfinished, whole, front_of}
 use Rattle.pc_window.specs.Names.{uses}
-use Rattle.pc_window.specs.Opening.{Supply, Brought, Moves_home, Gets_name, Stays_plain, brought, Grafted, graft_item, homes_at, stub_tag, graft, opened}
+use Rattle.pc_window.specs.Opening.{Supply, Brought, Moves_home, Gets_name, Stays_plain, brought, Grafted, graft_item, homes_at, graft, opened}
 use Rattle.pc_window.specs.Opening.{first_new, first_home, first_supply, is_inside}
-use Rattle.pc_window.specs.Tidying.{tidied, kept_if_used}
+use Rattle.pc_window.specs.Tidying.{tidied}
 use Rattle.pc_window.specs.Rename.{map_operands, map_homes, mapped, with_dest}
 use Rattle.pc_window.specs.Jump.{Rises, Root, Past_item, Past_yes, Past_no, DividesTree, Root_test, Past, EntersFront, Lands, Lands_renamed, Lands_test}
 use Rattle.pc_window.specs.Jump.{Lands_once, Behind_item, On_yes, On_no}
@@ -26,7 +24,7 @@ use Rattle.pc_window.specs.Filled.{Filled, Full, Goes_on}
 use Rattle.pc_window.specs.WindowRun.{Window}
 use Rattle.pc_window.specs.Kept.{Left, Rest, Gone}
 use Rattle.pc_window.specs.Steps.{loop_of, left_of, left_at_root, front_row, cut_row, with_tree}
-use Rattle.pc_window.specs.There.{ArrayIsThere, StubIsThere, PartsAreThere, LeftIsThere, RowIsThere}
+use Rattle.pc_window.specs.There.{ArrayIsThere, PartsAreThere, LeftIsThere, RowIsThere}
 use Rattle.pc_window.specs.Laws.{OpenedPartsAreThere, OpenedParametersAreLive, TidiedPartsAreThere, TidyingAddsNoParameter, RebasedPartsAreThere, FilledPartsAreThere, CutPartsAreThere}
 use Rattle.pc_window.proofs.CutRows.{whole_front_of}
 use Rattle.pc_window.proofs.Tidying.{tidied_tidy}

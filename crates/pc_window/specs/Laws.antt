@@ -1,14 +1,15 @@
 -- The laws of windows. Each is the contract of a function of laws.rt, which does nothing.
-use Rattle.std.specs.Prelude.{◌≡◌, ℕ, suc, ◌≤◌, ℤ, Bool, true, List, length, nat_eq, Option}
+use Rattle.std.specs.Prelude.{◌≡◌, ℕ, suc, ◌≤◌, ℤ, Bool, true, List, length, nat_eq, Option, Some}
 use Rattle.std.specs.List.{AllByRecursion, count_by, filter_map, list_any, IsDistinct}
 use Rattle.pc_word.specs.declared.item.Limits.{Limits}
 use Rattle.pc_word.specs.State.{State}
 use Rattle.pc_word.specs.Items.{dest_of, is_memory, is_effect}
 use Rattle.pc_word.specs.Row.{Row, items_of, tests_of, paths_of, row_step}
 use Rattle.pc_linear.specs.Form.{Form}
-use Rattle.pc_table.specs.Table.{Table, region_live}
-use Rattle.pc_table.specs.TableKeeps.{TableKeeps}
-use Rattle.pc_window.specs.Tree.{Tree, whole}
+use Rattle.pc_table.specs.Table.{Table, region_tree, region_live}
+use Rattle.pc_table.specs.TableKeeps.{TableKeeps, untested}
+use Rattle.pc_window.specs.declared.home.Home.{Home}
+use Rattle.pc_window.specs.Tree.{Tree, Exit, whole}
 use Rattle.pc_window.specs.Names.{uses, IsNew, Scoped}
 use Rattle.pc_window.specs.Walk.{IsWhole, walk, outcome_walk}
 use Rattle.pc_window.specs.Hold.{HoldFor, TreeHolds}
@@ -23,9 +24,14 @@ use Rattle.pc_window.specs.Steps.{opened_window, UnwindsTo, Tidies, Rebases, Fil
 
 -- ---- opening
 
--- from every state an opened window does what its region does, and its forms hold
+-- from every state an opened window does what its region does and is not behind it, and its forms hold
 abbrev pub OpenedWindowsRunAsTheirRegion : Type 0
 OpenedWindowsRunAsTheirRegion = (table : Table) → TableKeeps table → (limits : Limits) (region : ℕ) (s : State) → OpensAlike table region (opened_window table limits region) s
+
+-- where it is a stub once it is tidied, its region's tree leads there without a test
+abbrev pub BareWindowsAreUntested : Type 0
+BareWindowsAreUntested = (table : Table) (limits : Limits) (region to tag : ℕ) (homes : List Home) (w : Window)
+    → Tidies (opened_window table limits region) w → whole w.front ≡ Exit to tag homes → untested (region_tree table region) ≡ Some to
 
 -- an opened window is proper, where its limits leave room
 abbrev pub OpenedWindowsAreProper : Type 0

@@ -3,12 +3,15 @@
 ghost use Rattle.pc_window.specs.Laws.{OpenedWindowsRunAsTheirRegion, OpenedWindowsAreProper, UnwindingKeeps, UnwindingHasOneEnd, TidyingKeeps, TidiedTreesAreTidy};
 ghost use Rattle.pc_window.specs.Laws.{TidiedWindowsAreRooted, RebasingKeeps, FillingKeeps, FillingHasOneEnd, FilledFrontsHaveItems, JumpsFillTheFront, FillingIsBounded};
 ghost use Rattle.pc_window.specs.Laws.{RowsDoWhatTheirPathsDo, CutPartsAreProper, CutsKeep, CutRowsHaveItems, FilledRowsKeep, RowsAreLegal, ReadyJumps, JumpsWereReady};
-ghost use Rattle.pc_window.specs.Laws.{FirstJumpsAreFirst, MovesKeep, ProperWindowsHaveFreshNames, OpenedPartsAreThere, OpenedParametersAreLive};
+ghost use Rattle.pc_window.specs.Laws.{FirstJumpsAreFirst, MovesKeep, ProperWindowsHaveFreshNames, BareWindowsAreUntested, OpenedPartsAreThere};
+ghost use Rattle.pc_window.specs.Laws.{OpenedParametersAreLive};
 ghost use Rattle.pc_window.specs.Laws.{TidiedPartsAreThere, TidyingAddsNoParameter, RebasedPartsAreThere, FilledPartsAreThere, CutPartsAreThere};
 
-/// From every state an opened window runs as its region does, and its forms hold; it is proper.
+/// From every state an opened window runs as its region does and is not behind it, and its forms
+/// hold; it is proper. Where it comes to nothing but a stub, its region leads there without a test.
 pub fn laws_of_opening()
     ensures runs { OpenedWindowsRunAsTheirRegion }
+    ensures bare { BareWindowsAreUntested }
     ensures proper { OpenedWindowsAreProper }
 {}
 
