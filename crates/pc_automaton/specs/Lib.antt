@@ -1,3 +1,5 @@
 pub mod models
 pub mod StoredRow
 pub mod Automaton
+pub mod AutomatonRun
+pub mod RunsAsRegion

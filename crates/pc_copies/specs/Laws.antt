@@ -6,10 +6,10 @@ use Rattle.pc_copies.specs.declared.moves.Move.{Move}
 use Rattle.pc_copies.specs.Moves.{copy_of, after_row}
 
 -- the row that has these copies before a leaf
-abbrev pub row_of : List Move → ℕ → Row ℕ
-row_of [] leaf = At_leaf leaf
-row_of (move ∷ moves) leaf = Then (copy_of move) (row_of moves leaf)
+abbrev pub copy_row : {L : Type 0} → List Move → L → Row L
+copy_row [] leaf = At_leaf leaf
+copy_row (move ∷ moves) leaf = Then (copy_of move) (copy_row moves leaf)
 
 -- one step of it is what is said of copies that run in one row
 abbrev pub CopiesCommit : Type 0
-CopiesCommit = (lengths : List ℕ) (row : List Move) (leaf : ℕ) (s : State) → row_step lengths (row_of row leaf) s ≡ Commits [] (after_row lengths row s) leaf
+CopiesCommit = (lengths : List ℕ) (row : List Move) (leaf : ℕ) (s : State) → row_step lengths (copy_row row leaf) s ≡ Commits [] (after_row lengths row s) leaf

@@ -1,0 +1,25 @@
+-- The law of emitted rows. It is the contract of a function of laws.rt, which does nothing.
+use Rattle.std.specs.Prelude.{◌≡◌, ℕ, List, All, Some}
+use Rattle.pc_word.specs.declared.item.Limits.{Limits}
+use Rattle.pc_word.specs.Word.{IsWord}
+use Rattle.std.specs.Prelude.{ℤ}
+use Rattle.pc_word.specs.Run.{AgreeOnInputs}
+use Rattle.pc_table.specs.RegionRun.{table_run}
+use Rattle.pc_table.specs.TableKeeps.{TableKeeps}
+use Rattle.pc_window.specs.Kept.{NeverFaults}
+use Rattle.pc_machine.specs.MachineCode.{CodeRow, RowCode}
+use Rattle.pc_machine.specs.MachineRun.{machine_run}
+use Rattle.pc_emit.specs.Emitted.{Emission, RegionForm, IsEmitted}
+use Rattle.pc_emit.specs.PackedForm.{IsForm}
+
+-- the code with these rows
+abbrev pub code_with : Limits → Emission → List CodeRow → RowCode
+code_with limits e rows = record { limits = limits; arrays = e.table.arrays; rows = rows }
+
+-- where each region that has a form has one that it may have, and its rows stand in the code, the code shows what the table
+-- shows, on every input of words on which that never faults
+abbrev pub EmittedRowsDoWhatTheirTableDoes : Type 0
+EmittedRowsDoWhatTheirTableDoes = (e : Emission) → TableKeeps e.table → (limits : Limits) (rows : List CodeRow) → IsEmitted e rows
+    → ((region : ℕ) (form : RegionForm) → e.forms region ≡ Some form → IsForm e.table region form)
+    → ((input : List ℤ) → All IsWord input → NeverFaults (table_run e.table input))
+    → AgreeOnInputs (machine_run (code_with limits e rows)) (table_run e.table)

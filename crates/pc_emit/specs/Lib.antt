@@ -1,0 +1,5 @@
+pub mod Uses
+pub mod Registers
+pub mod Emitted
+pub mod PackedForm
+pub mod Laws

@@ -1,0 +1,7 @@
+//! The rows of a machine for the regions of a table: an automaton on registers for each region that
+//! is packed, and a row for each item and test of one that is plain.
+#![tactic(auto)]
+
+mod laws;
+
+pub use laws::law_of_emission;
