@@ -8,11 +8,14 @@ use Rattle.pc_window.specs.Opening.{Grafted}
 use Rattle.pc_window.specs.WindowRun.{Window}
 use Rattle.pc_window.specs.Unwinding.{lesser_tag, least_tag, front_tag, most_unwound, Unwinds, unwinds_no_more, unwinds_once}
 use Rattle.pc_window.specs.Steps.{UnwindsTo}
-use Rattle.pc_unwind.specs.Unwindable.{TagsAtMost, StubsAreThere, HasGrown}
+use Rattle.pc_unwind.specs.models.Named.{TagsAtMost, ArraysAreThere, StubsAreThere}
+use Rattle.pc_unwind.specs.Unwindable.{HasGrown}
 use Rattle.pc_unwind.specs.models.Walking.{RootStaysAtMost}
 use Rattle.pc_unwind.proofs.Reaching.{once_is}
-use Rattle.pc_unwind.proofs.Replaced.{replaced_at, stubs_kept, names_kept, tags_kept, stays_kept}
+use Rattle.pc_unwind.proofs.Replaced.{replaced_at, arrays_kept, stubs_kept, names_kept, tags_kept, stays_kept}
 use Rattle.pc_unwind.proofs.TagWalks.{lesser_most, tags_stay}
+use Rattle.pc_window.specs.There.{PartsAreThere}
+use Rattle.pc_unwind.proofs.PartsThere.{tags_of, arrays_of, stubs_of, parts_there, higher}
 
 -- the front of a tree and what stands behind it are the tree
 pub whole_front : (tree : Tree) → whole (front_of tree) ≡ tree
@@ -21,13 +24,6 @@ whole_front (Undecided t o on one other) = refl
 whole_front (Exit region t homes) = refl
 whole_front Stop_exit = refl
 whole_front (Trap_exit kind line) = refl
-
-higher : (most more : ℕ) (tree : Tree) → most ≤ more → TagsAtMost most tree → TagsAtMost more tree
-higher most more (Pending t o item rest) le h = let first = h.0 in (omega arith, higher most more rest le h.1)
-higher most more (Undecided t o on one other) le h = let first = h.0 in (omega arith, higher most more one le h.1, higher most more other le h.2)
-higher most more (Exit region t homes) le h = omega arith
-higher most more Stop_exit le h = tt
-higher most more (Trap_exit kind line) le h = tt
 
 front_stays : (table : Table) (most : ℕ) (tree : Tree) → RootStaysAtMost table most tree → front_tag tree ≤ most
 front_stays table most (Pending t o item rest) h = let le = lesser_most t (least_tag rest) in omega arith
@@ -42,6 +38,12 @@ module _ (table : Table) (keeps : TableKeeps table) (loop : Option ℕ) (number 
   stubs_unwound (unwinds_once g h k is u) there =
       let once = once_is table loop number g h is in
       stubs_unwound u (stubs_kept table loop once.tag keeps (replaced_at table loop once.tag g.names g.tree h once.unwound) there)
+
+  arrays_unwound : {g k : Grafted} → Unwinds table loop number g k → ArraysAreThere table g.tree → ArraysAreThere table k.tree
+  arrays_unwound (unwinds_no_more g none) there = there
+  arrays_unwound (unwinds_once g h k is u) there =
+      let once = once_is table loop number g h is in
+      arrays_unwound u (arrays_kept table loop once.tag keeps (replaced_at table loop once.tag g.names g.tree h once.unwound) there)
 
   size_unwound : {g k : Grafted} → Unwinds table loop number g k → tree_size k.tree ≤ max most_unwound (tree_size g.tree)
   size_unwound (unwinds_no_more g none) = omega arith
@@ -72,22 +74,24 @@ module _ (table : Table) (keeps : TableKeeps table) (loop : Option ℕ) (number 
       (tags_kept table loop once.tag (most + number) (omega arith) r tags)
 
 -- a window that was unwound has grown no more than said
-pub has_grown : (table : Table) → TableKeeps table → (number : ℕ) (w v : Window) → UnwindsTo table number w v → StubsAreThere table (whole w.front) → HasGrown table number w v
-has_grown table keeps number w v to there =
+pub has_grown : (table : Table) → TableKeeps table → (number : ℕ) (w v : Window) → UnwindsTo table number w v → HasGrown table number w v
+has_grown table keeps number w v to =
     let names = names_unwound table keeps w.inside number to.unwinds in
     subst (HasGrown table number w) (sym to.is) (record {
-      stubs = subst (StubsAreThere table) (sym same) (stubs_unwound table keeps w.inside number to.unwinds there);
       size = subst (λ (t : Tree). tree_size t ≤ max most_unwound (tree_size (whole w.front))) (sym same) (size_unwound table keeps w.inside number to.unwinds);
       names = subst (λ (t : Tree). to.unwound.names.next + tree_size (whole w.front) ≤ w.next + tree_size t) (sym same) names.0;
       variables = subst (λ (t : Tree). to.unwound.names.next_variable + tree_size (whole w.front) ≤ w.next_variable + tree_size t) (sym same) names.1;
-      tags = λ most tags. subst (TagsAtMost (most + (length table.regions + number))) (sym same) (all_tags most tags);
+      parts = λ most parts. subst (PartsAreThere table (most + (length table.regions + number))) (sym same)
+          (parts_there table (most + (length table.regions + number)) to.unwound.tree (all_tags most (tags_of table most (whole w.front) parts) (stubs_of table most (whole w.front) parts))
+            (arrays_unwound table keeps w.inside number to.unwinds (arrays_of table most (whole w.front) parts))
+            (stubs_unwound table keeps w.inside number to.unwinds (stubs_of table most (whole w.front) parts)));
     })
   where
     same : whole (front_of to.unwound.tree) ≡ to.unwound.tree
     same = whole_front to.unwound.tree
 
-    all_tags : (most : ℕ) → TagsAtMost most (whole w.front) → TagsAtMost (most + (length table.regions + number)) to.unwound.tree
-    all_tags most tags =
+    all_tags : (most : ℕ) → TagsAtMost most (whole w.front) → StubsAreThere table (whole w.front) → TagsAtMost (most + (length table.regions + number)) to.unwound.tree
+    all_tags most tags there =
         let sums : most + length table.regions + number ≡ most + (length table.regions + number) = omega arith in
         subst (λ (n : ℕ). TagsAtMost n to.unwound.tree) sums
         (tags_unwound table keeps w.inside number (most + length table.regions) to.unwinds there (tags_stay table keeps most (whole w.front) tags)

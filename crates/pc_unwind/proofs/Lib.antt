@@ -2,6 +2,7 @@ pub mod TableRegions
 pub mod Ranking
 pub mod Bringing
 pub mod Parts
+pub mod PartsThere
 pub mod Walks
 pub mod StubReplacements
 pub mod WalkSteps

@@ -6,10 +6,11 @@ use Rattle.pc_table.specs.TableKeeps.{TableKeeps, units, most_region_nodes}
 use Rattle.pc_window.specs.Tree.{Tree, whole, front_of, tree_size}
 use Rattle.pc_window.specs.Opening.{Grafted, first_supply, first_home, opened}
 use Rattle.pc_window.specs.Steps.{loop_of}
-use Rattle.pc_unwind.specs.Unwindable.{TagsAtMost, StubsAreThere}
 use Rattle.pc_unwind.specs.models.Walking.{brought_size}
 use Rattle.pc_unwind.specs.Laws.{OpenedWindowsCanUnwind}
-use Rattle.pc_unwind.proofs.Bringing.{graft_brings, brought_is, brought_few, brought_names, brought_tags, tree_there, brought_there}
+use Rattle.pc_unwind.proofs.Bringing.{graft_brings, brought_is, brought_few, brought_names}
+use Rattle.pc_window.proofs.There.{opened_there}
+use Rattle.pc_unwind.proofs.PartsThere.{parts_higher}
 use Rattle.pc_unwind.proofs.Grown.{whole_front}
 
 few_units : (table : Table) → TableKeeps table → (region : ℕ) → units (region_tree table region) ≤ most_region_nodes
@@ -32,9 +33,8 @@ opened_unwinds table keeps limits region there =
     let names : g.names.next ≤ 96 + tree_size g.tree = more.names in
     let variables : g.names.next_variable ≤ 96 + tree_size g.tree = more.variables in
     record {
-      stubs = subst (StubsAreThere table) (sym same) (brought_there table keeps loop 0 (tree_there table keeps region) brings);
+      parts = parts_higher table 1 (2 ^ 30) (whole (front_of g.tree)) (omega arith) (opened_there table keeps limits region);
       size = let small : tree_size g.tree ≤ 2 ^ 20 = omega arith in subst (λ (t : Tree). tree_size t ≤ 2 ^ 20) (sym same) small;
       names = omega arith;
       variables = omega arith;
-      tags = subst (TagsAtMost (2 ^ 30)) (sym same) (brought_tags table loop 0 (2 ^ 30) (omega arith) brings);
     }

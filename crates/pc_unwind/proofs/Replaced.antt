@@ -9,11 +9,12 @@ use Rattle.pc_window.specs.declared.home.Home.{Home}
 use Rattle.pc_window.specs.Tree.{Tree, Pending, Undecided, Exit, Stop_exit, Trap_exit, tree_size, home_of}
 use Rattle.pc_window.specs.Opening.{Supply, Grafted, below_item, under_item, under_test, unwound_at, is_inside}
 use Rattle.pc_window.specs.Unwinding.{lesser_tag, least_inside, least_tag}
-use Rattle.pc_unwind.specs.Unwindable.{TagsAtMost, StubsAreThere}
+use Rattle.pc_unwind.specs.models.Named.{TagsAtMost, ArraysAreThere, StubsAreThere}
 use Rattle.pc_unwind.specs.models.Ranks.{rank}
 use Rattle.pc_unwind.specs.models.Walking.{replacement, AtMostLeast, RootAtMost, RootStaysAtMost}
 use Rattle.pc_unwind.proofs.Ranking.{rank_falls}
-use Rattle.pc_unwind.proofs.Bringing.{Brings, graft_brings, brought_names, brought_tags, brought_least, brought_root, tree_there, brought_there, least_of_two}
+use Rattle.pc_unwind.proofs.Bringing.{Brings, graft_brings, brought_names, brought_tags, brought_least, brought_root, brought_there, brought_arrays, least_of_two}
+use Rattle.pc_window.proofs.There.{tree_there}
 
 -- in a tree a stub of this tag inside the loop is replaced by what its region brings
 pub data Replaced (table : Table) (loop : Option ℕ) (tag : ℕ) (old new : Supply) : Tree → Tree → Type 0 where
@@ -211,6 +212,12 @@ module _ (table : Table) (loop : Option ℕ) (tag : ℕ) {old new : Supply} wher
     stubs_kept (below t o item r) h = stubs_kept r h
     stubs_kept (at_yes t o on other r) h = (stubs_kept r h.0, h.1)
     stubs_kept (at_no t o on one r) h = (h.0, stubs_kept r h.1)
+
+    pub arrays_kept : {tree later : Tree} → Replaced table loop tag old new tree later → ArraysAreThere table tree → ArraysAreThere table later
+    arrays_kept (at_stub region homes within b) h = brought_arrays table keeps loop tag (tree_there table keeps region) b
+    arrays_kept (below t o item r) h = (h.0, arrays_kept r h.1)
+    arrays_kept (at_yes t o on other r) h = (arrays_kept r h.0, h.1)
+    arrays_kept (at_no t o on one r) h = (h.0, arrays_kept r h.1)
 
     -- a window that is a stub comes to have a tag that is not higher than the rank allows
     pub stays_kept : (most : ℕ) {tree later : Tree} → Replaced table loop tag old new tree later → StubsAreThere table tree → RootStaysAtMost table most tree → RootStaysAtMost table most later

@@ -14,9 +14,11 @@ use Rattle.pc_window.specs.Steps.{UnwindsTo}
 use Rattle.pc_window.specs.StoredWindow.{tree_in, front_in, supply_in, window_in, InNodes}
 use Rattle.pc_window.proofs.WindowsStored.{single_window, whole_in}
 use Rattle.pc_unwind.specs.declared.growth.Growth.{Growth}
-use Rattle.pc_unwind.specs.Unwindable.{TagsAtMost, StubsAreThere, CanUnwind}
+use Rattle.pc_unwind.specs.models.Named.{TagsAtMost, StubsAreThere}
+use Rattle.pc_unwind.specs.Unwindable.{CanUnwind}
 use Rattle.pc_unwind.specs.models.Walking.{with_growth, HasRoom, RootStaysAtMost, most_tag}
 use Rattle.pc_unwind.proofs.TableRegions.{as_many}
+use Rattle.pc_unwind.proofs.PartsThere.{tags_of, stubs_of}
 use Rattle.pc_unwind.proofs.TagWalks.{tags_stay, root_stays}
 
 module _ (table : RegionTable) (w : StoredWindow) (single : WindowTree) (same : tree_in single ≡ tree_in w.tree) where
@@ -27,7 +29,7 @@ module _ (table : RegionTable) (w : StoredWindow) (single : WindowTree) (same : 
   single_size size is = is ∙ ap tree_size is_whole
 
   pub single_stubs : CanUnwind (table_of table) (window_in w) → StubsAreThere (table_of table) (tree_in single)
-  single_stubs able = subst (StubsAreThere (table_of table)) is_whole able.stubs
+  single_stubs able = subst (StubsAreThere (table_of table)) is_whole (stubs_of (table_of table) (2 ^ 30) (whole (front_in w.tree)) able.parts)
 
   pub single_room : (size : ℕ) → size ≡ tree_size (whole (front_in w.tree)) → CanUnwind (table_of table) (window_in w) → HasRoom (record { names = w.names; size = size })
   single_room size is able = let few = able.size in let names = able.names in let variables = able.variables in record { size = omega arith; names = omega arith; variables = omega arith }
@@ -36,7 +38,7 @@ module _ (table : RegionTable) (w : StoredWindow) (single : WindowTree) (same : 
   single_root keeps few able =
       let e = as_many table.regions in
       root_stays (table_of table) (2 ^ 30 + length (table_of table).regions) most_tag (tree_in single) (omega arith)
-      (tags_stay (table_of table) keeps (2 ^ 30) (tree_in single) (subst (TagsAtMost (2 ^ 30)) is_whole able.tags))
+      (tags_stay (table_of table) keeps (2 ^ 30) (tree_in single) (subst (TagsAtMost (2 ^ 30)) is_whole (tags_of (table_of table) (2 ^ 30) (whole (front_in w.tree)) able.parts)))
 
   pub unwinds_to : (number size : ℕ) (later : WindowTree) (growth : Growth) → InNodes true later
       → Unwinds (table_of table) w.inside number (with_growth (tree_in single) (record { names = w.names; size = size })) (with_growth (tree_in later) growth)

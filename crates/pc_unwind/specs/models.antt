@@ -1,3 +1,4 @@
+pub mod Named
 pub mod Walking
 pub mod Ranks
 pub mod Looping

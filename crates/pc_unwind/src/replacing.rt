@@ -2,7 +2,7 @@
 ghost use Rattle.std.specs.Prelude.{◌<◌, ◌^◌, IfOk};
 ghost use Rattle.pc_table.specs.Table.{table_of};
 ghost use Rattle.pc_table.specs.TableKeeps.{TableKeeps};
-ghost use Rattle.pc_unwind.specs.Unwindable.{StubIsThere};
+ghost use Rattle.pc_window.specs.There.{StubIsThere};
 ghost use Rattle.pc_unwind.specs.models.Walking.{HasRoom, MayReplace};
 
 use crate::growth::Growth;

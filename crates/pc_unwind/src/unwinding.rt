@@ -8,7 +8,8 @@ ghost use Rattle.pc_window.specs.Unwinding.{least_inside, Unwinds};
 ghost use Rattle.pc_window.specs.Kept.{WindowKeeps};
 ghost use Rattle.pc_window.specs.Steps.{UnwindsTo, IsProper};
 ghost use Rattle.pc_window.specs.StoredWindow.{tree_in, window_in, InNodes};
-ghost use Rattle.pc_unwind.specs.Unwindable.{StubsAreThere, CanUnwind, HasGrown};
+ghost use Rattle.pc_unwind.specs.models.Named.{StubsAreThere};
+ghost use Rattle.pc_unwind.specs.Unwindable.{CanUnwind, HasGrown};
 ghost use Rattle.pc_unwind.specs.models.Walking.{HasRoom, AtMostLeast, RootAtMost, RootStaysAtMost, most_tag, with_growth};
 
 use crate::growth::Growth;

@@ -5,7 +5,7 @@ ghost use Rattle.pc_table.specs.Table.{table_of};
 ghost use Rattle.pc_table.specs.TableKeeps.{TableKeeps};
 ghost use Rattle.pc_window.specs.Tree.{tree_size};
 ghost use Rattle.pc_window.specs.StoredWindow.{tree_in, InNodes};
-ghost use Rattle.pc_unwind.specs.Unwindable.{StubsAreThere};
+ghost use Rattle.pc_unwind.specs.models.Named.{StubsAreThere};
 ghost use Rattle.pc_unwind.specs.models.Walking.{HasRoom, Walks};
 
 use crate::growth::Growth;

@@ -49,7 +49,7 @@ module _ (table : Table) where
   brought_there names homes (More dest) h = tt
 
   -- a stub has the homes of the variables that are live
-  homes_live : (homes : ℕ → Operand) (variables : List ℕ) → map (λ (home : Home). home.variable) (homes_at homes variables) ≡ variables
+  pub homes_live : (homes : ℕ → Operand) (variables : List ℕ) → map (λ (home : Home). home.variable) (homes_at homes variables) ≡ variables
   homes_live homes [] = refl
   homes_live homes (v ∷ variables) = ap (λ (vs : List ℕ). v ∷ vs) (homes_live homes variables)
 

@@ -6,7 +6,8 @@ use Rattle.pc_window.specs.Tree.{Tree, Exit, tree_size}
 use Rattle.pc_window.specs.Opening.{Grafted}
 use Rattle.pc_window.specs.Unwinding.{least_inside, least_tag, Unwinds}
 use Rattle.pc_window.specs.StoredWindow.{tree_in}
-use Rattle.pc_unwind.specs.Unwindable.{StubIsThere, StubsAreThere}
+use Rattle.pc_unwind.specs.models.Named.{StubsAreThere}
+use Rattle.pc_window.specs.There.{StubIsThere}
 use Rattle.pc_unwind.specs.models.Ranks.{stub_steps}
 use Rattle.pc_unwind.specs.models.Walking.{most_tag, with_growth, AtMostLeast, Replaces, MayReplace, RootStaysAtMost}
 use Rattle.pc_unwind.proofs.Replaced.{inside_least}

@@ -27,7 +27,7 @@ returns-clause-unwinds c =
 
 pub returns-clause-grown : goal.returns-clause-grown
 returns-clause-grown c =
-    has_grown (table_of c.args.table.now) c.requires.kept c.args.number (window_in c.args.window) _ (returns-clause-unwinds c) c.requires.able.stubs
+    has_grown (table_of c.args.table.now) c.requires.kept c.args.number (window_in c.args.window) _ (returns-clause-unwinds c)
 
 pub returns-clause-proper : goal.returns-clause-proper
 returns-clause-proper c = unwinds_proper (table_of c.args.table.now) c.args.number (window_in c.args.window) _ (returns-clause-unwinds c)

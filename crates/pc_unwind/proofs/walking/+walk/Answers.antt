@@ -5,7 +5,8 @@ use Rattle.pc_window.specs.Tree.{Tree, Pending, Undecided, Exit, tree_size}
 use Rattle.pc_window.specs.StoredWindow.{tree_in}
 use Rattle.pc_unwind.specs.models.Ranks.{walk_steps}
 use Rattle.pc_unwind.specs.models.Walking.{MayReplace, Replaces, Walks}
-use Rattle.pc_unwind.specs.Unwindable.{StubIsThere, StubsAreThere}
+use Rattle.pc_unwind.specs.models.Named.{StubsAreThere}
+use Rattle.pc_window.specs.There.{StubIsThere}
 use Rattle.pc_unwind.proofs.WalkSteps.{part_falls, other_fits, replaced_there, replaced_room, replaced_falls}
 use Rattle.pc_unwind.proofs.Walks.{walks_item, walks_yes, walks_both, walks_on}
 use Rattle.pc_unwind.proofs.walking.+walk.Goals as goal
