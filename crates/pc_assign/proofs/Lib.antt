@@ -1,0 +1,5 @@
+pub mod Sets
+pub mod Lookups
+pub mod Held
+pub mod Chosen
+pub mod Pressures

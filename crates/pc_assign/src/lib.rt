@@ -1,0 +1,14 @@
+//! Registers for the names of an automaton.
+#![tactic(auto)]
+
+mod assigned;
+mod definitions;
+mod error;
+mod parameters;
+mod passing;
+mod pressure;
+mod register_set;
+mod uses;
+
+pub use assigned::Assigned;
+pub use error::AssignError;
