@@ -3,3 +3,4 @@ pub mod Lookups
 pub mod Held
 pub mod Chosen
 pub mod Pressures
+pub mod NamesAdded

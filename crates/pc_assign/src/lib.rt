@@ -4,6 +4,7 @@
 mod assigned;
 mod definitions;
 mod error;
+mod naming;
 mod parameters;
 mod passing;
 mod pressure;
