@@ -4,3 +4,7 @@ pub mod Held
 pub mod Chosen
 pub mod Pressures
 pub mod NamesAdded
+pub mod Counting
+pub mod Gives
+pub mod ByRule
+pub mod AllGiven

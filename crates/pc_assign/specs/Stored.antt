@@ -1,5 +1,9 @@
 -- Registers as they lie in memory.
 use Rattle.std.specs.Prelude.{ℕ, if◌then◌else◌, nat_eq, List, [], ◌∷◌, Option, Some, None, slice_get}
+use Rattle.pc_automaton.specs.Automaton.{AutomatonState}
+use Rattle.pc_assign.specs.Pressure.{IsFirstHigh}
+use Rattle.pc_assign.specs.declared.error.AssignError.{AssignError}
+use Rattle.pc_assign.specs.declared.error.AssignError.TheVariants.{Pressure, Memory}
 use Rattle.pc_assign.specs.declared.assigned.Assigned.{Assigned}
 use Rattle.pc_assign.specs.declared.assigned.StateRegisters.{StateRegisters}
 
@@ -17,3 +21,8 @@ register_in None name = None
 -- the registers of all names: of a state, of a name
 abbrev pub registers_in : Assigned → ℕ → ℕ → Option ℕ
 registers_in assigned number = register_in (slice_get assigned.states number)
+
+-- when an automaton is refused: the first state with too high a pressure is told, with its pressure. Memory may run out at any time.
+abbrev pub Refuses : List AutomatonState → AssignError → Type 0
+Refuses states (Pressure number live) = IsFirstHigh states number live
+Refuses states Memory = Unit {0}

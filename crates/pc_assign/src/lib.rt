@@ -2,6 +2,7 @@
 #![tactic(auto)]
 
 mod assigned;
+mod assigning;
 mod definitions;
 mod error;
 mod naming;
@@ -12,4 +13,5 @@ mod register_set;
 mod uses;
 
 pub use assigned::Assigned;
+pub use assigning::assign;
 pub use error::AssignError;

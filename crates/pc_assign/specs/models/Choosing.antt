@@ -43,6 +43,11 @@ AreParameters passed held =
     (at register : ℕ) → slice_get held at ≡ Some register
     → IsParameterTaken (λ other. is_in other (take at held)) (passed_at (slice_get passed at)) register
 
+-- registers of the parameters of a state: those of the first state are the variables themselves
+abbrev pub AreHeld : ℕ → List (Option ℕ) → List ℕ → List ℕ → Type 0
+AreHeld zero passed parameters held = held ≡ parameters
+AreHeld (suc before) passed parameters held = AreParameters passed held
+
 -- ---- defined names
 
 -- whether a parameter that is used has a register, where the parameters have these
