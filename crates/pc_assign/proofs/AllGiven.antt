@@ -24,6 +24,7 @@ use Rattle.pc_assign.specs.declared.assigned.StateRegisters.{StateRegisters}
 use Rattle.pc_assign.specs.models.Choosing.{AreMost, PassedMost, AreHeld, AreChosen, definitions_in}
 use Rattle.pc_assign.specs.models.Passing.{noted_in, noted, Notes}
 use Rattle.pc_assign.specs.models.Assigning.{IsGiven, RefusesState, registers_of, BeginsWith, AreGiven}
+use Rattle.pc_assign.proofs.PassedOn.{row_passed, either_passed}
 use Rattle.pc_assign.proofs.ByRule.{length_both, state_by_rule, chosen_most}
 
 -- ---- lists
@@ -95,39 +96,6 @@ states_pass_more R to from (y ∷ xs) x =
     ap (option_or (row_passes (R from) to y.row)) (states_pass_more R to (suc from) xs x ∙ ap (λ (n : ℕ). option_or (states_pass R to (suc from) xs) (row_passes (R n) to x.row)) here)
     ∙ or_joined (row_passes (R from) to y.row) (states_pass R to (suc from) xs) (row_passes (R (from + suc (length xs))) to x.row)
 
--- no register that is passed is above scratch
-module _ (of : ℕ → Option ℕ) (most : (name r : ℕ) → of name ≡ Some r → r ≤ allowed) (to : ℕ) where
-  operand_most : (operand : Operand) (r : ℕ) → register_of of operand ≡ Some r → r ≤ allowed
-  operand_most (Name name) r e = most name r e
-  operand_most (Lit value) r e = absurd (cc)
-
-  arguments_most : (arguments : List Operand) → PassedMost (map (register_of of) arguments)
-  arguments_most [] at r e = absurd (cc)
-  arguments_most (operand ∷ arguments) zero r e = operand_most operand r e
-  arguments_most (operand ∷ arguments) (suc at) r e = arguments_most arguments at r e
-
-  chosen_list : (b : Bool) (list passed : List (Option ℕ)) → (if b then Some list else None) ≡ Some passed → PassedMost list → PassedMost passed
-  chosen_list true list passed e h = let same : list ≡ passed = (cc) in subst (λ (xs : List (Option ℕ)). PassedMost xs) same h
-  chosen_list false list passed e h = absurd (cc)
-
-  leaf_most : (leaf : AutomatonLeaf) (passed : List (Option ℕ)) → leaf_passes of to leaf ≡ Some passed → PassedMost passed
-  leaf_most (To state arguments) passed e = chosen_list (nat_eq state to) (map (register_of of) arguments) passed e (arguments_most arguments)
-  leaf_most (Out region homes) passed e = absurd (cc)
-  leaf_most Stop passed e = absurd (cc)
-  leaf_most (Trap kind line) passed e = absurd (cc)
-
-either_most : (o p : Option (List (Option ℕ))) (passed : List (Option ℕ)) → ((xs : List (Option ℕ)) → o ≡ Some xs → PassedMost xs)
-    → ((xs : List (Option ℕ)) → p ≡ Some xs → PassedMost xs) → option_or o p ≡ Some passed → PassedMost passed
-either_most None p passed h k e = k passed e
-either_most (Some xs) p passed h k e = h passed e
-
-row_most : (of : ℕ → Option ℕ) → ((name r : ℕ) → of name ≡ Some r → r ≤ allowed) → (to : ℕ) (row : Row AutomatonLeaf) (passed : List (Option ℕ))
-    → row_passes of to row ≡ Some passed → PassedMost passed
-row_most of most to (Then item rest) passed e = row_most of most to rest passed e
-row_most of most to (Either on on_yes on_no) passed e =
-    either_most (row_passes of to on_yes) (row_passes of to on_no) passed (row_most of most to on_yes) (row_most of most to on_no) e
-row_most of most to (At_leaf leaf) passed e = leaf_most of most to leaf passed e
-
 beside_most : (names registers : List ℕ) → AreMost registers → (name r : ℕ) → beside names registers name ≡ Some r → r ≤ allowed
 beside_most [] registers most name r e = absurd (cc)
 beside_most (x ∷ names) [] most name r e = absurd (cc)
@@ -194,8 +162,8 @@ one_more_given states number state given one table later passed h here is_passed
   most = λ to list e. elim (decide_le (length table) to) [
     | inl out ↦ let none : slice_get later to ≡ None = outside later to (omega (arith, notes.as_many)) in let nothing = ap noted_in none in absurd (cc)
     | inr there ↦
-        either_most (noted table to) (row_passes (beside one.names.keys one.registers) to state.row) list (h.most to)
-            (row_most (beside one.names.keys one.registers) (beside_most one.names.keys one.registers is.most) to state.row) (sym (notes.each to there) ∙ e)
+        either_passed (λ r. r ≤ allowed) (noted table to) (row_passes (beside one.names.keys one.registers) to state.row) list (h.most to)
+            (row_passed (λ r. r ≤ allowed) (beside one.names.keys one.registers) (beside_most one.names.keys one.registers is.most) to state.row) (sym (notes.each to there) ∙ e)
   ];
 }
 

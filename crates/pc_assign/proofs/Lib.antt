@@ -7,4 +7,7 @@ pub mod NamesAdded
 pub mod Counting
 pub mod Gives
 pub mod ByRule
+pub mod PassedOn
 pub mod AllGiven
+pub mod Apartness
+pub mod Unique
