@@ -11,3 +11,4 @@ pub mod PassedOn
 pub mod AllGiven
 pub mod Apartness
 pub mod Unique
+pub mod UsedSets

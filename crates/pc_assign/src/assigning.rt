@@ -1,9 +1,9 @@
 //! Registers for the names of an automaton.
-ghost use Rattle.std.specs.Prelude.{◌≡◌, ◌<◌, ◌^◌, ℕ, false, nat_eq, [], length, unwrap_or, IfOk, MatchResult};
+ghost use Rattle.std.specs.Prelude.{◌≡◌, ◌<◌, ◌≤◌, ◌^◌, ℕ, false, nat_eq, [], length, unwrap_or, IfOk, MatchResult};
 ghost use Rattle.std.specs.List.{AllByRecursion, IsDistinct};
 ghost use Rattle.pc_automaton.specs.StoredRow.{row_in};
 ghost use Rattle.pc_automaton.specs.Automaton.{state_in, states_in};
-ghost use Rattle.pc_assign.specs.Pressure.{LowBefore};
+ghost use Rattle.pc_assign.specs.Pressure.{allowed, LowBefore};
 ghost use Rattle.pc_assign.specs.Assigned.{names_of, IsAssigned, BeginsWithVariables};
 ghost use Rattle.pc_assign.specs.Stored.{registers_in, Refuses};
 ghost use Rattle.pc_assign.specs.models.Choosing.{AreMost, PassedMost, AreHeld, AreChosen};
@@ -117,6 +117,7 @@ fn with_defined(
     held: &[u32],
     row: &RowTree<AutomatonLeaf>,
 ) -> Result<Seq<u32>, AllocError>
+    requires few { length parameters.now ≤ allowed }
     requires as_many { length held.now ≡ length parameters.now }
     requires most { AreMost held.now }
     ensures { IfOk result (AreChosen parameters.now held.now (λ register. false) (row_in (λ leaf. leaf) row.now) held.now) }

@@ -7,7 +7,7 @@ ghost use Rattle.pc_assign.specs.Pressure.{allowed};
 ghost use Rattle.pc_assign.specs.models.Choosing.{member, AreMost, used_holds, IsHeld, IsChosen, AreChosen};
 
 use crate::register_set::{RegisterSet, SCRATCH};
-use crate::uses::{row_uses, written_by};
+use crate::uses::{used_in, written_by};
 use pc_automaton::{AutomatonLeaf, RowTree};
 use pc_word::Seq;
 use std::alloc::AllocError;
@@ -66,13 +66,15 @@ fn choose(held: &Held, above: RegisterSet, rest: &RowTree<AutomatonLeaf>) -> u32
 
 /// The registers of the parameters that are used below a definition.
 fn used_below(parameters: &[u32], held: &[u32], rest: &RowTree<AutomatonLeaf>) -> RegisterSet
+    requires few { length parameters.now ≤ allowed }
     requires as_many { length held.now ≡ length parameters.now }
     requires most { AreMost held.now }
     ensures { (other : ℕ) → member result other ≡ used_holds (row_uses (row_in (λ leaf. leaf) rest.now)) parameters.now held.now other }
 {
+    let used = used_in(parameters, rest);
     let mut set = RegisterSet::empty();
     for at in 0..parameters.len() {
-        if row_uses(rest, parameters[at]) {
+        if used.contains(at as u32) {
             set = set.with(held[at]);
         }
     }

@@ -1,11 +1,12 @@
-//! Sets of registers.
+//! Sets of registers, or of places of parameters.
 ghost use Rattle.std.specs.Prelude.{◌≡◌, ◌<◌, ◌≤◌, ◌^◌, ℕ, false, true, ◌||◌, nat_eq};
+ghost use Rattle.std.specs.Int.RustNames.{count_ones};
 ghost use Rattle.pc_assign.specs.models.Choosing.{member, IsLeastAbsent};
 
 /// The register that no name has.
 pub(crate) const SCRATCH: u32 = 127;
 
-/// A set of the 128 registers: one bit a register.
+/// A set of the 128 registers, or of places of as many parameters: one bit each.
 #[derive(Clone, Copy)]
 pub(crate) struct RegisterSet {
     bits: u128,
@@ -44,6 +45,14 @@ impl RegisterSet {
         RegisterSet {
             bits: self.bits | other.bits,
         }
+    }
+
+    /// How many there are.
+    pub(crate) fn count(self) -> u32
+        ensures count { result ≡ count_ones self.bits }
+        ensures most { result ≤ 128 }
+    {
+        self.bits.count_ones()
     }
 
     /// The least register that is not in the set, or scratch if all below that are.

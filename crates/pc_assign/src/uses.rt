@@ -1,11 +1,14 @@
 //! What a row uses and defines.
-ghost use Rattle.std.specs.Prelude.{◌≡◌};
+ghost use Rattle.std.specs.Prelude.{◌≡◌, ◌≤◌, length};
 ghost use Rattle.std.specs.List.{list_any};
 ghost use Rattle.pc_word.specs.Items.{dest_of};
 ghost use Rattle.pc_table.specs.TableKeeps.{reads_name};
 ghost use Rattle.pc_automaton.specs.StoredRow.{row_in};
 ghost use Rattle.pc_assign.specs.Uses.{leaf_uses, row_uses};
+ghost use Rattle.pc_assign.specs.Pressure.{allowed};
+ghost use Rattle.pc_assign.specs.models.Choosing.{IsUsedSet};
 
+use crate::register_set::RegisterSet;
 use pc_automaton::{AutomatonLeaf, RowTree};
 use pc_window::Home;
 use pc_word::{Item, Operand};
@@ -34,6 +37,33 @@ pub(crate) fn row_uses(row: &RowTree<AutomatonLeaf>, name: u32) -> bool
         RowTree::Test { yes, no, .. } => row_uses(yes, name) || row_uses(no, name),
         RowTree::Leaf { leaf } => leaf_uses(leaf, name),
     }
+}
+
+/// The places of the parameters that are used at some leaf of a row.
+#[tactic(auto, using(crate::proofs::UsedSets::sets))]
+pub(crate) fn used_in(parameters: &[u32], row: &RowTree<AutomatonLeaf>) -> RegisterSet
+    requires { length parameters.now ≤ allowed }
+    ensures { IsUsedSet (row_uses (row_in (λ leaf. leaf) row.now)) parameters.now result }
+{
+    match row {
+        RowTree::Step { next, .. } => used_in(parameters, next),
+        RowTree::Test { yes, no, .. } => used_in(parameters, yes).union(used_in(parameters, no)),
+        RowTree::Leaf { leaf } => used_by(parameters, leaf),
+    }
+}
+
+/// The places of the parameters that a leaf uses.
+pub(crate) fn used_by(parameters: &[u32], leaf: &AutomatonLeaf) -> RegisterSet
+    requires { length parameters.now ≤ allowed }
+    ensures { IsUsedSet (leaf_uses leaf.now) parameters.now result }
+{
+    let mut set = RegisterSet::empty();
+    for at in 0..parameters.len() {
+        if leaf_uses(leaf, parameters[at]) {
+            set = set.with(at as u32);
+        }
+    }
+    set
 }
 
 /// Whether a leaf uses a name.

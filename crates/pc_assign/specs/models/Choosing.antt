@@ -22,6 +22,18 @@ pub record IsLeastAbsent (taken : ℕ → Bool) (register : ℕ) : Type 0 where
   pub free : register < allowed → taken register ≡ false
   pub least : (other : ℕ) → other < register → taken other ≡ true
 
+-- ---- used parameters
+
+-- whether the name at a place is used
+abbrev pub is_used_at : (ℕ → Bool) → List ℕ → ℕ → Bool
+is_used_at used [] at = false
+is_used_at used (name ∷ names) zero = used name
+is_used_at used (name ∷ names) (suc at) = is_used_at used names at
+
+-- the places of the names that are used
+abbrev pub IsUsedSet : (ℕ → Bool) → List ℕ → RegisterSet → Type 0
+IsUsedSet used names set = (at : ℕ) → member set at ≡ is_used_at used names at
+
 -- ---- parameters
 
 -- registers of which none is above scratch
@@ -58,6 +70,7 @@ used_holds used (name ∷ names) (is ∷ held) register = (used name && nat_eq r
 
 -- parameters with as many registers, and these as a set
 pub record IsHeld (parameters held : List ℕ) (taken : RegisterSet) : Type 0 where
+  pub few : length parameters ≤ allowed
   pub as_many : length held ≡ length parameters
   pub most : AreMost held
   pub set : (register : ℕ) → member taken register ≡ is_in register held
