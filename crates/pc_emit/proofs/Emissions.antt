@@ -13,6 +13,7 @@ use Rattle.pc_table.specs.TableKeeps.{TableKeeps, ComesUntested, By_one, By_more
 use Rattle.pc_window.specs.declared.home.Home.{Home}
 use Rattle.pc_window.specs.Kept.{NeverFaults, HasItems}
 use Rattle.pc_window.specs.Rebasing.{is_in}
+use Rattle.pc_window.specs.Unwinding.{or_zero}
 use Rattle.pc_window.proofs.Paces.{answer_of_answer, NeverFaults-follows}
 use Rattle.pc_window.proofs.Uses.{or_is, nat_eq-tells}
 use Rattle.pc_unwind.specs.models.Ranks.{rank}
@@ -68,7 +69,7 @@ module _ (e : Emission) (keeps : TableKeeps e.table) (limits : Limits) (rows : L
   never_tree : (region : ℕ) (m : State) → NeverFaults (region_run e.table (Next region) m) → NeverFaults (region_run e.table (region_tree e.table region) m)
   never_tree region m never n fault is = never n fault (ap (λ (x : Seen). x.end) (sym (tree_same region m n)) ∙ is)
 
-  module _ (region : ℕ) (states : List AutomatonState) (registers : ℕ → ℕ → ℕ) (has : e.forms region ≡ Some (Packed states registers)) where
+  module _ (region : ℕ) (states : List AutomatonState) (registers : ℕ → ℕ → Option ℕ) (has : e.forms region ≡ Some (Packed states registers)) where
     abbrev packed : IsPackedForm e.table region states registers
     packed = forms region (Packed states registers) has
 
@@ -77,7 +78,7 @@ module _ (e : Emission) (keeps : TableKeeps e.table) (limits : Limits) (rows : L
       state = packed.first;
       there = packed.is_first;
       holds = record {
-        names = λ x there. ap (λ (n : ℕ). m.names n) (all_in (λ v. registers 0 v ≡ v) packed.first.parameters x packed.variables there);
+        names = λ x there. ap (λ (o : Option ℕ). m.names (or_zero o)) (all_in (λ v. registers 0 v ≡ Some v) packed.first.parameters x packed.variables there);
         cells = refl;
         input = refl;
       };

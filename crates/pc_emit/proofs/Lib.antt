@@ -1,3 +1,4 @@
+pub mod Undisturbing
 pub mod Rows
 pub mod Passed
 pub mod Leading

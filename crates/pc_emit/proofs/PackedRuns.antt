@@ -24,7 +24,9 @@ use Rattle.pc_automaton.specs.AutomatonRun.{AutomatonPlace, At_state, In_region,
 use Rattle.pc_machine.specs.MachineCode.{Leaf, Leads_to, Ends, Traps, CodeRow, RowCode}
 use Rattle.pc_machine.specs.MachineRun.{after_row, machine_step}
 use Rattle.pc_copies.specs.Moves.{after_rows, AreDone}
-use Rattle.pc_emit.specs.Registers.{argument_moves, home_moves, KeepsApart}
+use Rattle.pc_emit.specs.Registers.{register_of, argument_moves, home_moves}
+use Rattle.pc_assign.specs.Apart.{IsApart}
+use Rattle.pc_emit.proofs.Undisturbing.{stays_undisturbed}
 use Rattle.pc_emit.specs.Laws.{code_with}
 use Rattle.pc_emit.specs.Emitted.{Emission, RegionForm, form_leaf, LeadsToRegion, Moves, LeafStands, leads_to_state, leads_to_region, ends_here, traps_here}
 use Rattle.pc_emit.specs.Emitted.{RowStands, item_stands, test_stands, leaf_stands, StateStands}
@@ -74,8 +76,8 @@ module _ (e : Emission) (keeps : TableKeeps e.table) (limits : Limits) (rows : L
   BackAt n region = (form : RegionForm) → e.forms region ≡ Some form → (m : State) → NeverFaults (region_run table (Next region) m)
       → (k : ℕ) × Answers (region_run table (Next region) m n) (leaf_run code (form_leaf e region form) m k) (region_run table (Next region) m n).end
 
-  module _ (region : ℕ) (states : List AutomatonState) (registers : ℕ → ℕ → ℕ) (automaton : IsAutomaton states)
-      (apart : (number : ℕ) (state : AutomatonState) → slice_get states number ≡ Some state → KeepsApart (registers number) state.parameters [] state.row)
+  module _ (region : ℕ) (states : List AutomatonState) (registers : ℕ → ℕ → Option ℕ) (automaton : IsAutomaton states)
+      (apart : (number : ℕ) (state : AutomatonState) → slice_get states number ≡ Some state → IsApart (registers number) state)
       (live : (number : ℕ) (state : AutomatonState) → slice_get states number ≡ Some state → AllByRecursion (LeavesWithLive table) (leaves_of state.row))
       (stand : (number : ℕ) (state : AutomatonState) → slice_get states number ≡ Some state → StateStands e rows region states registers number state) where
     -- the run from a state, and from a leaf
@@ -93,21 +95,21 @@ module _ (e : Emission) (keeps : TableKeeps e.table) (limits : Limits) (rows : L
     pub record StandsAt (number : ℕ) (s m : State) : Type 0 where
       pub state : AutomatonState
       pub there : slice_get states number ≡ Some state
-      pub holds : Holds (registers number) state.parameters s m
+      pub holds : Holds (register_of (registers number)) state.parameters s m
 
     -- what one row of each does
     pub both_step : (number : ℕ) (s m : State) (at : StandsAt number s m)
         → (row : CodeRow) × (slice_get rows (e.places.state region number) ≡ Some row)
-        × OutcomeStands (Leads (registers number)) (registers number) (row_step table.arrays at.state.row s) (row_step table.arrays row m)
+        × OutcomeStands (Leads (register_of (registers number))) (register_of (registers number)) (row_step table.arrays at.state.row s) (row_step table.arrays row m)
     both_step number s m at =
         let stands = stand number at.state at.there in
         let among : IsStateAmong states at.state = all_at (IsStateAmong states) states number at.state automaton.each at.there in
         let leaves = both (LeafLeads states) (LeavesWithLive table) (leaves_of at.state.row) among.lead (live number at.state at.there) in (
           stands.row,
           stands.there,
-          row_does {Related = Leads (registers number)} table.arrays (registers number) at.state.parameters s m
+          row_does {Related = Leads (register_of (registers number))} table.arrays (register_of (registers number)) at.state.parameters s m
               (with_leaves (λ leaf. LeafLeads states leaf × LeavesWithLive table leaf) leaves stands.stands)
-              (apart number at.state at.there) among.items among.tests among.leaves at.holds,
+              (stays_undisturbed (registers number) at.state (apart number at.state at.there)) among.items among.tests among.leaves at.holds,
         )
 
     state_goes : (number : ℕ) (s : State) (state : AutomatonState) (n : ℕ) → slice_get states number ≡ Some state
@@ -119,17 +121,17 @@ module _ (e : Emission) (keeps : TableKeeps e.table) (limits : Limits) (rows : L
     -- the next state is there, and its parameters have their values behind the copies
     next_stands : (of : ℕ → ℕ) (s m : State) (number : ℕ) (arguments : List Operand) (leaf : Leaf) → Takes (slice_get states number) (length arguments)
         → LeafHolds of (To number arguments) s m
-        → (moves : Moves e rows leaf (argument_moves of (registers number) (state_parameters (slice_get states number)) arguments) (Leads_to (e.places.state region number)))
+        → (moves : Moves e rows leaf (argument_moves of (register_of (registers number)) (state_parameters (slice_get states number)) arguments) (Leads_to (e.places.state region number)))
         → StandsAt number (passed_state s (state_parameters (slice_get states number)) arguments) (after_rows table.arrays moves.copies m)
     next_stands of s m number arguments leaf takes holds moves = by_state (slice_get states number) refl takes (moves.arranged.done table.arrays m)
       where
         by_state : (o : Option AutomatonState) → slice_get states number ≡ o → Takes o (length arguments)
-            → AreDone (argument_moves of (registers number) (state_parameters o) arguments) e.scratch m (after_rows table.arrays moves.copies m)
+            → AreDone (argument_moves of (register_of (registers number)) (state_parameters o) arguments) e.scratch m (after_rows table.arrays moves.copies m)
             → StandsAt number (passed_state s (state_parameters o) arguments) (after_rows table.arrays moves.copies m)
         by_state (Some state) there many done = record {
           state = state;
           there = there;
-          holds = state_passed of (registers number) s m (after_rows table.arrays moves.copies m) e.scratch number state.parameters arguments many holds done;
+          holds = state_passed of (register_of (registers number)) s m (after_rows table.arrays moves.copies m) e.scratch number state.parameters arguments many holds done;
         }
         by_state None there many done = absurd many
 
@@ -210,7 +212,7 @@ module _ (e : Emission) (keeps : TableKeeps e.table) (limits : Limits) (rows : L
     state_forth (suc n) regions number s m at never =
         let b = both_step number s m at in
         let goes = λ (k : ℕ). state_goes number s at.state k at.there in
-        let k = outcome_forth n (registers number) (row_step table.arrays at.state.row s) (row_step table.arrays b.0 m) b.2
+        let k = outcome_forth n (register_of (registers number)) (row_step table.arrays at.state.row s) (row_step table.arrays b.0 m) b.2
         (λ k fault is. never (suc k) fault (ap (λ (x : Seen). x.end) (goes k) ∙ is))
         (λ number' t u at' never'. state_forth n (λ k less. regions k (omega arith)) number' t u at' never') (regions n (omega arith)) in (
           suc k.0,
@@ -287,7 +289,7 @@ module _ (e : Emission) (keeps : TableKeeps e.table) (limits : Limits) (rows : L
         let b = both_step number s m at in
         let a = row_step table.arrays at.state.row s in
         let goes = λ (k : ℕ). state_goes number s at.state k at.there in
-        let k = outcome_back n (registers number) a (row_step table.arrays b.0 m) b.2
+        let k = outcome_back n (register_of (registers number)) a (row_step table.arrays b.0 m) b.2
         (λ k fault is. never (suc k) fault (ap (λ (x : Seen). x.end) (goes k) ∙ is)) next regions in (
           suc k.0,
           subst (λ (x : Seen). Answers x (row_run code (e.places.state region number) m (suc k.0)) x.end) (sym (goes n))

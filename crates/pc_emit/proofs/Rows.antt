@@ -26,8 +26,9 @@ use Rattle.pc_automaton.specs.declared.automaton.AutomatonLeaf.{AutomatonLeaf}
 use Rattle.pc_automaton.specs.declared.automaton.AutomatonLeaf.TheVariants.{To, Out, Stop, Trap}
 use Rattle.pc_automaton.specs.Automaton.{LeafIsKnown, LeavesAreKnown}
 use Rattle.pc_machine.specs.MachineCode.{Leaf, CodeRow}
-use Rattle.pc_emit.specs.Uses.{leaf_uses, row_uses}
-use Rattle.pc_emit.specs.Registers.{in_register, in_registers, IsApart, KeepsApart}
+use Rattle.pc_assign.specs.Uses.{leaf_uses, row_uses}
+use Rattle.pc_emit.specs.Registers.{in_register, in_registers}
+use Rattle.pc_emit.specs.models.Undisturbed.{IsUndisturbed, StaysUndisturbed}
 use Rattle.pc_emit.specs.Emitted.{RowStands, item_stands, test_stands, leaf_stands}
 
 -- a name that an operand reads
@@ -114,7 +115,7 @@ among_apart of (x ∷ xs) d y all there = elim (or_is (nat_eq d x) (is_in d xs) 
   | inr p ↦ among_apart of xs d y all.1 p
 ]
 
-written_apart : (of : ℕ → ℕ) (parameters above : List ℕ) (names : ℕ → ℤ) (row : Row AutomatonLeaf) (d x : ℕ) → KeepsApart of parameters above row
+written_apart : (of : ℕ → ℕ) (parameters above : List ℕ) (names : ℕ → ℤ) (row : Row AutomatonLeaf) (d x : ℕ) → StaysUndisturbed of parameters above row
     → is_in d above ≡ true → path_writes (path_of names row) x ≡ true → of d ≢ of x
 written_apart of parameters above names (Then item rest) d x apart there written =
     elim (or_is (writes (dest_of item) x) (path_writes (path_of names rest) x) written) [
@@ -122,7 +123,7 @@ written_apart of parameters above names (Then item rest) d x apart there written
       | inr w ↦ written_apart of parameters (named (dest_of item) above) names rest d x apart.1 (later (dest_of item)) w
     ]
   where
-    here : (dest : Option ℕ) → IsApart of parameters above rest dest → writes dest x ≡ true → of d ≢ of x
+    here : (dest : Option ℕ) → IsUndisturbed of parameters above rest dest → writes dest x ≡ true → of d ≢ of x
     here (Some y) is_apart w = subst (λ (n : ℕ). of d ≢ of n) (nat_eq-tells y x w) (among_apart of above d y is_apart.defined there)
     here None is_apart w = absurd (cc)
 
@@ -245,7 +246,7 @@ module _ (lengths : List ℕ) (of : ℕ → ℕ) (s m : State) (cells : m.cells 
         → names_after lengths m (map (in_registers of) (path_of s.names side)) (of x) ≡ names_after lengths s (path_of s.names side) x
 
     -- a name that the leaf uses which is taken, a parameter or written on the path, has its value in its register
-    names_same : (above : List ℕ) (row : Row AutomatonLeaf) (x : ℕ) → KeepsApart of parameters above row
+    names_same : (above : List ℕ) (row : Row AutomatonLeaf) (x : ℕ) → StaysUndisturbed of parameters above row
         → AllByRecursion (ReadsKnown (λ x. is_in x parameters)) (path_of s.names row) → row_uses row x ≡ true
         → (is_in x parameters ≡ true) ⊎ (path_writes (path_of s.names row) x ≡ true) → leaf_uses (leaf_of s.names row) x ≡ true
         → names_after lengths m (map (in_registers of) (path_of s.names row)) (of x) ≡ names_after lengths s (path_of s.names row) x
@@ -263,7 +264,7 @@ module _ (lengths : List ℕ) (of : ℕ → ℕ) (s m : State) (cells : m.cells 
         ]
 
         other : (is_in x parameters ≡ true) ⊎ (path_writes (path_of s.names rest) x ≡ true) → (d : ℕ) → dest_of item ≡ Some d → of d ≢ of x
-        other (inl p) d e = λ same. (subst (λ (o : Option ℕ). IsApart of parameters above rest o) e apart.0).used x p (used_below s.names rest x used) (sym same)
+        other (inl p) d e = λ same. (subst (λ (o : Option ℕ). IsUndisturbed of parameters above rest o) e apart.0).used x p (used_below s.names rest x used) (sym same)
         other (inr p) d e =
             written_apart of parameters (named (dest_of item) above) s.names rest d x apart.1
             (subst (λ (o : Option ℕ). is_in d (named o above) ≡ true) (sym e) (or_first (nat_eq d d) (is_in d above) (nat_eq-same d))) p
@@ -354,7 +355,7 @@ outcome_of {Related} lengths of s m path path' leaf below None prints related h 
     (both_commit related h)
 
 pub row_does : {Related : AutomatonLeaf → Leaf → Type 0} {row : Row AutomatonLeaf} {below : CodeRow} (lengths : List ℕ) (of : ℕ → ℕ) (parameters : List ℕ) (s m : State)
-    → RowStands Related of row below → KeepsApart of parameters [] row
+    → RowStands Related of row below → StaysUndisturbed of parameters [] row
     → AllByRecursion (ReadsKnown (λ x. is_in x parameters)) (items_of row) → AllByRecursion (IsKnown (λ x. is_in x parameters)) (tests_of row)
     → LeavesAreKnown (λ x. is_in x parameters) row → Holds of parameters s m
     → OutcomeStands Related of (row_step lengths row s) (row_step lengths below m)

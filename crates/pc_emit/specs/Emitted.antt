@@ -16,14 +16,14 @@ use Rattle.pc_machine.specs.MachineCode.{Leaf, Leads_to, Ends, Traps, CodeRow}
 use Rattle.pc_copies.specs.declared.moves.Move.{Move}
 use Rattle.pc_copies.specs.Moves.{IsArranged}
 use Rattle.pc_copies.specs.Laws.{copy_row}
-use Rattle.pc_emit.specs.Registers.{in_register, in_registers, argument_moves, home_moves}
+use Rattle.pc_emit.specs.Registers.{register_of, in_register, in_registers, argument_moves, home_moves}
 
 -- ---- forms
 
 -- the form of a region: a row for each item and test; or an automaton, with the register of each name of each state
 pub data RegionForm : Type 0 where
   Plain : RegionForm
-  Packed : (states : List AutomatonState) → (registers : ℕ → ℕ → ℕ) → RegionForm
+  Packed : (states : List AutomatonState) → (registers : ℕ → ℕ → Option ℕ) → RegionForm
 
 -- the rows at which plain regions begin, and the rows of the states of packed ones
 pub record Places : Type 0 where
@@ -74,10 +74,10 @@ pub record Moves (e : Emission) (rows : List CodeRow) (from : Leaf) (moves : Lis
 -- ---- automata
 
 -- a leaf of a state, whose names have these registers: it leads on through the copies that pass its arguments or homes
-pub data LeafStands (e : Emission) (rows : List CodeRow) (region : ℕ) (states : List AutomatonState) (registers : ℕ → ℕ → ℕ) (of : ℕ → ℕ)
+pub data LeafStands (e : Emission) (rows : List CodeRow) (region : ℕ) (states : List AutomatonState) (registers : ℕ → ℕ → Option ℕ) (of : ℕ → ℕ)
     : AutomatonLeaf → Leaf → Type 0 where
   leads_to_state : {number : ℕ} {arguments : List Operand} {leaf : Leaf}
-      → Moves e rows leaf (argument_moves of (registers number) (state_parameters (slice_get states number)) arguments) (Leads_to (e.places.state region number))
+      → Moves e rows leaf (argument_moves of (register_of (registers number)) (state_parameters (slice_get states number)) arguments) (Leads_to (e.places.state region number))
       → LeafStands e rows region states registers of (To number arguments) leaf
   leads_to_region : {to : ℕ} {homes : List Home} {leaf target : Leaf} → LeadsToRegion e to target → Moves e rows leaf (home_moves of homes) target
       → LeafStands e rows region states registers of (Out to homes) leaf
@@ -94,11 +94,11 @@ pub data RowStands (Related : AutomatonLeaf → Leaf → Type 0) (of : ℕ → �
   leaf_stands : {leaf : AutomatonLeaf} {below : Leaf} → Related leaf below → RowStands Related of (At_leaf leaf) (At_leaf below)
 
 -- the row of a state
-pub record StateStands (e : Emission) (rows : List CodeRow) (region : ℕ) (states : List AutomatonState) (registers : ℕ → ℕ → ℕ) (number : ℕ)
+pub record StateStands (e : Emission) (rows : List CodeRow) (region : ℕ) (states : List AutomatonState) (registers : ℕ → ℕ → Option ℕ) (number : ℕ)
     (state : AutomatonState) : Type 0 where
   pub row : CodeRow
   pub there : slice_get rows (e.places.state region number) ≡ Some row
-  pub stands : RowStands (LeafStands e rows region states registers (registers number)) (registers number) state.row row
+  pub stands : RowStands (LeafStands e rows region states registers (register_of (registers number))) (register_of (registers number)) state.row row
 
 -- ---- plain regions
 

@@ -1,4 +1,4 @@
-pub mod Uses
+pub mod models
 pub mod Registers
 pub mod Emitted
 pub mod PackedForm

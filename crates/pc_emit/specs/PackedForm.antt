@@ -1,5 +1,5 @@
 -- What the automaton of a packed region keeps, with registers for its names.
-use Rattle.std.specs.Prelude.{◌≡◌, ℕ, List, [], map, Some, slice_get}
+use Rattle.std.specs.Prelude.{◌≡◌, ℕ, List, map, Option, Some, slice_get}
 use Rattle.std.specs.List.{AllByRecursion}
 use Rattle.pc_word.specs.State.{State}
 use Rattle.pc_word.specs.Row.{leaves_of}
@@ -10,7 +10,7 @@ use Rattle.pc_automaton.specs.declared.automaton.AutomatonLeaf.{AutomatonLeaf}
 use Rattle.pc_automaton.specs.declared.automaton.AutomatonLeaf.TheVariants.{To, Out, Stop, Trap}
 use Rattle.pc_automaton.specs.Automaton.{AutomatonState, IsAutomaton}
 use Rattle.pc_automaton.specs.RunsAsRegion.{RunsAlike, LeadsUntested}
-use Rattle.pc_emit.specs.Registers.{KeepsApart}
+use Rattle.pc_assign.specs.Apart.{IsApart}
 use Rattle.pc_emit.specs.Emitted.{RegionForm, Plain, Packed}
 
 -- a leaf that leads out has a home for each variable that is live there, in their order
@@ -20,16 +20,16 @@ LeavesWithLive table (Out to homes) = map (λ home. home.variable) homes ≡ reg
 LeavesWithLive table Stop = Unit {0}
 LeavesWithLive table (Trap kind line) = Unit {0}
 
--- the automaton of a region, and registers for its names: in no row is a register written that is still needed, and each
--- variable that the first state is passed is in the register of its number
-pub record IsPackedForm (table : Table) (region : ℕ) (states : List AutomatonState) (registers : ℕ → ℕ → ℕ) : Type 0 where
+-- the automaton of a region, and registers for its names: names that are live together have different ones, and each variable
+-- that the first state is passed is in the register of its number
+pub record IsPackedForm (table : Table) (region : ℕ) (states : List AutomatonState) (registers : ℕ → ℕ → Option ℕ) : Type 0 where
   pub automaton : IsAutomaton states
   pub first : AutomatonState
   pub is_first : slice_get states 0 ≡ Some first
   pub runs : (s : State) → NeverFaults (region_run table (Next region) s) → RunsAlike table region states first s
   pub untested : LeadsUntested table region first.row
-  pub variables : AllByRecursion (λ variable. registers 0 variable ≡ variable) first.parameters
-  pub apart : (number : ℕ) (state : AutomatonState) → slice_get states number ≡ Some state → KeepsApart (registers number) state.parameters [] state.row
+  pub variables : AllByRecursion (λ variable. registers 0 variable ≡ Some variable) first.parameters
+  pub apart : (number : ℕ) (state : AutomatonState) → slice_get states number ≡ Some state → IsApart (registers number) state
   pub live : (number : ℕ) (state : AutomatonState) → slice_get states number ≡ Some state → AllByRecursion (LeavesWithLive table) (leaves_of state.row)
 
 -- a form that a region may have

@@ -1,0 +1,14 @@
+pub mod Sets
+pub mod Lookups
+pub mod Held
+pub mod Chosen
+pub mod Pressures
+pub mod NamesAdded
+pub mod Counting
+pub mod Gives
+pub mod ByRule
+pub mod PassedOn
+pub mod AllGiven
+pub mod Apartness
+pub mod Unique
+pub mod UsedSets

@@ -1,0 +1,48 @@
+-- How many names of a state are live together at most.
+use Rattle.std.specs.Prelude.{◌≡◌, ℕ, suc, ◌+◌, ◌<◌, ◌≤◌, max, List, length, Option, Some, None, slice_get, count_by}
+use Rattle.pc_word.specs.Row.{Row, Then, Either, At_leaf}
+use Rattle.pc_word.specs.Items.{dest_of}
+use Rattle.pc_automaton.specs.declared.automaton.AutomatonLeaf.{AutomatonLeaf}
+use Rattle.pc_automaton.specs.Automaton.{AutomatonState}
+use Rattle.pc_assign.specs.Uses.{row_uses}
+
+-- the registers that names may have: 127, the last of the machine's, is left for moves
+abbrev pub allowed : ℕ
+allowed = 127
+
+-- one name more, if one is defined
+abbrev pub one_more : Option ℕ → ℕ → ℕ
+one_more (Some dest) count = suc count
+one_more None count = count
+
+-- the pressure of an item below `above` definitions: what its path defines down to it, and the parameters that are used below it
+abbrev pub item_pressure : List ℕ → ℕ → Row AutomatonLeaf → Option ℕ → ℕ
+item_pressure parameters above rest (Some dest) = suc above + count_by (row_uses rest) parameters
+item_pressure parameters above rest None = 0
+
+-- the greatest pressure of a row's items
+abbrev pub row_pressure : List ℕ → ℕ → Row AutomatonLeaf → ℕ
+row_pressure parameters above (Then item rest) =
+    max (item_pressure parameters above rest (dest_of item)) (row_pressure parameters (one_more (dest_of item) above) rest)
+row_pressure parameters above (Either on on_yes on_no) = max (row_pressure parameters above on_yes) (row_pressure parameters above on_no)
+row_pressure parameters above (At_leaf leaf) = 0
+
+-- the pressure of a state: the number of its parameters, or the greatest of its items' if that is more
+abbrev pub pressure_of : AutomatonState → ℕ
+pressure_of state = max (length state.parameters) (row_pressure state.parameters 0 state.row)
+
+-- a state that has registers for its names
+abbrev pub IsLow : AutomatonState → Type 0
+IsLow state = pressure_of state ≤ allowed
+
+-- each of the states before a number is such a state
+abbrev pub LowBefore : List AutomatonState → ℕ → Type 0
+LowBefore states number = (at : ℕ) (state : AutomatonState) → at < number → slice_get states at ≡ Some state → IsLow state
+
+-- the first state that has too high a pressure, and that
+pub record IsFirstHigh (states : List AutomatonState) (number live : ℕ) : Type 0 where
+  pub state : AutomatonState
+  pub there : slice_get states number ≡ Some state
+  pub is_live : live ≡ pressure_of state
+  pub high : allowed < live
+  pub before : LowBefore states number

@@ -1,0 +1,55 @@
+//! Registers for the names of an automaton.
+ghost use Rattle.std.specs.Prelude.{◌≡◌, ◌<◌, ◌^◌, length};
+ghost use Rattle.pc_assign.specs.Assigned.{register_of};
+ghost use Rattle.pc_assign.specs.Stored.{registers_in, beside};
+
+use indexmap::IndexSet;
+use pc_word::{Operand, Seq};
+
+/// The registers of a state's names: its names in order, with a register beside each.
+#[derive(Drop)]
+pub(crate) struct StateRegisters {
+    pub(crate) names: IndexSet<u32>,
+    pub(crate) registers: Seq<u32>,
+}
+
+/// The registers of an automaton's names.
+#[derive(Drop)]
+pub struct Assigned {
+    pub(crate) states: Seq<StateRegisters>,
+}
+
+impl Assigned {
+    /// A name's register in a state, if it is a name of the state. It takes one look-up by hash.
+    pub fn register(&self, state: u32, name: u32) -> Option<u32>
+        ensures { result ≡ registers_in self.now state name }
+    {
+        match self.states.get(state as usize) {
+            Some(registers) => registers.register(name),
+            None => None,
+        }
+    }
+}
+
+impl StateRegisters {
+    /// A name's register, if it is a name of the state.
+    #[tactic(auto, using(crate::proofs::Lookups::lookups))]
+    pub(crate) fn register(&self, name: u32) -> Option<u32>
+        ensures { result ≡ beside self.now.names.keys self.now.registers name }
+    {
+        match self.names.get_index_of(&name) {
+            Some(at) => self.registers.get(at).copied(),
+            None => None,
+        }
+    }
+
+    /// The register of an operand, if it is a name of the state.
+    pub(crate) fn register_of(&self, operand: Operand) -> Option<u32>
+        ensures { result ≡ register_of (beside self.now.names.keys self.now.registers) operand }
+    {
+        match operand {
+            Operand::Name(name) => self.register(name),
+            Operand::Lit(_) => None,
+        }
+    }
+}

@@ -1,0 +1,133 @@
+//! Registers for the names of an automaton.
+ghost use Rattle.std.specs.Prelude.{◌≡◌, ◌<◌, ◌≤◌, ◌^◌, ℕ, false, nat_eq, [], length, unwrap_or, IfOk, MatchResult};
+ghost use Rattle.std.specs.List.{AllByRecursion, IsDistinct};
+ghost use Rattle.pc_automaton.specs.StoredRow.{row_in};
+ghost use Rattle.pc_automaton.specs.Automaton.{state_in, states_in};
+ghost use Rattle.pc_assign.specs.Pressure.{allowed, LowBefore};
+ghost use Rattle.pc_assign.specs.Assigned.{names_of, IsAssigned, BeginsWithVariables};
+ghost use Rattle.pc_assign.specs.Stored.{registers_in, Refuses};
+ghost use Rattle.pc_assign.specs.models.Choosing.{AreMost, PassedMost, AreHeld, AreChosen};
+ghost use Rattle.pc_assign.specs.models.Passing.{noted};
+ghost use Rattle.pc_assign.specs.models.Assigning.{IsGiven, RefusesState};
+
+use crate::assigned::{Assigned, StateRegisters};
+use crate::definitions::{Held, define};
+use crate::error::AssignError;
+use crate::naming::names_of;
+use crate::parameters::{parameter_registers, set_of};
+use crate::passing::{PassedList, note};
+use crate::pressure::pressure_of;
+use crate::register_set::{RegisterSet, SCRATCH};
+use pc_automaton::{Automaton, AutomatonLeaf, AutomatonState, RowTree};
+use pc_word::Seq;
+use std::alloc::{AllocError, Global};
+
+/// A register for each name of each state. The parameters of the first state are variables.
+pub fn assign(alloc: Global, automaton: &Automaton) -> Result<Assigned, AssignError>
+    requires count { length automaton.now < 2 ^ 32 }
+    requires variables { BeginsWithVariables (states_in automaton.now) }
+    ensures { MatchResult result (λ assigned. LowBefore (states_in automaton.now) (length automaton.now) × IsAssigned (states_in automaton.now) (registers_in assigned)) (λ why. Refuses (states_in automaton.now) why) }
+{
+    let count = automaton.count();
+    let mut table = nothing_passed(alloc, count)?;
+    let mut states = Seq::new(alloc);
+    for number in 0..count {
+        let state = automaton.state(number);
+        let passed = passed_to(table.as_slice(), number);
+        let given = assign_state(alloc, number, state, passed)?;
+        note(alloc, &given, &state.row, table.as_mut_slice())?;
+        states.push(given)?;
+    }
+    Ok(Assigned { states })
+}
+
+/// A table for so many states, in which nothing is noted.
+#[tactic(auto, using(crate::proofs::AllGiven::tables))]
+fn nothing_passed(alloc: Global, count: u32) -> Result<Vec<Option<PassedList>>, AllocError>
+    ensures count { IfOk result (λ table. length table.items ≡ count) }
+    ensures none { IfOk result (λ table. (to : ℕ) → noted table.items to ≡ None) }
+{
+    let mut table = Vec::new(alloc);
+    for _ in 0..count {
+        table.push(None)?;
+    }
+    Ok(table)
+}
+
+/// What is noted for a state.
+fn passed_to(table: &[Option<PassedList>], number: u32) -> &[Option<u32>]
+    ensures { result.now ≡ unwrap_or (noted table.now number) [] }
+{
+    match table.get(number as usize) {
+        Some(Some(passed)) => passed.as_slice(),
+        _ => &[],
+    }
+}
+
+/// A register for each name of a state.
+fn assign_state(
+    alloc: Global,
+    number: u32,
+    state: &AutomatonState,
+    passed: &[Option<u32>],
+) -> Result<StateRegisters, AssignError>
+    requires once { IsDistinct nat_eq (names_of (state_in state.now)) }
+    requires variables { number ≡ 0 → AllByRecursion (λ variable. variable < 96) state.now.parameters }
+    requires passed { PassedMost passed.now }
+    ensures { MatchResult result (IsGiven number passed.now (state_in state.now)) (RefusesState number (state_in state.now)) }
+{
+    let names = names_of(alloc, state)?;
+    let _fits = names.len();
+    let live = pressure_of(state);
+    if live > u64::from(SCRATCH) {
+        return Err(AssignError::Pressure {
+            state: number,
+            live,
+        });
+    }
+    let parameters = state.parameters.as_slice();
+    let held = held_by(alloc, number, parameters, passed)?;
+    let registers = with_defined(alloc, parameters, held.as_slice(), &state.row)?;
+    Ok(StateRegisters { names, registers })
+}
+
+/// The registers of a state's parameters, in their order.
+fn held_by(
+    alloc: Global,
+    number: u32,
+    parameters: &[u32],
+    passed: &[Option<u32>],
+) -> Result<Seq<u32>, AllocError>
+    requires variables { number ≡ 0 → AllByRecursion (λ variable. variable < 96) parameters.now }
+    requires passed { PassedMost passed.now }
+    ensures count { IfOk result (λ held. length held ≡ length parameters.now) }
+    ensures most { IfOk result AreMost }
+    ensures chosen { IfOk result (AreHeld number passed.now parameters.now) }
+{
+    if number == 0 {
+        return Seq::from_slice(alloc, parameters);
+    }
+    parameter_registers(alloc, parameters, passed)
+}
+
+/// These registers of parameters, and behind them those of the names that a row defines.
+fn with_defined(
+    alloc: Global,
+    parameters: &[u32],
+    held: &[u32],
+    row: &RowTree<AutomatonLeaf>,
+) -> Result<Seq<u32>, AllocError>
+    requires few { length parameters.now ≤ allowed }
+    requires as_many { length held.now ≡ length parameters.now }
+    requires most { AreMost held.now }
+    ensures { IfOk result (AreChosen parameters.now held.now (λ register. false) (row_in (λ leaf. leaf) row.now) held.now) }
+{
+    let mut registers = Seq::from_slice(alloc, held)?;
+    let given = Held {
+        parameters,
+        registers: held,
+        taken: set_of(held),
+    };
+    define(&given, RegisterSet::empty(), row, &mut registers)?;
+    Ok(registers)
+}

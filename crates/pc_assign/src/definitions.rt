@@ -1,0 +1,82 @@
+//! Registers of the names that a row defines.
+ghost use Rattle.std.specs.Prelude.{◌≡◌, ◌≤◌, ◌||◌, ℕ, length, OnOk};
+ghost use Rattle.pc_window.specs.Rebasing.{is_in};
+ghost use Rattle.pc_automaton.specs.StoredRow.{row_in};
+ghost use Rattle.pc_assign.specs.Uses.{row_uses};
+ghost use Rattle.pc_assign.specs.Pressure.{allowed};
+ghost use Rattle.pc_assign.specs.models.Choosing.{member, AreMost, used_holds, IsHeld, IsChosen, AreChosen};
+
+use crate::register_set::{RegisterSet, SCRATCH};
+use crate::uses::{used_in, written_by};
+use pc_automaton::{AutomatonLeaf, RowTree};
+use pc_word::Seq;
+use std::alloc::AllocError;
+
+/// Parameters, their registers in the same order, and these as a set.
+#[derive(Clone, Copy)]
+pub(crate) struct Held<'a> {
+    pub(crate) parameters: &'a [u32],
+    pub(crate) registers: &'a [u32],
+    pub(crate) taken: RegisterSet,
+}
+
+/// Puts the registers of the names that a row defines behind others, in preorder. `above` has those
+/// of the names that are defined above it.
+pub(crate) fn define(
+    held: &Held,
+    above: RegisterSet,
+    row: &RowTree<AutomatonLeaf>,
+    registers: &mut Seq<u32>,
+) -> Result<(), AllocError>
+    requires { IsHeld held.now.parameters.now held.now.registers.now held.now.taken }
+    ensures { OnOk result (AreChosen held.now.parameters.now held.now.registers.now (member above) (row_in (λ leaf. leaf) row.now) registers.old registers.new) }
+{
+    match row {
+        RowTree::Step { item, next } => match written_by(*item) {
+            Some(_) => {
+                let register = choose(held, above, next);
+                registers.push(register)?;
+                define(held, above.with(register), next, registers)
+            }
+            None => define(held, above, next, registers),
+        },
+        RowTree::Test { yes, no, .. } => {
+            define(held, above, yes, registers)?;
+            define(held, above, no, registers)
+        }
+        RowTree::Leaf { .. } => Ok(()),
+    }
+}
+
+/// The register of a name that is defined above `rest`: the least that no parameter and no name
+/// above has, or, where all are taken, that no parameter that is used below and no name above has.
+fn choose(held: &Held, above: RegisterSet, rest: &RowTree<AutomatonLeaf>) -> u32
+    requires { IsHeld held.now.parameters.now held.now.registers.now held.now.taken }
+    ensures chosen { IsChosen (λ other. is_in other held.now.registers.now || member above other) (λ other. used_holds (row_uses (row_in (λ leaf. leaf) rest.now)) held.now.parameters.now held.now.registers.now other || member above other) result }
+    ensures most { result ≤ allowed }
+{
+    let register = held.taken.union(above).least_absent();
+    if register < SCRATCH {
+        return register;
+    }
+    used_below(held.parameters, held.registers, rest)
+        .union(above)
+        .least_absent()
+}
+
+/// The registers of the parameters that are used below a definition.
+fn used_below(parameters: &[u32], held: &[u32], rest: &RowTree<AutomatonLeaf>) -> RegisterSet
+    requires few { length parameters.now ≤ allowed }
+    requires as_many { length held.now ≡ length parameters.now }
+    requires most { AreMost held.now }
+    ensures { (other : ℕ) → member result other ≡ used_holds (row_uses (row_in (λ leaf. leaf) rest.now)) parameters.now held.now other }
+{
+    let used = used_in(parameters, rest);
+    let mut set = RegisterSet::empty();
+    for at in 0..parameters.len() {
+        if used.contains(at as u32) {
+            set = set.with(held[at]);
+        }
+    }
+    set
+}
