@@ -52,7 +52,7 @@ module _ (of : ℕ → Option ℕ) where
         by_dest : (d : Option ℕ) → AllByRecursion (HasAllowed of) (cons_option d (filter_map dest_of (items_of rest))) → DestApart of parameters above rest d
             → KeepsApart of parameters (named d above) rest
             → ((above' : List ℕ) → AllByRecursion (HasAllowed of) above' → AllByRecursion (HasAllowed of) (filter_map dest_of (items_of rest)) → KeepsApart of parameters above' rest
-                → StaysUndisturbed (register_of of) parameters above' rest)
+            → StaysUndisturbed (register_of of) parameters above' rest)
             → IsUndisturbed (register_of of) parameters above rest d × StaysUndisturbed (register_of of) parameters (named d above) rest
         by_dest (Some dest) written' here below next = (
           record { defined = each_differs dest above written'.0 has here.1; used = used_differs rest dest parameters written'.0 all here.0 },

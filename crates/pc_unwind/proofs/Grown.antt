@@ -83,8 +83,8 @@ has_grown table keeps number w v to =
       variables = subst (λ (t : Tree). to.unwound.names.next_variable + tree_size (whole w.front) ≤ w.next_variable + tree_size t) (sym same) names.1;
       parts = λ most parts. subst (PartsAreThere table (most + (length table.regions + number))) (sym same)
           (parts_there table (most + (length table.regions + number)) to.unwound.tree (all_tags most (tags_of table most (whole w.front) parts) (stubs_of table most (whole w.front) parts))
-            (arrays_unwound table keeps w.inside number to.unwinds (arrays_of table most (whole w.front) parts))
-            (stubs_unwound table keeps w.inside number to.unwinds (stubs_of table most (whole w.front) parts)));
+          (arrays_unwound table keeps w.inside number to.unwinds (arrays_of table most (whole w.front) parts))
+          (stubs_unwound table keeps w.inside number to.unwinds (stubs_of table most (whole w.front) parts)));
     })
   where
     same : whole (front_of to.unwound.tree) ≡ to.unwound.tree

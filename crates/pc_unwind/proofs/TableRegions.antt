@@ -49,4 +49,4 @@ module _ (table : RegionTable) (keeps : TableKeeps (table_of table)) (number : �
 pub tree_at : (table : RegionTable) (number : ℕ) (r : Region) → slice_get table.regions number ≡ Some r → table_tree r.tree ≡ region_tree (table_of table) number
 tree_at table number r at = ap tree_of (sym (table_at table number r at))
 
-pub ruleset regions = (leads_there, homes_small, few_units, names_there)
+pub ruleset regions = (leads_there, few_units, names_there)
