@@ -141,7 +141,7 @@ one_more_given states number state given one table later passed h here is_passed
         let alike : state ≡ other = (cc) in
         let found : slice_get whole number ≡ Some one = begins number one (ap (slice_get (given ++ one ∷ [])) (sym h.count) ∙ get_last given one) in
         let list : passed_to states (registers_of whole) number ≡ passed =
-            ap (λ (o : Option (List (Option ℕ))). unwrap_or o []) (sym (h.notes whole (λ k x q. begins k x (get_front given one x k q)) number (inside states number state here))) ∙ sym is_passed in
+        ap (λ (o : Option (List (Option ℕ))). unwrap_or o []) (sym (h.notes whole (λ k x q. begins k x (get_front given one x k q)) number (inside states number state here))) ∙ sym is_passed in
         subst (λ (n : ℕ). StateByRule n (passed_to states (registers_of whole) n) (registers_of whole n) other) (sym same)
         (subst (λ (s : AutomatonState). StateByRule number (passed_to states (registers_of whole) number) (registers_of whole number) s) alike
         (subst (λ (found : Option StateRegisters). StateByRule number (passed_to states (registers_of whole) number) (register_in found) state) (sym found)
@@ -154,7 +154,7 @@ one_more_given states number state given one table later passed h here is_passed
       let place : 0 + length (take number states) ≡ number = omega (arith, long) in
       notes.each to (omega (arith, h.as_many))
       ∙ ap (λ (o : Option (List (Option ℕ))). option_or o (row_passes (beside one.names.keys one.registers) to state.row))
-          (h.notes whole (λ k x q. begins k x (get_front given one x k q)) to less)
+      (h.notes whole (λ k x q. begins k x (get_front given one x k q)) to less)
       ∙ ap (λ (o : Option StateRegisters). option_or (states_pass (registers_of whole) to 0 (take number states)) (row_passes (register_in o) to state.row)) (sym found)
       ∙ ap (λ (n : ℕ). option_or (states_pass (registers_of whole) to 0 (take number states)) (row_passes (registers_of whole n) to state.row)) (sym place)
       ∙ sym (states_pass_more (registers_of whole) to 0 (take number states) state)
@@ -163,7 +163,7 @@ one_more_given states number state given one table later passed h here is_passed
     | inl out ↦ let none : slice_get later to ≡ None = outside later to (omega (arith, notes.as_many)) in let nothing = ap noted_in none in absurd (cc)
     | inr there ↦
         either_passed (λ r. r ≤ allowed) (noted table to) (row_passes (beside one.names.keys one.registers) to state.row) list (h.most to)
-            (row_passed (λ r. r ≤ allowed) (beside one.names.keys one.registers) (beside_most one.names.keys one.registers is.most) to state.row) (sym (notes.each to there) ∙ e)
+        (row_passed (λ r. r ≤ allowed) (beside one.names.keys one.registers) (beside_most one.names.keys one.registers is.most) to state.row) (sym (notes.each to there) ∙ e)
   ];
 }
 

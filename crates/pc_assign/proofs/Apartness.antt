@@ -25,25 +25,27 @@ itself r = grind (arith, nat_tests)
 differ_from : (of : ℕ → Option ℕ) (name register : ℕ) (names : List ℕ) → of name ≡ Some register → one_has of names register ≡ false → AllByRecursion (Differ of name) names
 differ_from of name register [] is none = tt
 differ_from of name register (x ∷ names) is none =
-    let parts = or_false (is_register register (of x)) (one_has of names register) none in
-    (λ r one other.
-        let same : register ≡ r = let both : Some register ≡ Some r = sym is ∙ one in (cc) in
-        let found : is_register register (of x) ≡ true = ap (is_register register) other ∙ ap (λ (q : ℕ). nat_eq register q) (sym same) ∙ itself register in
-        absurd (cc),
-     differ_from of name register names is parts.1)
+    let parts = or_false (is_register register (of x)) (one_has of names register) none in (
+      λ r one other.
+          let same : register ≡ r = let both : Some register ≡ Some r = sym is ∙ one in (cc) in
+          let found : is_register register (of x) ≡ true = ap (is_register register) other ∙ ap (λ (q : ℕ). nat_eq register q) (sym same) ∙ itself register in
+          absurd (cc),
+      differ_from of name register names is parts.1,
+    )
 
 -- nor one of those that are used
 differ_where_used : (of : ℕ → Option ℕ) (used : ℕ → Bool) (name register : ℕ) (names : List ℕ) → of name ≡ Some register → used_has used of names register ≡ false
     → AllByRecursion (λ x. used x ≡ true → Differ of name x) names
 differ_where_used of used name register [] is none = tt
 differ_where_used of used name register (x ∷ names) is none =
-    let parts = or_false (used x && is_register register (of x)) (used_has used of names register) none in
-    (λ uses r one other.
-        let same : register ≡ r = let both : Some register ≡ Some r = sym is ∙ one in (cc) in
-        let found : is_register register (of x) ≡ true = ap (is_register register) other ∙ ap (λ (q : ℕ). nat_eq register q) (sym same) ∙ itself register in
-        let here : (used x && is_register register (of x)) ≡ true = (λ i. uses i && found i) in
-        absurd (cc),
-     differ_where_used of used name register names is parts.1)
+    let parts = or_false (used x && is_register register (of x)) (used_has used of names register) none in (
+      λ uses r one other.
+          let same : register ≡ r = let both : Some register ≡ Some r = sym is ∙ one in (cc) in
+          let found : is_register register (of x) ≡ true = ap (is_register register) other ∙ ap (λ (q : ℕ). nat_eq register q) (sym same) ∙ itself register in
+          let here : (used x && is_register register (of x)) ≡ true = (λ i. uses i && found i) in
+          absurd (cc),
+      differ_where_used of used name register names is parts.1,
+    )
 
 always : (of : ℕ → Option ℕ) (used : ℕ → Bool) (name : ℕ) (names : List ℕ) → AllByRecursion (Differ of name) names
     → AllByRecursion (λ x. used x ≡ true → Differ of name x) names
@@ -65,6 +67,7 @@ dest_apart of parameters above rest (Some dest) h = by (of dest) refl h
     chosen register is (Second_choice full least) =
         let parts = or_false (used_has (row_uses rest) of parameters register) (one_has of above register) least.free in
         (differ_where_used of (row_uses rest) dest register parameters is parts.0, differ_from of dest register above is parts.1)
+
     by : (o : Option ℕ) → of dest ≡ o → IsSomeAnd o (IsChoice (λ q. one_has of parameters q || one_has of above q) (λ q. used_has (row_uses rest) of parameters q || one_has of above q))
         → DestApart of parameters above rest (Some dest)
     by None is h = absurd h
@@ -85,6 +88,7 @@ row_allowed of parameters above (Then item rest) h = by (dest_of item) h.0 (row_
     has : (dest : ℕ) (taken needed : ℕ → Bool) (o : Option ℕ) → of dest ≡ o → IsSomeAnd o (IsChoice taken needed) → HasAllowed of dest
     has dest taken needed None is k = absurd k
     has dest taken needed (Some register) is k = record { register = register; has = is; below = choice_below taken needed register k }
+
     by : (found : Option ℕ) → DestByRule of parameters above rest found → AllByRecursion (HasAllowed of) (names_written rest)
         → AllByRecursion (HasAllowed of) (cons_option found (names_written rest))
     by None k later = later
@@ -143,8 +147,9 @@ fresh_differ of (x ∷ xs) h = (all_of_each (Differ of x) xs (λ at y e r one ot
         let same : r ≡ fresh.allowed.register = let both : Some r ≡ Some fresh.allowed.register = sym other ∙ fresh.allowed.has in (cc) in
         let parts = or_false (is_register fresh.allowed.register (of x)) (one_has of (take at xs) fresh.allowed.register) fresh.free in
         let found : is_register fresh.allowed.register (of x) ≡ true =
-            ap (is_register fresh.allowed.register) one ∙ ap (λ (q : ℕ). nat_eq fresh.allowed.register q) same ∙ itself fresh.allowed.register in
+        ap (is_register fresh.allowed.register) one ∙ ap (λ (q : ℕ). nat_eq fresh.allowed.register q) same ∙ itself fresh.allowed.register in
         absurd (cc)
+
     later : (at y : ℕ) → IsFresh of (x ∷ take at xs) y → IsFresh of (take at xs) y
     later at y fresh = record {
       allowed = fresh.allowed;
@@ -187,6 +192,7 @@ all_in P (y ∷ xs) x h e = by (nat_eq x y) refl (all_in P xs x h.1) e
   where
     same_of : (m k : ℕ) → nat_eq m k ≡ true → m ≡ k
     same_of m k h = grind (arith, nat_tests)
+
     by : (b : Bool) → nat_eq x y ≡ b → (is_in x xs ≡ true → P x) → (b || is_in x xs) ≡ true → P x
     by true is later e = subst (λ (z : ℕ). P z) (sym (same_of x y is)) h.0
     by false is later e = later e
@@ -244,7 +250,7 @@ module _ (states : List AutomatonState) (R : ℕ → ℕ → Option ℕ) (kept :
   apart_after : (number : ℕ) → ((at : ℕ) → at < number → HeldAll (λ r. r < allowed) (R at)) → (state : AutomatonState) → slice_get states number ≡ Some state → IsApart (R number) state
   apart_after number before state here =
       state_apart states number (passed_to states R number) (R number) state (all_at (IsStateAmong states) states number state kept.each here).once
-          (λ first. begins.below state (ap (slice_get states) (sym first) ∙ here)) (passed_below number before) (given.each number state here)
+      (λ first. begins.below state (ap (slice_get states) (sym first) ∙ here)) (passed_below number before) (given.each number state here)
 
   held_before : (n at : ℕ) → at < n → HeldAll (λ r. r < allowed) (R at)
   held_before zero at h = absurd (omega arith)

@@ -63,7 +63,7 @@ parameters_by_rule of passed parameters held gives as_many few chosen at name he
     let it = gives_at of parameters held at name gives here in
     let before = λ (q : ℕ). sym (one_has_is of (take at parameters) (take at held) q (gives_take of parameters held at gives) (length_take held parameters at as_many)) in
     let small : members (λ q. is_in q (take at held)) allowed < allowed =
-        omega (arith, members_in (take at held) allowed, length_of_take held at, within parameters at name here) in
+    omega (arith, members_in (take at held) allowed, length_of_take held at, within parameters at name here) in
     let choice = parameter_choice (λ q. is_in q (take at held)) (passed_at (slice_get passed at)) it.0 small (chosen at it.0 it.1) in
     subst (λ (found : Option ℕ). IsSomeAnd found (IsParameterChoice (one_has of (take at parameters)) (passed_at (slice_get passed at)))) (sym it.2)
     (subst (λ (set : ℕ → Bool). IsParameterChoice set (passed_at (slice_get passed at)) it.0) (λ i q. before q i) choice)
@@ -107,13 +107,13 @@ module _ (parameters held : List ℕ) where
         is = two.is ∙ ap (λ (xs : List ℕ). xs ++ two.added) one.is ∙ append_assoc old one.added two.added;
         as_many =
             let sum : length (names_written on_yes ++ names_written on_no) ≡ length (names_written on_yes) + length (names_written on_no) =
-                length_both (names_written on_yes) (names_written on_no) in
+            length_both (names_written on_yes) (names_written on_no) in
             let same : length (one.added ++ two.added) ≡ length (names_written on_yes ++ names_written on_no) =
-                omega (arith, length_both one.added two.added, one.as_many, two.as_many, sum) in
+            omega (arith, length_both one.added two.added, one.as_many, two.as_many, sum) in
             same ∙ ap length (sym (sides_written on_yes on_no));
       }
 
--- ---- defined names
+  -- ---- defined names
 
   both_low : (a b n : ℕ) → max a b ≤ n → (a ≤ n) × (b ≤ n)
   both_low a b n h = (omega arith, omega arith)
@@ -125,22 +125,22 @@ module _ (parameters held : List ℕ) where
       → IsChoice (λ q. one_has of parameters q || one_has of names q) (λ q. used_has (row_uses rest) of parameters q || one_has of names q) register
   choice_of of names above rest register depth gives as_many over few room (Of_taken below h) =
       First_choice (least_seen (λ other. is_in other held || above other) (λ q. one_has of parameters q || one_has of names q) register
-          (λ q i. sym (one_has_is of parameters held q gives as_many) i || sym (over q) i)
-          (record { below = below; free = h.free below; least = h.least }))
+      (λ q i. sym (one_has_is of parameters held q gives as_many) i || sym (over q) i)
+      (record { below = below; free = h.free below; least = h.least }))
   choice_of of names above rest register depth gives as_many over few room (Of_needed full h) =
       let used = used_holds (row_uses rest) parameters held in
       let small : members (λ other. used other || above other) allowed < allowed =
-          omega (arith, members_or used above allowed, members_used (row_uses rest) parameters held allowed, few, room) in
+      omega (arith, members_or used above allowed, members_used (row_uses rest) parameters held allowed, few, room) in
       Second_choice
-          (λ q below. (λ i. one_has_is of parameters held q gives as_many i || over q i) ∙ full.least q below)
-          (least_seen (λ other. used other || above other) (λ q. used_has (row_uses rest) of parameters q || one_has of names q) register
-              (λ q i. sym (used_has_is (row_uses rest) of parameters held q gives) i || sym (over q) i) (least_allowed (λ other. used other || above other) register small h))
+      (λ q below. (λ i. one_has_is of parameters held q gives as_many i || over q i) ∙ full.least q below)
+      (least_seen (λ other. used other || above other) (λ q. used_has (row_uses rest) of parameters q || one_has of names q) register
+      (λ q i. sym (used_has_is (row_uses rest) of parameters held q gives) i || sym (over q) i) (least_allowed (λ other. used other || above other) register small h))
 
   one_higher : (above below : ℕ → Bool) (register depth : ℕ) → ((q : ℕ) → below q ≡ (nat_eq q register || above q)) → members above allowed ≤ depth
       → members below allowed ≤ suc depth
   one_higher above below register depth with few =
       added_up (members below allowed) (members (λ q. nat_eq q register || above q) allowed) (members (λ x. nat_eq x register) allowed) (members above allowed) depth
-          (members_same below (λ q. nat_eq q register || above q) allowed with) (members_or (λ x. nat_eq x register) above allowed) (members_one register allowed) few
+      (members_same below (λ q. nat_eq q register || above q) allowed with) (members_or (λ x. nat_eq x register) above allowed) (members_one register allowed) few
     where
       added_up : (a b c d e : ℕ) → a ≡ b → b ≤ c + d → c ≤ 1 → d ≤ e → a ≤ suc e
       added_up a b c d e same sum one few = omega arith
@@ -152,27 +152,26 @@ module _ (parameters held : List ℕ) where
   row_by_rule of names above row old new added depth gives as_many over few room is each Leaf_chosen = tt
   row_by_rule of names above row old new added depth gives as_many over few room is each (None_chosen {item = item} {rest = rest} none h) =
       let under : row_pressure parameters depth rest ≤ allowed =
-          omega (arith, subst (λ (found : Option ℕ). max (item_pressure parameters depth rest found) (row_pressure parameters (one_more found depth) rest) ≤ allowed) none room) in
+      omega (arith, subst (λ (found : Option ℕ). max (item_pressure parameters depth rest found) (row_pressure parameters (one_more found depth) rest) ≤ allowed) none room) in
       let given = subst (λ (found : Option ℕ). GivesEach of (cons_option found (names_written rest)) added) none each in
       subst (λ (found : Option ℕ). DestByRule of parameters names rest found × RowByRule of parameters (named found names) rest) (sym none)
       (tt, row_by_rule of names above rest old new added depth gives as_many over few under is given h)
   row_by_rule of names above row old new added depth gives as_many over few room is each
       (One_chosen {below = below} {item = item} {dest = dest} {register = register} {rest = rest} some choice with h) =
       let low : max (suc depth + count_by (row_uses rest) parameters) (row_pressure parameters (suc depth) rest) ≤ allowed =
-          subst (λ (found : Option ℕ). max (item_pressure parameters depth rest found) (row_pressure parameters (one_more found depth) rest) ≤ allowed) some room in
+      subst (λ (found : Option ℕ). max (item_pressure parameters depth rest found) (row_pressure parameters (one_more found depth) rest) ≤ allowed) some room in
       let parts = both_low (suc depth + count_by (row_uses rest) parameters) (row_pressure parameters (suc depth) rest) allowed low in
       let more = chosen_added below rest (old ++ register ∷ []) new h in
       let same : added ≡ register ∷ more.added = append_cancel_left old added (register ∷ more.added) (sym is ∙ more.is ∙ append_assoc old (register ∷ []) more.added) in
       let given : GivesEach of (dest ∷ names_written rest) (register ∷ more.added) =
-          subst (λ (xs : List ℕ). GivesEach of (dest ∷ names_written rest) xs) same
-          (subst (λ (found : Option ℕ). GivesEach of (cons_option found (names_written rest)) added) some each) in
+      subst (λ (xs : List ℕ). GivesEach of (dest ∷ names_written rest) xs) same
+      (subst (λ (found : Option ℕ). GivesEach of (cons_option found (names_written rest)) added) some each) in
       let higher : members below allowed ≤ suc depth =
-          one_higher above below register depth with few in
-      subst (λ (found : Option ℕ). DestByRule of parameters names rest found × RowByRule of parameters (named found names) rest) (sym some)
-      (
+      one_higher above below register depth with few in
+      subst (λ (found : Option ℕ). DestByRule of parameters names rest found × RowByRule of parameters (named found names) rest) (sym some) (
         subst (λ (found : Option ℕ). IsSomeAnd found (IsChoice (λ q. one_has of parameters q || one_has of names q)
             (λ q. used_has (row_uses rest) of parameters q || one_has of names q))) (sym given.0)
-        (choice_of of names above rest register depth gives as_many over few parts.0 choice),
+            (choice_of of names above rest register depth gives as_many over few parts.0 choice),
         row_by_rule of (dest ∷ names) below rest (old ++ register ∷ []) new more.added (suc depth) gives as_many
             (λ q. (λ i. is_register q (given.0 i) || over q i) ∙ sym (with q)) higher parts.1 more.is given.1 h,
       )
@@ -182,12 +181,11 @@ module _ (parameters held : List ℕ) where
       let one = chosen_added above on_yes old between h in
       let two = chosen_added above on_no between new k in
       let same : added ≡ one.added ++ two.added =
-          append_cancel_left old added (one.added ++ two.added)
-          (sym is ∙ two.is ∙ ap (λ (xs : List ℕ). xs ++ two.added) one.is ∙ append_assoc old one.added two.added) in
+      append_cancel_left old added (one.added ++ two.added)
+      (sym is ∙ two.is ∙ ap (λ (xs : List ℕ). xs ++ two.added) one.is ∙ append_assoc old one.added two.added) in
       let given : GivesEach of (names_written on_yes ++ names_written on_no) (one.added ++ two.added) =
-          subst (λ (xs : List ℕ). GivesEach of (names_written on_yes ++ names_written on_no) xs) same
-          (subst (λ (ns : List ℕ). GivesEach of ns added) (sides_written on_yes on_no) each) in
-      (
+      subst (λ (xs : List ℕ). GivesEach of (names_written on_yes ++ names_written on_no) xs) same
+      (subst (λ (ns : List ℕ). GivesEach of ns added) (sides_written on_yes on_no) each) in (
         row_by_rule of names above on_yes old between one.added depth gives as_many over few sides.0 one.is
             (gives_front of (names_written on_yes) (names_written on_no) one.added two.added one.as_many given) h,
         row_by_rule of names above on_no between new two.added depth gives as_many over few sides.1 two.is
@@ -234,12 +232,12 @@ state_by_rule number passed state keys held registers are distinct low as_many i
     let parts = both_less (length state.parameters) (row_pressure state.parameters 0 state.row) low in
     let more = chosen_added state.parameters held (λ q. false) state.row held registers chosen in
     let long : length registers ≡ length (names_of state) =
-        ap length more.is ∙ length_both held more.added
-        ∙ (λ i. as_many i + more.as_many i) ∙ sym (length_both state.parameters (names_written state.row)) in
+    ap length more.is ∙ length_both held more.added
+    ∙ (λ i. as_many i + more.as_many i) ∙ sym (length_both state.parameters (names_written state.row)) in
     let gives : GivesEach (beside keys registers) (names_of state) registers =
-        subst (λ (ks : List ℕ). GivesEach (beside ks registers) (names_of state) registers) (sym are) (beside_gives (names_of state) registers distinct long) in
+    subst (λ (ks : List ℕ). GivesEach (beside ks registers) (names_of state) registers) (sym are) (beside_gives (names_of state) registers distinct long) in
     let split : GivesEach (beside keys registers) (state.parameters ++ names_written state.row) (held ++ more.added) =
-        subst (λ (rs : List ℕ). GivesEach (beside keys registers) (names_of state) rs) more.is gives in
+    subst (λ (rs : List ℕ). GivesEach (beside keys registers) (names_of state) rs) more.is gives in
     let of_parameters = gives_front (beside keys registers) state.parameters (names_written state.row) held more.added as_many split in
     let of_row = gives_back (beside keys registers) state.parameters (names_written state.row) held more.added as_many split in
     record {

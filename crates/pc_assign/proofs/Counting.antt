@@ -53,6 +53,7 @@ members_one r (suc n) = by (nat_eq n r) refl (members_one r n)
   where
     same_of : (m k : ℕ) → nat_eq m k ≡ true → m ≡ k
     same_of m k h = grind (arith, nat_tests)
+
     by : (b : Bool) → nat_eq n r ≡ b → members (λ x. nat_eq x r) n ≤ 1 → members (λ x. nat_eq x r) (suc n) ≤ 1
     by true is h =
         let none : members (λ x. nat_eq x r) n ≡ 0 = one_above r n (omega (arith, same_of n r is)) in
@@ -68,8 +69,13 @@ pub members_used : (used : ℕ → Bool) (names held : List ℕ) (n : ℕ) → m
 members_used used [] held n = omega (arith, members_none (used_holds used [] held) n (λ x. refl))
 members_used used (name ∷ names) [] n = omega (arith, members_none (used_holds used (name ∷ names) []) n (λ x. refl))
 members_used used (name ∷ names) (r ∷ held) n =
-    omega (arith, members_or (λ x. used name && nat_eq x r) (used_holds used names held) n, guarded (used name) r n, members_used used names held n,
-        count_more used name names)
+    omega (
+      arith,
+      members_or (λ x. used name && nat_eq x r) (used_holds used names held) n,
+      guarded (used name) r n,
+      members_used used names held n,
+      count_more used name names,
+    )
 
 -- of a list
 pub members_in : (xs : List ℕ) (n : ℕ) → members (λ x. is_in x xs) n ≤ length xs

@@ -119,7 +119,7 @@ one_so_far passed held taken later at next r h is takes few set = record {
   chosen = λ k x e. elim (get_more held r k x e) [
     | inl old ↦
         subst (λ (front : List ℕ). IsParameterTaken (λ other. is_in other front) (passed_at (slice_get passed k)) x)
-            (sym (take_front held r k (omega (arith, old.0)))) (h.chosen k x old.1)
+        (sym (take_front held r k (omega (arith, old.0)))) (h.chosen k x old.1)
     | inr new ↦
         let here : k ≡ at = new.0 ∙ h.count in
         let front : take k (held ++ r ∷ []) ≡ held = take_front held r k (omega (arith, new.0)) ∙ ap (λ (n : ℕ). take n held) new.0 ∙ take_whole held in

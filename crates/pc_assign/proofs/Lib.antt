@@ -12,3 +12,4 @@ pub mod AllGiven
 pub mod Apartness
 pub mod Unique
 pub mod UsedSets
+pub mod Variables

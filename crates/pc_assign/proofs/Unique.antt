@@ -66,11 +66,11 @@ module _ (of other : ℕ → Option ℕ) where
   dest_same parameters above rest dest a b h k =
       let choice = IsChoice (λ q. one_has of parameters q || one_has of above q) (λ q. used_has (row_uses rest) of parameters q || one_has of above q) in
       some_unique choice (of dest) (other dest)
-          (choice_unique (λ q. one_has of parameters q || one_has of above q) (λ q. used_has (row_uses rest) of parameters q || one_has of above q)) h
-          (subst (λ (t : ℕ → Bool). IsSomeAnd (other dest) (IsChoice t (λ q. used_has (row_uses rest) of parameters q || one_has of above q)))
-              (λ i q. sym (one_has_same parameters q a) i || sym (one_has_same above q b) i)
-          (subst (λ (n : ℕ → Bool). IsSomeAnd (other dest) (IsChoice (λ q. one_has other parameters q || one_has other above q) n))
-              (λ i q. sym (used_has_same (row_uses rest) parameters q a) i || sym (one_has_same above q b) i) k))
+      (choice_unique (λ q. one_has of parameters q || one_has of above q) (λ q. used_has (row_uses rest) of parameters q || one_has of above q)) h
+      (subst (λ (t : ℕ → Bool). IsSomeAnd (other dest) (IsChoice t (λ q. used_has (row_uses rest) of parameters q || one_has of above q)))
+      (λ i q. sym (one_has_same parameters q a) i || sym (one_has_same above q b) i)
+      (subst (λ (n : ℕ → Bool). IsSomeAnd (other dest) (IsChoice (λ q. one_has other parameters q || one_has other above q) n))
+      (λ i q. sym (used_has_same (row_uses rest) parameters q a) i || sym (one_has_same above q b) i) k))
 
   row_same : (parameters above : List ℕ) (row : Row AutomatonLeaf) → Agree parameters → Agree above → RowByRule of parameters above row → RowByRule other parameters above row
       → Agree (names_written row)
@@ -83,7 +83,7 @@ module _ (of other : ℕ → Option ℕ) where
   row_same parameters above (Either on on_yes on_no) a b h k =
       subst (λ (names : List ℕ). Agree names) (sym (filter_map-append dest_of (items_of on_yes) (items_of on_no)))
       (all_both (λ name. of name ≡ other name) (names_written on_yes) (names_written on_no) (row_same parameters above on_yes a b h.0 k.0)
-          (row_same parameters above on_no a b h.1 k.1))
+      (row_same parameters above on_no a b h.1 k.1))
   row_same parameters above (At_leaf leaf) a b h k = tt
 
   -- parameters, each after those before it
@@ -98,11 +98,11 @@ module _ (of other : ℕ → Option ℕ) where
   parameters_same passed parameters h k zero at x less here = absurd (omega arith)
   parameters_same passed parameters h k (suc n) at x less here =
       let before : Agree (take at parameters) = all_of_each (λ name. of name ≡ other name) (take at parameters)
-          (λ i y e. let it = take_get parameters at i y e in parameters_same passed parameters h k n i y (omega (arith, it.0)) it.1) in
+      (λ i y e. let it = take_get parameters at i y e in parameters_same passed parameters h k n i y (omega (arith, it.0)) it.1) in
       some_unique (IsParameterChoice (one_has of (take at parameters)) (passed_at (slice_get passed at))) (of x) (other x)
-          (parameter_unique (one_has of (take at parameters)) (passed_at (slice_get passed at))) (h at x here)
-          (subst (λ (t : ℕ → Bool). IsSomeAnd (other x) (IsParameterChoice t (passed_at (slice_get passed at))))
-              (λ i q. sym (one_has_same (take at parameters) q before) i) (k at x here))
+      (parameter_unique (one_has of (take at parameters)) (passed_at (slice_get passed at))) (h at x here)
+      (subst (λ (t : ℕ → Bool). IsSomeAnd (other x) (IsParameterChoice t (passed_at (slice_get passed at))))
+      (λ i q. sym (one_has_same (take at parameters) q before) i) (k at x here))
 
   first_same : (xs : List ℕ) → AllByRecursion (λ x. of x ≡ Some x) xs → AllByRecursion (λ x. other x ≡ Some x) xs → Agree xs
   first_same [] h k = tt
@@ -127,7 +127,7 @@ module _ (of other : ℕ → Option ℕ) where
       by true is =
           let parameters = all_parameters number passed state.parameters h.parameters k.parameters in
           all_in (λ x. of x ≡ other x) (names_of state) name
-              (all_both (λ x. of x ≡ other x) state.parameters (names_written state.row) parameters (row_same state.parameters [] state.row parameters tt h.row k.row)) is
+          (all_both (λ x. of x ≡ other x) state.parameters (names_written state.row) parameters (row_same state.parameters [] state.row parameters tt h.row k.row)) is
       by false is = h.others name is ∙ sym (k.others name is)
 
 -- ---- all states
@@ -148,10 +148,10 @@ module _ (states : List AutomatonState) (R S : ℕ → ℕ → Option ℕ) (give
       by None out before = given.none number name (past states number out) ∙ sym (also.none number name (past states number out))
       by (Some state) here before =
           let passed : passed_to states R number ≡ passed_to states S number =
-              ap (λ (o : Option (List (Option ℕ))). unwrap_or o [])
-                  (passes_same number 0 (take number states) (λ k small. λ i x. before k (omega (arith, short states number)) x i)) in
+          ap (λ (o : Option (List (Option ℕ))). unwrap_or o [])
+          (passes_same number 0 (take number states) (λ k small. λ i x. before k (omega (arith, short states number)) x i)) in
           state_same (R number) (S number) number (passed_to states R number) state (given.each number state here)
-              (subst (λ (xs : List (Option ℕ)). StateByRule number xs (S number) state) (sym passed) (also.each number state here)) name
+          (subst (λ (xs : List (Option ℕ)). StateByRule number xs (S number) state) (sym passed) (also.each number state here)) name
 
 pub only_one : OnlyOne
 only_one states R S given also number name = same_before states R S given also (suc number) number (omega arith) name

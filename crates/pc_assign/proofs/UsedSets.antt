@@ -33,8 +33,8 @@ used_at_is used (name ∷ names) (suc at) = used_at_is used names at
 pub used_count : (used : ℕ → Bool) (names : List ℕ) (set : RegisterSet) (count : ℕ) → IsUsedSet used names set → count ≡ count_ones set.bits → count ≡ count_by used names
 used_count used names set count is counted =
     let same : set.bits ≡ mask_l (map used names) = same_from_bits set.bits (mask_l (map used names)) (λ at.
-        bit_of (bit_at set.bits at) (get_or (map used names) at false) (bit_at-lt set.bits at) (is at ∙ used_at_is used names at)
-        ∙ sym (bit_mask_l (map used names) at)) in
+    bit_of (bit_at set.bits at) (get_or (map used names) at false) (bit_at-lt set.bits at) (is at ∙ used_at_is used names at)
+    ∙ sym (bit_mask_l (map used names) at)) in
     counted ∙ ap count_ones same ∙ ones-mask_l used names
 
 -- ---- one name after the other

@@ -101,7 +101,7 @@ pub data IsChoice (taken needed : ℕ → Bool) (register : ℕ) : Type 0 where
 abbrev pub DestByRule : (ℕ → Option ℕ) → List ℕ → List ℕ → Row AutomatonLeaf → Option ℕ → Type 0
 DestByRule of parameters above rest (Some dest) =
     IsSomeAnd (of dest) (IsChoice (λ register. one_has of parameters register || one_has of above register)
-        (λ register. used_has (row_uses rest) of parameters register || one_has of above register))
+    (λ register. used_has (row_uses rest) of parameters register || one_has of above register))
 DestByRule of parameters above rest None = Unit {0}
 
 -- so have all names that a row defines, below definitions of these names

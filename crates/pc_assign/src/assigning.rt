@@ -1,6 +1,6 @@
 //! Registers for the names of an automaton.
-ghost use Rattle.std.specs.Prelude.{◌≡◌, ◌<◌, ◌≤◌, ◌^◌, ℕ, false, nat_eq, [], length, unwrap_or, IfOk, MatchResult};
-ghost use Rattle.std.specs.List.{AllByRecursion, IsDistinct};
+ghost use Rattle.std.specs.Prelude.{◌≡◌, ◌<◌, ◌≤◌, ◌^◌, ◌↔◌, ℕ, true, false, nat_eq, nat_lt, [], length, unwrap_or, IfOk, MatchResult};
+ghost use Rattle.std.specs.List.{AllByRecursion, IsDistinct, list_all};
 ghost use Rattle.pc_automaton.specs.StoredRow.{row_in};
 ghost use Rattle.pc_automaton.specs.Automaton.{state_in, states_in};
 ghost use Rattle.pc_assign.specs.Pressure.{allowed, LowBefore};
@@ -41,6 +41,22 @@ pub fn assign(alloc: Global, automaton: &Automaton) -> Result<Assigned, AssignEr
     Ok(Assigned { states })
 }
 
+/// Whether the parameters of the first state are variables, as `assign` requires.
+pub fn begins_with_variables(automaton: &Automaton) -> bool
+    requires { length automaton.now < 2 ^ 32 }
+    ensures { (result ≡ true) ↔ BeginsWithVariables (states_in automaton.now) }
+{
+    let _states = automaton.count();
+    are_variables(automaton.state(0).parameters.as_slice())
+}
+
+/// Whether each of some names is a variable.
+fn are_variables(names: &[u32]) -> bool
+    ensures { result ≡ list_all (λ name. nat_lt name 96) names.now }
+{
+    names.iter().all(|name| *name < 96)
+}
+
 /// A table for so many states, in which nothing is noted.
 #[tactic(auto, using(crate::proofs::AllGiven::tables))]
 fn nothing_passed(alloc: Global, count: u32) -> Result<Vec<Option<PassedList>>, AllocError>
@@ -79,7 +95,7 @@ fn assign_state(
     let names = names_of(alloc, state)?;
     let _fits = names.len();
     let live = pressure_of(state);
-    if live > u64::from(SCRATCH) {
+    if is_high(live) {
         return Err(AssignError::Pressure {
             state: number,
             live,
@@ -89,6 +105,14 @@ fn assign_state(
     let held = held_by(alloc, number, parameters, passed)?;
     let registers = with_defined(alloc, parameters, held.as_slice(), &state.row)?;
     Ok(StateRegisters { names, registers })
+}
+
+/// Whether as many names are too many.
+fn is_high(live: u64) -> bool
+    ensures high { result ≡ true → allowed < live }
+    ensures low { result ≡ false → live ≤ allowed }
+{
+    live > u64::from(SCRATCH)
 }
 
 /// The registers of a state's parameters, in their order.

@@ -11,9 +11,11 @@ mod parameters;
 mod passing;
 mod pressure;
 mod register_set;
+#[cfg(test)]
+mod tests;
 mod uses;
 
 pub use assigned::Assigned;
-pub use assigning::assign;
+pub use assigning::{assign, begins_with_variables};
 pub use error::AssignError;
 pub use laws::{law_of_live_names, law_of_one_rule};

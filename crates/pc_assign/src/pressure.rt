@@ -82,10 +82,16 @@ fn row_pressure(parameters: &[u32], above: u64, row: &RowTree<AutomatonLeaf>) ->
 {
     match row {
         RowTree::Step { item, next } => match written_by(*item) {
-            Some(_) => item_pressure(parameters, above, next).max(row_pressure(parameters, above + 1, next)),
+            Some(_) => item_pressure(parameters, above, next).max(row_pressure(
+                parameters,
+                above + 1,
+                next,
+            )),
             None => row_pressure(parameters, above, next),
         },
-        RowTree::Test { yes, no, .. } => row_pressure(parameters, above, yes).max(row_pressure(parameters, above, no)),
+        RowTree::Test { yes, no, .. } => row_pressure(parameters, above, yes).max(row_pressure(
+            parameters, above, no,
+        )),
         RowTree::Leaf { .. } => 0,
     }
 }
@@ -95,6 +101,9 @@ fn item_pressure(parameters: &[u32], above: u64, rest: &RowTree<AutomatonLeaf>) 
     requires { above + 1 + length parameters.now < 2 ^ 63 }
     ensures { result ≡ suc above + count_by (row_uses (row_in (λ leaf. leaf) rest.now)) parameters.now }
 {
-    let used = parameters.iter().filter(|name| row_uses(rest, **name)).count();
+    let used = parameters
+        .iter()
+        .filter(|name| row_uses(rest, **name))
+        .count();
     above + 1 + used as u64
 }

@@ -15,25 +15,25 @@ returns-in-Some-clause-live t c =
     let parameters = c.args.parameters.now in
     let rest = row_in (λ leaf. leaf) c.in-Step.next.value in
     let used : IsUsedSet (row_uses rest) parameters c.pressure_below-below.result.used =
-        subst (λ (tree : RowTree AutomatonLeaf). IsUsedSet (row_uses (row_in (λ leaf. leaf) tree)) parameters c.pressure_below-below.result.used)
-            c.deref.ensures c.pressure_below-below.ensures.used in
+    subst (λ (tree : RowTree AutomatonLeaf). IsUsedSet (row_uses (row_in (λ leaf. leaf) tree)) parameters c.pressure_below-below.result.used)
+    c.deref.ensures c.pressure_below-below.ensures.used in
     let below : c.pressure_below-below.result.live ≡ row_pressure parameters (c.args.above + 1) rest =
-        subst (λ (tree : RowTree AutomatonLeaf). c.pressure_below-below.result.live ≡ row_pressure parameters (c.args.above + 1) (row_in (λ leaf. leaf) tree))
-            c.deref.ensures c.pressure_below-below.ensures.live in
+    subst (λ (tree : RowTree AutomatonLeaf). c.pressure_below-below.result.live ≡ row_pressure parameters (c.args.above + 1) (row_in (λ leaf. leaf) tree))
+    c.deref.ensures c.pressure_below-below.ensures.live in
     let counted : c.count.result ≡ count_by (row_uses rest) parameters =
-        used_count (row_uses rest) parameters c.pressure_below-below.result.used c.count.result used c.count.ensures.count in
+    used_count (row_uses rest) parameters c.pressure_below-below.result.used c.count.result used c.count.ensures.count in
     let here : c.args.above + 1 + c.from.result ≡ suc c.args.above + count_by (row_uses rest) parameters = omega (arith, c.from.ensures, counted) in
     defining_pressure parameters c.args.above (row_in (λ leaf. leaf) c.args.row.now) rest c.in-Step.item c.in-Some.field-0 (c.args.above + 1)
-        (c.args.above + 1 + c.from.result) c.pressure_below-below.result.live c.max.result (ap (row_in (λ leaf. leaf)) c.in-Step.is)
-        (sym c.written_by.ensures ∙ c.in-Some.is) refl here below c.max.ensures
+    (c.args.above + 1 + c.from.result) c.pressure_below-below.result.live c.max.result (ap (row_in (λ leaf. leaf)) c.in-Step.is)
+    (sym c.written_by.ensures ∙ c.in-Some.is) refl here below c.max.ensures
 
 pub returns-in-Test-clause-used : goal.returns-in-Test-clause-used
 returns-in-Test-clause-used t c =
     let parameters = c.args.parameters.now in
     set_either parameters (row_in (λ leaf. leaf) c.args.row.now) (row_in (λ leaf. leaf) c.in-Test.yes.value) (row_in (λ leaf. leaf) c.in-Test.no.value) c.in-Test.on
-        c.pressure_below-yes.result.used c.pressure_below-no.result.used c.union.result (ap (row_in (λ leaf. leaf)) c.in-Test.is)
-        (subst (λ (side : RowTree AutomatonLeaf). IsUsedSet (row_uses (row_in (λ leaf. leaf) side)) parameters c.pressure_below-yes.result.used)
-            c.deref-in-Test.ensures c.pressure_below-yes.ensures.used)
-        (subst (λ (side : RowTree AutomatonLeaf). IsUsedSet (row_uses (row_in (λ leaf. leaf) side)) parameters c.pressure_below-no.result.used)
-            c.deref-in-Test-2.ensures c.pressure_below-no.ensures.used)
-        c.union.ensures
+    c.pressure_below-yes.result.used c.pressure_below-no.result.used c.union.result (ap (row_in (λ leaf. leaf)) c.in-Test.is)
+    (subst (λ (side : RowTree AutomatonLeaf). IsUsedSet (row_uses (row_in (λ leaf. leaf) side)) parameters c.pressure_below-yes.result.used)
+    c.deref-in-Test.ensures c.pressure_below-yes.ensures.used)
+    (subst (λ (side : RowTree AutomatonLeaf). IsUsedSet (row_uses (row_in (λ leaf. leaf) side)) parameters c.pressure_below-no.result.used)
+    c.deref-in-Test-2.ensures c.pressure_below-no.ensures.used)
+    c.union.ensures

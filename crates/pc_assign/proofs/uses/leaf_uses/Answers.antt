@@ -7,4 +7,4 @@ use Rattle.pc_assign.proofs.uses.leaf_uses.Goals as goal
 pub returns-in-Out : goal.returns-in-Out
 returns-in-Out c =
     out_uses c.args.leaf.now _ c.in-Out.homes c.args.name c.homes_use.result c.in-Out.is
-        (c.homes_use.ensures ∙ ap (list_any (λ home. reads_name home.value c.args.name)) c.as_slice-in-Out.ensures)
+    (c.homes_use.ensures ∙ ap (list_any (λ home. reads_name home.value c.args.name)) c.as_slice-in-Out.ensures)
