@@ -1,29 +1,26 @@
 -- States that get registers, one after the other.
-use Rattle.std.proofs.Common.{◌≡◌, ℕ, zero, suc, ◌+◌, ◌<◌, ◌≤◌, ◌^◌, ◌⊎◌, inl, inr, Bool, true, false, List, [], ◌∷◌, ◌++◌, length, map, take, Option, Some, None, refl, sym, ◌∙◌, ap, subst, arith, unwrap_or}
+use Rattle.std.proofs.Common.{◌≡◌, ℕ, zero, suc, ◌+◌, ◌<◌, ◌≤◌, ◌^◌, inl, inr, Bool, true, false, List, [], ◌∷◌, ◌++◌, length, take, Option, Some, None, refl, sym, ◌∙◌, ap, subst, arith, unwrap_or}
 use Rattle.std.specs.Prelude.{nat_eq, slice_get, if◌then◌else◌}
 use Rattle.std.specs.Option.{option_or}
-use Rattle.std.specs.List.{AllByRecursion, IsDistinct, filter_map, cons_option}
+use Rattle.std.specs.List.{IsDistinct, cons_option}
 use Rattle.std.proofs.lemmas.List.{length-map}
 use Rattle.std.proofs.lemmas.List.Elements.{filter_map-append}
-use Rattle.pc_word.specs.declared.item.Operand.{Operand}
-use Rattle.pc_word.specs.declared.item.Operand.TheVariants.{Name, Lit}
 use Rattle.pc_word.specs.Row.{Row, Then, Either, At_leaf, items_of}
 use Rattle.pc_word.specs.Items.{dest_of}
 use Rattle.pc_word.proofs.Truth.{decide_le}
 use Rattle.pc_word.proofs.Lists.{all_at}
 use Rattle.pc_automaton.specs.declared.automaton.AutomatonLeaf.{AutomatonLeaf}
-use Rattle.pc_automaton.specs.declared.automaton.AutomatonLeaf.TheVariants.{To, Out, Stop, Trap}
 use Rattle.pc_automaton.specs.declared.automaton.AutomatonState.{AutomatonState as StoredState}
 use Rattle.pc_automaton.specs.Automaton.{AutomatonState, state_in, states_in, names_written, IsStateAmong, IsAutomaton}
-use Rattle.pc_assign.specs.Pressure.{allowed, one_more, pressure_of, IsLow, LowBefore, IsFirstHigh}
-use Rattle.pc_assign.specs.Assigned.{names_of, passed_at, register_of, leaf_passes, row_passes, states_pass, passed_to, StateByRule, IsAssigned, BeginsWithVariables}
+use Rattle.pc_assign.specs.Pressure.{allowed, one_more, IsLow, LowBefore}
+use Rattle.pc_assign.specs.Assigned.{names_of, row_passes, states_pass, passed_to, StateByRule, IsAssigned}
 use Rattle.pc_assign.specs.Stored.{beside, register_in, Refuses}
 use Rattle.pc_assign.specs.declared.error.AssignError.{AssignError}
 use Rattle.pc_assign.specs.declared.error.AssignError.TheVariants.{Pressure, Memory}
 use Rattle.pc_assign.specs.declared.assigned.StateRegisters.{StateRegisters}
 use Rattle.pc_assign.specs.models.Choosing.{AreMost, PassedMost, AreHeld, AreChosen, definitions_in}
 use Rattle.pc_assign.specs.models.Passing.{noted_in, noted, Notes}
-use Rattle.pc_assign.specs.models.Assigning.{IsGiven, RefusesState, registers_of, BeginsWith, AreGiven}
+use Rattle.pc_assign.specs.models.Assigning.{IsGiven, RefusesState, registers_of, AreGiven}
 use Rattle.pc_assign.proofs.PassedOn.{row_passed, either_passed}
 use Rattle.pc_assign.proofs.ByRule.{length_both, state_by_rule, chosen_most}
 

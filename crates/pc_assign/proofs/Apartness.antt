@@ -1,12 +1,12 @@
 -- Names that are live together have different registers.
-use Rattle.std.proofs.Common.{◌≡◌, ◌≢◌, ℕ, zero, suc, ◌+◌, ◌<◌, ◌≤◌, ◌⊎◌, inl, inr, Bool, true, false, ◌&&◌, ◌||◌, List, [], ◌∷◌, ◌++◌, length, take, Option, Some, None, refl, sym, ◌∙◌, ap, subst, arith, unwrap_or}
+use Rattle.std.proofs.Common.{◌≡◌, ℕ, zero, suc, ◌<◌, ◌≤◌, Bool, true, false, ◌&&◌, ◌||◌, List, [], ◌∷◌, ◌++◌, length, take, Option, Some, None, refl, sym, ◌∙◌, ap, subst, arith, unwrap_or}
 use Rattle.std.specs.Prelude.{nat_eq, slice_get, IsSomeAnd, MatchBool}
-use Rattle.std.specs.List.{IsDistinct, AllByRecursion, filter_map, cons_option}
+use Rattle.std.specs.List.{IsDistinct, AllByRecursion, cons_option}
 use Rattle.std.proofs.lemmas.Bool.Decides.{nat_tests}
 use Rattle.std.proofs.lemmas.List.Elements.{filter_map-append}
 use Rattle.pc_word.specs.Row.{Row, Then, Either, At_leaf, items_of}
 use Rattle.pc_word.specs.Items.{dest_of}
-use Rattle.pc_word.proofs.Truth.{or_false, decide_le}
+use Rattle.pc_word.proofs.Truth.{or_false}
 use Rattle.pc_word.proofs.Lists.{all_at, all_front, all_both}
 use Rattle.pc_window.specs.Names.{named}
 use Rattle.pc_window.specs.Rebasing.{is_in}
@@ -14,7 +14,7 @@ use Rattle.pc_automaton.specs.declared.automaton.AutomatonLeaf.{AutomatonLeaf}
 use Rattle.pc_automaton.specs.Automaton.{AutomatonState, names_written, IsStateAmong, IsAutomaton}
 use Rattle.pc_assign.specs.Uses.{row_uses}
 use Rattle.pc_assign.specs.Pressure.{allowed}
-use Rattle.pc_assign.specs.Assigned.{names_of, is_register, one_has, used_has, IsLeast, AllTaken, IsParameterChoice, passed_at, ParametersByRule, states_pass, passed_to, Parameters, IsChoice, First_choice, Second_choice, DestByRule, RowByRule, StateByRule, IsAssigned, BeginsWithVariables}
+use Rattle.pc_assign.specs.Assigned.{names_of, is_register, one_has, used_has, IsLeast, IsParameterChoice, passed_at, ParametersByRule, states_pass, passed_to, Parameters, IsChoice, First_choice, Second_choice, DestByRule, RowByRule, StateByRule, IsAssigned, BeginsWithVariables}
 use Rattle.pc_assign.specs.Apart.{Differ, AllDiffer, DestApart, KeepsApart, HasAllowed, IsApart, LiveApart, VariablesStay}
 use Rattle.pc_assign.proofs.PassedOn.{PassedAll, HeldAll, states_passed}
 

@@ -1,5 +1,5 @@
 -- How states get registers, one after the other: models of private code.
-use Rattle.std.specs.Prelude.{◌≡◌, ℕ, ◌<◌, ◌≤◌, List, length, take, Option, Some, slice_get}
+use Rattle.std.specs.Prelude.{◌≡◌, ℕ, ◌<◌, List, length, take, Option, Some, slice_get}
 use Rattle.pc_automaton.specs.Automaton.{AutomatonState}
 use Rattle.pc_assign.specs.Pressure.{allowed, pressure_of, IsLow, LowBefore}
 use Rattle.pc_assign.specs.Assigned.{states_pass, passed_to, StateByRule}

@@ -1,4 +1,4 @@
-use Rattle.std.proofs.Common.{arith, rules, ◌≡◌, ◌+◌, ◌++◌, ◌∷◌, suc, refl, sym, ◌∙◌, ap, subst, length, List, Option, ℕ, [], Some, Ok, Err, unwrap_or, Result}
+use Rattle.std.proofs.Common.{arith, rules, ◌≡◌, ◌+◌, ◌++◌, ◌∷◌, suc, sym, ◌∙◌, ap, subst, length, List, Option, ℕ, [], Err, unwrap_or, Result}
 use Rattle.std.specs.Prelude.{slice_get, MatchResult}
 use Rattle.pc_automaton.specs.StoredRow.{row_in}
 use Rattle.pc_automaton.specs.Automaton.{state_in, states_in}
@@ -9,7 +9,7 @@ use Rattle.pc_assign.specs.declared.assigned.Assigned.{Assigned}
 use Rattle.pc_assign.specs.declared.assigned.StateRegisters.{StateRegisters}
 use Rattle.pc_assign.specs.declared.error.AssignError.{AssignError}
 use Rattle.pc_assign.specs.models.Passing.{noted, Notes}
-use Rattle.pc_assign.specs.models.Assigning.{IsGiven, RefusesState, AreGiven}
+use Rattle.pc_assign.specs.models.Assigning.{AreGiven}
 use Rattle.pc_assign.proofs.AllGiven.{stored_at, stands_once, one_more_given, all_stored, refused, written_back}
 use Rattle.pc_assign.proofs.assigning.assign.Goals as goal
 

@@ -1,4 +1,4 @@
-use Rattle.std.proofs.Common.{arith, ◌≡◌, sym, ◌∙◌}
+use Rattle.std.proofs.Common.{arith}
 use Rattle.pc_automaton.specs.Automaton.{state_in}
 use Rattle.pc_assign.specs.Pressure.{IsLow}
 use Rattle.pc_assign.proofs.AllGiven.{names_fit, given_is}

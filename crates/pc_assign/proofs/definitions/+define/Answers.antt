@@ -1,4 +1,4 @@
-use Rattle.std.proofs.Common.{◌≡◌, ◌||◌, OnOk, sym, ◌∙◌, ap, subst}
+use Rattle.std.proofs.Common.{◌||◌, OnOk, sym, ◌∙◌, ap, subst}
 use Rattle.pc_window.specs.Rebasing.{is_in}
 use Rattle.pc_automaton.specs.declared.automaton.AutomatonLeaf.{AutomatonLeaf}
 use Rattle.pc_automaton.specs.declared.row_tree.RowTree.{RowTree}
