@@ -1,5 +1,6 @@
 //! Registers for the names of an automaton.
-ghost use Rattle.std.specs.Prelude.{◌≡◌, ◌<◌, ◌≤◌, ◌^◌, ◌↔◌, ℕ, true, false, nat_eq, nat_lt, [], length, unwrap_or, IfOk, MatchResult};
+ghost use Rattle.std.specs.Prelude.{◌≡◌, ◌<◌, ◌≤◌, ◌^◌, ◌↔◌, ℕ, true};
+ghost use Rattle.std.specs.Prelude.{false, nat_eq, nat_lt, [], length, unwrap_or, IfOk, MatchResult};
 ghost use Rattle.std.specs.List.{AllByRecursion, IsDistinct, list_all};
 ghost use Rattle.pc_automaton.specs.StoredRow.{row_in};
 ghost use Rattle.pc_automaton.specs.Automaton.{state_in, states_in};
@@ -26,7 +27,9 @@ use std::alloc::{AllocError, Global};
 pub fn assign(alloc: Global, automaton: &Automaton) -> Result<Assigned, AssignError>
     requires count { length automaton.now < 2 ^ 32 }
     requires variables { BeginsWithVariables (states_in automaton.now) }
-    ensures { MatchResult result (λ assigned. LowBefore (states_in automaton.now) (length automaton.now) × IsAssigned (states_in automaton.now) (registers_in assigned)) (λ why. Refuses (states_in automaton.now) why) }
+    ensures { MatchResult result
+        (λ assigned. LowBefore (states_in automaton.now) (length automaton.now) × IsAssigned (states_in automaton.now) (registers_in assigned))
+        (λ why. Refuses (states_in automaton.now) why) }
 {
     let count = automaton.count();
     let mut table = nothing_passed(alloc, count)?;

@@ -34,7 +34,8 @@ pub record AreGiven (states : List AutomatonState) (number : ℕ) (given : List 
   pub count : length given ≡ number
   pub low : LowBefore states number
   pub as_many : length table ≡ length states
-  pub rule : (whole : List StateRegisters) → BeginsWith given whole → (at : ℕ) (state : AutomatonState) → at < number → slice_get states at ≡ Some state
+  pub rule : (whole : List StateRegisters) → BeginsWith given whole → (at : ℕ) (state : AutomatonState) → at < number
+      → slice_get states at ≡ Some state
       → StateByRule at (passed_to states (registers_of whole) at) (registers_of whole at) state
   pub notes : (whole : List StateRegisters) → BeginsWith given whole → (to : ℕ) → to < length states
       → noted table to ≡ states_pass (registers_of whole) to 0 (take number states)

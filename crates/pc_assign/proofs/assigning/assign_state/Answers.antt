@@ -11,6 +11,7 @@ pressure_of-live-requires c =
 pub returns : goal.returns
 returns c =
     let low : IsLow (state_in c.args.state.now) = omega (arith, c.pressure_of-live.ensures, c.is_high.ensures.low c.if-is_high.false) in
-    given_is c.args.number c.args.passed.now (state_in c.args.state.now) (record { names = c.in_ok-names.names; registers = c.in_ok-registers.registers })
+    given_is c.args.number c.args.passed.now (state_in c.args.state.now)
+    (record { names = c.in_ok-names.names; registers = c.in_ok-registers.registers })
     c.as_slice-parameters.result.now c.in_ok-held.held c.as_slice.result.now c.in_ok-names.ensures c.requires.once low c.as_slice-parameters.ensures c.as_slice.ensures
     c.in_ok-held.ensures.count c.in_ok-held.ensures.most c.in_ok-held.ensures.chosen c.in_ok-registers.ensures
