@@ -130,6 +130,6 @@ pub record IsAssigned (states : List AutomatonState) (registers : ℕ → ℕ �
       → StateByRule number (passed_to states registers number) (registers number) state
   pub none : (number name : ℕ) → length states ≤ number → registers number name ≡ None
 
--- the parameters of the first state are different variables below 96
+-- the parameters of the first state are variables, which are below 96; as each name stands once in a state, they are different
 pub record BeginsWithVariables (states : List AutomatonState) : Type 0 where
   pub below : (state : AutomatonState) → slice_get states 0 ≡ Some state → AllByRecursion (λ variable. variable < 96) state.parameters

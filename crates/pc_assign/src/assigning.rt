@@ -49,6 +49,7 @@ pub fn begins_with_variables(automaton: &Automaton) -> bool
     requires { length automaton.now < 2 ^ 32 }
     ensures { (result ≡ true) ↔ BeginsWithVariables (states_in automaton.now) }
 {
+    // It tells that there is a first state.
     let _states = automaton.count();
     are_variables(automaton.state(0).parameters.as_slice())
 }
@@ -96,6 +97,7 @@ fn assign_state(
     ensures { MatchResult result (IsGiven number passed.now (state_in state.now)) (RefusesState number (state_in state.now)) }
 {
     let names = names_of(alloc, state)?;
+    // That the names are counted bounds what the pressure counts.
     let _fits = names.len();
     let live = pressure_of(state);
     if is_high(live) {
