@@ -1,29 +1,27 @@
 -- States that get registers, one after the other.
-use Rattle.std.proofs.Common.{◌≡◌, ℕ, zero, suc, ◌+◌, ◌<◌, ◌≤◌, ◌^◌, ◌⊎◌, inl, inr, Bool, true, false, List, [], ◌∷◌, ◌++◌, length, map, take, Option, Some, None, refl, sym, ◌∙◌, ap, subst, arith, unwrap_or}
+use Rattle.std.proofs.Common.{◌≡◌, ℕ, zero, suc, ◌+◌, ◌<◌, ◌≤◌, ◌^◌, inl, inr, Bool, true, false, List, [], ◌∷◌, ◌++◌, length, take, Option, Some}
+use Rattle.std.proofs.Common.{None, refl, sym, ◌∙◌, ap, subst, arith, unwrap_or}
 use Rattle.std.specs.Prelude.{nat_eq, slice_get, if◌then◌else◌}
 use Rattle.std.specs.Option.{option_or}
-use Rattle.std.specs.List.{AllByRecursion, IsDistinct, filter_map, cons_option}
+use Rattle.std.specs.List.{IsDistinct, cons_option}
 use Rattle.std.proofs.lemmas.List.{length-map}
 use Rattle.std.proofs.lemmas.List.Elements.{filter_map-append}
-use Rattle.pc_word.specs.declared.item.Operand.{Operand}
-use Rattle.pc_word.specs.declared.item.Operand.TheVariants.{Name, Lit}
 use Rattle.pc_word.specs.Row.{Row, Then, Either, At_leaf, items_of}
 use Rattle.pc_word.specs.Items.{dest_of}
 use Rattle.pc_word.proofs.Truth.{decide_le}
 use Rattle.pc_word.proofs.Lists.{all_at}
 use Rattle.pc_automaton.specs.declared.automaton.AutomatonLeaf.{AutomatonLeaf}
-use Rattle.pc_automaton.specs.declared.automaton.AutomatonLeaf.TheVariants.{To, Out, Stop, Trap}
 use Rattle.pc_automaton.specs.declared.automaton.AutomatonState.{AutomatonState as StoredState}
 use Rattle.pc_automaton.specs.Automaton.{AutomatonState, state_in, states_in, names_written, IsStateAmong, IsAutomaton}
-use Rattle.pc_assign.specs.Pressure.{allowed, one_more, pressure_of, IsLow, LowBefore, IsFirstHigh}
-use Rattle.pc_assign.specs.Assigned.{names_of, passed_at, register_of, leaf_passes, row_passes, states_pass, passed_to, StateByRule, IsAssigned, BeginsWithVariables}
+use Rattle.pc_assign.specs.Pressure.{allowed, one_more, IsLow, LowBefore}
+use Rattle.pc_assign.specs.Assigned.{names_of, row_passes, states_pass, passed_to, StateByRule, IsAssigned}
 use Rattle.pc_assign.specs.Stored.{beside, register_in, Refuses}
 use Rattle.pc_assign.specs.declared.error.AssignError.{AssignError}
 use Rattle.pc_assign.specs.declared.error.AssignError.TheVariants.{Pressure, Memory}
 use Rattle.pc_assign.specs.declared.assigned.StateRegisters.{StateRegisters}
 use Rattle.pc_assign.specs.models.Choosing.{AreMost, PassedMost, AreHeld, AreChosen, definitions_in}
 use Rattle.pc_assign.specs.models.Passing.{noted_in, noted, Notes}
-use Rattle.pc_assign.specs.models.Assigning.{IsGiven, RefusesState, registers_of, BeginsWith, AreGiven}
+use Rattle.pc_assign.specs.models.Assigning.{IsGiven, RefusesState, registers_of, AreGiven}
 use Rattle.pc_assign.proofs.PassedOn.{row_passed, either_passed}
 use Rattle.pc_assign.proofs.ByRule.{length_both, state_by_rule, chosen_most}
 
@@ -93,22 +91,26 @@ states_pass_more R to from [] x =
     or_none (row_passes (R from) to x.row) ∙ ap (λ (n : ℕ). row_passes (R n) to x.row) here
 states_pass_more R to from (y ∷ xs) x =
     let here : suc from + length xs ≡ from + suc (length xs) = omega arith in
-    ap (option_or (row_passes (R from) to y.row)) (states_pass_more R to (suc from) xs x ∙ ap (λ (n : ℕ). option_or (states_pass R to (suc from) xs) (row_passes (R n) to x.row)) here)
+    ap (option_or (row_passes (R from) to y.row))
+    (states_pass_more R to (suc from) xs x ∙ ap (λ (n : ℕ). option_or (states_pass R to (suc from) xs) (row_passes (R n) to x.row)) here)
     ∙ or_joined (row_passes (R from) to y.row) (states_pass R to (suc from) xs) (row_passes (R (from + suc (length xs))) to x.row)
 
 beside_most : (names registers : List ℕ) → AreMost registers → (name r : ℕ) → beside names registers name ≡ Some r → r ≤ allowed
 beside_most [] registers most name r e = absurd (cc)
 beside_most (x ∷ names) [] most name r e = absurd (cc)
-beside_most (x ∷ names) (s ∷ registers) most name r e = by (nat_eq name x) (most 0 s refl) (beside_most names registers (λ at q h. most (suc at) q h) name r) e
+beside_most (x ∷ names) (s ∷ registers) most name r e = by (nat_eq name x) (most 0 s refl)
+    (beside_most names registers (λ at q h. most (suc at) q h) name r) e
   where
-    by : (b : Bool) → s ≤ allowed → (beside names registers name ≡ Some r → r ≤ allowed) → (if b then Some s else beside names registers name) ≡ Some r → r ≤ allowed
+    by : (b : Bool) → s ≤ allowed → (beside names registers name ≡ Some r → r ≤ allowed)
+        → (if b then Some s else beside names registers name) ≡ Some r → r ≤ allowed
     by true few later e = let same : s ≡ r = (cc) in subst (λ (q : ℕ). q ≤ allowed) same few
     by false few later e = later e
 
 -- ---- states
 
 -- none, to begin with
-pub none_given : (states : List AutomatonState) (table : List (Option (List (Option ℕ)))) → length table ≡ length states → ((to : ℕ) → noted table to ≡ None)
+pub none_given : (states : List AutomatonState) (table : List (Option (List (Option ℕ)))) → length table ≡ length states
+    → ((to : ℕ) → noted table to ≡ None)
     → AreGiven states 0 [] table
 none_given states table as_many none = record {
   count = refl;
@@ -121,7 +123,8 @@ none_given states table as_many none = record {
 
 -- one more
 pub one_more_given : (states : List AutomatonState) (number : ℕ) (state : AutomatonState) (given : List StateRegisters) (one : StateRegisters)
-    (table later : List (Option (List (Option ℕ)))) (passed : List (Option ℕ)) → AreGiven states number given table → slice_get states number ≡ Some state
+    (table later : List (Option (List (Option ℕ)))) (passed : List (Option ℕ)) → AreGiven states number given table
+    → slice_get states number ≡ Some state
     → passed ≡ unwrap_or (noted table number) [] → IsGiven number passed state one → Notes (beside one.names.keys one.registers) state.row table later
     → AreGiven states (suc number) (given ++ one ∷ []) later
 one_more_given states number state given one table later passed h here is_passed is notes = record {
@@ -141,10 +144,12 @@ one_more_given states number state given one table later passed h here is_passed
         let alike : state ≡ other = (cc) in
         let found : slice_get whole number ≡ Some one = begins number one (ap (slice_get (given ++ one ∷ [])) (sym h.count) ∙ get_last given one) in
         let list : passed_to states (registers_of whole) number ≡ passed =
-        ap (λ (o : Option (List (Option ℕ))). unwrap_or o []) (sym (h.notes whole (λ k x q. begins k x (get_front given one x k q)) number (inside states number state here))) ∙ sym is_passed in
+        ap (λ (o : Option (List (Option ℕ))). unwrap_or o [])
+        (sym (h.notes whole (λ k x q. begins k x (get_front given one x k q)) number (inside states number state here))) ∙ sym is_passed in
         subst (λ (n : ℕ). StateByRule n (passed_to states (registers_of whole) n) (registers_of whole n) other) (sym same)
         (subst (λ (s : AutomatonState). StateByRule number (passed_to states (registers_of whole) number) (registers_of whole number) s) alike
-        (subst (λ (found : Option StateRegisters). StateByRule number (passed_to states (registers_of whole) number) (register_in found) state) (sym found)
+        (subst (λ (found : Option StateRegisters). StateByRule number (passed_to states (registers_of whole) number) (register_in found) state)
+        (sym found)
         (subst (λ (xs : List (Option ℕ)). StateByRule number xs (beside one.names.keys one.registers) state) (sym list) is.rule)))
     | inr before ↦ h.rule whole (λ k x q. begins k x (get_front given one x k q)) at other before e
   ];
@@ -155,20 +160,25 @@ one_more_given states number state given one table later passed h here is_passed
       notes.each to (omega (arith, h.as_many))
       ∙ ap (λ (o : Option (List (Option ℕ))). option_or o (row_passes (beside one.names.keys one.registers) to state.row))
       (h.notes whole (λ k x q. begins k x (get_front given one x k q)) to less)
-      ∙ ap (λ (o : Option StateRegisters). option_or (states_pass (registers_of whole) to 0 (take number states)) (row_passes (register_in o) to state.row)) (sym found)
-      ∙ ap (λ (n : ℕ). option_or (states_pass (registers_of whole) to 0 (take number states)) (row_passes (registers_of whole n) to state.row)) (sym place)
+      ∙ ap (λ (o : Option StateRegisters). option_or (states_pass (registers_of whole) to 0 (take number states))
+      (row_passes (register_in o) to state.row)) (sym found)
+      ∙ ap (λ (n : ℕ). option_or (states_pass (registers_of whole) to 0 (take number states)) (row_passes (registers_of whole n) to state.row))
+      (sym place)
       ∙ sym (states_pass_more (registers_of whole) to 0 (take number states) state)
       ∙ ap (states_pass (registers_of whole) to 0) (sym (take_one states number state here));
   most = λ to list e. elim (decide_le (length table) to) [
-    | inl out ↦ let none : slice_get later to ≡ None = outside later to (omega (arith, notes.as_many)) in let nothing = ap noted_in none in absurd (cc)
+    | inl out ↦ let none : slice_get later to ≡ None = outside later to (omega (arith, notes.as_many)) in let nothing = ap noted_in none in absurd
+        (cc)
     | inr there ↦
         either_passed (λ r. r ≤ allowed) (noted table to) (row_passes (beside one.names.keys one.registers) to state.row) list (h.most to)
-        (row_passed (λ r. r ≤ allowed) (beside one.names.keys one.registers) (beside_most one.names.keys one.registers is.most) to state.row) (sym (notes.each to there) ∙ e)
+        (row_passed (λ r. r ≤ allowed) (beside one.names.keys one.registers) (beside_most one.names.keys one.registers is.most) to state.row)
+        (sym (notes.each to there) ∙ e)
   ];
 }
 
 -- all
-pub all_given : (states : List AutomatonState) (number : ℕ) (given : List StateRegisters) (table : List (Option (List (Option ℕ)))) → number ≡ length states
+pub all_given : (states : List AutomatonState) (number : ℕ) (given : List StateRegisters) (table : List (Option (List (Option ℕ))))
+    → number ≡ length states
     → AreGiven states number given table → LowBefore states (length states) × IsAssigned states (registers_of given)
 all_given states number given table whole h = (
   subst (λ (n : ℕ). LowBefore states n) whole h.low,
@@ -179,7 +189,8 @@ all_given states number given table whole h = (
 )
 
 -- one that is refused
-pub refused : (states : List AutomatonState) (number : ℕ) (state : AutomatonState) (given : List StateRegisters) (table : List (Option (List (Option ℕ)))) (why : AssignError)
+pub refused : (states : List AutomatonState) (number : ℕ) (state : AutomatonState) (given : List StateRegisters)
+    (table : List (Option (List (Option ℕ)))) (why : AssignError)
     → AreGiven states number given table → slice_get states number ≡ Some state → RefusesState number state why → Refuses states why
 refused states number state given table (Pressure at live) h here high = record {
   state = state;
@@ -192,15 +203,18 @@ refused states number state given table Memory h here high = tt
 
 -- ---- what a state requires
 
-pub stored_at : (states : List StoredState) (number : ℕ) (state : StoredState) → slice_get states number ≡ Some state → slice_get (states_in states) number ≡ Some (state_in state)
+pub stored_at : (states : List StoredState) (number : ℕ) (state : StoredState) → slice_get states number ≡ Some state
+    → slice_get (states_in states) number ≡ Some (state_in state)
 stored_at [] number state e = absurd (cc)
 stored_at (s ∷ states) zero state e = let same : s ≡ state = (cc) in ap (λ (it : StoredState). Some (state_in it)) same
 stored_at (s ∷ states) (suc number) state e = stored_at states number state e
 
-pub stands_once : (states : List AutomatonState) (number : ℕ) (state : AutomatonState) → IsAutomaton states → slice_get states number ≡ Some state → IsDistinct nat_eq (names_of state)
+pub stands_once : (states : List AutomatonState) (number : ℕ) (state : AutomatonState) → IsAutomaton states → slice_get states number ≡ Some state
+    → IsDistinct nat_eq (names_of state)
 stands_once states number state kept here = (all_at (IsStateAmong states) states number state kept.each here).once
 
-pub noted_most : (states : List AutomatonState) (number to : ℕ) (given : List StateRegisters) (table : List (Option (List (Option ℕ)))) (passed : List (Option ℕ))
+pub noted_most : (states : List AutomatonState) (number to : ℕ) (given : List StateRegisters) (table : List (Option (List (Option ℕ))))
+    (passed : List (Option ℕ))
     → AreGiven states number given table → passed ≡ unwrap_or (noted table to) [] → PassedMost passed
 noted_most states number to given table passed h is = subst (λ (xs : List (Option ℕ)). PassedMost xs) (sym is) (by (noted table to) (h.most to))
   where
@@ -227,7 +241,8 @@ names_fit state keys count are is fits =
     omega (arith, long, length_both state.parameters (names_written state.row), written_count state.row, is)
 
 -- a state whose parts have registers has them
-pub given_is : (number : ℕ) (passed : List (Option ℕ)) (state : AutomatonState) (one : StateRegisters) (parameters held front : List ℕ) → one.names.keys ≡ names_of state
+pub given_is : (number : ℕ) (passed : List (Option ℕ)) (state : AutomatonState) (one : StateRegisters) (parameters held front : List ℕ)
+    → one.names.keys ≡ names_of state
     → IsDistinct nat_eq (names_of state) → IsLow state → parameters ≡ state.parameters → front ≡ held → length held ≡ length parameters → AreMost held
     → AreHeld number passed parameters held → AreChosen parameters front (λ q. false) state.row front one.registers → IsGiven number passed state one
 given_is number passed state one parameters held front are distinct low same_parameters same_held as_many most is chosen =
@@ -240,8 +255,10 @@ given_is number passed state one parameters held front are distinct low same_par
       most = chosen_most state.parameters held (λ q. false) state.row held one.registers most whole;
     }
 
-pub all_stored : (states : List StoredState) (number : ℕ) (given : List StateRegisters) (table : List (Option (List (Option ℕ)))) → number ≡ length states
-    → AreGiven (states_in states) number given table → LowBefore (states_in states) (length states) × IsAssigned (states_in states) (registers_of given)
+pub all_stored : (states : List StoredState) (number : ℕ) (given : List StateRegisters) (table : List (Option (List (Option ℕ))))
+    → number ≡ length states
+    → AreGiven (states_in states) number given table → LowBefore (states_in states) (length states) × IsAssigned (states_in states)
+    (registers_of given)
 all_stored states number given table whole h =
     let many : length (states_in states) ≡ length states = length-map states state_in in
     let both = all_given (states_in states) number given table (whole ∙ sym many) h in

@@ -1,12 +1,13 @@
 -- Names that are live together have different registers.
-use Rattle.std.proofs.Common.{◌≡◌, ◌≢◌, ℕ, zero, suc, ◌+◌, ◌<◌, ◌≤◌, ◌⊎◌, inl, inr, Bool, true, false, ◌&&◌, ◌||◌, List, [], ◌∷◌, ◌++◌, length, take, Option, Some, None, refl, sym, ◌∙◌, ap, subst, arith, unwrap_or}
+use Rattle.std.proofs.Common.{◌≡◌, ℕ, zero, suc, ◌<◌, ◌≤◌, Bool, true, false, ◌&&◌, ◌||◌, List, [], ◌∷◌, ◌++◌, length, take, Option, Some, None}
+use Rattle.std.proofs.Common.{refl, sym, ◌∙◌, ap, subst, arith, unwrap_or}
 use Rattle.std.specs.Prelude.{nat_eq, slice_get, IsSomeAnd, MatchBool}
-use Rattle.std.specs.List.{IsDistinct, AllByRecursion, filter_map, cons_option}
+use Rattle.std.specs.List.{IsDistinct, AllByRecursion, cons_option}
 use Rattle.std.proofs.lemmas.Bool.Decides.{nat_tests}
 use Rattle.std.proofs.lemmas.List.Elements.{filter_map-append}
 use Rattle.pc_word.specs.Row.{Row, Then, Either, At_leaf, items_of}
 use Rattle.pc_word.specs.Items.{dest_of}
-use Rattle.pc_word.proofs.Truth.{or_false, decide_le}
+use Rattle.pc_word.proofs.Truth.{or_false}
 use Rattle.pc_word.proofs.Lists.{all_at, all_front, all_both}
 use Rattle.pc_window.specs.Names.{named}
 use Rattle.pc_window.specs.Rebasing.{is_in}
@@ -14,7 +15,9 @@ use Rattle.pc_automaton.specs.declared.automaton.AutomatonLeaf.{AutomatonLeaf}
 use Rattle.pc_automaton.specs.Automaton.{AutomatonState, names_written, IsStateAmong, IsAutomaton}
 use Rattle.pc_assign.specs.Uses.{row_uses}
 use Rattle.pc_assign.specs.Pressure.{allowed}
-use Rattle.pc_assign.specs.Assigned.{names_of, is_register, one_has, used_has, IsLeast, AllTaken, IsParameterChoice, passed_at, ParametersByRule, states_pass, passed_to, Parameters, IsChoice, First_choice, Second_choice, DestByRule, RowByRule, StateByRule, IsAssigned, BeginsWithVariables}
+use Rattle.pc_assign.specs.Assigned.{names_of, is_register, one_has, used_has, IsLeast, IsParameterChoice, passed_at, ParametersByRule, states_pass}
+use Rattle.pc_assign.specs.Assigned.{passed_to, Parameters, IsChoice, First_choice, Second_choice, DestByRule, RowByRule, StateByRule, IsAssigned}
+use Rattle.pc_assign.specs.Assigned.{BeginsWithVariables}
 use Rattle.pc_assign.specs.Apart.{Differ, AllDiffer, DestApart, KeepsApart, HasAllowed, IsApart, LiveApart, VariablesStay}
 use Rattle.pc_assign.proofs.PassedOn.{PassedAll, HeldAll, states_passed}
 
@@ -22,26 +25,30 @@ itself : (r : ℕ) → nat_eq r r ≡ true
 itself r = grind (arith, nat_tests)
 
 -- a register that none of some names has
-differ_from : (of : ℕ → Option ℕ) (name register : ℕ) (names : List ℕ) → of name ≡ Some register → one_has of names register ≡ false → AllByRecursion (Differ of name) names
+differ_from : (of : ℕ → Option ℕ) (name register : ℕ) (names : List ℕ) → of name ≡ Some register → one_has of names register ≡ false
+    → AllByRecursion (Differ of name) names
 differ_from of name register [] is none = tt
 differ_from of name register (x ∷ names) is none =
     let parts = or_false (is_register register (of x)) (one_has of names register) none in (
       λ r one other.
           let same : register ≡ r = let both : Some register ≡ Some r = sym is ∙ one in (cc) in
-          let found : is_register register (of x) ≡ true = ap (is_register register) other ∙ ap (λ (q : ℕ). nat_eq register q) (sym same) ∙ itself register in
+          let found : is_register register (of x) ≡ true = ap (is_register register) other ∙ ap (λ (q : ℕ). nat_eq register q) (sym same)
+          ∙ itself register in
           absurd (cc),
       differ_from of name register names is parts.1,
     )
 
 -- nor one of those that are used
-differ_where_used : (of : ℕ → Option ℕ) (used : ℕ → Bool) (name register : ℕ) (names : List ℕ) → of name ≡ Some register → used_has used of names register ≡ false
+differ_where_used : (of : ℕ → Option ℕ) (used : ℕ → Bool) (name register : ℕ) (names : List ℕ) → of name ≡ Some register
+    → used_has used of names register ≡ false
     → AllByRecursion (λ x. used x ≡ true → Differ of name x) names
 differ_where_used of used name register [] is none = tt
 differ_where_used of used name register (x ∷ names) is none =
     let parts = or_false (used x && is_register register (of x)) (used_has used of names register) none in (
       λ uses r one other.
           let same : register ≡ r = let both : Some register ≡ Some r = sym is ∙ one in (cc) in
-          let found : is_register register (of x) ≡ true = ap (is_register register) other ∙ ap (λ (q : ℕ). nat_eq register q) (sym same) ∙ itself register in
+          let found : is_register register (of x) ≡ true = ap (is_register register) other ∙ ap (λ (q : ℕ). nat_eq register q) (sym same)
+          ∙ itself register in
           let here : (used x && is_register register (of x)) ≡ true = (λ i. uses i && found i) in
           absurd (cc),
       differ_where_used of used name register names is parts.1,
@@ -59,22 +66,29 @@ dest_apart : (of : ℕ → Option ℕ) (parameters above : List ℕ) (rest : Row
 dest_apart of parameters above rest None h = tt
 dest_apart of parameters above rest (Some dest) h = by (of dest) refl h
   where
-    chosen : (register : ℕ) → of dest ≡ Some register → IsChoice (λ q. one_has of parameters q || one_has of above q) (λ q. used_has (row_uses rest) of parameters q || one_has of above q) register
+    chosen : (register : ℕ) → of dest ≡ Some register → IsChoice (λ q. one_has of parameters q || one_has of above q)
+        (λ q. used_has (row_uses rest) of parameters q || one_has of above q) register
         → DestApart of parameters above rest (Some dest)
     chosen register is (First_choice least) =
-        let parts = or_false (one_has of parameters register) (one_has of above register) least.free in
-        (always of (row_uses rest) dest parameters (differ_from of dest register parameters is parts.0), differ_from of dest register above is parts.1)
+        let parts = or_false (one_has of parameters register) (one_has of above register) least.free in (
+          always of (row_uses rest) dest parameters
+              (differ_from of dest register parameters is parts.0),
+          differ_from of dest register above is parts.1,
+        )
     chosen register is (Second_choice full least) =
         let parts = or_false (used_has (row_uses rest) of parameters register) (one_has of above register) least.free in
         (differ_where_used of (row_uses rest) dest register parameters is parts.0, differ_from of dest register above is parts.1)
 
-    by : (o : Option ℕ) → of dest ≡ o → IsSomeAnd o (IsChoice (λ q. one_has of parameters q || one_has of above q) (λ q. used_has (row_uses rest) of parameters q || one_has of above q))
+    by : (o : Option ℕ) → of dest ≡ o → IsSomeAnd o
+        (IsChoice (λ q. one_has of parameters q || one_has of above q) (λ q. used_has (row_uses rest) of parameters q || one_has of above q))
         → DestApart of parameters above rest (Some dest)
     by None is h = absurd h
     by (Some register) is h = chosen register is h
 
-row_apart : (of : ℕ → Option ℕ) (parameters above : List ℕ) (row : Row AutomatonLeaf) → RowByRule of parameters above row → KeepsApart of parameters above row
-row_apart of parameters above (Then item rest) h = (dest_apart of parameters above rest (dest_of item) h.0, row_apart of parameters (named (dest_of item) above) rest h.1)
+row_apart : (of : ℕ → Option ℕ) (parameters above : List ℕ) (row : Row AutomatonLeaf) → RowByRule of parameters above row
+    → KeepsApart of parameters above row
+row_apart of parameters above (Then item rest) h =
+    (dest_apart of parameters above rest (dest_of item) h.0, row_apart of parameters (named (dest_of item) above) rest h.1)
 row_apart of parameters above (Either on on_yes on_no) h = (row_apart of parameters above on_yes h.0, row_apart of parameters above on_no h.1)
 row_apart of parameters above (At_leaf leaf) h = tt
 
@@ -82,7 +96,8 @@ choice_below : (taken needed : ℕ → Bool) (register : ℕ) → IsChoice taken
 choice_below taken needed register (First_choice least) = least.below
 choice_below taken needed register (Second_choice full least) = least.below
 
-row_allowed : (of : ℕ → Option ℕ) (parameters above : List ℕ) (row : Row AutomatonLeaf) → RowByRule of parameters above row → AllByRecursion (HasAllowed of) (names_written row)
+row_allowed : (of : ℕ → Option ℕ) (parameters above : List ℕ) (row : Row AutomatonLeaf) → RowByRule of parameters above row
+    → AllByRecursion (HasAllowed of) (names_written row)
 row_allowed of parameters above (Then item rest) h = by (dest_of item) h.0 (row_allowed of parameters (named (dest_of item) above) rest h.1)
   where
     has : (dest : ℕ) (taken needed : ℕ → Bool) (o : Option ℕ) → of dest ≡ o → IsSomeAnd o (IsChoice taken needed) → HasAllowed of dest
@@ -92,11 +107,15 @@ row_allowed of parameters above (Then item rest) h = by (dest_of item) h.0 (row_
     by : (found : Option ℕ) → DestByRule of parameters above rest found → AllByRecursion (HasAllowed of) (names_written rest)
         → AllByRecursion (HasAllowed of) (cons_option found (names_written rest))
     by None k later = later
-    by (Some dest) k later =
-        (has dest (λ q. one_has of parameters q || one_has of above q) (λ q. used_has (row_uses rest) of parameters q || one_has of above q) (of dest) refl k, later)
+    by (Some dest) k later = (
+      has dest (λ q. one_has of parameters q || one_has of above q) (λ q. used_has (row_uses rest) of parameters q || one_has of above q)
+          (of dest) refl k,
+      later,
+    )
 row_allowed of parameters above (Either on on_yes on_no) h =
     subst (λ (names : List ℕ). AllByRecursion (HasAllowed of) names) (sym (filter_map-append dest_of (items_of on_yes) (items_of on_no)))
-    (all_both (HasAllowed of) (names_written on_yes) (names_written on_no) (row_allowed of parameters above on_yes h.0) (row_allowed of parameters above on_no h.1))
+    (all_both (HasAllowed of) (names_written on_yes) (names_written on_no) (row_allowed of parameters above on_yes h.0)
+    (row_allowed of parameters above on_no h.1))
 row_allowed of parameters above (At_leaf leaf) h = tt
 
 -- ---- parameters
@@ -106,7 +125,8 @@ pub record IsFresh (of : ℕ → Option ℕ) (before : List ℕ) (name : ℕ) : 
   pub allowed : HasAllowed of name
   pub free : one_has of before allowed.register ≡ false
 
-choice_fresh : (taken : ℕ → Bool) (passed : Option ℕ) (register : ℕ) → ((r : ℕ) → passed ≡ Some r → r < allowed) → IsParameterChoice taken passed register
+choice_fresh : (taken : ℕ → Bool) (passed : Option ℕ) (register : ℕ) → ((r : ℕ) → passed ≡ Some r → r < allowed)
+    → IsParameterChoice taken passed register
     → (register < allowed) × (taken register ≡ false)
 choice_fresh taken None register below h = (h.below, h.free)
 choice_fresh taken (Some passed) register below h = by (taken passed) refl h
@@ -115,11 +135,13 @@ choice_fresh taken (Some passed) register below h = by (taken passed) refl h
     by true is k = (k.below, k.free)
     by false is k = (subst (λ (r : ℕ). r < allowed) (sym k) (below passed refl), ap taken k ∙ is)
 
-fresh_at : (of : ℕ → Option ℕ) (passed : List (Option ℕ)) (parameters : List ℕ) → PassedAll (λ r. r < allowed) passed → ParametersByRule of passed parameters
+fresh_at : (of : ℕ → Option ℕ) (passed : List (Option ℕ)) (parameters : List ℕ) → PassedAll (λ r. r < allowed) passed
+    → ParametersByRule of passed parameters
     → (at name : ℕ) → slice_get parameters at ≡ Some name → IsFresh of (take at parameters) name
 fresh_at of passed parameters below h at name here = by (of name) refl (h at name here)
   where
-    by : (o : Option ℕ) → of name ≡ o → IsSomeAnd o (IsParameterChoice (one_has of (take at parameters)) (passed_at (slice_get passed at))) → IsFresh of (take at parameters) name
+    by : (o : Option ℕ) → of name ≡ o → IsSomeAnd o (IsParameterChoice (one_has of (take at parameters)) (passed_at (slice_get passed at)))
+        → IsFresh of (take at parameters) name
     by None is k = absurd k
     by (Some register) is k =
         let it = choice_fresh (one_has of (take at parameters)) (passed_at (slice_get passed at)) register (below at) k in
@@ -130,7 +152,8 @@ all_of_each P [] h = tt
 all_of_each P (x ∷ xs) h = (h 0 x refl, all_of_each P xs (λ at y e. h (suc at) y e))
 
 -- one of the front is not among what follows
-one_has_front : (of : ℕ → Option ℕ) (front : List ℕ) (x r : ℕ) → one_has of (front ++ x ∷ []) r ≡ false → (one_has of front r ≡ false) × (is_register r (of x) ≡ false)
+one_has_front : (of : ℕ → Option ℕ) (front : List ℕ) (x r : ℕ) → one_has of (front ++ x ∷ []) r ≡ false
+    → (one_has of front r ≡ false) × (is_register r (of x) ≡ false)
 one_has_front of [] x r h = let parts = or_false (is_register r (of x)) false h in (refl, parts.0)
 one_has_front of (y ∷ front) x r h =
     let parts = or_false (is_register r (of y)) (one_has of (front ++ x ∷ []) r) h in
@@ -140,7 +163,11 @@ one_has_front of (y ∷ front) x r h =
 -- each differs from all before it; so do all from each other
 pub fresh_differ : (of : ℕ → Option ℕ) (xs : List ℕ) → ((at x : ℕ) → slice_get xs at ≡ Some x → IsFresh of (take at xs) x) → AllDiffer of xs
 fresh_differ of [] h = tt
-fresh_differ of (x ∷ xs) h = (all_of_each (Differ of x) xs (λ at y e r one other. clash at y r one other (h (suc at) y e)), fresh_differ of xs (λ at y e. later at y (h (suc at) y e)))
+fresh_differ of (x ∷ xs) h = (
+  all_of_each (Differ of x) xs (λ at y e r one other. clash at y r one other (h (suc at) y e)),
+  fresh_differ of xs
+      (λ at y e. later at y (h (suc at) y e)),
+)
   where
     clash : (at y r : ℕ) → of x ≡ Some r → of y ≡ Some r → IsFresh of (x ∷ take at xs) y → ⊥
     clash at y r one other fresh =
@@ -162,7 +189,8 @@ unfolding IsDistinct
 variables_differ of [] once h = tt
 variables_differ of (x ∷ xs) once h = (differ x xs h.0 once.0 h.1, variables_differ of xs once.1 h.1)
   where
-    differ : (y : ℕ) (ys : List ℕ) → of y ≡ Some y → AllByRecursion (λ z. nat_eq y z ≡ false) ys → AllByRecursion (λ z. of z ≡ Some z) ys → AllByRecursion (Differ of y) ys
+    differ : (y : ℕ) (ys : List ℕ) → of y ≡ Some y → AllByRecursion (λ z. nat_eq y z ≡ false) ys → AllByRecursion (λ z. of z ≡ Some z) ys
+        → AllByRecursion (Differ of y) ys
     differ y [] is apart each = tt
     differ y (z ∷ ys) is apart each = (
       (λ r one other.
@@ -174,7 +202,8 @@ variables_differ of (x ∷ xs) once h = (differ x xs h.0 once.0 h.1, variables_d
       differ y ys is apart.1 each.1,
     )
 
-variables_allowed : (of : ℕ → Option ℕ) (xs : List ℕ) → AllByRecursion (λ x. x < 96) xs → AllByRecursion (λ x. of x ≡ Some x) xs → AllByRecursion (HasAllowed of) xs
+variables_allowed : (of : ℕ → Option ℕ) (xs : List ℕ) → AllByRecursion (λ x. x < 96) xs → AllByRecursion (λ x. of x ≡ Some x) xs
+    → AllByRecursion (HasAllowed of) xs
 variables_allowed of [] below h = tt
 variables_allowed of (x ∷ xs) below h = (record { register = x; has = h.0; below = omega (arith, below.0) }, variables_allowed of xs below.1 h.1)
 
@@ -198,8 +227,10 @@ all_in P (y ∷ xs) x h e = by (nat_eq x y) refl (all_in P xs x h.1) e
     by false is later e = later e
 
 -- the registers of a state are allowed, where those that it is passed are
-state_apart : (states : List AutomatonState) (number : ℕ) (passed : List (Option ℕ)) (of : ℕ → Option ℕ) (state : AutomatonState) → IsDistinct nat_eq (names_of state)
-    → (number ≡ 0 → AllByRecursion (λ variable. variable < 96) state.parameters) → PassedAll (λ r. r < allowed) passed → StateByRule number passed of state → IsApart of state
+state_apart : (states : List AutomatonState) (number : ℕ) (passed : List (Option ℕ)) (of : ℕ → Option ℕ) (state : AutomatonState)
+    → IsDistinct nat_eq (names_of state)
+    → (number ≡ 0 → AllByRecursion (λ variable. variable < 96) state.parameters) → PassedAll (λ r. r < allowed) passed
+    → StateByRule number passed of state → IsApart of state
 state_apart states number passed of state once variables below h =
     let given = parameters_apart number (variables) h.parameters in
     record {
@@ -210,8 +241,11 @@ state_apart states number passed of state once variables below h =
   where
     parameters_apart : (n : ℕ) → (n ≡ 0 → AllByRecursion (λ variable. variable < 96) state.parameters) → Parameters n of passed state.parameters
         → AllDiffer of state.parameters × AllByRecursion (HasAllowed of) state.parameters
-    parameters_apart zero small k =
-        (variables_differ of state.parameters (distinct_front state.parameters (names_written state.row) once) k, variables_allowed of state.parameters (small refl) k)
+    parameters_apart zero small k = (
+      variables_differ of state.parameters
+          (distinct_front state.parameters (names_written state.row) once) k,
+      variables_allowed of state.parameters (small refl) k,
+    )
     parameters_apart (suc n) small k = (
       fresh_differ of state.parameters (fresh_at of passed state.parameters below k),
       all_of_each (HasAllowed of) state.parameters (λ at x e. (fresh_at of passed state.parameters below k at x e).allowed),
@@ -238,16 +272,20 @@ past [] at e = omega arith
 past (state ∷ states) zero e = absurd (cc)
 past (state ∷ states) (suc at) e = omega (arith, past states at e)
 
-module _ (states : List AutomatonState) (R : ℕ → ℕ → Option ℕ) (kept : IsAutomaton states) (begins : BeginsWithVariables states) (given : IsAssigned states R) where
-  passed_below : (number : ℕ) → ((at : ℕ) → at < number → HeldAll (λ r. r < allowed) (R at)) → PassedAll (λ r. r < allowed) (passed_to states R number)
+module _ (states : List AutomatonState) (R : ℕ → ℕ → Option ℕ) (kept : IsAutomaton states) (begins : BeginsWithVariables states)
+    (given : IsAssigned states R) where
+  passed_below : (number : ℕ) → ((at : ℕ) → at < number → HeldAll (λ r. r < allowed) (R at))
+      → PassedAll (λ r. r < allowed) (passed_to states R number)
   passed_below number before = by (states_pass R number 0 (take number states))
       (states_passed (λ r. r < allowed) R number 0 (take number states) (λ at h. before at (omega (arith, short states number))))
     where
-      by : (o : Option (List (Option ℕ))) → ((passed : List (Option ℕ)) → o ≡ Some passed → PassedAll (λ r. r < allowed) passed) → PassedAll (λ r. r < allowed) (unwrap_or o [])
+      by : (o : Option (List (Option ℕ))) → ((passed : List (Option ℕ)) → o ≡ Some passed → PassedAll (λ r. r < allowed) passed)
+          → PassedAll (λ r. r < allowed) (unwrap_or o [])
       by (Some passed) h = h passed refl
       by None h = λ at r e. absurd (cc)
 
-  apart_after : (number : ℕ) → ((at : ℕ) → at < number → HeldAll (λ r. r < allowed) (R at)) → (state : AutomatonState) → slice_get states number ≡ Some state → IsApart (R number) state
+  apart_after : (number : ℕ) → ((at : ℕ) → at < number → HeldAll (λ r. r < allowed) (R at)) → (state : AutomatonState)
+      → slice_get states number ≡ Some state → IsApart (R number) state
   apart_after number before state here =
       state_apart states number (passed_to states R number) (R number) state (all_at (IsStateAmong states) states number state kept.each here).once
       (λ first. begins.below state (ap (slice_get states) (sym first) ∙ here)) (passed_below number before) (given.each number state here)
@@ -256,13 +294,15 @@ module _ (states : List AutomatonState) (R : ℕ → ℕ → Option ℕ) (kept :
   held_before zero at h = absurd (omega arith)
   held_before (suc n) at h = by (slice_get states at) refl (λ k less. held_before n k (omega arith))
     where
-      by : (o : Option AutomatonState) → slice_get states at ≡ o → ((k : ℕ) → k < at → HeldAll (λ r. r < allowed) (R k)) → HeldAll (λ r. r < allowed) (R at)
+      by : (o : Option AutomatonState) → slice_get states at ≡ o → ((k : ℕ) → k < at → HeldAll (λ r. r < allowed) (R k))
+          → HeldAll (λ r. r < allowed) (R at)
       by (Some state) here before = held_of (R at) state (apart_after at before state here) (given.each at state here).others
       by None out before = λ name r e.
           let none : R at name ≡ None = given.none at name (past states at out) in absurd (cc)
 
 pub live_apart : LiveApart
-live_apart states R kept begins given number state here = apart_after states R kept begins given number (held_before states R kept begins given number) state here
+live_apart states R kept begins given number state here = apart_after states R kept begins given number
+    (held_before states R kept begins given number) state here
 
 pub variables_stay : VariablesStay
 variables_stay states R given state here = (given.each 0 state here).parameters

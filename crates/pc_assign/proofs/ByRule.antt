@@ -1,12 +1,11 @@
 -- What was chosen is what the rule says.
-use Rattle.std.proofs.Common.{◌≡◌, ℕ, zero, suc, ◌+◌, ◌<◌, ◌≤◌, max, Bool, true, false, cond, ◌&&◌, ◌||◌, ◌⊎◌, inl, inr, List, [], ◌∷◌, ◌++◌, length, take, Option, Some, None, refl, sym, ◌∙◌, ap, subst, arith}
+use Rattle.std.proofs.Common.{◌≡◌, ℕ, zero, suc, ◌+◌, ◌<◌, ◌≤◌, max, Bool, true, false, ◌||◌, ◌⊎◌, inl, inr, List, [], ◌∷◌, ◌++◌, length, take}
+use Rattle.std.proofs.Common.{Option, Some, None, refl, sym, ◌∙◌, ap, subst, arith}
 use Rattle.std.specs.Prelude.{nat_eq, slice_get, count_by, IsSomeAnd, MatchBool}
 use Rattle.std.specs.List.{IsDistinct, AllByRecursion, filter_map, cons_option}
 use Rattle.std.proofs.lemmas.List.{append_cancel_left, append_assoc}
 use Rattle.std.proofs.lemmas.List.Elements.{filter_map-append}
-use Rattle.pc_word.specs.declared.item.Item.{Item}
-use Rattle.pc_word.specs.declared.item.Operand.{Operand}
-use Rattle.pc_word.specs.Row.{Row, Then, Either, At_leaf, items_of}
+use Rattle.pc_word.specs.Row.{Row, items_of}
 use Rattle.pc_word.specs.Items.{dest_of}
 use Rattle.pc_word.proofs.Truth.{decide_le}
 use Rattle.pc_window.specs.Names.{named}
@@ -15,10 +14,13 @@ use Rattle.pc_automaton.specs.declared.automaton.AutomatonLeaf.{AutomatonLeaf}
 use Rattle.pc_automaton.specs.Automaton.{AutomatonState, names_written}
 use Rattle.pc_assign.specs.Uses.{row_uses}
 use Rattle.pc_assign.specs.Pressure.{allowed, one_more, item_pressure, row_pressure, IsLow}
-use Rattle.pc_assign.specs.Assigned.{names_of, Parameters, StateByRule, is_register, one_has, used_has, IsLeast, IsParameterChoice, passed_at, ParametersByRule, IsChoice, First_choice, Second_choice, DestByRule, RowByRule}
-use Rattle.pc_assign.specs.models.Choosing.{IsLeastAbsent, IsParameterTaken, AreParameters, used_holds, AreMost, AreHeld, IsChosen, Of_taken, Of_needed, AreChosen, Leaf_chosen, None_chosen, One_chosen, Sides_chosen}
+use Rattle.pc_assign.specs.Assigned.{names_of, Parameters, StateByRule, is_register, one_has, used_has, IsLeast, IsParameterChoice, passed_at}
+use Rattle.pc_assign.specs.Assigned.{ParametersByRule, IsChoice, First_choice, Second_choice, DestByRule, RowByRule}
+use Rattle.pc_assign.specs.models.Choosing.{IsLeastAbsent, IsParameterTaken, AreParameters, used_holds, AreMost, AreHeld, IsChosen, Of_taken}
+use Rattle.pc_assign.specs.models.Choosing.{Of_needed, AreChosen, Leaf_chosen, None_chosen, One_chosen, Sides_chosen}
 use Rattle.pc_assign.proofs.Counting.{members, members_or, members_same, members_one, members_used, members_in, members_all, members_none}
-use Rattle.pc_assign.proofs.Gives.{GivesEach, one_has_is, used_has_is, gives_front, gives_back, gives_take, length_take, gives_at, beside_gives, beside_none}
+use Rattle.pc_assign.proofs.Gives.{GivesEach, one_has_is, used_has_is, gives_front, gives_back, gives_take, length_take, gives_at, beside_gives}
+use Rattle.pc_assign.proofs.Gives.{beside_none}
 use Rattle.pc_assign.proofs.Held.{get_more}
 use Rattle.pc_assign.specs.Stored.{beside}
 
@@ -61,7 +63,8 @@ pub parameters_by_rule : (of : ℕ → Option ℕ) (passed : List (Option ℕ)) 
     → length held ≡ length parameters → length parameters ≤ allowed → AreParameters passed held → ParametersByRule of passed parameters
 parameters_by_rule of passed parameters held gives as_many few chosen at name here =
     let it = gives_at of parameters held at name gives here in
-    let before = λ (q : ℕ). sym (one_has_is of (take at parameters) (take at held) q (gives_take of parameters held at gives) (length_take held parameters at as_many)) in
+    let before = λ (q : ℕ). sym (one_has_is of (take at parameters) (take at held) q (gives_take of parameters held at gives)
+    (length_take held parameters at as_many)) in
     let small : members (λ q. is_in q (take at held)) allowed < allowed =
     omega (arith, members_in (take at held) allowed, length_of_take held at, within parameters at name here) in
     let choice = parameter_choice (λ q. is_in q (take at held)) (passed_at (slice_get passed at)) it.0 small (chosen at it.0 it.1) in
@@ -83,7 +86,8 @@ pub length_both : (xs ys : List ℕ) → length (xs ++ ys) ≡ length xs + lengt
 length_both [] ys = omega arith
 length_both (x ∷ xs) ys = omega (arith, length_both xs ys)
 
-sides_written : (on_yes on_no : Row AutomatonLeaf) → filter_map dest_of (items_of on_yes ++ items_of on_no) ≡ names_written on_yes ++ names_written on_no
+sides_written : (on_yes on_no : Row AutomatonLeaf) → filter_map dest_of
+    (items_of on_yes ++ items_of on_no) ≡ names_written on_yes ++ names_written on_no
 sides_written on_yes on_no = filter_map-append dest_of (items_of on_yes) (items_of on_no)
 
 module _ (parameters held : List ℕ) where
@@ -91,7 +95,12 @@ module _ (parameters held : List ℕ) where
   chosen_added above row old new Leaf_chosen = record { added = []; is = at_end old; as_many = refl }
   chosen_added above row old new (None_chosen {item = item} {rest = rest} none h) =
       let below = chosen_added above rest old new h in
-      record { added = below.added; is = below.is; as_many = below.as_many ∙ ap (λ (found : Option ℕ). length (cons_option found (names_written rest))) (sym none) }
+      record {
+        added = below.added;
+        is = below.is;
+        as_many = below.as_many ∙ ap
+            (λ (found : Option ℕ). length (cons_option found (names_written rest))) (sym none);
+      }
   chosen_added above row old new (One_chosen {below = under} {item = item} {dest = dest} {register = register} {rest = rest} some choice with h) =
       let below = chosen_added under rest (old ++ register ∷ []) new h in
       record {
@@ -134,13 +143,16 @@ module _ (parameters held : List ℕ) where
       Second_choice
       (λ q below. (λ i. one_has_is of parameters held q gives as_many i || over q i) ∙ full.least q below)
       (least_seen (λ other. used other || above other) (λ q. used_has (row_uses rest) of parameters q || one_has of names q) register
-      (λ q i. sym (used_has_is (row_uses rest) of parameters held q gives) i || sym (over q) i) (least_allowed (λ other. used other || above other) register small h))
+      (λ q i. sym (used_has_is (row_uses rest) of parameters held q gives) i || sym (over q) i)
+      (least_allowed (λ other. used other || above other) register small h))
 
   one_higher : (above below : ℕ → Bool) (register depth : ℕ) → ((q : ℕ) → below q ≡ (nat_eq q register || above q)) → members above allowed ≤ depth
       → members below allowed ≤ suc depth
   one_higher above below register depth with few =
-      added_up (members below allowed) (members (λ q. nat_eq q register || above q) allowed) (members (λ x. nat_eq x register) allowed) (members above allowed) depth
-      (members_same below (λ q. nat_eq q register || above q) allowed with) (members_or (λ x. nat_eq x register) above allowed) (members_one register allowed) few
+      added_up (members below allowed) (members (λ q. nat_eq q register || above q) allowed) (members (λ x. nat_eq x register) allowed)
+      (members above allowed) depth
+      (members_same below (λ q. nat_eq q register || above q) allowed with) (members_or (λ x. nat_eq x register) above allowed)
+      (members_one register allowed) few
     where
       added_up : (a b c d e : ℕ) → a ≡ b → b ≤ c + d → c ≤ 1 → d ≤ e → a ≤ suc e
       added_up a b c d e same sum one few = omega arith
@@ -152,17 +164,23 @@ module _ (parameters held : List ℕ) where
   row_by_rule of names above row old new added depth gives as_many over few room is each Leaf_chosen = tt
   row_by_rule of names above row old new added depth gives as_many over few room is each (None_chosen {item = item} {rest = rest} none h) =
       let under : row_pressure parameters depth rest ≤ allowed =
-      omega (arith, subst (λ (found : Option ℕ). max (item_pressure parameters depth rest found) (row_pressure parameters (one_more found depth) rest) ≤ allowed) none room) in
+      omega (
+        arith,
+        subst (λ (found : Option ℕ). max (item_pressure parameters depth rest found)
+            (row_pressure parameters (one_more found depth) rest) ≤ allowed) none room,
+      ) in
       let given = subst (λ (found : Option ℕ). GivesEach of (cons_option found (names_written rest)) added) none each in
       subst (λ (found : Option ℕ). DestByRule of parameters names rest found × RowByRule of parameters (named found names) rest) (sym none)
       (tt, row_by_rule of names above rest old new added depth gives as_many over few under is given h)
   row_by_rule of names above row old new added depth gives as_many over few room is each
       (One_chosen {below = below} {item = item} {dest = dest} {register = register} {rest = rest} some choice with h) =
       let low : max (suc depth + count_by (row_uses rest) parameters) (row_pressure parameters (suc depth) rest) ≤ allowed =
-      subst (λ (found : Option ℕ). max (item_pressure parameters depth rest found) (row_pressure parameters (one_more found depth) rest) ≤ allowed) some room in
+      subst (λ (found : Option ℕ). max (item_pressure parameters depth rest found)
+      (row_pressure parameters (one_more found depth) rest) ≤ allowed) some room in
       let parts = both_low (suc depth + count_by (row_uses rest) parameters) (row_pressure parameters (suc depth) rest) allowed low in
       let more = chosen_added below rest (old ++ register ∷ []) new h in
-      let same : added ≡ register ∷ more.added = append_cancel_left old added (register ∷ more.added) (sym is ∙ more.is ∙ append_assoc old (register ∷ []) more.added) in
+      let same : added ≡ register ∷ more.added = append_cancel_left old added (register ∷ more.added)
+      (sym is ∙ more.is ∙ append_assoc old (register ∷ []) more.added) in
       let given : GivesEach of (dest ∷ names_written rest) (register ∷ more.added) =
       subst (λ (xs : List ℕ). GivesEach of (dest ∷ names_written rest) xs) same
       (subst (λ (found : Option ℕ). GivesEach of (cons_option found (names_written rest)) added) some each) in
@@ -203,13 +221,15 @@ module _ (parameters held : List ℕ) where
   chosen_few taken needed register (Of_taken below h) = h.most
   chosen_few taken needed register (Of_needed full h) = h.most
 
-  pub chosen_most : (above : ℕ → Bool) (row : Row AutomatonLeaf) (old new : List ℕ) → AreMost old → AreChosen parameters held above row old new → AreMost new
+  pub chosen_most : (above : ℕ → Bool) (row : Row AutomatonLeaf) (old new : List ℕ) → AreMost old → AreChosen parameters held above row old new
+      → AreMost new
   chosen_most above row old new most Leaf_chosen = most
   chosen_most above row old new most (None_chosen {rest = rest} none h) = chosen_most above rest old new most h
   chosen_most above row old new most (One_chosen {below = under} {register = register} {rest = rest} some choice with h) =
       chosen_most under rest (old ++ register ∷ []) new
       (push_most old register most
-      (chosen_few (λ other. is_in other held || above other) (λ other. used_holds (row_uses rest) parameters held other || above other) register choice)) h
+      (chosen_few (λ other. is_in other held || above other)
+      (λ other. used_holds (row_uses rest) parameters held other || above other) register choice)) h
   chosen_most above row old new most (Sides_chosen {on_yes = on_yes} {on_no = on_no} {between = between} h k) =
       chosen_most above on_no between new (chosen_most above on_yes old between most h) k
 
@@ -219,13 +239,16 @@ first_gives : (of : ℕ → Option ℕ) (xs : List ℕ) → GivesEach of xs xs �
 first_gives of [] h = tt
 first_gives of (x ∷ xs) h = (h.0, first_gives of xs h.1)
 
-parameters_are : (number : ℕ) (of : ℕ → Option ℕ) (passed : List (Option ℕ)) (parameters held : List ℕ) → GivesEach of parameters held → length held ≡ length parameters
+parameters_are : (number : ℕ) (of : ℕ → Option ℕ) (passed : List (Option ℕ)) (parameters held : List ℕ) → GivesEach of parameters held
+    → length held ≡ length parameters
     → length parameters ≤ allowed → AreHeld number passed parameters held → Parameters number of passed parameters
-parameters_are zero of passed parameters held gives as_many few is = first_gives of parameters (subst (λ (rs : List ℕ). GivesEach of parameters rs) is gives)
+parameters_are zero of passed parameters held gives as_many few is = first_gives of parameters
+    (subst (λ (rs : List ℕ). GivesEach of parameters rs) is gives)
 parameters_are (suc before) of passed parameters held gives as_many few chosen = parameters_by_rule of passed parameters held gives as_many few chosen
 
 -- the names of a state have registers by the rule
-pub state_by_rule : (number : ℕ) (passed : List (Option ℕ)) (state : AutomatonState) (keys held registers : List ℕ) → keys ≡ names_of state → IsDistinct nat_eq (names_of state)
+pub state_by_rule : (number : ℕ) (passed : List (Option ℕ)) (state : AutomatonState) (keys held registers : List ℕ) → keys ≡ names_of state
+    → IsDistinct nat_eq (names_of state)
     → IsLow state → length held ≡ length state.parameters → AreHeld number passed state.parameters held
     → AreChosen state.parameters held (λ q. false) state.row held registers → StateByRule number passed (beside keys registers) state
 state_by_rule number passed state keys held registers are distinct low as_many is chosen =
@@ -235,7 +258,8 @@ state_by_rule number passed state keys held registers are distinct low as_many i
     ap length more.is ∙ length_both held more.added
     ∙ (λ i. as_many i + more.as_many i) ∙ sym (length_both state.parameters (names_written state.row)) in
     let gives : GivesEach (beside keys registers) (names_of state) registers =
-    subst (λ (ks : List ℕ). GivesEach (beside ks registers) (names_of state) registers) (sym are) (beside_gives (names_of state) registers distinct long) in
+    subst (λ (ks : List ℕ). GivesEach (beside ks registers) (names_of state) registers) (sym are)
+    (beside_gives (names_of state) registers distinct long) in
     let split : GivesEach (beside keys registers) (state.parameters ++ names_written state.row) (held ++ more.added) =
     subst (λ (rs : List ℕ). GivesEach (beside keys registers) (names_of state) rs) more.is gives in
     let of_parameters = gives_front (beside keys registers) state.parameters (names_written state.row) held more.added as_many split in

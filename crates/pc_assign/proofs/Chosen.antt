@@ -1,5 +1,5 @@
 -- Registers of defined names, along a row.
-use Rattle.std.proofs.Common.{◌≡◌, ℕ, ◌≤◌, Bool, ◌||◌, List, [], ◌∷◌, ◌++◌, Some, None, Result, Ok, Err, sym, ap, subst}
+use Rattle.std.proofs.Common.{◌≡◌, ℕ, Bool, ◌||◌, List, [], ◌∷◌, ◌++◌, Some, None, Result, Ok, Err, sym, subst}
 use Rattle.std.specs.Prelude.{nat_eq, OnOk}
 use Rattle.pc_word.specs.declared.item.Item.{Item}
 use Rattle.pc_word.specs.declared.item.Operand.{Operand}
@@ -22,7 +22,8 @@ module _ (parameters held : List ℕ) where
       subst (λ (row : Row AutomatonLeaf). AreChosen parameters held above row old new) (sym is) (None_chosen none h)
   none_given above old new (Err e) is none h = tt
 
-  pub one_given : {E : Type 0} (above below : ℕ → Bool) {whole rest : Row AutomatonLeaf} {item : Item} {dest : ℕ} (register : ℕ) (old mid new : List ℕ) (result : Result (Unit {0}) E)
+  pub one_given : {E : Type 0} (above below : ℕ → Bool) {whole rest : Row AutomatonLeaf} {item : Item} {dest : ℕ} (register : ℕ)
+      (old mid new : List ℕ) (result : Result (Unit {0}) E)
       → whole ≡ Then item rest → dest_of item ≡ Some dest
       → IsChosen (λ other. is_in other held || above other) (λ other. used_holds (row_uses rest) parameters held other || above other) register
       → ((other : ℕ) → below other ≡ (nat_eq other register || above other)) → mid ≡ old ++ register ∷ []
@@ -32,7 +33,8 @@ module _ (parameters held : List ℕ) where
       (One_chosen some chosen with (subst (λ (xs : List ℕ). AreChosen parameters held below rest xs new) pushed h))
   one_given above below register old mid new (Err e) is some chosen with pushed h = tt
 
-  pub sides_given : {E : Type 0} (above : ℕ → Bool) {whole on_yes on_no : Row AutomatonLeaf} {on : Operand} (old mid new : List ℕ) (result : Result (Unit {0}) E)
+  pub sides_given : {E : Type 0} (above : ℕ → Bool) {whole on_yes on_no : Row AutomatonLeaf} {on : Operand} (old mid new : List ℕ)
+      (result : Result (Unit {0}) E)
       → whole ≡ Either on on_yes on_no → AreChosen parameters held above on_yes old mid → OnOk result (AreChosen parameters held above on_no mid new)
       → OnOk result (AreChosen parameters held above whole old new)
   sides_given above old mid new (Ok done) is first h =

@@ -1,5 +1,6 @@
 -- Names with registers beside them.
-use Rattle.std.proofs.Common.{◌≡◌, ℕ, zero, suc, ◌+◌, ◌<◌, ◌≤◌, Bool, true, false, ◌&&◌, ◌||◌, List, [], ◌∷◌, ◌++◌, length, take, Option, Some, None, refl, sym, ◌∙◌, ap, subst, arith}
+use Rattle.std.proofs.Common.{◌≡◌, ℕ, zero, suc, Bool, true, false, ◌&&◌, ◌||◌, List, [], ◌∷◌, ◌++◌, length, take, Option, Some, None, refl, sym}
+use Rattle.std.proofs.Common.{◌∙◌, ap, arith}
 use Rattle.std.specs.Prelude.{nat_eq, slice_get, if◌then◌else◌}
 use Rattle.std.specs.List.{IsDistinct, AllByRecursion}
 use Rattle.std.proofs.lemmas.Bool.Decides.{nat_tests}
@@ -84,7 +85,8 @@ past x r xs rs [] h = tt
 past x r xs rs (y ∷ ys) h = (ap (λ (b : Bool). if b then Some r else beside xs rs y) (other_way x y h.0), past x r xs rs ys h.1)
 
 -- among distinct names each has what stands beside it
-pub beside_gives : (names registers : List ℕ) → IsDistinct nat_eq names → length registers ≡ length names → GivesEach (beside names registers) names registers
+pub beside_gives : (names registers : List ℕ) → IsDistinct nat_eq names → length registers ≡ length names
+    → GivesEach (beside names registers) names registers
 unfolding IsDistinct
 beside_gives [] registers h e = tt
 beside_gives (x ∷ xs) [] h e = absurd (omega (arith, e))

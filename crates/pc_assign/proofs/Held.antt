@@ -1,5 +1,6 @@
 -- Registers of parameters, one after the other.
-use Rattle.std.proofs.Common.{◌≡◌, ℕ, zero, suc, ◌+◌, ◌<◌, ◌≤◌, ◌⊎◌, Bool, true, false, ◌&&◌, ◌||◌, List, [], ◌∷◌, ◌++◌, length, take, Option, Some, None, refl, sym, ◌∙◌, ap, subst, inl, inr, arith, get_or}
+use Rattle.std.proofs.Common.{◌≡◌, ℕ, zero, suc, ◌+◌, ◌<◌, ◌≤◌, ◌⊎◌, Bool, true, false, ◌&&◌, ◌||◌, List, [], ◌∷◌, ◌++◌, length, take, Option, Some}
+use Rattle.std.proofs.Common.{refl, sym, ◌∙◌, ap, subst, inl, inr, arith, get_or}
 use Rattle.std.specs.Prelude.{nat_eq, slice_get}
 use Rattle.std.specs.List.{list_any}
 use Rattle.pc_table.specs.TableKeeps.{reads_name}
@@ -122,8 +123,10 @@ one_so_far passed held taken later at next r h is takes few set = record {
         (sym (take_front held r k (omega (arith, old.0)))) (h.chosen k x old.1)
     | inr new ↦
         let here : k ≡ at = new.0 ∙ h.count in
-        let front : take k (held ++ r ∷ []) ≡ held = take_front held r k (omega (arith, new.0)) ∙ ap (λ (n : ℕ). take n held) new.0 ∙ take_whole held in
-        let same : (λ (other : ℕ). is_in other (take k (held ++ r ∷ []))) ≡ member taken = λ i other. (ap (is_in other) front ∙ sym (h.set other)) i in
+        let front : take k (held ++ r ∷ []) ≡ held = take_front held r k (omega (arith, new.0)) ∙ ap (λ (n : ℕ). take n held) new.0
+        ∙ take_whole held in
+        let same : (λ (other : ℕ). is_in other (take k (held ++ r ∷ []))) ≡ member taken = λ i other.
+        (ap (is_in other) front ∙ sym (h.set other)) i in
         subst (λ (these : ℕ → Bool). IsParameterTaken these (passed_at (slice_get passed k)) x) (sym same)
         (subst (λ (n : ℕ). IsParameterTaken (member taken) (passed_at (slice_get passed n)) x) (sym here)
         (subst (λ (y : ℕ). IsParameterTaken (member taken) (passed_at (slice_get passed at)) y) (sym new.1) takes))

@@ -1,5 +1,5 @@
 -- What stands beside a name.
-use Rattle.std.proofs.Common.{◌≡◌, ℕ, zero, suc, ◌+◌, Bool, true, false, cond, List, [], ◌∷◌, Option, Some, None, refl, sym, ◌∙◌, ap, subst, arith}
+use Rattle.std.proofs.Common.{◌≡◌, ℕ, suc, ◌+◌, Bool, true, false, cond, List, [], ◌∷◌, Some, None, refl, sym, ◌∙◌, ap, arith}
 use Rattle.std.specs.Prelude.{nat_eq, slice_get, position, if◌then◌else◌}
 use Rattle.std.specs.List.{position_from}
 use Rattle.std.proofs.lemmas.Iterator.Adapters.{position_from-zero}
@@ -12,7 +12,8 @@ found_from [] registers name i j e = absurd (cc)
 found_from (first ∷ names) registers name i j e = by (nat_eq name first) refl registers (λ rs at. found_from names rs name (i + 1) j at) e
   where
     by : (b : Bool) → nat_eq name first ≡ b → (rs : List ℕ)
-        → ((rest : List ℕ) → position_from (nat_eq name) (i + 1) names ≡ Some j → (k : ℕ) × (j ≡ (i + 1) + k) × (slice_get rest k ≡ beside names rest name))
+        → ((rest : List ℕ) → position_from (nat_eq name) (i + 1) names ≡ Some j → (k : ℕ) × (j ≡ (i + 1) + k) ×
+        (slice_get rest k ≡ beside names rest name))
         → cond b (Some i) (position_from (nat_eq name) (i + 1) names) ≡ Some j
         → (k : ℕ) × (j ≡ i + k) × (slice_get rs k ≡ beside (first ∷ names) rs name)
     by true is [] below at = let same : i ≡ j = (cc) in (0, omega arith, refl)
@@ -36,7 +37,8 @@ missing_from (first ∷ names) registers name i e = by (nat_eq name first) refl 
     by false is [] below at = refl
     by false is (r ∷ rs) below at = ap (λ (b : Bool). if b then Some r else beside names rs name) is ∙ below rs at
 
-pub beside_found : (names registers : List ℕ) (name at : ℕ) → position (nat_eq name) names ≡ Some at → slice_get registers at ≡ beside names registers name
+pub beside_found : (names registers : List ℕ) (name at : ℕ) → position (nat_eq name) names ≡ Some at
+    → slice_get registers at ≡ beside names registers name
 beside_found names registers name at e =
     let it = found_from names registers name 0 at (sym (position_from-zero (nat_eq name) names) ∙ e) in
     let same : at ≡ it.0 = omega (arith, it.1) in ap (slice_get registers) same ∙ it.2

@@ -1,14 +1,14 @@
 -- The names of a state, added to a set one by one.
-use Rattle.std.proofs.Common.{◌≡◌, ℕ, Bool, true, false, ◌||◌, List, [], ◌∷◌, ◌++◌, Option, Some, None, Result, Ok, Err, refl, sym, ◌∙◌, ap, subst, fold, arith}
+use Rattle.std.proofs.Common.{◌≡◌, ℕ, Bool, false, List, [], ◌∷◌, ◌++◌, Option, Some, None, Result, Ok, Err, refl, sym, ◌∙◌, ap, fold, arith}
 use Rattle.std.specs.Prelude.{nat_eq, OnOk, if◌then◌else◌}
-use Rattle.std.specs.List.{IsDistinct, AllByRecursion, list_any, filter_map, cons_option}
+use Rattle.std.specs.List.{IsDistinct, AllByRecursion, list_any, cons_option}
 use Rattle.std.proofs.lemmas.Bool.Decides.{nat_tests}
 use Rattle.std.proofs.lemmas.List.Elements.{filter_map-append}
 use Rattle.std.proofs.lemmas.List.Sums.{fold-append}
 use Rattle.indexmap.specs.IndexSet.{insert_key, insert_all}
 use Rattle.pc_word.specs.declared.item.Item.{Item}
 use Rattle.pc_word.specs.declared.item.Operand.{Operand}
-use Rattle.pc_word.specs.Row.{Row, Then, Either, At_leaf, items_of}
+use Rattle.pc_word.specs.Row.{Row, Then, Either, items_of}
 use Rattle.pc_word.specs.Items.{dest_of}
 use Rattle.pc_word.proofs.Truth.{or_made_false}
 use Rattle.pc_automaton.specs.declared.automaton.AutomatonLeaf.{AutomatonLeaf}
@@ -62,8 +62,10 @@ pub ruleset names = (names_added)
 -- ---- rows
 
 module _ {E : Type 0} (old new : List ℕ) where
-  pub some_added : (whole rest : Row AutomatonLeaf) (item : Item) (dest : ℕ) (mid : List ℕ) (result : Result (Unit {0}) E) → whole ≡ Then item rest → dest_of item ≡ Some dest
-      → mid ≡ insert_key nat_eq old dest → OnOk result (new ≡ insert_all nat_eq mid (names_written rest)) → OnOk result (new ≡ insert_all nat_eq old (names_written whole))
+  pub some_added : (whole rest : Row AutomatonLeaf) (item : Item) (dest : ℕ) (mid : List ℕ) (result : Result (Unit {0}) E) → whole ≡ Then item rest
+      → dest_of item ≡ Some dest
+      → mid ≡ insert_key nat_eq old dest → OnOk result (new ≡ insert_all nat_eq mid (names_written rest))
+      → OnOk result (new ≡ insert_all nat_eq old (names_written whole))
   some_added whole rest item dest mid (Ok done) is some one h =
       h ∙ ap (λ (keys : List ℕ). insert_all nat_eq keys (names_written rest)) one
       ∙ ap (λ (found : Option ℕ). insert_all nat_eq old (cons_option found (names_written rest))) (sym some)
@@ -77,7 +79,8 @@ module _ {E : Type 0} (old new : List ℕ) where
       ∙ ap (λ (row : Row AutomatonLeaf). insert_all nat_eq old (names_written row)) (sym is)
   none_added whole rest item (Err e) is none h = tt
 
-  pub sides_added : (whole on_yes on_no : Row AutomatonLeaf) (on : Operand) (mid : List ℕ) (result : Result (Unit {0}) E) → whole ≡ Either on on_yes on_no
+  pub sides_added : (whole on_yes on_no : Row AutomatonLeaf) (on : Operand) (mid : List ℕ) (result : Result (Unit {0}) E)
+      → whole ≡ Either on on_yes on_no
       → mid ≡ insert_all nat_eq old (names_written on_yes) → OnOk result (new ≡ insert_all nat_eq mid (names_written on_no))
       → OnOk result (new ≡ insert_all nat_eq old (names_written whole))
   sides_added whole on_yes on_no on mid (Ok done) is one h =

@@ -1,5 +1,5 @@
 -- What holds of each register of a state holds of each that it passes.
-use Rattle.std.proofs.Common.{◌≡◌, ℕ, zero, suc, ◌+◌, ◌<◌, ◌≤◌, Bool, true, false, List, [], ◌∷◌, length, map, Option, Some, None, refl, sym, ◌∙◌, ap, subst, arith}
+use Rattle.std.proofs.Common.{◌≡◌, ℕ, zero, suc, ◌+◌, ◌<◌, Bool, true, false, List, [], ◌∷◌, length, map, Option, Some, None, subst, arith}
 use Rattle.std.specs.Prelude.{nat_eq, slice_get, if◌then◌else◌}
 use Rattle.std.specs.Option.{option_or}
 use Rattle.pc_word.specs.declared.item.Operand.{Operand}
@@ -32,8 +32,10 @@ module _ (P : ℕ → Type 0) where
   chosen_list true list passed e h = let same : list ≡ passed = (cc) in subst (λ (xs : List (Option ℕ)). PassedAll xs) same h
   chosen_list false list passed e h = absurd (cc)
 
-  leaf_passed : (of : ℕ → Option ℕ) → HeldAll of → (to : ℕ) (leaf : AutomatonLeaf) (passed : List (Option ℕ)) → leaf_passes of to leaf ≡ Some passed → PassedAll passed
-  leaf_passed of most to (To state arguments) passed e = chosen_list (nat_eq state to) (map (register_of of) arguments) passed e (arguments_passed of most arguments)
+  leaf_passed : (of : ℕ → Option ℕ) → HeldAll of → (to : ℕ) (leaf : AutomatonLeaf) (passed : List (Option ℕ))
+      → leaf_passes of to leaf ≡ Some passed → PassedAll passed
+  leaf_passed of most to (To state arguments) passed e = chosen_list (nat_eq state to) (map (register_of of) arguments) passed e
+      (arguments_passed of most arguments)
   leaf_passed of most to (Out region homes) passed e = absurd (cc)
   leaf_passed of most to Stop passed e = absurd (cc)
   leaf_passed of most to (Trap kind line) passed e = absurd (cc)
@@ -43,14 +45,16 @@ module _ (P : ℕ → Type 0) where
   either_passed None p passed h k e = k passed e
   either_passed (Some xs) p passed h k e = h passed e
 
-  pub row_passed : (of : ℕ → Option ℕ) → HeldAll of → (to : ℕ) (row : Row AutomatonLeaf) (passed : List (Option ℕ)) → row_passes of to row ≡ Some passed → PassedAll passed
+  pub row_passed : (of : ℕ → Option ℕ) → HeldAll of → (to : ℕ) (row : Row AutomatonLeaf) (passed : List (Option ℕ))
+      → row_passes of to row ≡ Some passed → PassedAll passed
   row_passed of most to (Then item rest) passed e = row_passed of most to rest passed e
   row_passed of most to (Either on on_yes on_no) passed e =
       either_passed (row_passes of to on_yes) (row_passes of to on_no) passed (row_passed of most to on_yes) (row_passed of most to on_no) e
   row_passed of most to (At_leaf leaf) passed e = leaf_passed of most to leaf passed e
 
   -- of states from a number on
-  pub states_passed : (R : ℕ → ℕ → Option ℕ) (to from : ℕ) (states : List AutomatonState) → ((number : ℕ) → number < from + length states → HeldAll (R number))
+  pub states_passed : (R : ℕ → ℕ → Option ℕ) (to from : ℕ) (states : List AutomatonState)
+      → ((number : ℕ) → number < from + length states → HeldAll (R number))
       → (passed : List (Option ℕ)) → states_pass R to from states ≡ Some passed → PassedAll passed
   states_passed R to from [] most passed e = absurd (cc)
   states_passed R to from (state ∷ states) most passed e =

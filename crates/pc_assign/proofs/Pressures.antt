@@ -1,8 +1,8 @@
 -- The pressure of a row, item by item.
-use Rattle.std.proofs.Common.{◌≡◌, ℕ, zero, suc, ◌+◌, ◌<◌, ◌≤◌, max, List, length, Option, Some, None, refl, sym, ◌∙◌, ap, arith}
+use Rattle.std.proofs.Common.{◌≡◌, ℕ, suc, ◌+◌, max, List, Option, Some, None, sym, ◌∙◌, ap, arith}
 use Rattle.std.specs.Prelude.{count_by}
 use Rattle.pc_word.specs.declared.item.Item.{Item}
-use Rattle.pc_word.specs.Row.{Row, Then, Either, At_leaf}
+use Rattle.pc_word.specs.Row.{Row, Then}
 use Rattle.pc_word.specs.Items.{dest_of}
 use Rattle.pc_automaton.specs.declared.automaton.AutomatonLeaf.{AutomatonLeaf}
 use Rattle.pc_assign.specs.Uses.{row_uses}
@@ -11,8 +11,10 @@ use Rattle.pc_assign.specs.models.Choosing.{definitions_in}
 
 module _ (parameters : List ℕ) (above : ℕ) where
   -- an item that defines a name
-  pub defining_pressure : (whole rest : Row AutomatonLeaf) (item : Item) (dest next here below live : ℕ) → whole ≡ Then item rest → dest_of item ≡ Some dest → next ≡ above + 1
-      → here ≡ suc above + count_by (row_uses rest) parameters → below ≡ row_pressure parameters next rest → live ≡ max here below → live ≡ row_pressure parameters above whole
+  pub defining_pressure : (whole rest : Row AutomatonLeaf) (item : Item) (dest next here below live : ℕ) → whole ≡ Then item rest
+      → dest_of item ≡ Some dest → next ≡ above + 1
+      → here ≡ suc above + count_by (row_uses rest) parameters → below ≡ row_pressure parameters next rest → live ≡ max here below
+      → live ≡ row_pressure parameters above whole
   defining_pressure whole rest item dest next here below live is some one at under most =
       let raised : next ≡ suc above = omega (arith, one) in
       most ∙ (λ i. max (at i) ((under ∙ ap (λ (n : ℕ). row_pressure parameters n rest) raised) i))
@@ -31,10 +33,12 @@ module _ (parameters : List ℕ) (above : ℕ) where
       no_more n = omega arith
 
 -- the definitions below an item
-pub definitions_some : (whole rest : Row AutomatonLeaf) (item : Item) (dest : ℕ) → whole ≡ Then item rest → dest_of item ≡ Some dest → definitions_in whole ≡ suc (definitions_in rest)
+pub definitions_some : (whole rest : Row AutomatonLeaf) (item : Item) (dest : ℕ) → whole ≡ Then item rest → dest_of item ≡ Some dest
+    → definitions_in whole ≡ suc (definitions_in rest)
 definitions_some whole rest item dest is some = ap definitions_in is ∙ ap (λ (found : Option ℕ). one_more found (definitions_in rest)) some
 
-pub definitions_none : (whole rest : Row AutomatonLeaf) (item : Item) → whole ≡ Then item rest → dest_of item ≡ None → definitions_in whole ≡ definitions_in rest
+pub definitions_none : (whole rest : Row AutomatonLeaf) (item : Item) → whole ≡ Then item rest → dest_of item ≡ None
+    → definitions_in whole ≡ definitions_in rest
 definitions_none whole rest item is none = ap definitions_in is ∙ ap (λ (found : Option ℕ). one_more found (definitions_in rest)) none
 
 pub ruleset pressures = (defining_pressure, other_pressure, definitions_some, definitions_none)

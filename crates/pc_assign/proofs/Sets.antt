@@ -1,11 +1,11 @@
 -- Sets of registers as bits of a number.
-use Rattle.std.proofs.Common.{◌≡◌, inl, inr, ℕ, zero, suc, ◌+◌, ◌-◌, ◌*◌, ◌%◌, ◌^◌, ◌<◌, ◌≤◌, max, min, Bool, true, false, ◌||◌, refl, sym, ◌∙◌, ap, subst, arith, eq-eqb, ne_eqb}
+use Rattle.std.proofs.Common.{◌≡◌, inl, inr, ℕ, zero, suc, ◌+◌, ◌-◌, ◌*◌, ◌%◌, ◌^◌, ◌<◌, max, min, Bool, true, false, ◌||◌, refl, sym, ◌∙◌, ap}
+use Rattle.std.proofs.Common.{arith, eq-eqb, ne_eqb}
 use Rattle.std.proofs.lemmas.Bool.{cases_eq}
 use Rattle.std.proofs.lemmas.Nat.Bits.{bit_at_set_same, bit_at_set_other, bit_at_or, bit_at-lt, bit_at-zero, bit_at-trailing_ones, bit_at_ones}
 use Rattle.std.specs.Prelude.{nat_eq, bit_or}
 use Rattle.std.specs.Int.{w128, bit_at, trailing_ones}
 use Rattle.pc_word.proofs.Truth.{decide_le}
-use Rattle.pc_assign.specs.Pressure.{allowed}
 use Rattle.pc_assign.specs.models.Choosing.{IsLeastAbsent}
 use lib.Count.{count_trailing_zeros}
 

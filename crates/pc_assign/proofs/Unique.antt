@@ -1,8 +1,9 @@
 -- The rule leaves no choice.
-use Rattle.std.proofs.Common.{◌≡◌, ◌≢◌, ℕ, zero, suc, ◌+◌, ◌<◌, ◌≤◌, ◌⊎◌, inl, inr, Bool, true, false, ◌&&◌, ◌||◌, List, [], ◌∷◌, ◌++◌, length, take, Option, Some, None, refl, sym, ◌∙◌, ap, subst, arith, unwrap_or}
-use Rattle.std.specs.Prelude.{nat_eq, slice_get, IsSomeAnd, MatchBool}
+use Rattle.std.proofs.Common.{◌≡◌, ℕ, zero, suc, ◌+◌, ◌<◌, inl, inr, Bool, true, false, ◌&&◌, ◌||◌, List, [], ◌∷◌, length, take, Option, Some, None}
+use Rattle.std.proofs.Common.{refl, sym, ◌∙◌, ap, subst, arith, unwrap_or}
+use Rattle.std.specs.Prelude.{slice_get, IsSomeAnd, MatchBool}
 use Rattle.std.specs.Option.{option_or}
-use Rattle.std.specs.List.{AllByRecursion, filter_map, cons_option}
+use Rattle.std.specs.List.{AllByRecursion, cons_option}
 use Rattle.std.proofs.lemmas.List.Elements.{filter_map-append}
 use Rattle.pc_word.specs.Row.{Row, Then, Either, At_leaf, items_of}
 use Rattle.pc_word.specs.Items.{dest_of}
@@ -13,7 +14,9 @@ use Rattle.pc_window.specs.Rebasing.{is_in}
 use Rattle.pc_automaton.specs.declared.automaton.AutomatonLeaf.{AutomatonLeaf}
 use Rattle.pc_automaton.specs.Automaton.{AutomatonState, names_written}
 use Rattle.pc_assign.specs.Uses.{row_uses}
-use Rattle.pc_assign.specs.Assigned.{names_of, is_register, one_has, used_has, IsLeast, IsParameterChoice, passed_at, ParametersByRule, row_passes, states_pass, passed_to, Parameters, IsChoice, First_choice, Second_choice, DestByRule, RowByRule, StateByRule, IsAssigned}
+use Rattle.pc_assign.specs.Assigned.{names_of, is_register, one_has, used_has, IsLeast, IsParameterChoice, passed_at, ParametersByRule, row_passes}
+use Rattle.pc_assign.specs.Assigned.{states_pass, passed_to, Parameters, IsChoice, First_choice, Second_choice, DestByRule, RowByRule, StateByRule}
+use Rattle.pc_assign.specs.Assigned.{IsAssigned}
 use Rattle.pc_assign.specs.Apart.{OnlyOne}
 use Rattle.pc_assign.proofs.Apartness.{all_in, all_of_each, short, past}
 
@@ -30,8 +33,10 @@ least_unique f r s h k = elim (decide_le s r) [
 
 choice_unique : (t n : ℕ → Bool) (r s : ℕ) → IsChoice t n r → IsChoice t n s → r ≡ s
 choice_unique t n r s (First_choice h) (First_choice k) = least_unique t r s h k
-choice_unique t n r s (First_choice h) (Second_choice full k) = let taken : t r ≡ true = full r h.below in let free : t r ≡ false = h.free in absurd (cc)
-choice_unique t n r s (Second_choice full h) (First_choice k) = let taken : t s ≡ true = full s k.below in let free : t s ≡ false = k.free in absurd (cc)
+choice_unique t n r s (First_choice h)
+    (Second_choice full k) = let taken : t r ≡ true = full r h.below in let free : t r ≡ false = h.free in absurd (cc)
+choice_unique t n r s (Second_choice full h)
+    (First_choice k) = let taken : t s ≡ true = full s k.below in let free : t s ≡ false = k.free in absurd (cc)
 choice_unique t n r s (Second_choice full h) (Second_choice also k) = least_unique n r s h k
 
 parameter_unique : (taken : ℕ → Bool) (passed : Option ℕ) (r s : ℕ) → IsParameterChoice taken passed r → IsParameterChoice taken passed s → r ≡ s
@@ -64,7 +69,8 @@ module _ (of other : ℕ → Option ℕ) where
   dest_same : (parameters above : List ℕ) (rest : Row AutomatonLeaf) (dest : ℕ) → Agree parameters → Agree above
       → DestByRule of parameters above rest (Some dest) → DestByRule other parameters above rest (Some dest) → of dest ≡ other dest
   dest_same parameters above rest dest a b h k =
-      let choice = IsChoice (λ q. one_has of parameters q || one_has of above q) (λ q. used_has (row_uses rest) of parameters q || one_has of above q) in
+      let choice = IsChoice (λ q. one_has of parameters q || one_has of above q)
+      (λ q. used_has (row_uses rest) of parameters q || one_has of above q) in
       some_unique choice (of dest) (other dest)
       (choice_unique (λ q. one_has of parameters q || one_has of above q) (λ q. used_has (row_uses rest) of parameters q || one_has of above q)) h
       (subst (λ (t : ℕ → Bool). IsSomeAnd (other dest) (IsChoice t (λ q. used_has (row_uses rest) of parameters q || one_has of above q)))
@@ -72,9 +78,11 @@ module _ (of other : ℕ → Option ℕ) where
       (subst (λ (n : ℕ → Bool). IsSomeAnd (other dest) (IsChoice (λ q. one_has other parameters q || one_has other above q) n))
       (λ i q. sym (used_has_same (row_uses rest) parameters q a) i || sym (one_has_same above q b) i) k))
 
-  row_same : (parameters above : List ℕ) (row : Row AutomatonLeaf) → Agree parameters → Agree above → RowByRule of parameters above row → RowByRule other parameters above row
+  row_same : (parameters above : List ℕ) (row : Row AutomatonLeaf) → Agree parameters → Agree above → RowByRule of parameters above row
+      → RowByRule other parameters above row
       → Agree (names_written row)
-  row_same parameters above (Then item rest) a b h k = by (dest_of item) h.0 k.0 (λ more. row_same parameters (named (dest_of item) above) rest a more h.1 k.1)
+  row_same parameters above (Then item rest) a b h k = by (dest_of item) h.0 k.0
+      (λ more. row_same parameters (named (dest_of item) above) rest a more h.1 k.1)
     where
       by : (found : Option ℕ) → DestByRule of parameters above rest found → DestByRule other parameters above rest found
           → (Agree (named found above) → Agree (names_written rest)) → Agree (cons_option found (names_written rest))
@@ -93,7 +101,8 @@ module _ (of other : ℕ → Option ℕ) where
   take_get (y ∷ xs) (suc n) zero x e = (omega arith, e)
   take_get (y ∷ xs) (suc n) (suc at) x e = let more = take_get xs n at x e in (omega (arith, more.0), more.1)
 
-  parameters_same : (passed : List (Option ℕ)) (parameters : List ℕ) → ParametersByRule of passed parameters → ParametersByRule other passed parameters
+  parameters_same : (passed : List (Option ℕ)) (parameters : List ℕ) → ParametersByRule of passed parameters
+      → ParametersByRule other passed parameters
       → (n at x : ℕ) → at < n → slice_get parameters at ≡ Some x → of x ≡ other x
   parameters_same passed parameters h k zero at x less here = absurd (omega arith)
   parameters_same passed parameters h k (suc n) at x less here =
@@ -113,13 +122,16 @@ module _ (of other : ℕ → Option ℕ) where
   inside (y ∷ xs) zero x e = omega arith
   inside (y ∷ xs) (suc at) x e = omega (arith, inside xs at x e)
 
-  all_parameters : (number : ℕ) (passed : List (Option ℕ)) (parameters : List ℕ) → Parameters number of passed parameters → Parameters number other passed parameters → Agree parameters
+  all_parameters : (number : ℕ) (passed : List (Option ℕ)) (parameters : List ℕ) → Parameters number of passed parameters
+      → Parameters number other passed parameters → Agree parameters
   all_parameters zero passed parameters h k = first_same parameters h k
   all_parameters (suc n) passed parameters h k =
-      all_of_each (λ name. of name ≡ other name) parameters (λ at x e. parameters_same passed parameters h k (length parameters) at x (inside parameters at x e) e)
+      all_of_each (λ name. of name ≡ other name) parameters
+      (λ at x e. parameters_same passed parameters h k (length parameters) at x (inside parameters at x e) e)
 
   -- a state
-  state_same : (number : ℕ) (passed : List (Option ℕ)) (state : AutomatonState) → StateByRule number passed of state → StateByRule number passed other state
+  state_same : (number : ℕ) (passed : List (Option ℕ)) (state : AutomatonState) → StateByRule number passed of state
+      → StateByRule number passed other state
       → (name : ℕ) → of name ≡ other name
   state_same number passed state h k name = by (is_in name (names_of state)) refl
     where
@@ -127,13 +139,15 @@ module _ (of other : ℕ → Option ℕ) where
       by true is =
           let parameters = all_parameters number passed state.parameters h.parameters k.parameters in
           all_in (λ x. of x ≡ other x) (names_of state) name
-          (all_both (λ x. of x ≡ other x) state.parameters (names_written state.row) parameters (row_same state.parameters [] state.row parameters tt h.row k.row)) is
+          (all_both (λ x. of x ≡ other x) state.parameters (names_written state.row) parameters
+          (row_same state.parameters [] state.row parameters tt h.row k.row)) is
       by false is = h.others name is ∙ sym (k.others name is)
 
 -- ---- all states
 
 module _ (states : List AutomatonState) (R S : ℕ → ℕ → Option ℕ) (given : IsAssigned states R) (also : IsAssigned states S) where
-  passes_same : (to from : ℕ) (xs : List AutomatonState) → ((number : ℕ) → number < from + length xs → R number ≡ S number) → states_pass R to from xs ≡ states_pass S to from xs
+  passes_same : (to from : ℕ) (xs : List AutomatonState) → ((number : ℕ) → number < from + length xs → R number ≡ S number)
+      → states_pass R to from xs ≡ states_pass S to from xs
   passes_same to from [] h = refl
   passes_same to from (x ∷ xs) h =
       let here : R from ≡ S from = h from (omega arith) in
@@ -144,7 +158,8 @@ module _ (states : List AutomatonState) (R S : ℕ → ℕ → Option ℕ) (give
   same_before zero number less name = absurd (omega arith)
   same_before (suc n) number less name = by (slice_get states number) refl (λ k small x. same_before n k (omega arith) x)
     where
-      by : (o : Option AutomatonState) → slice_get states number ≡ o → ((k : ℕ) → k < number → (x : ℕ) → R k x ≡ S k x) → R number name ≡ S number name
+      by : (o : Option AutomatonState) → slice_get states number ≡ o → ((k : ℕ) → k < number → (x : ℕ) → R k x ≡ S k x)
+          → R number name ≡ S number name
       by None out before = given.none number name (past states number out) ∙ sym (also.none number name (past states number out))
       by (Some state) here before =
           let passed : passed_to states R number ≡ passed_to states S number =

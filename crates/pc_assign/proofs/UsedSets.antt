@@ -1,5 +1,6 @@
 -- Sets of used parameters, by their places.
-use Rattle.std.proofs.Common.{◌≡◌, ◌≢◌, inl, inr, ℕ, zero, suc, ◌+◌, ◌<◌, ◌≤◌, max, Bool, true, false, cond, ◌&&◌, ◌||◌, List, [], ◌∷◌, length, map, take, refl, sym, ◌∙◌, ap, subst, arith, get_or, eq-eqb, ne_eqb}
+use Rattle.std.proofs.Common.{◌≡◌, ℕ, zero, suc, ◌+◌, ◌<◌, Bool, true, false, cond, ◌&&◌, ◌||◌, List, [], ◌∷◌, length, map, take, refl, sym, ◌∙◌}
+use Rattle.std.proofs.Common.{ap, subst, arith, get_or}
 use Rattle.std.specs.Prelude.{nat_eq, count_by}
 use Rattle.std.specs.Int.{bit_at}
 use Rattle.std.specs.Int.RustNames.{count_ones}
@@ -30,7 +31,8 @@ used_at_is used (name ∷ names) zero = refl
 used_at_is used (name ∷ names) (suc at) = used_at_is used names at
 
 -- as many are in the set as are used
-pub used_count : (used : ℕ → Bool) (names : List ℕ) (set : RegisterSet) (count : ℕ) → IsUsedSet used names set → count ≡ count_ones set.bits → count ≡ count_by used names
+pub used_count : (used : ℕ → Bool) (names : List ℕ) (set : RegisterSet) (count : ℕ) → IsUsedSet used names set → count ≡ count_ones set.bits
+    → count ≡ count_by used names
 used_count used names set count is counted =
     let same : set.bits ≡ mask_l (map used names) = same_from_bits set.bits (mask_l (map used names)) (λ at.
     bit_of (bit_at set.bits at) (get_or (map used names) at false) (bit_at-lt set.bits at) (is at ∙ used_at_is used names at)
@@ -94,7 +96,8 @@ take_all_names [] = refl
 take_all_names (x ∷ names) = ap (λ (xs : List ℕ). x ∷ xs) (take_all_names names)
 
 -- what the set says of a place
-pub used_there : (used : ℕ → Bool) (names : List ℕ) (set : RegisterSet) (at : ℕ) → IsUsedSet used names set → at < length names → member set at ≡ used (get_or names at 0)
+pub used_there : (used : ℕ → Bool) (names : List ℕ) (set : RegisterSet) (at : ℕ) → IsUsedSet used names set → at < length names
+    → member set at ≡ used (get_or names at 0)
 used_there used names set at is h = is at ∙ there names at h
   where
     there : (xs : List ℕ) (i : ℕ) → i < length xs → is_used_at used xs i ≡ used (get_or xs i 0)
@@ -104,7 +107,8 @@ used_there used names set at is h = is at ∙ there names at h
 
 -- ---- rows
 
-either_used : (p q : ℕ → Bool) (names : List ℕ) (at : ℕ) → is_used_at (λ name. p name || q name) names at ≡ (is_used_at p names at || is_used_at q names at)
+either_used : (p q : ℕ → Bool) (names : List ℕ) (at : ℕ) → is_used_at (λ name. p name || q name) names at ≡
+    (is_used_at p names at || is_used_at q names at)
 either_used p q [] at = refl
 either_used p q (name ∷ names) zero = refl
 either_used p q (name ∷ names) (suc at) = either_used p q names at

@@ -1,5 +1,5 @@
 -- Whether the parameters of the first state are variables.
-use Rattle.std.proofs.Common.{◌≡◌, ◌↔◌, ℕ, ◌<◌, ◌≤◌, Bool, true, false, List, [], ◌∷◌, length, Some, refl, sym, ◌∙◌, ap, subst, arith}
+use Rattle.std.proofs.Common.{◌≡◌, ◌↔◌, ℕ, ◌<◌, Bool, true, List, [], ◌∷◌, Some, refl, sym, ◌∙◌, subst, arith}
 use Rattle.std.specs.Prelude.{nat_lt, slice_get}
 use Rattle.std.specs.List.{AllByRecursion, list_all}
 use Rattle.std.proofs.lemmas.Bool.Decides.{nat_tests}
@@ -11,7 +11,8 @@ use Rattle.pc_assign.proofs.AllGiven.{stored_at}
 
 all_true : (names : List ℕ) → list_all (λ name. nat_lt name 96) names ≡ true → AllByRecursion (λ name. name < 96) names
 all_true [] h = tt
-all_true (x ∷ names) h = let parts = and_true (nat_lt x 96) (list_all (λ name. nat_lt name 96) names) h in (less_of x 96 parts.0, all_true names parts.1)
+all_true (x ∷ names) h = let parts = and_true (nat_lt x 96) (list_all (λ name. nat_lt name 96) names) h in
+    (less_of x 96 parts.0, all_true names parts.1)
 
 of_less : (a b : ℕ) → a < b → nat_lt a b ≡ true
 of_less a b h = grind (arith, nat_tests)
@@ -20,7 +21,8 @@ all_made : (names : List ℕ) → AllByRecursion (λ name. name < 96) names → 
 all_made [] h = refl
 all_made (x ∷ names) h = and_made (nat_lt x 96) (list_all (λ name. nat_lt name 96) names) (of_less x 96 h.0) (all_made names h.1)
 
-pub begins : (states : List StoredState) (first : StoredState) (names : List ℕ) (found : Bool) → slice_get states 0 ≡ Some first → names ≡ first.parameters
+pub begins : (states : List StoredState) (first : StoredState) (names : List ℕ) (found : Bool) → slice_get states 0 ≡ Some first
+    → names ≡ first.parameters
     → found ≡ list_all (λ name. nat_lt name 96) names → (found ≡ true) ↔ BeginsWithVariables (states_in states)
 begins states first names found here same is = (
   (λ h. record {
@@ -30,5 +32,6 @@ begins states first names found here same is = (
         subst (λ (s : AutomatonState). AllByRecursion (λ name. name < 96) s.parameters) alike
         (subst (λ (xs : List ℕ). AllByRecursion (λ name. name < 96) xs) same (all_true names (sym is ∙ h)));
   }),
-  (λ h. is ∙ all_made names (subst (λ (xs : List ℕ). AllByRecursion (λ name. name < 96) xs) (sym same) (h.below (state_in first) (stored_at states 0 first here)))),
+  (λ h. is ∙ all_made names (subst (λ (xs : List ℕ). AllByRecursion (λ name. name < 96) xs) (sym same)
+      (h.below (state_in first) (stored_at states 0 first here)))),
 )

@@ -1,5 +1,6 @@
 -- Registers for the names of an automaton, as one rule gives them.
-use Rattle.std.specs.Prelude.{◌≡◌, ℕ, zero, suc, ◌<◌, ◌≤◌, Bool, true, false, ◌&&◌, ◌||◌, if◌then◌else◌, nat_eq, MatchBool, List, [], ◌∷◌, ◌++◌, length, map, take, Option, Some, None, IsSomeAnd, slice_get, unwrap_or}
+use Rattle.std.specs.Prelude.{◌≡◌, ℕ, zero, suc, ◌<◌, ◌≤◌, Bool, true, false, ◌&&◌, ◌||◌, if◌then◌else◌, nat_eq, MatchBool, List, [], ◌∷◌, ◌++◌}
+use Rattle.std.specs.Prelude.{length, map, take, Option, Some, None, IsSomeAnd, slice_get, unwrap_or}
 use Rattle.std.specs.Option.{option_or}
 use Rattle.std.specs.List.{AllByRecursion, list_any}
 use Rattle.pc_word.specs.declared.item.Operand.{Operand}
@@ -129,6 +130,6 @@ pub record IsAssigned (states : List AutomatonState) (registers : ℕ → ℕ �
       → StateByRule number (passed_to states registers number) (registers number) state
   pub none : (number name : ℕ) → length states ≤ number → registers number name ≡ None
 
--- the parameters of the first state are different variables below 96
+-- the parameters of the first state are variables, which are below 96; as each name stands once in a state, they are different
 pub record BeginsWithVariables (states : List AutomatonState) : Type 0 where
   pub below : (state : AutomatonState) → slice_get states 0 ≡ Some state → AllByRecursion (λ variable. variable < 96) state.parameters

@@ -1,5 +1,5 @@
 -- The names that are used below a place of a row.
-use Rattle.std.specs.Prelude.{ℕ, Bool, true, false, ◌||◌}
+use Rattle.std.specs.Prelude.{ℕ, Bool, false, ◌||◌}
 use Rattle.std.specs.List.{list_any}
 use Rattle.pc_word.specs.Row.{Row, Then, Either, At_leaf}
 use Rattle.pc_table.specs.TableKeeps.{reads_name}

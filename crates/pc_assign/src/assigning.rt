@@ -1,5 +1,6 @@
 //! Registers for the names of an automaton.
-ghost use Rattle.std.specs.Prelude.{◌≡◌, ◌<◌, ◌≤◌, ◌^◌, ◌↔◌, ℕ, true, false, nat_eq, nat_lt, [], length, unwrap_or, IfOk, MatchResult};
+ghost use Rattle.std.specs.Prelude.{◌≡◌, ◌<◌, ◌≤◌, ◌^◌, ◌↔◌, ℕ, true};
+ghost use Rattle.std.specs.Prelude.{false, nat_eq, nat_lt, [], length, unwrap_or, IfOk, MatchResult};
 ghost use Rattle.std.specs.List.{AllByRecursion, IsDistinct, list_all};
 ghost use Rattle.pc_automaton.specs.StoredRow.{row_in};
 ghost use Rattle.pc_automaton.specs.Automaton.{state_in, states_in};
@@ -26,7 +27,9 @@ use std::alloc::{AllocError, Global};
 pub fn assign(alloc: Global, automaton: &Automaton) -> Result<Assigned, AssignError>
     requires count { length automaton.now < 2 ^ 32 }
     requires variables { BeginsWithVariables (states_in automaton.now) }
-    ensures { MatchResult result (λ assigned. LowBefore (states_in automaton.now) (length automaton.now) × IsAssigned (states_in automaton.now) (registers_in assigned)) (λ why. Refuses (states_in automaton.now) why) }
+    ensures { MatchResult result
+        (λ assigned. LowBefore (states_in automaton.now) (length automaton.now) × IsAssigned (states_in automaton.now) (registers_in assigned))
+        (λ why. Refuses (states_in automaton.now) why) }
 {
     let count = automaton.count();
     let mut table = nothing_passed(alloc, count)?;
@@ -46,6 +49,7 @@ pub fn begins_with_variables(automaton: &Automaton) -> bool
     requires { length automaton.now < 2 ^ 32 }
     ensures { (result ≡ true) ↔ BeginsWithVariables (states_in automaton.now) }
 {
+    // It tells that there is a first state.
     let _states = automaton.count();
     are_variables(automaton.state(0).parameters.as_slice())
 }
@@ -93,6 +97,7 @@ fn assign_state(
     ensures { MatchResult result (IsGiven number passed.now (state_in state.now)) (RefusesState number (state_in state.now)) }
 {
     let names = names_of(alloc, state)?;
+    // That the names are counted bounds what the pressure counts.
     let _fits = names.len();
     let live = pressure_of(state);
     if is_high(live) {

@@ -29,7 +29,8 @@ pub(crate) fn define(
     registers: &mut Seq<u32>,
 ) -> Result<(), AllocError>
     requires { IsHeld held.now.parameters.now held.now.registers.now held.now.taken }
-    ensures { OnOk result (AreChosen held.now.parameters.now held.now.registers.now (member above) (row_in (λ leaf. leaf) row.now) registers.old registers.new) }
+    ensures { OnOk result (AreChosen held.now.parameters.now held.now.registers.now (member above)
+        (row_in (λ leaf. leaf) row.now) registers.old registers.new) }
 {
     match row {
         RowTree::Step { item, next } => match written_by(*item) {
@@ -52,7 +53,10 @@ pub(crate) fn define(
 /// above has, or, where all are taken, that no parameter that is used below and no name above has.
 fn choose(held: &Held, above: RegisterSet, rest: &RowTree<AutomatonLeaf>) -> u32
     requires { IsHeld held.now.parameters.now held.now.registers.now held.now.taken }
-    ensures chosen { IsChosen (λ other. is_in other held.now.registers.now || member above other) (λ other. used_holds (row_uses (row_in (λ leaf. leaf) rest.now)) held.now.parameters.now held.now.registers.now other || member above other) result }
+    ensures chosen { IsChosen
+        (λ other. is_in other held.now.registers.now || member above other)
+        (λ other. used_holds (row_uses (row_in (λ leaf. leaf) rest.now)) held.now.parameters.now held.now.registers.now other || member above other)
+        result }
     ensures most { result ≤ allowed }
 {
     let register = held.taken.union(above).least_absent();

@@ -60,7 +60,8 @@ fn note_first(
     arguments: &[Operand],
     table: &mut [Option<PassedList>],
 ) -> Result<(), AllocError>
-    ensures { OnOk result (NotesFirst state (map (register_of (beside registers.now.names.keys registers.now.registers)) arguments.now) table.old table.new) }
+    ensures { OnOk result (NotesFirst state
+        (map (register_of (beside registers.now.names.keys registers.now.registers)) arguments.now) table.old table.new) }
 {
     let at = state as usize;
     if let Some(None) = table.get(at) {

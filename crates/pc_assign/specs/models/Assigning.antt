@@ -1,5 +1,5 @@
 -- How states get registers, one after the other: models of private code.
-use Rattle.std.specs.Prelude.{◌≡◌, ℕ, ◌<◌, ◌≤◌, List, length, take, Option, Some, slice_get}
+use Rattle.std.specs.Prelude.{◌≡◌, ℕ, ◌<◌, List, length, take, Option, Some, slice_get}
 use Rattle.pc_automaton.specs.Automaton.{AutomatonState}
 use Rattle.pc_assign.specs.Pressure.{allowed, pressure_of, IsLow, LowBefore}
 use Rattle.pc_assign.specs.Assigned.{states_pass, passed_to, StateByRule}
@@ -34,7 +34,8 @@ pub record AreGiven (states : List AutomatonState) (number : ℕ) (given : List 
   pub count : length given ≡ number
   pub low : LowBefore states number
   pub as_many : length table ≡ length states
-  pub rule : (whole : List StateRegisters) → BeginsWith given whole → (at : ℕ) (state : AutomatonState) → at < number → slice_get states at ≡ Some state
+  pub rule : (whole : List StateRegisters) → BeginsWith given whole → (at : ℕ) (state : AutomatonState) → at < number
+      → slice_get states at ≡ Some state
       → StateByRule at (passed_to states (registers_of whole) at) (registers_of whole at) state
   pub notes : (whole : List StateRegisters) → BeginsWith given whole → (to : ℕ) → to < length states
       → noted table to ≡ states_pass (registers_of whole) to 0 (take number states)

@@ -1,4 +1,4 @@
-use Rattle.std.proofs.Common.{arith, rules, ◌≡◌, ◌+◌, ◌++◌, ◌∷◌, suc, refl, sym, ◌∙◌, ap, subst, length, List, Option, ℕ, [], Some, Ok, Err, unwrap_or, Result}
+use Rattle.std.proofs.Common.{arith, rules, ◌≡◌, ◌+◌, ◌++◌, ◌∷◌, suc, sym, ◌∙◌, ap, subst, length, List, Option, ℕ, [], Err, unwrap_or, Result}
 use Rattle.std.specs.Prelude.{slice_get, MatchResult}
 use Rattle.pc_automaton.specs.StoredRow.{row_in}
 use Rattle.pc_automaton.specs.Automaton.{state_in, states_in}
@@ -9,7 +9,7 @@ use Rattle.pc_assign.specs.declared.assigned.Assigned.{Assigned}
 use Rattle.pc_assign.specs.declared.assigned.StateRegisters.{StateRegisters}
 use Rattle.pc_assign.specs.declared.error.AssignError.{AssignError}
 use Rattle.pc_assign.specs.models.Passing.{noted, Notes}
-use Rattle.pc_assign.specs.models.Assigning.{IsGiven, RefusesState, AreGiven}
+use Rattle.pc_assign.specs.models.Assigning.{AreGiven}
 use Rattle.pc_assign.proofs.AllGiven.{stored_at, stands_once, one_more_given, all_stored, refused, written_back}
 use Rattle.pc_assign.proofs.assigning.assign.Goals as goal
 
@@ -21,15 +21,18 @@ assign_state-requires-clause-once c =
 pub assign_state-requires-clause-variables : goal.assign_state-requires-clause-variables
 assign_state-requires-clause-variables c first =
     c.requires.variables.below (state_in c.state-state.result.now)
-    (ap (slice_get (states_in c.args.automaton.now)) (sym first) ∙ stored_at c.args.automaton.now c.loop-number.number c.state-state.result.now c.state-state.ensures)
+    (ap (slice_get (states_in c.args.automaton.now)) (sym first)
+    ∙ stored_at c.args.automaton.now c.loop-number.number c.state-state.result.now c.state-state.ensures)
 
 pub returns-in_err-given : goal.returns-in_err-given
 returns-in_err-given c =
     let states = states_in c.args.automaton.now in
     let is_err : c.from_residual-in_err-given.result ≡ Err c.in_err-given.field-0.0 = search rules in
     subst (λ (result : Result Assigned AssignError).
-    MatchResult result (λ assigned. LowBefore states (length c.args.automaton.now) × IsAssigned states (registers_in assigned)) (λ why. Refuses states why)) (sym is_err)
-    (refused states c.loop-number.number (state_in c.state-state.result.now) c.loop-number.states c.loop-number.table.items c.in_err-given.field-0.0 c.loop-number.invariant
+    MatchResult result (λ assigned. LowBefore states (length c.args.automaton.now) × IsAssigned states (registers_in assigned))
+    (λ why. Refuses states why)) (sym is_err)
+    (refused states c.loop-number.number
+    (state_in c.state-state.result.now) c.loop-number.states c.loop-number.table.items c.in_err-given.field-0.0 c.loop-number.invariant
     (stored_at c.args.automaton.now c.loop-number.number c.state-state.result.now c.state-state.ensures) c.in_err-given.ensures)
 
 pub loop-number-preserved : goal.loop-number-preserved
@@ -43,9 +46,11 @@ loop-number-preserved c =
     subst (λ (old : List (Option (List (Option ℕ)))). Notes (beside given.names.keys given.registers) (row_in (λ leaf. leaf) state.row) old later)
     c.as_mut_slice.ensures.value c.in_ok-note.ensures in
     let long : length table ≡ c.loop-number.table.len = ap length (sym c.as_mut_slice.ensures.value) ∙ c.as_mut_slice.ensures.len in
-    let passed = c.passed_to-passed.ensures ∙ ap (λ (slots : List (Option (List (Option ℕ)))). unwrap_or (noted slots c.loop-number.number) []) c.as_slice.ensures.value in
+    let passed = c.passed_to-passed.ensures ∙ ap
+    (λ (slots : List (Option (List (Option ℕ)))). unwrap_or (noted slots c.loop-number.number) []) c.as_slice.ensures.value in
     let next : suc c.loop-number.number ≡ c.loop-number.number + 1 = omega arith in
-    let more = one_more_given states c.loop-number.number (state_in state) c.loop-number.states given table later c.passed_to-passed.result.now c.loop-number.invariant
+    let more = one_more_given states c.loop-number.number
+    (state_in state) c.loop-number.states given table later c.passed_to-passed.result.now c.loop-number.invariant
     (stored_at c.args.automaton.now c.loop-number.number state c.state-state.ensures) passed c.in_ok-given.ensures notes in
     subst (λ (slots : List (Option (List (Option ℕ)))). AreGiven states (c.loop-number.number + 1) c.push.new.self slots)
     (sym (written_back later _ c.loop-number.table.len (sym (notes.as_many ∙ long))))
@@ -54,4 +59,5 @@ loop-number-preserved c =
 
 pub returns : goal.returns
 returns c =
-    all_stored c.args.automaton.now c.loop-number.number c.loop-number.states c.loop-number.table.items (omega (arith, c.count-count.ensures.number)) c.loop-number.invariant
+    all_stored c.args.automaton.now c.loop-number.number c.loop-number.states c.loop-number.table.items
+    (omega (arith, c.count-count.ensures.number)) c.loop-number.invariant

@@ -1,4 +1,4 @@
-use Rattle.std.proofs.Common.{◌≡◌, ◌||◌, OnOk, sym, ◌∙◌, ap, subst}
+use Rattle.std.proofs.Common.{◌||◌, OnOk, sym, ◌∙◌, ap, subst}
 use Rattle.pc_window.specs.Rebasing.{is_in}
 use Rattle.pc_automaton.specs.declared.automaton.AutomatonLeaf.{AutomatonLeaf}
 use Rattle.pc_automaton.specs.declared.row_tree.RowTree.{RowTree}
@@ -31,7 +31,8 @@ returns-in-None t c =
     none_given parameters held (member c.args.above) c.args.registers.now c.define-in-None.new.registers c.define-in-None.result
     (ap (row_in (λ leaf. leaf)) c.in-Step.is) (sym c.written_by.ensures ∙ c.in-None.is)
     (subst (λ (rest : RowTree AutomatonLeaf).
-    OnOk c.define-in-None.result (AreChosen parameters held (member c.args.above) (row_in (λ leaf. leaf) rest) c.args.registers.now c.define-in-None.new.registers))
+    OnOk c.define-in-None.result (AreChosen parameters held (member c.args.above)
+    (row_in (λ leaf. leaf) rest) c.args.registers.now c.define-in-None.new.registers))
     c.deref-in-None.ensures c.define-in-None.ensures)
 
 pub returns-in_ok-define-in-Test : goal.returns-in_ok-define-in-Test
@@ -45,9 +46,11 @@ returns-in_ok-define-in-Test t c =
     AreChosen parameters held (member c.args.above) (row_in (λ leaf. leaf) side) c.args.registers.now c.define-in-Test.new.registers)
     c.deref-in-Test.ensures c.in_ok-define-in-Test.ensures)
     (subst (λ (side : RowTree AutomatonLeaf).
-    OnOk c.define-in-Test-2.result (AreChosen parameters held (member c.args.above) (row_in (λ leaf. leaf) side) c.define-in-Test.new.registers c.define-in-Test-2.new.registers))
+    OnOk c.define-in-Test-2.result (AreChosen parameters held (member c.args.above)
+    (row_in (λ leaf. leaf) side) c.define-in-Test.new.registers c.define-in-Test-2.new.registers))
     c.deref-in-Test-2.ensures c.define-in-Test-2.ensures)
 
 pub returns-in-Leaf : goal.returns-in-Leaf
 returns-in-Leaf t c =
-    leaf_given c.args.held.now.parameters.now c.args.held.now.registers.now (member c.args.above) _ _ c.args.registers.now (ap (row_in (λ leaf. leaf)) c.in-Leaf.is)
+    leaf_given c.args.held.now.parameters.now c.args.held.now.registers.now (member c.args.above) _ _ c.args.registers.now
+    (ap (row_in (λ leaf. leaf)) c.in-Leaf.is)

@@ -11,10 +11,18 @@ pub loop-at-preserved : goal.loop-at-preserved
 loop-at-preserved c = elim c.if-contains.branch [
   | then-contains w ↦ λ other.
       ap (λ set. member set other) w.set-is ∙ w.with-set.ensures other
-      ∙ used_then (row_uses (row_in (λ leaf. leaf) c.args.rest.now)) c.args.parameters.now c.args.held.now c.loop-at.at other _ c.loop-at-test.true c.requires.as_many
-      (sym (used_there (row_uses (row_in (λ leaf. leaf) c.args.rest.now)) c.args.parameters.now c.used_in-used.result c.loop-at.at c.used_in-used.ensures c.loop-at-test.true) ∙ sym c.contains.ensures ∙ w.if-contains.true) (c.loop-at.invariant other)
+      ∙ used_then
+      (row_uses (row_in
+      (λ leaf. leaf) c.args.rest.now)) c.args.parameters.now c.args.held.now c.loop-at.at other _ c.loop-at-test.true c.requires.as_many
+      (sym (used_there (row_uses (row_in
+      (λ leaf. leaf) c.args.rest.now)) c.args.parameters.now c.used_in-used.result c.loop-at.at c.used_in-used.ensures c.loop-at-test.true)
+      ∙ sym c.contains.ensures ∙ w.if-contains.true) (c.loop-at.invariant other)
   | else-contains w ↦ λ other.
       ap (λ set. member set other) w.set-is
-      ∙ used_else (row_uses (row_in (λ leaf. leaf) c.args.rest.now)) c.args.parameters.now c.args.held.now c.loop-at.at other _ c.loop-at-test.true c.requires.as_many
-      (sym (used_there (row_uses (row_in (λ leaf. leaf) c.args.rest.now)) c.args.parameters.now c.used_in-used.result c.loop-at.at c.used_in-used.ensures c.loop-at-test.true) ∙ sym c.contains.ensures ∙ w.if-contains.false) (c.loop-at.invariant other)
+      ∙ used_else
+      (row_uses (row_in
+      (λ leaf. leaf) c.args.rest.now)) c.args.parameters.now c.args.held.now c.loop-at.at other _ c.loop-at-test.true c.requires.as_many
+      (sym (used_there (row_uses (row_in
+      (λ leaf. leaf) c.args.rest.now)) c.args.parameters.now c.used_in-used.result c.loop-at.at c.used_in-used.ensures c.loop-at-test.true)
+      ∙ sym c.contains.ensures ∙ w.if-contains.false) (c.loop-at.invariant other)
 ]

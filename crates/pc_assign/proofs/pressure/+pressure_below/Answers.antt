@@ -18,7 +18,8 @@ returns-in-Some-clause-live t c =
     subst (λ (tree : RowTree AutomatonLeaf). IsUsedSet (row_uses (row_in (λ leaf. leaf) tree)) parameters c.pressure_below-below.result.used)
     c.deref.ensures c.pressure_below-below.ensures.used in
     let below : c.pressure_below-below.result.live ≡ row_pressure parameters (c.args.above + 1) rest =
-    subst (λ (tree : RowTree AutomatonLeaf). c.pressure_below-below.result.live ≡ row_pressure parameters (c.args.above + 1) (row_in (λ leaf. leaf) tree))
+    subst (λ (tree : RowTree AutomatonLeaf). c.pressure_below-below.result.live ≡ row_pressure parameters (c.args.above + 1)
+    (row_in (λ leaf. leaf) tree))
     c.deref.ensures c.pressure_below-below.ensures.live in
     let counted : c.count.result ≡ count_by (row_uses rest) parameters =
     used_count (row_uses rest) parameters c.pressure_below-below.result.used c.count.result used c.count.ensures.count in
@@ -30,7 +31,8 @@ returns-in-Some-clause-live t c =
 pub returns-in-Test-clause-used : goal.returns-in-Test-clause-used
 returns-in-Test-clause-used t c =
     let parameters = c.args.parameters.now in
-    set_either parameters (row_in (λ leaf. leaf) c.args.row.now) (row_in (λ leaf. leaf) c.in-Test.yes.value) (row_in (λ leaf. leaf) c.in-Test.no.value) c.in-Test.on
+    set_either parameters (row_in (λ leaf. leaf) c.args.row.now) (row_in (λ leaf. leaf) c.in-Test.yes.value)
+    (row_in (λ leaf. leaf) c.in-Test.no.value) c.in-Test.on
     c.pressure_below-yes.result.used c.pressure_below-no.result.used c.union.result (ap (row_in (λ leaf. leaf)) c.in-Test.is)
     (subst (λ (side : RowTree AutomatonLeaf). IsUsedSet (row_uses (row_in (λ leaf. leaf) side)) parameters c.pressure_below-yes.result.used)
     c.deref-in-Test.ensures c.pressure_below-yes.ensures.used)

@@ -9,8 +9,12 @@ use Rattle.pc_assign.proofs.uses.+used_in.Goals as goal
 
 pub returns-in-Test : goal.returns-in-Test
 returns-in-Test t c =
-    set_either c.args.parameters.now (row_in (λ leaf. leaf) c.args.row.now) (row_in (λ leaf. leaf) c.in-Test.yes.value) (row_in (λ leaf. leaf) c.in-Test.no.value) c.in-Test.on
+    set_either c.args.parameters.now (row_in (λ leaf. leaf) c.args.row.now) (row_in (λ leaf. leaf) c.in-Test.yes.value)
+    (row_in (λ leaf. leaf) c.in-Test.no.value) c.in-Test.on
     c.used_in-in-Test.result c.used_in-in-Test-2.result c.union.result (ap (row_in (λ leaf. leaf)) c.in-Test.is)
-    (subst (λ (side : RowTree AutomatonLeaf). IsUsedSet (row_uses (row_in (λ leaf. leaf) side)) c.args.parameters.now c.used_in-in-Test.result) c.deref-in-Test.ensures c.used_in-in-Test.ensures)
-    (subst (λ (side : RowTree AutomatonLeaf). IsUsedSet (row_uses (row_in (λ leaf. leaf) side)) c.args.parameters.now c.used_in-in-Test-2.result) c.deref-in-Test-2.ensures c.used_in-in-Test-2.ensures)
+    (subst (λ (side : RowTree AutomatonLeaf). IsUsedSet
+    (row_uses (row_in (λ leaf. leaf) side)) c.args.parameters.now c.used_in-in-Test.result) c.deref-in-Test.ensures c.used_in-in-Test.ensures)
+    (subst (λ (side : RowTree AutomatonLeaf). IsUsedSet
+    (row_uses (row_in
+    (λ leaf. leaf) side)) c.args.parameters.now c.used_in-in-Test-2.result) c.deref-in-Test-2.ensures c.used_in-in-Test-2.ensures)
     c.union.ensures
