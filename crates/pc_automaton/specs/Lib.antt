@@ -1,3 +1,4 @@
 pub mod models
 pub mod StoredRow
 pub mod Automaton
+pub mod AutomatonRun

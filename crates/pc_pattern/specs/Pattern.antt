@@ -1,0 +1,42 @@
+-- Packed code: the automaton of a region that is not unwound, in which no two windows are taken for the same.
+use Rattle.std.specs.Prelude.{◌≡◌, ℕ, suc, ◌≤◌, List, length, Some, slice_get}
+use Rattle.std.specs.List.{AllByRecursion, count_by}
+use Rattle.pc_word.specs.declared.item.Limits.{Limits}
+use Rattle.pc_word.specs.Run.{Agree}
+use Rattle.pc_word.specs.State.{State}
+use Rattle.pc_word.specs.Items.{is_memory, is_effect}
+use Rattle.pc_word.specs.Row.{Row, items_of, tests_of, paths_of}
+use Rattle.pc_table.specs.Table.{Table, Next}
+use Rattle.pc_table.specs.RegionRun.{region_run}
+use Rattle.pc_window.specs.Kept.{NeverFaults, HasItems}
+use Rattle.pc_automaton.specs.Automaton.{AutomatonState}
+use Rattle.pc_automaton.specs.AutomatonRun.{automaton_run}
+use Rattle.pc_pattern.specs.Searches.{Rules, IsPattern}
+
+-- nothing is unwound with window number 1, and no two windows are taken for the same
+abbrev pub packed : Table → Limits → Rules
+packed table limits = record { table = table; limits = limits; number = 1; Same = λ pairs w v. ⊥ }
+
+-- a row is within limits over its whole tree, and on each path at most one item is a print, read or more
+pub record RowFits {L : Type 0} (limits : Limits) (row : Row L) : Type 0 where
+  pub items : length (items_of row) ≤ limits.ops
+  pub tests : length (tests_of row) ≤ limits.tests
+  pub memory : count_by is_memory (items_of row) ≤ limits.mem
+  pub one_effect : AllByRecursion (λ path. count_by is_effect path ≤ 1) (paths_of row)
+
+-- each state but the first has an item or a test
+abbrev pub NoneIsEmpty : List AutomatonState → Type 0
+NoneIsEmpty states = (at : ℕ) (state : AutomatonState) → slice_get states (suc at) ≡ Some state → HasItems state.row
+
+-- from every state from which the region's run never faults, the states do what the region does
+abbrev pub RunsAsTheRegion : Table → ℕ → List AutomatonState → Type 0
+RunsAsTheRegion table region states =
+    (s : State) → NeverFaults (region_run table (Next region) s) → Agree (automaton_run table states s) (region_run table (Next region) s)
+
+-- the packed code of a region, of at most so many states
+pub record IsPacked (table : Table) (limits : Limits) (region rows : ℕ) (states : List AutomatonState) : Type 0 where
+  pub pattern : IsPattern (packed table limits) region rows states
+  pub few : length states ≤ rows
+  pub runs : RunsAsTheRegion table region states
+  pub fits : AllByRecursion (λ state. RowFits limits state.row) states
+  pub no_empty : NoneIsEmpty states
