@@ -1,0 +1,13 @@
+pub mod NamedRows
+pub mod WritesOnce
+pub mod Alike
+pub mod Places
+pub mod ParameterLists
+pub mod Keeping
+pub mod Passing
+pub mod Closing
+pub mod Members
+pub mod Determinism
+pub mod RowsFit
+pub mod Automata
+pub mod Patterns
