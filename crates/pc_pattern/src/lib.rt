@@ -2,6 +2,9 @@
 //! left at each leaf, until each window has its row.
 #![tactic(auto)]
 
+mod error;
 mod laws;
+mod renaming;
 
+pub use error::SearchError;
 pub use laws::{laws_of_patterns, laws_of_searches};
