@@ -18,7 +18,8 @@ use Rattle.pc_automaton.specs.declared.automaton.AutomatonLeaf.{AutomatonLeaf}
 use Rattle.pc_automaton.specs.declared.automaton.AutomatonLeaf.TheVariants.{To, Out, Stop, Trap}
 use Rattle.pc_automaton.specs.declared.automaton.AutomatonState.{AutomatonState as StoredState}
 use Rattle.pc_automaton.specs.Automaton.{AutomatonState, state_in, states_in, is_parameter, names_written, LeafIsKnown, LeavesAreKnown, Takes, LeafLeads, IsStateAmong, IsAutomaton}
-use Rattle.pc_automaton.specs.models.Checking.{is_written, knows, knows_item, knows_row, knows_leaf, knows_leaves, writes_in, spares, are_apart, writes_once, stand_once, takes, leads, all_lead, is_state, is_automaton}
+use Rattle.pc_automaton.specs.models.Checking.{is_written, knows, knows_item, knows_row, knows_leaf, knows_leaves, writes_in, spares}
+use Rattle.pc_automaton.specs.models.Checking.{are_apart, writes_once, stand_once, takes, leads, all_lead, is_state, is_automaton}
 
 -- ---- lists
 

@@ -78,7 +78,8 @@ module _ (ops scratch : ℕ) (moves : List Move) (at : ℕ) (table later_table :
     among_more : (x : ℕ) (from : Operand) → source_in (drop broken.at path ++ joined counting.cycles) x ≡ Some from → source_in moves x ≡ Some from
     among_more x from e = by_source (source_in (drop broken.at path) x) refl (sym (source_both (drop broken.at path) (joined counting.cycles) x) ∙ e)
       where
-        by_source : (source : Option Operand) → source_in (drop broken.at path) x ≡ source → first_of source (source_in (joined counting.cycles) x) ≡ Some from → source_in moves x ≡ Some from
+        by_source : (source : Option Operand) → source_in (drop broken.at path) x ≡ source
+            → first_of source (source_in (joined counting.cycles) x) ≡ Some from → source_in moves x ≡ Some from
         by_source (Some other) f h = path_source ops scratch moves at table later_table rows first path begin are so_far follows x from (ring_source x from (f ∙ h))
         by_source None f h = counting.among x from h
 

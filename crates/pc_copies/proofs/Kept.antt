@@ -1,5 +1,6 @@
 -- Moves that are given, those that are kept, and the table of their sources.
-use Rattle.std.proofs.Common.{◌≡◌, ◌≢◌, ◌⊎◌, inl, inr, ℕ, zero, suc, ◌+◌, ◌-◌, ◌<◌, ◌≤◌, Bool, true, false, List, [], ◌∷◌, ◌++◌, length, take, drop, get_or, replicate, Option}
+use Rattle.std.proofs.Common.{◌≡◌, ◌≢◌, ◌⊎◌, inl, inr, ℕ, zero, suc, ◌+◌, ◌-◌, ◌<◌, ◌≤◌}
+use Rattle.std.proofs.Common.{Bool, true, false, List, [], ◌∷◌, ◌++◌, length, take, drop, get_or, replicate, Option}
 use Rattle.std.proofs.Common.{Some, None, refl, sym, ◌∙◌, ap, subst, arith}
 use Rattle.std.proofs.Common.{eqb-true}
 use Rattle.std.specs.Prelude.{if◌then◌else◌, nat_eq, slice_get, slice_set}
@@ -125,7 +126,8 @@ pub kept_source : (moves : List Move) → WritesOnce moves → (x : ℕ)
     → (source_in (kept moves) x ≡ source_in moves x) ⊎ ((source_in (kept moves) x ≡ None) × (source_in moves x ≡ Some (Name x)))
 kept_source [] once x = inl refl
 kept_source (move ∷ moves) once x = elim (cases_eq move.dest x) [
-  | inl same ↦ subst (λ (r : ℕ). (source_in (kept (move ∷ moves)) r ≡ source_in (move ∷ moves) r) ⊎ ((source_in (kept (move ∷ moves)) r ≡ None) × (source_in (move ∷ moves) r ≡ Some (Name r)))) same
+  | inl same ↦ subst (λ (r : ℕ). (source_in (kept (move ∷ moves)) r ≡ source_in (move ∷ moves) r) ⊎
+      ((source_in (kept (move ∷ moves)) r ≡ None) × (source_in (move ∷ moves) r ≡ Some (Name r)))) same
       (here (is_name move.from move.dest) refl)
   | inr apart ↦ elim (kept_source moves once.1 x) [
     | inl same ↦ inl (elsewhere (is_name move.from move.dest) apart ∙ same ∙ sym (tail_written move moves x apart))
@@ -161,7 +163,8 @@ pub kept_skipped : (moves : List Move) (at : ℕ) (default : Move) (row : List M
 kept_skipped moves at default row within so_far own =
     let move = get_or moves at default in
     so_far
-    ∙ sym (ap kept (take_more moves at default within) ∙ kept_both (take at moves) (move ∷ []) ∙ ap (λ b. kept (take at moves) ++ (if b then [] else move ∷ [])) own ∙ no_more (kept (take at moves)))
+    ∙ sym (ap kept (take_more moves at default within) ∙ kept_both (take at moves) (move ∷ [])
+    ∙ ap (λ b. kept (take at moves) ++ (if b then [] else move ∷ [])) own ∙ no_more (kept (take at moves)))
 
 pub kept_pushed : (moves : List Move) (at : ℕ) (default : Move) (row now : List Move) → at < length moves → row ≡ kept (take at moves)
     → is_name (get_or moves at default).from (get_or moves at default).dest ≡ false → now ≡ row ++ get_or moves at default ∷ [] → now ≡ kept (take (at + 1) moves)

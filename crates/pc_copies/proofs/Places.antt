@@ -1,5 +1,6 @@
 -- Moves that follow one another, and the cycle that they may end in.
-use Rattle.std.proofs.Common.{◌≡◌, ◌≢◌, ◌⊎◌, inl, inr, ℕ, zero, suc, ◌+◌, ◌-◌, ◌<◌, List, [], ◌∷◌, ◌++◌, length, take, drop, get_or, Option, Some, None, refl, sym, ◌∙◌, ap, subst, arith}
+use Rattle.std.proofs.Common.{◌≡◌, ◌≢◌, ◌⊎◌, inl, inr, ℕ, zero, suc, ◌+◌, ◌-◌, ◌<◌, List, [], ◌∷◌}
+use Rattle.std.proofs.Common.{◌++◌, length, take, drop, get_or, Option, Some, None, refl, sym, ◌∙◌, ap, subst, arith}
 use Rattle.std.specs.Prelude.{ℤ, slice_get, MatchOption}
 use Rattle.std.specs.List.{AllByRecursion}
 use Rattle.std.proofs.Common.{length-drop}
@@ -150,7 +151,8 @@ module _ (path : List Move) (at : ℕ) (way : IsWay path) (ends : EndsAt path at
   tail_reads : (register : ℕ) → IsRead (source_in tail) register → IsRead (source_in path) register
   tail_reads register h = record {
     by = h.by;
-    reads = ap (λ (l : List Move). source_in l h.by) split ∙ source_both tail (ends.move ∷ drop (suc at) path) h.by ∙ ap (λ o. first_of o (source_in (ends.move ∷ drop (suc at) path) h.by)) h.reads;
+    reads = ap (λ (l : List Move). source_in l h.by) split ∙ source_both tail (ends.move ∷ drop (suc at) path) h.by
+        ∙ ap (λ o. first_of o (source_in (ends.move ∷ drop (suc at) path) h.by)) h.reads;
   }
 
   -- what they do not write, no part of them writes
@@ -190,7 +192,8 @@ module _ (path : List Move) (at : ℕ) (way : IsWay path) (ends : EndsAt path at
     placed_free : (placed : ℕ → Option Operand) → Unread placed (source_in path) → Unread (over placed (source_in (drop at path))) (source_in tail)
     placed_free placed free = record { unread = λ register h. by_source register h.by (placed h.by) refl h.reads }
       where
-        by_source : (register by : ℕ) (source : Option Operand) → placed by ≡ source → first_of source (source_in (drop at path) by) ≡ Some (Name register) → source_in tail register ≡ None
+        by_source : (register by : ℕ) (source : Option Operand) → placed by ≡ source
+            → first_of source (source_in (drop at path) by) ≡ Some (Name register) → source_in tail register ≡ None
         by_source register by (Some from) e reads = tail_none register (free.unread register (record { by = by; reads = e ∙ reads }))
         by_source register by None e reads = ring_apart register (record { by = by; reads = reads })
 

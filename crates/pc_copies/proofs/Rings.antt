@@ -1,5 +1,6 @@
 -- Cycles of moves that are put whole, or broken by a copy through scratch.
-use Rattle.std.proofs.Common.{◌≡◌, ◌≢◌, ◌⊎◌, inl, inr, ℕ, ◌+◌, ◌-◌, ◌<◌, List, [], ◌∷◌, ◌++◌, length, take, get_or, Option, Some, None, refl, sym, ◌∙◌, ap, subst, arith}
+use Rattle.std.proofs.Common.{◌≡◌, ◌≢◌, ◌⊎◌, inl, inr, ℕ, ◌+◌, ◌-◌, ◌<◌, List, [], ◌∷◌}
+use Rattle.std.proofs.Common.{◌++◌, length, take, get_or, Option, Some, None, refl, sym, ◌∙◌, ap, subst, arith}
 use Rattle.std.proofs.Common.{length-append}
 use Rattle.std.specs.Prelude.{ℤ}
 use Rattle.std.specs.List.{AllByRecursion}
@@ -165,7 +166,8 @@ module _ (scratch ops : ℕ) (init : List Move) (last head : Move) (rows : List 
   closed names =
       ap (λ o. taken (first_of o (source_in init last.dest)) (moved (source_in enters) names) last.dest) (head_written (from_scratch scratch last) [])
       ∙ ap (λ o. taken o names scratch) (head_written (to_scratch scratch head) [])
-      ∙ sym (ap (λ o. taken o names last.dest) (source_both init (last ∷ []) last.dest ∙ ap (λ o. first_of o (source_in (last ∷ []) last.dest)) once ∙ head_written last [] ∙ ap (λ o. Some o) closes))
+      ∙ sym (ap (λ o. taken o names last.dest) (source_both init (last ∷ []) last.dest
+      ∙ ap (λ o. first_of o (source_in (last ∷ []) last.dest)) once ∙ head_written last [] ∙ ap (λ o. Some o) closes))
 
   none_behind_it : (source : Option Operand) → first_of source None ≡ source
   none_behind_it (Some from) = refl
@@ -345,6 +347,7 @@ break_adds scratch ops ring default other rows first mid row late second later n
     let tidy = broken_clean scratch ops init last rows first mid row late second out unwound long_split room in
     let enters = subst (λ (m : Move). Puts ops (to_scratch scratch m ∷ []) late second later now) (ends.first other) into in
     let broken = ring_broken scratch ops init last ends.head rows first mid row late second later now out unwound enters ends.closes ends.once
-    (all_clean scratch init (all_front (Avoids scratch) init (last ∷ []) all)) (all_back (Avoids scratch) init (last ∷ []) all).0.writes tidy (all_back (Avoids scratch) init (last ∷ []) all).0.copy
+    (all_clean scratch init (all_front (Avoids scratch) init (last ∷ []) all))
+    (all_back (Avoids scratch) init (last ∷ []) all).0.writes tidy (all_back (Avoids scratch) init (last ∷ []) all).0.copy
     (subst (AllByRecursion (Avoids scratch)) ends.begins avoids).0.copy in
     subst (λ (l : List Move). AddsRing ops scratch (source_in l) rows first later now) ends.split broken

@@ -1,5 +1,6 @@
 -- what rows of copies do, with copies more.
-use Rattle.std.proofs.Common.{◌≡◌, ◌≢◌, ◌⊎◌, inl, inr, ℕ, ◌<◌, Bool, true, false, List, [], ◌∷◌, ◌++◌, length, Option, Some, None, refl, sym, ◌∙◌, ap, subst, arith, length-append}
+use Rattle.std.proofs.Common.{◌≡◌, ◌≢◌, ◌⊎◌, inl, inr, ℕ, ◌<◌, Bool, true, false, List, []}
+use Rattle.std.proofs.Common.{◌∷◌, ◌++◌, length, Option, Some, None, refl, sym, ◌∙◌, ap, subst, arith, length-append}
 use Rattle.std.specs.Prelude.{ℤ, if◌then◌else◌, nat_eq}
 use Rattle.std.specs.List.{AllByRecursion}
 use Rattle.pc_word.proofs.Lists.{all_both}
@@ -34,7 +35,8 @@ source_both (move ∷ moves) more x =
     ap (λ o. if nat_eq move.dest x then Some move.from else o) (source_both moves more x) ∙ over_cons (nat_eq move.dest x) move.from (source_in moves x) (source_in more x)
 
 -- a row with copies more does first what they do
-pub row_more : (row more : List Move) (names : ℕ → ℤ) → Unread (source_in row) (source_in more) → moved (source_in (row ++ more)) names ≡ moved (source_in row) (moved (source_in more) names)
+pub row_more : (row more : List Move) (names : ℕ → ℤ) → Unread (source_in row) (source_in more)
+    → moved (source_in (row ++ more)) names ≡ moved (source_in row) (moved (source_in more) names)
 row_more row more names apart = λ i x. (ap (λ o. taken o names x) (source_both row more x) ∙ sym (moved_both (source_in row) (source_in more) names x apart)) i
 
 -- a row more runs before the others

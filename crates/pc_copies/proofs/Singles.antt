@@ -60,7 +60,8 @@ tail_read move moves register once h =
     record { by = h.by; reads = tail_written move moves h.by other ∙ h.reads }
 
 -- and what they write
-pub tail_is_written : (move : Move) (moves : List Move) (register : ℕ) → source_in moves move.dest ≡ None → IsWritten (source_in moves) register → IsWritten (source_in (move ∷ moves)) register
+pub tail_is_written : (move : Move) (moves : List Move) (register : ℕ) → source_in moves move.dest ≡ None
+    → IsWritten (source_in moves) register → IsWritten (source_in (move ∷ moves)) register
 tail_is_written move moves register once h =
     let other : move.dest ≢ register = λ e. let both = sym (ap (source_in moves) e) ∙ once in let writes = h.writes in absurd (cc) in
     record { from = h.from; writes = tail_written move moves register other ∙ h.writes }

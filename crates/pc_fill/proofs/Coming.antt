@@ -69,7 +69,8 @@ module _ (known : ℕ → Bool) (w : Window) (is : IsWindow known w) (fresh : Ha
       subst (λ (what : Option Item). TwinFor w.forms w.next r.tag r.origin what w.front r.place p.4) same.2 moved
 
   -- the first twin is not behind another
-  twin_first : (item : Option Item) (found : Option ℕ) → FirstTwinOf w.forms w.next r.tag r.origin item w.front r.place found → (k : ℕ) → TwinFor w.forms w.next r.tag r.origin item w.front r.place k
+  twin_first : (item : Option Item) (found : Option ℕ) → FirstTwinOf w.forms w.next r.tag r.origin item w.front r.place found
+      → (k : ℕ) → TwinFor w.forms w.next r.tag r.origin item w.front r.place k
       → (t : ℕ) × (found ≡ Some t) × (t ≤ k)
   twin_first (Some x) None h k t = absurd (h.is k t)
   twin_first (Some x) (Some found) h k t = (found, refl, h.is.1 k t)
@@ -160,7 +161,8 @@ module _ (known : ℕ → Bool) (w : Window) (is : IsWindow known w) (fresh : Ha
       mine : (j : FoundJump) → (((priority_of j.jump.enters).3 ≡ 1) × ((priority_of j.jump.enters).4 ≡ 0)) ⊎ ((priority_of j.jump.enters).3 ≡ 0)
       mine j = kinds known w.forms j.v.forms j.jump.new j.jump.comes w.front j.v.front j.jump.enters
 
-      last : (a3 a4 b3 b4 : ℕ) → IsTwin twin a3 a4 → ((a3 ≡ 1) × (a4 ≡ 0)) ⊎ (a3 ≡ 0) → ((b3 ≡ 1) × (b4 ≡ 0)) ⊎ (b3 ≡ 0) → (b3 ≡ 0 → (t : ℕ) × (twin ≡ Some t) × (t ≤ b4))
+      last : (a3 a4 b3 b4 : ℕ) → IsTwin twin a3 a4 → ((a3 ≡ 1) × (a4 ≡ 0)) ⊎ (a3 ≡ 0)
+          → ((b3 ≡ 1) × (b4 ≡ 0)) ⊎ (b3 ≡ 0) → (b3 ≡ 0 → (t : ℕ) × (twin ≡ Some t) × (t ≤ b4))
           → (a3 < b3) ⊎ ((a3 ≡ b3) × (a4 ≤ b4))
       last a3 a4 b3 b4 h (inl p) (inl q) none = let x = p.0 in let y = q.0 in let z = p.1 in inr (omega arith, omega arith)
       last a3 a4 b3 b4 h (inr p) (inl q) none = let x = q.0 in inl (omega arith)
@@ -196,7 +198,8 @@ pub record FirstJumpTo (known : ℕ → Bool) (w v : Window) : Type 0 where
   pub jump : Jump known w v
   pub first : IsFirstJump known w v jump
 
-pub come_first : (known : ℕ → Bool) (w : Window) → IsWindow known w → HasFresh known w → (r : ReadyNode) → IsFirstReady known w r → (v : Window) → HasCome w r v → FirstJumpTo known w v
+pub come_first : (known : ℕ → Bool) (w : Window) → IsWindow known w → HasFresh known w → (r : ReadyNode)
+    → IsFirstReady known w r → (v : Window) → HasCome w r v → FirstJumpTo known w v
 come_first known w is fresh r first v come =
     let j = found_jump known w is fresh r first come.twin come.first in
     let there : FirstJumpTo known w j.v = record { jump = j.jump; first = is_first known w is fresh r first come.twin come.first j } in

@@ -99,7 +99,9 @@ rises_free forms tag origin stood x c from left a (Past_yes t o on d p q l is un
           (rises_free forms tag origin stood x d p l a rises),
     )
 rises_free forms tag origin stood x c from left a (Past_no t o on d p q l is unwritten rises) =
-    to_below (Unit {0}) (λ k. MayCross (Some stood) × Side (nat_lt k (tree_size p)) (MayRise forms (Some stood) p k) (MayRise forms (Some stood) q (k - tree_size p))) (tree_size p + risen_place rises)
+    to_below (Unit {0})
+    (λ k. MayCross (Some stood) × Side (nat_lt k (tree_size p)) (MayRise forms (Some stood) p k) (MayRise forms (Some stood) q (k - tree_size p)))
+    (tree_size p + risen_place rises)
     (a.quiet ∙ is, to_no (MayRise forms (Some stood) p) (MayRise forms (Some stood) q) (risen_place rises) (tree_size p) (rises_free forms tag origin stood x d q l a rises))
 
 -- ---- what divides
@@ -240,7 +242,8 @@ module _ (next : ℕ) (twin : Option ℕ) (new : Option ℕ) (comes : Option Ite
       }
 
 pub entered_as : (known : ℕ → Bool) (forms forms' : ℕ → Form) (new : Option ℕ) (comes : Option Item) (from to : Front) → (e : EntersFront known forms forms' new comes from to)
-    → (next : ℕ) → IsNext next new → (twin : Option ℕ) → IsTwin twin (priority_of e).3 (priority_of e).4 → EnteredAs next twin new comes from to (priority_of e).0 (priority_of e).1 (priority_of e).2
+    → (next : ℕ) → IsNext next new → (twin : Option ℕ) → IsTwin twin (priority_of e).3 (priority_of e).4
+    → EnteredAs next twin new comes from to (priority_of e).0 (priority_of e).1 (priority_of e).2
 entered_as known forms forms' new comes from to (Lands tag origin x t left reads isnew none same rises) next u twin is_twin =
     let b : false ≡ crossed t (risen_place rises) = rises_crossed forms tag origin x x false t left rises in
     alone next new (Some x) t to tag origin (risen_place rises) twin is_twin (record {

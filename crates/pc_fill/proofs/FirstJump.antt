@@ -105,7 +105,8 @@ module _ (forms : ℕ → Form) (next tag origin n k : ℕ) where
             (side_first (nat_lt n s) _ _ (lt-ltb n s less) (side_second (both_unfinished p q) _ _ apart h.twin)));
       }
 
-  had_no : (t o : ℕ) (on : Operand) (p q : Front) (place : ℕ) → suc (tree_size (whole p) + n) ≡ place → HadTwin forms next tag origin n k q → HadTwin forms next tag origin place k (Split t o on p q)
+  had_no : (t o : ℕ) (on : Operand) (p q : Front) (place : ℕ) → suc (tree_size (whole p) + n) ≡ place
+      → HadTwin forms next tag origin n k q → HadTwin forms next tag origin place k (Split t o on p q)
   had_no t o on p q place e h =
       let s = tree_size (whole p) in
       let here : Type 0 = TwinHere forms next tag origin h.item (whole q) k in
@@ -239,7 +240,8 @@ module _ (base : ℕ → Bool) (forms : ℕ → Form) (n variable : ℕ) (unknow
   across t o on p q m x less h =
       first_only (nat_lt m (tree_size p)) _ _ (lt-ltb m (tree_size p) less) (from_below ⊥ (λ j. Side (nat_lt j (tree_size p)) (TwinHere forms n tag origin x q k) ⊥) m h)
 
-  pass_item : (t o : ℕ) (y : Item) (m : ℕ) (what : Option Item) (rest : Front) → MayStandBehind forms y what → writes (dest_of y) n ≡ false → ComesTwice base forms n variable tag origin m k what rest
+  pass_item : (t o : ℕ) (y : Item) (m : ℕ) (what : Option Item) (rest : Front) → MayStandBehind forms y what
+      → writes (dest_of y) n ≡ false → ComesTwice base forms n variable tag origin m k what rest
       → ComesTwice base forms n variable tag origin (suc m) k what (Issued t o y rest)
   pass_item t o y m what rest may apart h =
       let z = with_dest n h.item in

@@ -1,5 +1,6 @@
 -- Windows in memory once something has come into the front.
-use Rattle.std.proofs.Common.{◌≡◌, ◌≢◌, ℕ, zero, suc, ◌-◌, ◌<◌, ◌≤◌, ◌⊎◌, inl, inr, Bool, true, false, Option, Some, Result, Ok, Err, refl, sym, ◌∙◌, ap, subst, arith}
+use Rattle.std.proofs.Common.{◌≡◌, ◌≢◌, ℕ, zero, suc, ◌-◌, ◌<◌, ◌≤◌, ◌⊎◌, inl, inr, Bool}
+use Rattle.std.proofs.Common.{true, false, Option, Some, Result, Ok, Err, refl, sym, ◌∙◌, ap, subst, arith}
 use Rattle.std.specs.Prelude.{nat_eq, nat_lt, if◌then◌else◌, OnOk, IfOk}
 use Rattle.pc_word.specs.Items.{dest_of}
 use Rattle.pc_word.proofs.Truth.{decide_le}
@@ -143,7 +144,8 @@ module _ (front : Front) (tag origin : ℕ) (on : Operand) (p q : WindowTree) (i
   pub landed_yes : (c : Coming) (p' : Front) → place - 1 < n → joins_at c.twin front place ≡ false → p' ≡ landed c (front_in p) (place - 1)
       → Split tag origin on p' (front_in q) ≡ landed c front place
   landed_yes c p' less apart e =
-      yes_passed c tag origin place on (front_in p) (front_in q) n size_yes p' ne less (ap (λ (f : Front). joins_at c.twin f place) (sym is) ∙ apart) e ∙ ap (λ (f : Front). landed c f place) (sym is)
+      yes_passed c tag origin place on (front_in p) (front_in q) n size_yes p' ne less (ap (λ (f : Front). joins_at c.twin f place) (sym is) ∙ apart) e
+      ∙ ap (λ (f : Front). landed c f place) (sym is)
 
   pub landed_no : (c : Coming) (q' : Front) → n ≤ place - 1 → q' ≡ landed c (front_in q) (place - 1 - n) → Split tag origin on (front_in p) q' ≡ landed c front place
   landed_no c q' most e = no_passed c tag origin place on (front_in p) (front_in q) n size_yes q' ne most e ∙ ap (λ (f : Front). landed c f place) (sym is)

@@ -1,5 +1,6 @@
 -- Marks in a table by name.
-use Rattle.std.proofs.Common.{◌≡◌, ℕ, zero, suc, ◌+◌, ◌<◌, Bool, true, false, List, [], ◌∷◌, Option, Some, None, length, refl, sym, ◌∙◌, ap, subst, arith, get_or, get_or-set_same, get_or-set_other}
+use Rattle.std.proofs.Common.{◌≡◌, ℕ, zero, suc, ◌+◌, ◌<◌, Bool, true, false, List, [], ◌∷◌}
+use Rattle.std.proofs.Common.{Option, Some, None, length, refl, sym, ◌∙◌, ap, subst, arith, get_or, get_or-set_same, get_or-set_other}
 use Rattle.std.specs.Prelude.{nat_eq, not, ◌||◌, ◌&&◌, slice_set, slice_get, take, drop, replicate, ◌++◌}
 use Rattle.std.proofs.Math.Seq.{take-append_seam}
 use Rattle.std.proofs.lemmas.Bool.{eqb-true}
@@ -117,7 +118,8 @@ more_taken homes at other known before e less =
 -- ---- the names that a tree uses
 
 -- are those collected from the leaves up, where no known name is written
-pub used_is : (tree : Tree) (known base : ℕ → Bool) → Scoped known tree → ((x : ℕ) → base x ≡ true → known x ≡ true) → (x : ℕ) → used_with tree base x ≡ (uses tree x || base x)
+pub used_is : (tree : Tree) (known base : ℕ → Bool) → Scoped known tree → ((x : ℕ) → base x ≡ true → known x ≡ true)
+    → (x : ℕ) → used_with tree base x ≡ (uses tree x || base x)
 used_is (Pending tag origin item rest) known base scoped within x =
     ap (λ (b : Bool). reads item x || (not (writes (dest_of item) x) && b)) (used_is rest (and_dest known item) base scoped.2 (λ y e. or_comes (writes (dest_of item) y) (known y) (within y e)) x)
     ∙ kept (reads item x) (writes (dest_of item) x) (uses rest x) (base x) (λ e. unknown (dest_of item) scoped.1 e)

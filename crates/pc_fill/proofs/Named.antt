@@ -64,7 +64,8 @@ module _ (names : NameTable) (item : Item) (renamed : Bool) where
   named_item n it e is h = ap Some (h ∙ ap (λ (k : ℕ). with_dest k item) is) ∙ ap (λ (b : Bool). came (length names.forms) b (Some item)) (sym e)
 
   -- with the next name
-  pub named_names : (d : ℕ) (form : Option Form) (later : Supply) → renamed ≡ true → dest_of item ≡ Some d → form ≡ combined (forms_in names.forms) item → later ≡ with_name (supply_in names) form
+  pub named_names : (d : ℕ) (form : Option Form) (later : Supply) → renamed ≡ true → dest_of item ≡ Some d
+      → form ≡ combined (forms_in names.forms) item → later ≡ with_name (supply_in names) form
       → later ≡ given_supply (supply_in names) (new_name (length names.forms) renamed (Some item)) (came (length names.forms) renamed (Some item))
   named_names d form later e some is h =
       let n = length names.forms in

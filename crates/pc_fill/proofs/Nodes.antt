@@ -1,5 +1,6 @@
 -- What stands at a place of a window is ready there exactly where nothing on the way down is against it.
-use Rattle.std.proofs.Common.{◌≡◌, ℕ, zero, suc, ◌+◌, ◌-◌, ◌<◌, inl, inr, Bool, true, false, List, [], ◌∷◌, ◌++◌, Option, Some, None, length, refl, sym, ◌∙◌, ap, subst, arith, length-append}
+use Rattle.std.proofs.Common.{◌≡◌, ℕ, zero, suc, ◌+◌, ◌-◌, ◌<◌, inl, inr, Bool, true, false, List}
+use Rattle.std.proofs.Common.{[], ◌∷◌, ◌++◌, Option, Some, None, length, refl, sym, ◌∙◌, ap, subst, arith, length-append}
 use Rattle.std.specs.Prelude.{nat_lt, slice_get}
 use Rattle.std.specs.List.{AllByRecursion}
 use Rattle.std.proofs.lemmas.Option.{slice_get_within}
@@ -181,7 +182,8 @@ comes_up forms (Exit region tag homes) place node at way = absurd (cc)
 comes_up forms Stop_exit place node at way = absurd (cc)
 comes_up forms (Trap_exit kind line) place node at way = absurd (cc)
 
-up_ready : (known : ℕ → Bool) (forms : ℕ → Form) (node : Node) (what : Option Item) (place : ℕ) (tree : Tree) → AllByRecursion (IsKnown known) node.operands → ComesUp forms node what place tree
+up_ready : (known : ℕ → Bool) (forms : ℕ → Form) (node : Node) (what : Option Item) (place : ℕ) (tree : Tree)
+    → AllByRecursion (IsKnown known) node.operands → ComesUp forms node what place tree
     → IsReadyAt known forms node.tag node.origin place what (Unfinished tree)
 up_ready known forms node (Some x) place tree reads k =
     Item_ready x place k.1.0 tree (subst (λ (os : List Operand). AllByRecursion (IsKnown known) os) k.0 reads) k.1.1

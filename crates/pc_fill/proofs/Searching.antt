@@ -1,5 +1,6 @@
 -- The search for the first ready item or test, place by place.
-use Rattle.std.proofs.Common.{◌≡◌, ◌↔◌, ℕ, suc, ◌+◌, ◌<◌, ◌≤◌, ◌⊎◌, ◌^◌, inl, inr, Bool, true, false, List, [], ◌∷◌, Option, Some, None, refl, sym, ◌∙◌, ap, subst, arith}
+use Rattle.std.proofs.Common.{◌≡◌, ◌↔◌, ℕ, suc, ◌+◌, ◌<◌, ◌≤◌, ◌⊎◌, ◌^◌, inl, inr, Bool, true}
+use Rattle.std.proofs.Common.{false, List, [], ◌∷◌, Option, Some, None, refl, sym, ◌∙◌, ap, subst, arith}
 use Rattle.std.specs.Prelude.{nat_eq, nat_lt, ◌||◌, ◌&&◌, slice_get, IfSome}
 use Rattle.std.specs.List.{AllByRecursion}
 use Rattle.std.proofs.lemmas.Bool.{eqb-true, ltb-true}
@@ -40,7 +41,8 @@ module _ (known : ℕ → Bool) (w : Window) (place : ℕ) (what : Option Item) 
   pub unknown_here : (b : Bool) → (b ≡ true) ↔ AllByRecursion (IsKnown known) operands → b ≡ false → (false ≡ true) ↔ IsReadyHere known w place what operands
   unknown_here b iff e = fails_here (IsReadyHere known w place what operands) (λ h. failed iff e h.reads)
 
-  pub full_here : (b : Bool) (counts : Counts) → AreCounts counts w.front → (b ≡ true) ↔ HasRoom w.limits what counts → b ≡ false → (false ≡ true) ↔ IsReadyHere known w place what operands
+  pub full_here : (b : Bool) (counts : Counts) → AreCounts counts w.front → (b ≡ true) ↔ HasRoom w.limits what counts
+      → b ≡ false → (false ≡ true) ↔ IsReadyHere known w place what operands
   full_here b counts are iff e = fails_here (IsReadyHere known w place what operands) (λ h. failed iff e (here_room w.limits what counts w.front are h.room))
 
   pub ready_here : (a b c : Bool) (counts : Counts) → AreCounts counts w.front → (a ≡ true) ↔ AllByRecursion (IsKnown known) operands → a ≡ true
@@ -164,7 +166,8 @@ module _ (known : ℕ → Bool) (w : Window) (place : ℕ) (node : Node) (at : s
       before_all tag origin later (inr p) (inr (q, inr r)) = let a = p.1 in let b = r.0 in inr (p.0 ∙ q, inl (omega arith))
 
 -- the same in memory
-module _ (known : ℕ → Bool) (w : StoredWindow) (place next : ℕ) (node : Node) (at : slice_get (nodes_of (tree_in w.tree)) place ≡ Some node) (step : next ≡ place + 1) (best : Option ReadyNode)
+module _ (known : ℕ → Bool) (w : StoredWindow) (place next : ℕ) (node : Node)
+    (at : slice_get (nodes_of (tree_in w.tree)) place ≡ Some node) (step : next ≡ place + 1) (best : Option ReadyNode)
     (before : BestBefore known (window_in w) place best) where
   stands_there : slice_get (nodes_of (whole (front_in w.tree))) place ≡ Some node
   stands_there = ap (λ (t : Tree). slice_get (nodes_of t) place) (whole_in w.tree) ∙ at
@@ -208,7 +211,8 @@ no_stands tag origin on p q place next after all is is' h = record {
 }
 
 -- the same where a tree is known to be so
-pub below_item : (tree rest : Tree) (tag origin : ℕ) (item : Item) (place next : ℕ) (all : Tree) → tree ≡ Pending tag origin item rest → next ≡ place + 1 → place + tree_size tree < 2 ^ 31
+pub below_item : (tree rest : Tree) (tag origin : ℕ) (item : Item) (place next : ℕ) (all : Tree)
+    → tree ≡ Pending tag origin item rest → next ≡ place + 1 → place + tree_size tree < 2 ^ 31
     → StandsAt tree place all → (next + tree_size rest < 2 ^ 31) × StandsAt rest next all
 below_item tree rest tag origin item place next all is step small h =
     let size : tree_size tree ≡ suc (tree_size rest) = ap tree_size is in
@@ -220,7 +224,8 @@ below_test tree p q tag origin on place next all is step small h =
     let size : tree_size tree ≡ suc (tree_size p + tree_size q) = ap tree_size is in
     (omega arith, yes_stands tag origin on p q place next all step (subst (λ (t : Tree). StandsAt t place all) is h))
 
-pub behind_yes : (tree p q : Tree) (tag origin : ℕ) (on : Operand) (place next after : ℕ) (all : Tree) → tree ≡ Undecided tag origin on p q → next ≡ place + 1 → after ≡ next + tree_size p
+pub behind_yes : (tree p q : Tree) (tag origin : ℕ) (on : Operand) (place next after : ℕ) (all : Tree)
+    → tree ≡ Undecided tag origin on p q → next ≡ place + 1 → after ≡ next + tree_size p
     → place + tree_size tree < 2 ^ 31 → StandsAt tree place all → (after + tree_size q < 2 ^ 31) × StandsAt q after all
 behind_yes tree p q tag origin on place next after all is step step' small h =
     let size : tree_size tree ≡ suc (tree_size p + tree_size q) = ap tree_size is in

@@ -58,7 +58,8 @@ module _ (a b : Signature) where
   pub other_one : (c : Bool) → (c ≡ true) ↔ (a.one ≡ b.one) → c ≡ false → (false ≡ true) ↔ (a ≡ b)
   other_one c iff f = fails_here (a ≡ b) (λ e. failed iff f (ap (λ (s : Signature). s.one) e))
 
-  pub same_parts : (c d : Bool) → a.kind ≡ b.kind → a.op ≡ b.op → a.array ≡ b.array → (c ≡ true) ↔ (a.one ≡ b.one) → c ≡ true → (d ≡ true) ↔ (a.other ≡ b.other) → (d ≡ true) ↔ (a ≡ b)
+  pub same_parts : (c d : Bool) → a.kind ≡ b.kind → a.op ≡ b.op → a.array ≡ b.array → (c ≡ true) ↔ (a.one ≡ b.one)
+      → c ≡ true → (d ≡ true) ↔ (a.other ≡ b.other) → (d ≡ true) ↔ (a ≡ b)
   same_parts c d k o r iff f iff' =
       same_fact d (a.other ≡ b.other) (a ≡ b) (λ h. λ i. record { kind = k i; op = o i; array = r i; one = held iff f i; other = h i }) (λ h. ap (λ (s : Signature). s.other) h) iff'
 
@@ -122,7 +123,8 @@ same_signature n (Print v) = refl
 same_signature n (Read d) = refl
 same_signature n (More d) = refl
 
-pub alike_items : (n : ℕ) (x y : Item) (a b : Signature) (c : Bool) → a ≡ signature_of x → b ≡ signature_of y → (c ≡ true) ↔ (a ≡ b) → (c ≡ true) ↔ (with_dest n x ≡ with_dest n y)
+pub alike_items : (n : ℕ) (x y : Item) (a b : Signature) (c : Bool) → a ≡ signature_of x
+    → b ≡ signature_of y → (c ≡ true) ↔ (a ≡ b) → (c ≡ true) ↔ (with_dest n x ≡ with_dest n y)
 alike_items n x y a b c p q iff =
     same_fact c (a ≡ b) (with_dest n x ≡ with_dest n y) (λ h. sym (item_again n x) ∙ ap (item_of n) (sym p ∙ h ∙ q) ∙ item_again n y)
     (λ h. p ∙ sym (same_signature n x) ∙ ap signature_of h ∙ same_signature n y ∙ sym q) iff

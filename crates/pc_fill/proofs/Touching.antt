@@ -36,6 +36,7 @@ module _ (forms : ℕ → Form) (x y : Item) (a b : StoredTouch) (c : Bool) (p q
 
   pub behind_touches : (c ≡ true) ↔ NoStoreDependence forms (Some (touch_in a)) (Some (touch_in b)) → (c ≡ true) ↔ NoStoreDependence forms (touch_of x) (touch_of y)
   behind_touches iff =
-      subst (λ (t : Option Touch). (c ≡ true) ↔ NoStoreDependence forms t (touch_of y)) touch_x (subst (λ (t : Option Touch). (c ≡ true) ↔ NoStoreDependence forms (Some (touch_in a)) t) touch_y iff)
+      subst (λ (t : Option Touch). (c ≡ true) ↔ NoStoreDependence forms t (touch_of y)) touch_x
+      (subst (λ (t : Option Touch). (c ≡ true) ↔ NoStoreDependence forms (Some (touch_in a)) t) touch_y iff)
 
 pub ruleset touching = (first_stores, second_stores, stores_before)

@@ -1,5 +1,6 @@
 -- The search for the twin of an item.
-use Rattle.std.proofs.Common.{◌≡◌, ◌≢◌, ◌↔◌, ℕ, ◌+◌, ◌-◌, ◌<◌, ◌≤◌, inl, inr, Bool, true, false, [], ◌∷◌, Option, Some, None, sym, ◌∙◌, ap, subst, lt-ltb, arith}
+use Rattle.std.proofs.Common.{◌≡◌, ◌≢◌, ◌↔◌, ℕ, ◌+◌, ◌-◌, ◌<◌, ◌≤◌, inl, inr, Bool, true}
+use Rattle.std.proofs.Common.{false, [], ◌∷◌, Option, Some, None, sym, ◌∙◌, ap, subst, lt-ltb, arith}
 use Rattle.std.specs.Prelude.{nat_lt, slice_get}
 use Rattle.pc_word.proofs.Truth.{decide_le, of_most}
 use Rattle.pc_word.specs.declared.item.Item.{Item}
@@ -24,10 +25,12 @@ module _ (forms : ℕ → Form) (next tag origin : ℕ) (item : Item) (tag' orig
   pub other_origin : (origin' ≢ origin) → (false ≡ true) ↔ TwinsAt forms next tag origin item tag' origin' other tree place
   other_origin ne = fails_here (TwinsAt forms next tag origin item tag' origin' other tree place) (λ h. ne h.origins)
 
-  pub other_item : (b : Bool) → (b ≡ true) ↔ (with_dest next other ≡ with_dest next item) → b ≡ false → (false ≡ true) ↔ TwinsAt forms next tag origin item tag' origin' other tree place
+  pub other_item : (b : Bool) → (b ≡ true) ↔ (with_dest next other ≡ with_dest next item) → b ≡ false
+      → (false ≡ true) ↔ TwinsAt forms next tag origin item tag' origin' other tree place
   other_item b iff e = fails_here (TwinsAt forms next tag origin item tag' origin' other tree place) (λ h. failed iff e h.alike)
 
-  pub is_one : (b c : Bool) → tag' ≡ tag → origin' ≡ origin → (b ≡ true) ↔ (with_dest next other ≡ with_dest next item) → b ≡ true → (c ≡ true) ↔ MayRise forms (Some other) tree place
+  pub is_one : (b c : Bool) → tag' ≡ tag → origin' ≡ origin → (b ≡ true) ↔ (with_dest next other ≡ with_dest next item)
+      → b ≡ true → (c ≡ true) ↔ MayRise forms (Some other) tree place
       → (c ≡ true) ↔ TwinsAt forms next tag origin item tag' origin' other tree place
   is_one b c p q iff e way =
       same_fact c (MayRise forms (Some other) tree place) (TwinsAt forms next tag origin item tag' origin' other tree place)
@@ -110,7 +113,8 @@ module _ (forms : ℕ → Form) (next tag origin : ℕ) (item : Item) (all : Tre
     );
   }
 
-  pub behind_item : (place after end : ℕ) (b : Bool) (found : Option ℕ) (tag' origin' : ℕ) (other : Item) (rest : Tree) → after ≡ place + 1 → StandsAt (Pending tag' origin' other rest) place all
+  pub behind_item : (place after end : ℕ) (b : Bool) (found : Option ℕ) (tag' origin' : ℕ) (other : Item) (rest : Tree)
+      → after ≡ place + 1 → StandsAt (Pending tag' origin' other rest) place all
       → (b ≡ true) ↔ TwinsAt forms next tag origin item tag' origin' other all place → b ≡ false → FirstFrom forms next tag origin item all after end found
       → FirstFrom forms next tag origin item all place end found
   behind_item place after end b found tag' origin' other rest e stands iff f h =
@@ -175,9 +179,11 @@ module _ (forms : ℕ → Form) (next tag origin : ℕ) (item : Item) (place : �
         let test : nat_lt (place - 1) (tree_size (whole p)) ≡ false = of_most (place - 1) (tree_size (whole p)) (omega arith) in
         carried (Split t o on p q) q (place - 1 - n) found
         (λ k t'. under_root place ⊥ _ ne (side_second (nat_lt (place - 1) (tree_size (whole p))) _ _ test (subst (λ (m : ℕ). TwinIn forms next tag origin item q (place - 1 - m) k) size t')))
-        (λ k t'. subst (λ (m : ℕ). TwinIn forms next tag origin item q (place - 1 - m) k) (sym size) (second_only (nat_lt (place - 1) (tree_size (whole p))) _ _ test (below_only place ⊥ _ ne t'))) h
+        (λ k t'. subst (λ (m : ℕ). TwinIn forms next tag origin item q (place - 1 - m) k) (sym size)
+        (second_only (nat_lt (place - 1) (tree_size (whole p))) _ _ test (below_only place ⊥ _ ne t'))) h
 
-    pub front_yes_side : place - 1 < n → both_unfinished p q ≡ false → FirstIn forms next tag origin item p (place - 1) found → FirstIn forms next tag origin item (Split t o on p q) place found
+    pub front_yes_side : place - 1 < n → both_unfinished p q ≡ false → FirstIn forms next tag origin item p (place - 1) found
+        → FirstIn forms next tag origin item (Split t o on p q) place found
     front_yes_side less apart h =
         let test : nat_lt (place - 1) (tree_size (whole p)) ≡ true = lt-ltb (place - 1) (tree_size (whole p)) (omega arith) in
         carried (Split t o on p q) p (place - 1) found

@@ -19,7 +19,8 @@ module _ (forms : ℕ → Form) (what : Option Item) (tag origin place : ℕ) wh
   pub item_at_root : (y : Item) (rest : Tree) → place ≡ 0 → (true ≡ true) ↔ MayRise forms what (Pending tag origin y rest) place
   item_at_root y rest e = holds_here (MayRise forms what (Pending tag origin y rest) place) (at_root place (Unit {0}) _ e tt)
 
-  pub item_stops : (y : Item) (rest : Tree) (b : Bool) → place ≢ 0 → (b ≡ true) ↔ MayPass forms y what → b ≡ false → (false ≡ true) ↔ MayRise forms what (Pending tag origin y rest) place
+  pub item_stops : (y : Item) (rest : Tree) (b : Bool) → place ≢ 0 → (b ≡ true) ↔ MayPass forms y what
+      → b ≡ false → (false ≡ true) ↔ MayRise forms what (Pending tag origin y rest) place
   item_stops y rest b ne iff e = fails_here (MayRise forms what (Pending tag origin y rest) place) (λ h. failed iff e (below_only place (Unit {0}) _ ne h).0)
 
   pub item_passed : (y : Item) (rest : Tree) (b c : Bool) → place ≢ 0 → (b ≡ true) ↔ MayPass forms y what → b ≡ true → (c ≡ true) ↔ MayRise forms what rest (place - 1)
@@ -31,7 +32,8 @@ module _ (forms : ℕ → Form) (what : Option Item) (tag origin place : ℕ) wh
   pub test_at_root : (on : Operand) (p q : Tree) → place ≡ 0 → (true ≡ true) ↔ MayRise forms what (Undecided tag origin on p q) place
   test_at_root on p q e = holds_here (MayRise forms what (Undecided tag origin on p q) place) (at_root place (Unit {0}) _ e tt)
 
-  pub test_stops : (on : Operand) (p q : Tree) (b : Bool) → place ≢ 0 → (b ≡ true) ↔ MayCross what → b ≡ false → (false ≡ true) ↔ MayRise forms what (Undecided tag origin on p q) place
+  pub test_stops : (on : Operand) (p q : Tree) (b : Bool) → place ≢ 0 → (b ≡ true) ↔ MayCross what
+      → b ≡ false → (false ≡ true) ↔ MayRise forms what (Undecided tag origin on p q) place
   test_stops on p q b ne iff e = fails_here (MayRise forms what (Undecided tag origin on p q) place) (λ h. failed iff e (below_only place (Unit {0}) _ ne h).0)
 
   pub yes_passed : (on : Operand) (p q : Tree) (b c : Bool) (n : ℕ) → place ≢ 0 → (b ≡ true) ↔ MayCross what → b ≡ true → n ≡ tree_size p → place - 1 < n
@@ -59,7 +61,8 @@ module _ (forms : ℕ → Form) (what : Option Item) (tag origin place : ℕ) wh
       → (false ≡ true) ↔ MayComeFrom forms what (Issued tag origin y rest) place
   front_item_stops y rest b ne iff e = fails_here (MayComeFrom forms what (Issued tag origin y rest) place) (λ h. failed iff e (below_only place ⊥ _ ne h).0)
 
-  pub front_item_passed : (y : Item) (rest : Front) (b c : Bool) → place ≢ 0 → (b ≡ true) ↔ MayStandBehind forms y what → b ≡ true → (c ≡ true) ↔ MayComeFrom forms what rest (place - 1)
+  pub front_item_passed : (y : Item) (rest : Front) (b c : Bool) → place ≢ 0 → (b ≡ true) ↔ MayStandBehind forms y what
+      → b ≡ true → (c ≡ true) ↔ MayComeFrom forms what rest (place - 1)
       → (c ≡ true) ↔ MayComeFrom forms what (Issued tag origin y rest) place
   front_item_passed y rest b c ne iff e iff' =
       same_fact c (MayComeFrom forms what rest (place - 1)) (MayComeFrom forms what (Issued tag origin y rest) place)
@@ -88,10 +91,12 @@ module _ (forms : ℕ → Form) (what : Option Item) (tag origin place : ℕ) (o
   stored_size : n ≡ tree_size (whole (front_in p))
   stored_size = size ∙ ap tree_size (sym (whole_in p))
 
-  pub stored_yes_passed : place - 1 < n → (c ≡ true) ↔ MayComeFrom forms what (front_in p) (place - 1) → (c ≡ true) ↔ MayComeFrom forms what (Split tag origin on (front_in p) (front_in q)) place
+  pub stored_yes_passed : place - 1 < n → (c ≡ true) ↔ MayComeFrom forms what (front_in p) (place - 1)
+      → (c ≡ true) ↔ MayComeFrom forms what (Split tag origin on (front_in p) (front_in q)) place
   stored_yes_passed less iff = front_yes_passed forms what tag origin place on (front_in p) (front_in q) c n ne stored_size less iff
 
-  pub stored_no_passed : n ≤ place - 1 → (c ≡ true) ↔ MayComeFrom forms what (front_in q) (place - 1 - n) → (c ≡ true) ↔ MayComeFrom forms what (Split tag origin on (front_in p) (front_in q)) place
+  pub stored_no_passed : n ≤ place - 1 → (c ≡ true) ↔ MayComeFrom forms what (front_in q) (place - 1 - n)
+      → (c ≡ true) ↔ MayComeFrom forms what (Split tag origin on (front_in p) (front_in q)) place
   stored_no_passed most iff = front_no_passed forms what tag origin place on (front_in p) (front_in q) c n ne stored_size most iff
 
 pub ruleset rising = (item_at_root, item_stops, item_passed, test_at_root, test_stops, yes_passed, no_passed)

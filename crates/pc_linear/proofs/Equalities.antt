@@ -48,7 +48,8 @@ power_told (suc n) d le h = elim (or_true (divides_factors (suc n) d.terms && no
     contrary p q = absurd (cc)
 
 -- where a power tells, the test passes
-tells_power : (n k : ℕ) (d : Form) → 1 ≤ k → k ≤ n → AllByRecursion (λ (t : Term). Divides k t.factor) d.terms → (Divides k d.constant → ⊥) → some_power_tells n d.terms d.constant ≡ true
+tells_power : (n k : ℕ) (d : Form) → 1 ≤ k → k ≤ n → AllByRecursion (λ (t : Term). Divides k t.factor) d.terms
+    → (Divides k d.constant → ⊥) → some_power_tells n d.terms d.constant ≡ true
 tells_power zero k d least le h c = absurd (omega arith)
 tells_power (suc n) k d least le h c = elim (decide_le k n) [
   | inl le ↦ or_later (divides_factors (suc n) d.terms && not (divides (suc n) d.constant)) (some_power_tells n d.terms d.constant) (tells_power n k d least le h c)

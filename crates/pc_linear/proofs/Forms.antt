@@ -55,7 +55,8 @@ add_times-sum σ n (t ∷ ts) us =
     ∙ ap (int_wrap w32) (
     exchange (n *ℤ sum_of σ ts) ((n *ℤ t.factor) *ℤ σ t.variable) (sum_of σ us)
     ∙ sym (+ℤ_assoc ((n *ℤ t.factor) *ℤ σ t.variable) (n *ℤ sum_of σ ts) (sum_of σ us))
-    ∙ ap (λ (z : ℤ). z +ℤ sum_of σ us) (ap (λ (z : ℤ). z +ℤ (n *ℤ sum_of σ ts)) (times_times n t.factor (σ t.variable)) ∙ sym (distribute_left (t.factor *ℤ σ t.variable) (sum_of σ ts) n)))
+    ∙ ap (λ (z : ℤ). z +ℤ sum_of σ us) (ap (λ (z : ℤ). z +ℤ (n *ℤ sum_of σ ts)) (times_times n t.factor (σ t.variable))
+    ∙ sym (distribute_left (t.factor *ℤ σ t.variable) (sum_of σ ts) n)))
 
 -- the number of a sum of forms
 pub plus-number : (σ : ℕ → ℤ) (f : Form) (n : ℤ) (g : Form) → number_of σ (plus f n g) ≈ (number_of σ f +ℤ (n *ℤ number_of σ g))

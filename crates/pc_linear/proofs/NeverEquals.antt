@@ -1,5 +1,6 @@
 -- Forms are never equal exactly where the test by powers of two says so.
-use Rattle.std.proofs.Common.{◌≡◌, ℕ, zero, suc, ◌+◌, ◌-◌, ◌*◌, ◌/◌, ◌^◌, ◌%◌, ◌<◌, ◌≤◌, List, [], ◌∷◌, refl, sym, ◌∙◌, ap, subst, arith, ◌⊎◌, inl, inr}
+use Rattle.std.proofs.Common.{◌≡◌, ℕ, zero, suc, ◌+◌, ◌-◌, ◌*◌, ◌/◌, ◌^◌, ◌%◌, ◌<◌, ◌≤◌}
+use Rattle.std.proofs.Common.{List, [], ◌∷◌, refl, sym, ◌∙◌, ap, subst, arith, ◌⊎◌, inl, inr}
 use Rattle.std.proofs.Math.Nat.{pow-suc, mul-add-mod_self_right}
 use Rattle.std.proofs.lemmas.Nat.{div-add-mod'}
 use Rattle.std.specs.Prelude.{ℤ, pos, negsuc, ◌+ℤ◌, ◌*ℤ◌, neg_ℤ, Bool, true, false, if◌then◌else◌, nat_eq, ◌||◌, ◌&&◌, not, unsigned_abs}
@@ -186,7 +187,11 @@ odd_times (suc n) f h =
     let next = odd_times n p.0 in
     elim p.1 [
       | inl e ↦
-          let q = next (λ m. h (record { quotient = m.quotient; is = e ∙ (λ i. m.is i +ℤ m.is i) ∙ sym (distribute m.quotient m.quotient (pos (2 ^ suc n))) ∙ twice (suc n) m.quotient })) in (
+          let q = next (λ m. h (record {
+            quotient = m.quotient;
+            is = e ∙ (λ i. m.is i +ℤ m.is i)
+                ∙ sym (distribute m.quotient m.quotient (pos (2 ^ suc n))) ∙ twice (suc n) m.quotient;
+          })) in (
             q.0,
             q.1,
             ap (λ (z : ℤ). z *ℤ q.0) e ∙ distribute p.0 p.0 q.0 ∙ (λ i. q.2 i +ℤ q.2 i)
@@ -241,7 +246,8 @@ raises k least (t ∷ ts) r h = by_test (divides k t.factor) refl h (λ p. raise
       factor = t.factor;
       not_multiple = e;
       sum = λ σ x.
-          (λ i. (t.factor *ℤ (if nat_eq-same t.variable i then σ t.variable +ℤ x else σ t.variable)) +ℤ sum_unchanged σ t.variable (suc t.variable) (σ t.variable +ℤ x) ts (omega arith) r.1 i)
+          (λ i. (t.factor *ℤ (if nat_eq-same t.variable i then σ t.variable +ℤ x else σ t.variable)) +ℤ sum_unchanged σ t.variable
+          (suc t.variable) (σ t.variable +ℤ x) ts (omega arith) r.1 i)
           ∙ ap (λ (z : ℤ). z +ℤ sum_of σ ts) (distribute_left (σ t.variable) x t.factor)
           ∙ exchange_last (t.factor *ℤ σ t.variable) (t.factor *ℤ x) (sum_of σ ts);
     }

@@ -104,7 +104,8 @@ add_term-length v factor [] = prepended-length v (int_wrap w32 factor) []
 add_term-length v factor (t ∷ ts) = by_order (nat_lt v t.variable) (nat_eq v t.variable) (add_term-length v factor ts)
   where
     by_order : (less equal : Bool) → length (add_term v factor ts) ≤ suc (length ts)
-        → length (if less then prepended v (int_wrap w32 factor) (t ∷ ts) else if equal then prepended v (int_wrap w32 (factor +ℤ t.factor)) ts else t ∷ add_term v factor ts) ≤ suc (suc (length ts))
+        → length (if less then prepended v (int_wrap w32 factor) (t ∷ ts)
+        else if equal then prepended v (int_wrap w32 (factor +ℤ t.factor)) ts else t ∷ add_term v factor ts) ≤ suc (suc (length ts))
     by_order true equal next = prepended-length v (int_wrap w32 factor) (t ∷ ts)
     by_order false true next = let le = prepended-length v (int_wrap w32 (factor +ℤ t.factor)) ts in omega arith
     by_order false false next = omega arith
@@ -170,7 +171,8 @@ compare : (n m : ℕ) → (n < m) ⊎ ((n ≡ m) ⊎ (m < n))
 compare n m = grind arith
 
 -- terms with the same factors at each variable are the same
-same_terms : (n m : ℕ) (ts us : List Term) → Rising n ts → Rising m us → AllByRecursion HasFactor ts → AllByRecursion HasFactor us → ((x : ℕ) → factor_of ts x ≡ factor_of us x) → ts ≡ us
+same_terms : (n m : ℕ) (ts us : List Term) → Rising n ts → Rising m us → AllByRecursion HasFactor ts
+    → AllByRecursion HasFactor us → ((x : ℕ) → factor_of ts x ≡ factor_of us x) → ts ≡ us
 same_terms n m [] [] r s p q h = refl
 same_terms n m [] (u ∷ us) r s p q h = absurd (q.0.nonzero (sym (factor-first u us s.1) ∙ sym (h u.variable)))
 same_terms n m (t ∷ ts) [] r s p q h = absurd (p.0.nonzero (sym (factor-first t ts r.1) ∙ h t.variable))

@@ -1,5 +1,6 @@
 -- How many times 2 divides words, and what the code's test by these counts says.
-use Rattle.std.proofs.Common.{◌≡◌, ◌↔◌, ℕ, zero, suc, ◌+◌, ◌*◌, ◌/◌, ◌^◌, ◌%◌, ◌<◌, ◌≤◌, List, [], ◌∷◌, refl, sym, ◌∙◌, ap, subst, arith, ◌⊎◌, inl, inr}
+use Rattle.std.proofs.Common.{◌≡◌, ◌↔◌, ℕ, zero, suc, ◌+◌, ◌*◌, ◌/◌, ◌^◌, ◌%◌, ◌<◌, ◌≤◌}
+use Rattle.std.proofs.Common.{List, [], ◌∷◌, refl, sym, ◌∙◌, ap, subst, arith, ◌⊎◌, inl, inr}
 use Rattle.std.proofs.lemmas.Bool.Decides.{nat_tests}
 use Rattle.std.proofs.Math.Nat.{pow-suc, mul-add, min-le_left, min-le_right, le-min}
 use lib.Count.{count_trailing_zeros, under}
@@ -39,7 +40,8 @@ times_of_zeros w zero n le = (n, omega arith)
 times_of_zeros zero (suc k) n le = absurd (omega arith)
 times_of_zeros (suc w) (suc k) n le = by_bit (n % 2) refl le (times_of_zeros w k (n / 2))
   where
-    by_bit : (d : ℕ) → n % 2 ≡ d → suc k ≤ under d (count_trailing_zeros w (n / 2)) → (k ≤ count_trailing_zeros w (n / 2) → (q : ℕ) × (n / 2 ≡ q * 2 ^ k)) → (q : ℕ) × (n ≡ q * 2 ^ suc k)
+    by_bit : (d : ℕ) → n % 2 ≡ d → suc k ≤ under d (count_trailing_zeros w (n / 2))
+        → (k ≤ count_trailing_zeros w (n / 2) → (q : ℕ) × (n / 2 ≡ q * 2 ^ k)) → (q : ℕ) × (n ≡ q * 2 ^ suc k)
     by_bit zero even le next =
         let h = next (omega arith) in
         let twice = twice_power h.0 k in

@@ -47,7 +47,8 @@ combined_value op f g p q = by_result (combine op f g) (λ σ. combine_means σ 
   where
     by_result : (o : Option Form) → ((σ : ℕ → ℤ) → IfSome o (λ h. Means σ h (word_apply op (form_value σ f) (form_value σ g)))) → IfSome o (λ h. HasValueOf op f g h)
     by_result None all = tt
-    by_result (Some h) all = λ σ. word_meant σ h (word_apply op (form_value σ f) (form_value σ g)) (IsWord-apply op (form_value σ f) (form_value σ g) (IsWord-value σ f) (IsWord-value σ g)) (all σ)
+    by_result (Some h) all = λ σ. word_meant σ h (word_apply op (form_value σ f) (form_value σ g))
+        (IsWord-apply op (form_value σ f) (form_value σ g) (IsWord-value σ f) (IsWord-value σ g)) (all σ)
 
 -- a combined form means the operator's result of whatever its sides mean
 pub combined_means : (op : OpCode) (f g : Form) → IfSome (combine op f g) (λ h. (σ : ℕ → ℤ) (a b : ℤ) → Means σ f a → Means σ g b → Means σ h (word_apply op a b))

@@ -1,5 +1,6 @@
 -- A graph that is made of another one node by node shows what that one shows.
-use Rattle.std.proofs.Common.{◌≡◌, ◌⊎◌, inl, inr, ℕ, zero, suc, ◌<◌, Bool, true, false, List, [], ◌∷◌, length, Option, Some, None, refl, sym, ◌∙◌, ap, subst, append-nil, arith}
+use Rattle.std.proofs.Common.{◌≡◌, ◌⊎◌, inl, inr, ℕ, zero, suc, ◌<◌, Bool, true, false, List}
+use Rattle.std.proofs.Common.{[], ◌∷◌, length, Option, Some, None, refl, sym, ◌∙◌, ap, subst, append-nil, arith}
 use Rattle.std.specs.Prelude.{ℤ, if◌then◌else◌, slice_get, slice_index}
 use Rattle.pc_word.specs.declared.item.Item.{Item}
 use Rattle.pc_word.specs.declared.item.MachineFault.{MachineFault}
@@ -165,7 +166,8 @@ module _ (change : Change) where
       let moved : operand_value t.names other ≡ operand_value s.names other = operand_same s.names t.names other (λ x e. alike.same_names x (tested.reads x e)) in
       let value : operand_value t.names other ≡ operand_value s.names on = moved ∙ tested.same_value s known in (
         refl,
-        subst (λ (z : ℤ). Corresponds change (record { node = if holds (operand_value s.names on) then to_yes else to_no; state = s }) (record { node = if holds z then onward_yes else onward_no; state = t })) (sym value)
+        subst (λ (z : ℤ). Corresponds change (record { node = if holds (operand_value s.names on) then to_yes else to_no; state = s })
+            (record { node = if holds z then onward_yes else onward_no; state = t })) (sym value)
             (side_corresponds (holds (operand_value s.names on)) at to_yes to_no onward_yes onward_no s t yes_side no_side
             (Behind reached there (inl refl)) (Behind reached there (inr refl)) known alike),
       )
@@ -195,12 +197,14 @@ module _ (change : Change) where
     meets_lower here next there steps corresponds lower = record {
       steps = 1;
       other_steps = 0;
-      meet = subst (λ (x : Step FlowState). Meet (λ (a : FlowState) (b : FlowState). Corresponds change a b × (rank_of a b < rank_of here there)) (reached_of x (reach (flow_step change.old) 0)) (reach (flow_step change.new) 0 there)) (sym steps)
+      meet = subst (λ (x : Step FlowState). Meet (λ (a : FlowState) (b : FlowState). Corresponds change a b × (rank_of a b < rank_of here there))
+          (reached_of x (reach (flow_step change.old) 0)) (reach (flow_step change.new) 0 there)) (sym steps)
           (refl, (corresponds, lower));
     }
 
     -- the old graph passes a node that is skipped, or both do the same
-    moves : (at to : ℕ) (s t : State) → Way change.Skips at to → ((next : ℕ) → change.Skips to next → ⊥) → IsReachableNode change.old at → change.Knows at s → AlikeIn (change.Matters at) s t
+    moves : (at to : ℕ) (s t : State) → Way change.Skips at to → ((next : ℕ) → change.Skips to next → ⊥)
+        → IsReachableNode change.old at → change.Knows at s → AlikeIn (change.Matters at) s t
         → MeetsAgain (flow_step change.old) (flow_step change.new) (Corresponds change) (record { node = at; state = s }) (record { node = to; state = t })
         ⊎ MeetsLower (flow_step change.old) (flow_step change.new) (Corresponds change) rank_of (record { node = at; state = s }) (record { node = to; state = t })
     moves _ _ s t (Here {at = at}) stays reached known alike = inl (record {

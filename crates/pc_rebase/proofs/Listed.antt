@@ -121,7 +121,8 @@ all_unmarked n (x ∷ xs) =
     ap (λ (b : Bool). if b then unmarked (replicate n false) xs else x ∷ unmarked (replicate n false) xs) (none_marked n x)
     ∙ ap (λ (list : List ℕ). x ∷ list) (all_unmarked n xs)
 
-pub parameters_listed : (n : ℕ) (marks : List Bool) (found : List ℕ) (tree : Tree) → marks ≡ replicate n false → found ≡ and_names [] (unmarked marks (free_uses tree)) → found ≡ parameters_of tree
+pub parameters_listed : (n : ℕ) (marks : List Bool) (found : List ℕ) (tree : Tree) → marks ≡ replicate n false
+    → found ≡ and_names [] (unmarked marks (free_uses tree)) → found ≡ parameters_of tree
 parameters_listed n marks found tree is listed =
     listed ∙ ap (λ (list : List Bool). and_names [] (unmarked list (free_uses tree))) is ∙ ap (and_names []) (all_unmarked n (free_uses tree)) ∙ from_none (free_uses tree)
 

@@ -140,7 +140,8 @@ module _ (found mid new : List ℕ) (tag origin : ℕ) where
   item_defines item rest dest is first second =
       second ∙ ap (λ (list : List ℕ). and_names list (definitions_of rest)) first ∙ ap (λ (d : Option ℕ). and_names found (named d (definitions_of rest))) (sym is)
 
-  pub item_defines_none : (item : Item) (rest : Tree) → dest_of item ≡ None → new ≡ and_names found (definitions_of rest) → new ≡ and_names found (definitions_of (Pending tag origin item rest))
+  pub item_defines_none : (item : Item) (rest : Tree) → dest_of item ≡ None → new ≡ and_names found (definitions_of rest)
+      → new ≡ and_names found (definitions_of (Pending tag origin item rest))
   item_defines_none item rest is later = later ∙ ap (λ (d : Option ℕ). and_names found (named d (definitions_of rest))) (sym is)
 
   pub sides_define : (on : Operand) (one other : Tree) → mid ≡ and_names found (definitions_of one) → new ≡ and_names mid (definitions_of other)

@@ -1,13 +1,14 @@
 -- The front as a row: what it does, and what is left at its leaf.
-use Rattle.std.proofs.Common.{◌≡◌, ℕ, suc, ◌-◌, ◌<◌, ◌≤◌, List, [], ◌∷◌, Option, Some, None, refl, sym, ◌∙◌, ap, subst, arith, append-nil}
+use Rattle.std.proofs.Common.{◌≡◌, ℕ, zero, suc, ◌-◌, ◌<◌, ◌≤◌, List, [], ◌∷◌, ◌++◌, Option, Some, None, refl, sym, ◌∙◌, ap, subst, arith, append-nil}
 use Rattle.std.specs.Prelude.{ℤ, Bool, true, false, if◌then◌else◌, nat_lt}
 use Rattle.pc_word.specs.declared.item.Item.{Item}
 use Rattle.pc_word.specs.declared.item.MachineFault.{MachineFault}
 use Rattle.pc_word.specs.declared.item.End.{End}
 use Rattle.pc_word.specs.declared.item.End.TheVariants.{Ended, Trapped}
 use Rattle.pc_word.specs.Word.{holds}
-use Rattle.pc_word.specs.Run.{Seen, Agree, after_printing, ended_run}
-use Rattle.pc_word.proofs.Runs.{Agree-sym, Agree-trans, Agree-equal}
+use Rattle.pc_word.specs.declared.item.TrapKind.{TrapKind}
+use Rattle.pc_word.specs.Run.{Seen, Answers, Agree, after_printing, ended_run}
+use Rattle.pc_word.proofs.Runs.{Answers-equal, Agree-sym, Agree-trans, Agree-equal}
 use Rattle.pc_word.specs.State.{State}
 use Rattle.pc_word.specs.Items.{operand_value}
 use Rattle.pc_word.specs.Commit.{fault_of, prints_of, state_after}
@@ -23,7 +24,7 @@ use Rattle.pc_window.specs.WindowRun.{Window, tree_run, front_run, FormsHold}
 use Rattle.pc_window.specs.Opening.{is_inside}
 use Rattle.pc_window.proofs.Cutting.{rest_of, front_path, and_dests, Cut, cut}
 use Rattle.pc_word.specs.Row.{Row, path_of, leaf_of, commit_of, row_step}
-use Rattle.pc_window.specs.Kept.{Left, Rest, Gone, left_run, IsBare, RestCut, LeftCut, TakenCut, CutKeeps}
+use Rattle.pc_window.specs.Kept.{Left, Rest, Gone, Finished, Trapped_at, left_run, KeepsPace, IsBare, RestCut, LeftCut, TakenCut, CutKeeps}
 use Rattle.pc_window.specs.Steps.{with_tree, left_of, left_at_root, front_row, cut_row, Cuts, IsProper}
 use Rattle.pc_window.specs.Laws.{RowsDoWhatTheirPathsDo}
 use Rattle.pc_window.proofs.Parameters.{parameters_known}
@@ -115,7 +116,8 @@ module _ (table : Table) (w : Window) (s : State) where
   abbrev CutAt : Tree → Type 0
   CutAt tree = (n : ℕ) → front_run table w.front s n ≡ after_printing (prints_of s path) (tree_run table tree next n)
 
-  left_rest : (σ : ℕ → ℤ) (tree : Tree) → CutAt tree → HoldUnder σ w.forms table.arrays tree next → (IsBare (whole w.front) → ⊥) → RestCut table w s (prints_of s path) next (with_tree w tree)
+  left_rest : (σ : ℕ → ℤ) (tree : Tree) → CutAt tree → HoldUnder σ w.forms table.arrays tree next
+      → (IsBare (whole w.front) → ⊥) → RestCut table w s (prints_of s path) next (with_tree w tree)
   left_rest σ tree runs holds items = record {
     same = λ n. runs n ∙ ap (λ (t : Tree). after_printing (prints_of s path) (tree_run table t next n)) (sym (whole_front_of tree));
     forms = becomes_holds table w tree next σ holds;
@@ -124,13 +126,25 @@ module _ (table : Table) (w : Window) (s : State) where
 
   left_gone : (region tag : ℕ) (homes : List Home) → CutAt (Exit region tag homes) → LeftCut table w s (prints_of s path) next (Gone region homes)
   left_gone region tag homes runs =
-      Agree-equal (front_run table w.front s) (λ n. after_printing (prints_of s path) (left_run table (Gone region homes) next n))
-      (λ n. runs n ∙ ap (λ (x : Seen). after_printing (prints_of s path) x) (beyond_is_region table n (place_at table (Next region) (home_state next homes))))
+      let same : (n : ℕ) → front_run table w.front s n ≡ after_printing (prints_of s path) (left_run table (Gone region homes) next n) =
+      λ n. runs n ∙ ap (λ (x : Seen). after_printing (prints_of s path) x) (beyond_is_region table n (place_at table (Next region) (home_state next homes))) in
+      record { pace = λ n. Answers-equal _ _ (same n); back = λ n. (n, Answers-equal _ _ (sym (same n))) }
 
-  left_ends : (end : End) (tree : Tree) → CutAt tree → tree_run table tree next 0 ≡ record { printed = []; end = None }
+  -- what ends is not behind what comes to end
+  ends_pace : (end : End) (tree : Tree) → CutAt tree → tree_run table tree next 0 ≡ record { printed = []; end = None }
+      → ((n : ℕ) → tree_run table tree next (suc n) ≡ record { printed = []; end = Some end })
+      → KeepsPace (front_run table w.front s) (λ n. after_printing (prints_of s path) (ended_run [] end n))
+  ends_pace end tree runs starts ends zero =
+      subst (λ (x : Seen). Answers x (after_printing (prints_of s path) (ended_run [] end 0)) x.end)
+      (sym (runs 0 ∙ ap (λ (x : Seen). after_printing (prints_of s path) x) starts)) ([], append-nil (prints_of s path ++ []))
+  ends_pace end tree runs starts ends (suc n) =
+      subst (λ (x : Seen). Answers x (after_printing (prints_of s path) (ended_run [] end (suc n))) x.end)
+      (sym (runs (suc n) ∙ ap (λ (x : Seen). after_printing (prints_of s path) x) (ends n))) (refl, refl)
+
+  ends_agree : (end : End) (tree : Tree) → CutAt tree → tree_run table tree next 0 ≡ record { printed = []; end = None }
       → ((n : ℕ) → tree_run table tree next (suc n) ≡ record { printed = []; end = Some end })
       → Agree (front_run table w.front s) (λ n. after_printing (prints_of s path) (ended_run [] end n))
-  left_ends end tree runs starts ends =
+  ends_agree end tree runs starts ends =
       Agree-trans (front_run table w.front s) (λ n. after_printing (prints_of s path) (tree_run table tree next n)) (λ n. after_printing (prints_of s path) (ended_run [] end n))
       (Agree-equal (front_run table w.front s) (λ n. after_printing (prints_of s path) (tree_run table tree next n)) runs)
       (Agree-sym (λ n. after_printing (prints_of s path) (ended_run [] end n)) (λ n. after_printing (prints_of s path) (tree_run table tree next n))
@@ -139,7 +153,20 @@ module _ (table : Table) (w : Window) (s : State) where
       (ap (λ (x : Seen). after_printing (prints_of s path) x) starts ∙ ap (λ (l : List ℤ). let x : Seen = record { printed = l; end = None } in x) (append-nil (prints_of s path)))
       (λ n. ap (λ (x : Seen). after_printing (prints_of s path) x) (ends n) ∙ ap (λ (l : List ℤ). let x : Seen = record { printed = l; end = Some end } in x) (append-nil (prints_of s path)))))
 
-  left_cut : (σ : ℕ → ℤ) (tree : Tree) → CutAt tree → HoldUnder σ w.forms table.arrays tree next → (IsBare (whole w.front) → ⊥) → LeftCut table w s (prints_of s path) next (left_of table w tree)
+  left_stops : CutAt Stop_exit → LeftCut table w s (prints_of s path) next Finished
+  left_stops runs = record {
+    pace = ends_pace Ended Stop_exit runs refl (λ n. refl);
+    back = (ends_agree Ended Stop_exit runs refl (λ n. refl)).back;
+  }
+
+  left_traps : (kind : TrapKind) (line : ℕ) → CutAt (Trap_exit kind line) → LeftCut table w s (prints_of s path) next (Trapped_at kind line)
+  left_traps kind line runs = record {
+    pace = ends_pace (Trapped kind line) (Trap_exit kind line) runs refl (λ n. refl);
+    back = (ends_agree (Trapped kind line) (Trap_exit kind line) runs refl (λ n. refl)).back;
+  }
+
+  left_cut : (σ : ℕ → ℤ) (tree : Tree) → CutAt tree → HoldUnder σ w.forms table.arrays tree next
+      → (IsBare (whole w.front) → ⊥) → LeftCut table w s (prints_of s path) next (left_of table w tree)
   left_cut σ (Pending tag origin item below) runs holds items = left_rest σ (Pending tag origin item below) runs holds items
   left_cut σ (Undecided tag origin on on_yes on_no) runs holds items = left_rest σ (Undecided tag origin on on_yes on_no) runs holds items
   left_cut σ (Exit region tag homes) runs holds items = by_loop (is_inside table w.inside region)
@@ -147,19 +174,21 @@ module _ (table : Table) (w : Window) (s : State) where
       by_loop : (b : Bool) → LeftCut table w s (prints_of s path) next (if b then Rest (with_tree w (Exit region tag homes)) else Gone region homes)
       by_loop true = left_rest σ (Exit region tag homes) runs holds items
       by_loop false = left_gone region tag homes runs
-  left_cut σ Stop_exit runs holds items = left_ends Ended Stop_exit runs refl (λ n. refl)
-  left_cut σ (Trap_exit kind line) runs holds items = left_ends (Trapped kind line) (Trap_exit kind line) runs refl (λ n. refl)
+  left_cut σ Stop_exit runs holds items = left_stops runs
+  left_cut σ (Trap_exit kind line) runs holds items = left_traps kind line runs
 
-  left_cut_root : (σ : ℕ → ℤ) (tree : Tree) → whole w.front ≡ tree → CutAt tree → HoldUnder σ w.forms table.arrays tree next → LeftCut table w s (prints_of s path) next (left_at_root table w tree)
+  left_cut_root : (σ : ℕ → ℤ) (tree : Tree) → whole w.front ≡ tree → CutAt tree → HoldUnder σ w.forms table.arrays tree next
+      → LeftCut table w s (prints_of s path) next (left_at_root table w tree)
   left_cut_root σ (Pending tag origin item below) is runs holds = left_rest σ (Pending tag origin item below) runs holds (λ bare. subst IsBare is bare)
   left_cut_root σ (Undecided tag origin on on_yes on_no) is runs holds = left_rest σ (Undecided tag origin on on_yes on_no) runs holds (λ bare. subst IsBare is bare)
   left_cut_root σ (Exit region tag homes) is runs holds = left_gone region tag homes runs
-  left_cut_root σ Stop_exit is runs holds = left_ends Ended Stop_exit runs refl (λ n. refl)
-  left_cut_root σ (Trap_exit kind line) is runs holds = left_ends (Trapped kind line) (Trap_exit kind line) runs refl (λ n. refl)
+  left_cut_root σ Stop_exit is runs holds = left_stops runs
+  left_cut_root σ (Trap_exit kind line) is runs holds = left_traps kind line runs
 
   -- ---- the row
 
-  row_cut : (left : Tree → Left) → fault_of table.arrays s path ≡ None → LeftCut table w s (prints_of s path) next (left rest) → TakenCut table w s (row_step table.arrays (front_row left w.front) s)
+  row_cut : (left : Tree → Left) → fault_of table.arrays s path ≡ None → LeftCut table w s (prints_of s path) next (left rest)
+      → TakenCut table w s (row_step table.arrays (front_row left w.front) s)
   row_cut left none h =
       subst (λ (items : List Item). TakenCut table w s (commit_of table.arrays s items (leaf_of s.names (front_row left w.front)) (fault_of table.arrays s items)))
       (sym (row_items left w.front s.names))

@@ -49,7 +49,8 @@ and_dests known (item ∷ items) = and_dests (and_dest known item) items
 
 -- a walk is that of a path that is done at once, and then of what is left, from the state after the path, where names and
 -- forms are as they must be; as much is unfinished, and printed as soon
-pub record Cut (lengths : List ℕ) (known : ℕ → Bool) (σ : ℕ → ℤ) (forms : ℕ → Form) (s : State) (walked : Walked) (path : List Item) (rest : Tree) (length : ℕ) (prints : ℕ → List ℤ) : Type 0 where
+pub record Cut (lengths : List ℕ) (known : ℕ → Bool) (σ : ℕ → ℤ) (forms : ℕ
+    → Form) (s : State) (walked : Walked) (path : List Item) (rest : Tree) (length : ℕ) (prints : ℕ → List ℤ) : Type 0 where
   pub no_fault : fault_of lengths s path ≡ None
   pub same : walked ≡ printing (prints_of s path) (walk lengths rest (state_after lengths s path))
   pub shows : (n : ℕ) → prints n ≡ prints_of s path ++ shown lengths rest (state_after lengths s path) n
@@ -61,7 +62,8 @@ pub record Cut (lengths : List ℕ) (known : ℕ → Bool) (σ : ℕ → ℤ) (f
 -- ---- the path is the same behind its first item
 
 -- an operand that is known before the window
-same_operand : (base : ℕ → Bool) (names names' : ℕ → ℤ) → ((x : ℕ) → base x ≡ true → names' x ≡ names x) → (o : Operand) → IsKnown base o → operand_value names' o ≡ operand_value names o
+same_operand : (base : ℕ → Bool) (names names' : ℕ → ℤ) → ((x : ℕ) → base x ≡ true → names' x ≡ names x)
+    → (o : Operand) → IsKnown base o → operand_value names' o ≡ operand_value names o
 same_operand base names names' same (Name x) is = same x is
 same_operand base names names' same (Lit value) is = refl
 
@@ -117,7 +119,8 @@ path_new (Split t o on p q) known names h =
 path_new (Unfinished rest) known names h = tt
 
 -- all at once
-all_three : (P Q R S : Item → Type 0) → ((y : Item) → P y → Q y → R y → S y) → (path : List Item) → AllByRecursion P path → AllByRecursion Q path → AllByRecursion R path → AllByRecursion S path
+all_three : (P Q R S : Item → Type 0) → ((y : Item) → P y → Q y → R y → S y) → (path : List Item)
+    → AllByRecursion P path → AllByRecursion Q path → AllByRecursion R path → AllByRecursion S path
 all_three P Q R S f [] p q r = tt
 all_three P Q R S f (y ∷ path) p q r = (f y p.0 q.0 r.0, all_three P Q R S f path p.1 q.1 r.1)
 
@@ -153,7 +156,8 @@ or_comes true b e = refl
 or_comes false b e = e
 
 -- one item more in front
-cut_item : (lengths : List ℕ) (known : ℕ → Bool) (σ : ℕ → ℤ) (forms : ℕ → Form) (s : State) (x : Item) (walked : Walked) (path : List Item) (rest : Tree) (length : ℕ) (prints : ℕ → List ℤ)
+cut_item : (lengths : List ℕ) (known : ℕ → Bool) (σ : ℕ → ℤ) (forms : ℕ
+    → Form) (s : State) (x : Item) (walked : Walked) (path : List Item) (rest : Tree) (length : ℕ) (prints : ℕ → List ℤ)
     → AllBehind lengths s x path → fault_of lengths s (x ∷ []) ≡ None → Cut lengths (and_dest known x) σ forms (after_item lengths x s) walked path rest length prints
     → Cut lengths known σ forms s (unless_fault (fault_of lengths s (x ∷ [])) (printing (prints_of s (x ∷ [])) walked)) (x ∷ path) rest length (λ n. prints_of s (x ∷ []) ++ prints n)
 cut_item lengths known σ forms s x walked path rest length prints behind none h =
@@ -186,7 +190,8 @@ cut_at_test lengths known σ forms s false wy wn py pn ry rn ly ln sy sn Dy Dn f
 
 -- the front is cut off
 pub cut : (lengths : List ℕ) (base : ℕ → Bool) (σ : ℕ → ℤ) (forms : ℕ → Form) (front : Front) (known : ℕ → Bool) (s : State)
-    → Within base known → Independent forms base front → Scoped known (whole front) → KnownHold known σ forms s → DefinedHold σ forms lengths (whole front) s → IsWhole (walk lengths (whole front) s)
+    → Within base known → Independent forms base front → Scoped known (whole front) → KnownHold known σ forms s
+    → DefinedHold σ forms lengths (whole front) s → IsWhole (walk lengths (whole front) s)
     → Cut lengths known σ forms s (walk lengths (whole front) s) (front_path s.names front) (rest_of s.names front) (behind_length lengths front s) (front_shown lengths front s)
 cut lengths base σ forms (Issued t o x rest) known s within independent scoped holds defines ok =
     let h : Cut lengths (and_dest known x) σ forms (after_item lengths x s) (walk lengths (whole rest) (after_item lengths x s))

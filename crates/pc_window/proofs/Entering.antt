@@ -52,7 +52,8 @@ combined-fits lengths known σ forms s holds (More d) reads f is = absurd (cc)
 abbrev pub with_variable : (ℕ → ℤ) → ℕ → ℤ → ℕ → ℤ
 with_variable σ v a u = if nat_eq v u then a else σ u
 
-without-sum : (σ : ℕ → ℤ) (v : ℕ) (a : ℤ) (terms : List Term) → AllByRecursion (λ term. nat_eq v term.variable ≡ false) terms → sum_of (with_variable σ v a) terms ≡ sum_of σ terms
+without-sum : (σ : ℕ → ℤ) (v : ℕ) (a : ℤ) (terms : List Term) → AllByRecursion (λ term. nat_eq v term.variable ≡ false) terms
+    → sum_of (with_variable σ v a) terms ≡ sum_of σ terms
 without-sum σ v a [] h = refl
 without-sum σ v a (term ∷ terms) h =
     ap (λ (b : Bool). (term.factor *ℤ (if b then a else σ term.variable)) +ℤ sum_of (with_variable σ v a) terms) h.0
@@ -162,7 +163,8 @@ pub record Stands (lengths : List ℕ) (base known : ℕ → Bool) (σ : ℕ →
   pub defines : DefinedHold σ forms lengths (whole from) s
 
 -- and afterwards: the walk, the forms for some values of the form variables, and how much of the walk is unfinished
-pub record Outcome (σ : ℕ → ℤ) (forms forms' : ℕ → Form) (new : Option ℕ) (before now : Walked) (defines : (ℕ → ℤ) → Type 0) (length length' : ℕ) (prints prints' : ℕ → List ℤ) : Type 0 where
+pub record Outcome (σ : ℕ → ℤ) (forms forms' : ℕ → Form) (new : Option ℕ) (before now : Walked) (defines : (ℕ → ℤ)
+    → Type 0) (length length' : ℕ) (prints prints' : ℕ → List ℤ) : Type 0 where
   pub values : ℕ → ℤ
   pub same_forms : SameForms new σ forms values forms'
   pub still : Still before now (defines values) length length' prints prints'
@@ -221,7 +223,8 @@ same_as (Read d) = record { name = d; is = refl }
 same_as (More d) = record { name = d; is = refl }
 
 -- the forms of a window in which nothing gets a new name
-same_forms_all : (lengths : List ℕ) (σ : ℕ → ℤ) (forms forms' : ℕ → Form) (tree : Tree) (s : State) → forms' ≡ forms → DefinedHold σ forms lengths tree s → DefinedHold σ forms' lengths tree s
+same_forms_all : (lengths : List ℕ) (σ : ℕ → ℤ) (forms forms' : ℕ → Form) (tree : Tree) (s : State)
+    → forms' ≡ forms → DefinedHold σ forms lengths tree s → DefinedHold σ forms' lengths tree s
 same_forms_all lengths σ forms forms' tree s same h = subst (λ (f : ℕ → Form). DefinedHold σ f lengths tree s) (sym same) h
 
 -- an item before both sides of a test

@@ -225,7 +225,8 @@ walk-exchanged lengths tag origin tag' origin' y x rest s h ok =
     ∙ ap (λ (p : List ℤ). unless_fault (fault_of lengths s (x ∷ [])) (printing (prints_of s (x ∷ []))
     (unless_fault (fault_of lengths s (y ∷ [])) (printing p (walk lengths rest (after_item lengths y (after_item lengths x s))))))) h.first.prints in
     turned
-    ∙ outcome-exchanged (fault_of lengths s (y ∷ [])) (fault_of lengths s (x ∷ [])) (prints_of s (y ∷ [])) (prints_of s (x ∷ [])) (walk lengths rest (after_item lengths y (after_item lengths x s)))
+    ∙ outcome-exchanged (fault_of lengths s (y ∷ [])) (fault_of lengths s (x ∷ [])) (prints_of s (y ∷ []))
+    (prints_of s (x ∷ [])) (walk lengths rest (after_item lengths y (after_item lengths x s)))
     (prints-one s s y x h.one_effect) (subst IsWhole equal ok)
     ∙ sym equal
 

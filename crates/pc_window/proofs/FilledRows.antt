@@ -5,7 +5,7 @@ use Rattle.pc_word.specs.declared.item.Item.{Item}
 use Rattle.pc_word.specs.declared.item.Operand.{Operand}
 use Rattle.pc_word.specs.Word.{holds}
 use Rattle.pc_word.specs.Run.{Seen, Answers, Follows, Agree, after_printing, seen_of, run_from}
-use Rattle.pc_word.proofs.Runs.{Answers-refl, Answers-after, Follows-trans, Agree-trans}
+use Rattle.pc_word.proofs.Runs.{Answers-refl, Answers-after, Follows-trans}
 use Rattle.pc_word.specs.declared.item.MachineFault.{MachineFault}
 use Rattle.pc_word.specs.State.{State}
 use Rattle.pc_word.specs.Commit.{fault_of, prints_of}
@@ -16,7 +16,7 @@ use Rattle.pc_word.specs.Row.{Row, RowOutcome, Faults, Commits, commit_of, row_s
 use Rattle.pc_table.specs.RegionRun.{lead_on}
 use Rattle.pc_window.specs.Tree.{Front, Issued, Split, Unfinished, whole}
 use Rattle.pc_window.specs.WindowRun.{Window, enter, window_step, tree_run, window_run, seen_first, seen_side, front_run}
-use Rattle.pc_window.specs.Kept.{Left, Rest, Gone, Finished, Trapped_at, left_run, NeverFaults, KeepsPace, GainsUnit, LeftKept, TakenKept, RowKeeps, IsBare, IsRooted, FilledIn, LeftCut, TakenCut}
+use Rattle.pc_window.specs.Kept.{Left, Rest, Gone, Finished, Trapped_at, left_run, NeverFaults, KeepsPace, GainsUnit, LeftKept, TakenKept, RowKeeps, IsBare, IsRooted, FilledIn, OutKept, OutCut, LeftCut, TakenCut}
 use Rattle.pc_window.specs.Steps.{FillsTo, Cuts, IsProper}
 use Rattle.pc_window.proofs.Units.{led, entered, first_answers, side_answers, front_grows}
 use Rattle.pc_window.proofs.Filling.{fills_keep}
@@ -110,16 +110,22 @@ module _ (table : Table) (w v : Window) (s : State) (rooted : IsRooted w.front) 
   filled_follows : Follows (front_run table v.front s) (window_run table w s)
   filled_follows = Follows-trans (front_run table v.front s) (front_run table w.front s) (window_run table w s) filled.back (front_follows table w.front s)
 
-  filled_agrees : Agree (window_run table w s) (front_run table v.front s)
-  filled_agrees = record {
-    forth = λ n. (n, answer_of_answer (window_run table w s n) (front_run table w.front s n) (front_run table v.front s n) (front_pace table w.front s n) (filled.pace n));
-    back = filled_follows;
-  }
-
   filled_never : NeverFaults (window_run table w s) → NeverFaults (window_run table v s)
   filled_never never =
       NeverFaults-follows (window_run table v s) (window_run table w s)
       (Follows-trans (window_run table v s) (front_run table v.front s) (window_run table w s) (front_agrees table v.front s).forth filled_follows) never
+
+  -- what follows where no window is left is not behind the fuller front
+  out_kept : (printed : List ℤ) (new : State) (left : Left) → OutCut table v s printed new left → OutKept table w s printed new left
+  out_kept printed new left h =
+      let after = λ (n : ℕ). after_printing printed (left_run table left new n) in
+      record {
+        pace = λ n. answer_of_answer (window_run table w s n) (front_run table v.front s n) (after n)
+            (answer_of_answer (window_run table w s n) (front_run table w.front s n) (front_run table v.front s n) (front_pace table w.front s n) (filled.pace n)) (h.pace n);
+        gains = λ items n. answer_of_answer (window_run table w s (suc n)) (front_run table v.front s n) (after n)
+            (answer_of_answer (window_run table w s (suc n)) (front_run table w.front s n) (front_run table v.front s n) (front_gains table w.front s rooted items n) (filled.pace n)) (h.pace n);
+        back = Follows-trans after (front_run table v.front s) (window_run table w s) h.back filled_follows;
+      }
 
   left_kept : (printed : List ℤ) (new : State) (left : Left) → LeftCut table v s printed new left → LeftKept table w s printed new left
   left_kept printed new (Rest rest) h =
@@ -130,11 +136,9 @@ module _ (table : Table) (w v : Window) (s : State) (rooted : IsRooted w.front) 
         back = λ n. let m = filled_follows n in (m.0, answers_as (after_printing printed (window_run table rest new n)) (front_run table v.front s n) (window_run table w s m.0) (sym (h.same n)) m.1);
         forms = h.forms;
       }
-  left_kept printed new (Gone region homes) h =
-      Agree-trans (window_run table w s) (front_run table v.front s) (λ n. after_printing printed (left_run table (Gone region homes) new n)) filled_agrees h
-  left_kept printed new Finished h = Agree-trans (window_run table w s) (front_run table v.front s) (λ n. after_printing printed (left_run table Finished new n)) filled_agrees h
-  left_kept printed new (Trapped_at kind line) h =
-      Agree-trans (window_run table w s) (front_run table v.front s) (λ n. after_printing printed (left_run table (Trapped_at kind line) new n)) filled_agrees h
+  left_kept printed new (Gone region homes) h = out_kept printed new (Gone region homes) h
+  left_kept printed new Finished h = out_kept printed new Finished h
+  left_kept printed new (Trapped_at kind line) h = out_kept printed new (Trapped_at kind line) h
 
   taken_kept : (taken : RowOutcome Left) → TakenCut table v s taken → TakenKept table w s taken
   taken_kept (Faults fault) h = absurd h

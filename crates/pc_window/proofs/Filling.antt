@@ -109,7 +109,8 @@ divides_bare : (tag origin : ℕ) (on : Operand) (from p q : Tree) → DividesTr
 divides_bare tag origin on from p q (Root_test p' q') bare = bare
 divides_bare tag origin on from p q (Past t o y rest p' q' divides) bare = bare
 
-enters_bare : (known : ℕ → Bool) (forms forms' : ℕ → Form) (new : Option ℕ) (comes : Option Item) (from to : Front) → EntersFront known forms forms' new comes from to → IsBare (whole from) → ⊥
+enters_bare : (known : ℕ → Bool) (forms forms' : ℕ → Form) (new : Option ℕ) (comes : Option Item) (from to : Front)
+    → EntersFront known forms forms' new comes from to → IsBare (whole from) → ⊥
 enters_bare known forms forms' new comes from to (Lands tag origin x t left reads isnew none same rises) bare = rises_bare forms tag origin x x false t left rises bare
 enters_bare known forms forms' new comes from to (Lands_renamed tag origin name stood t left reads isnew is gives rises) bare = rises_bare forms tag origin stood _ true t left rises bare
 enters_bare known forms forms' new comes from to (Lands_test tag origin on t p q reads none same divides) bare = divides_bare tag origin on t p q divides bare

@@ -19,7 +19,8 @@ use Rattle.pc_window.specs.Filled.{Priority, risen_place, divided_place, priorit
 
 -- ---- places
 
-risen_within : (forms : ℕ → Form) (tag origin : ℕ) (stood x : Item) (crosses : Bool) (from left : Tree) → (r : Rises forms tag origin stood x crosses from left) → risen_place r < tree_size from
+risen_within : (forms : ℕ → Form) (tag origin : ℕ) (stood x : Item) (crosses : Bool) (from left : Tree)
+    → (r : Rises forms tag origin stood x crosses from left) → risen_place r < tree_size from
 risen_within forms tag origin stood x crosses from left (Root rest unwritten) = omega arith
 risen_within forms tag origin stood x crosses from left (Past_item t o y c rest left' clear apart rises) = let a = risen_within forms tag origin stood x c rest left' rises in omega arith
 risen_within forms tag origin stood x crosses from left (Past_yes t o on c p q left' is unwritten rises) = let a = risen_within forms tag origin stood x c p left' rises in omega arith
@@ -140,7 +141,8 @@ dest_kind n m (More d) = refl
 same_next : (next : ℕ) (new new' : Option ℕ) (name name' : ℕ) (stood stood' : Item) → new ≡ dest_of (with_dest name stood) → new' ≡ dest_of (with_dest name' stood')
     → stood ≡ stood' → IsNext next new → IsNext next new' → new ≡ new'
 same_next next new new' name name' stood stood' p q same u u' =
-    by_kind new new' (ap (λ (d : Option ℕ). is_none d) p ∙ dest_kind name name' stood ∙ ap (λ (x : Item). is_none (dest_of (with_dest name' x))) same ∙ sym (ap (λ (d : Option ℕ). is_none d) q)) u u'
+    by_kind new new' (ap (λ (d : Option ℕ). is_none d) p ∙ dest_kind name name' stood
+    ∙ ap (λ (x : Item). is_none (dest_of (with_dest name' x))) same ∙ sym (ap (λ (d : Option ℕ). is_none d) q)) u u'
   where
     by_kind : (a b : Option ℕ) → is_none a ≡ is_none b → IsNext next a → IsNext next b → a ≡ b
     by_kind (Some a) (Some b) e u v = ap Some (u ∙ sym v)

@@ -39,7 +39,8 @@ home_of-homes_at homes (v ∷ vs) x h = at_first (nat_eq v x) refl (λ p. home_o
     further true e p = absurd (cc)
     further false e p = p
 
-    at_first : (b : Bool) → nat_eq v x ≡ b → (list_any (nat_eq x) vs ≡ true → home_of (homes_at homes vs) x ≡ homes x) → (if b then homes v else home_of (homes_at homes vs) x) ≡ homes x
+    at_first : (b : Bool) → nat_eq v x ≡ b → (list_any (nat_eq x) vs ≡ true → home_of (homes_at homes vs) x ≡ homes x)
+        → (if b then homes v else home_of (homes_at homes vs) x) ≡ homes x
     at_first true e next = ap homes (same e)
     at_first false e next = next (further (nat_eq x v) (other e) h)
 
@@ -92,7 +93,8 @@ module _ (table : Table) (keeps : TableKeeps table) (loop : Option ℕ) (tag : �
         ∙ sym (one_more table place later.units n);
   }
 
-  followed_copy : (origin variable : ℕ) (source : Operand) (rest : TableTree) (names : Supply) (homes : ℕ → Operand) (s : State) → HomesBelow names.next homes → FollowsRun table loop tag rest
+  followed_copy : (origin variable : ℕ) (source : Operand) (rest : TableTree) (names : Supply) (homes : ℕ → Operand) (s : State)
+      → HomesBelow names.next homes → FollowsRun table loop tag rest
       → Later table (walk table.arrays (graft table loop tag rest names (changed homes variable (at_home homes source))).tree s) (Does origin (Copy variable source) rest) (state_at homes s)
   unfolding FollowsRun
   followed_copy origin variable source rest names homes s below follows =

@@ -52,7 +52,8 @@ store_dependence_same known forms forms' same (Some a) (Some b) ha hb h = λ arr
 store_dependence_same known forms forms' same (Some a) None ha hb h = tt
 store_dependence_same known forms forms' same None b ha hb h = tt
 
-follows_same : (known : ℕ → Bool) (forms forms' : ℕ → Form) → SameKnownForms known forms forms' → (y x : Item) → ReadsKnown known y → ReadsKnown known x → MayFollow forms y x → MayFollow forms' y x
+follows_same : (known : ℕ → Bool) (forms forms' : ℕ → Form) → SameKnownForms known forms forms' → (y x : Item)
+    → ReadsKnown known y → ReadsKnown known x → MayFollow forms y x → MayFollow forms' y x
 follows_same known forms forms' same y x hy hx h = record {
   no_store_dependence = store_dependence_same known forms forms' same (touch_of y) (touch_of x) (touch_known known y hy) (touch_known known x hx) h.no_store_dependence;
   one_effect = h.one_effect;
@@ -69,7 +70,8 @@ independent_reads forms known (Issued t o x rest) h = (h.0, independent_reads fo
 independent_reads forms known (Split t o on p q) h = (independent_reads forms known p h.1, independent_reads forms known q h.2)
 independent_reads forms known (Unfinished rest) h = tt
 
-all_follow_same : (known : ℕ → Bool) (forms forms' : ℕ → Form) → SameKnownForms known forms forms' → (y : Item) → ReadsKnown known y → (front : Front) → AllItems (ReadsKnown known) front
+all_follow_same : (known : ℕ → Bool) (forms forms' : ℕ → Form) → SameKnownForms known forms forms'
+    → (y : Item) → ReadsKnown known y → (front : Front) → AllItems (ReadsKnown known) front
     → AllItems (MayFollow forms y) front → AllItems (MayFollow forms' y) front
 all_follow_same known forms forms' same y hy front reads h =
     all_items_both (ReadsKnown known) (MayFollow forms y) (MayFollow forms' y) (λ x r f. follows_same known forms forms' same y x hy r f) front reads h
@@ -159,7 +161,8 @@ counted known forms forms' new comes from to (On_no t o on c p q q' apart enters
     (omega arith, omega arith, omega arith)
 
 within_more : (limits : Limits) (comes : Option Item) (from to : Front) → HasSpace limits comes from → WithinLimits limits from
-    → item_count to ≡ one_item comes + item_count from → memory_count to ≡ one_memory comes + memory_count from → test_count to ≡ one_test comes + test_count from → WithinLimits limits to
+    → item_count to ≡ one_item comes + item_count from → memory_count to ≡ one_memory comes + memory_count from
+    → test_count to ≡ one_test comes + test_count from → WithinLimits limits to
 within_more limits (Some x) from to room within a b c = record {
   items = let r = room.0 in omega arith;
   memory = elim (is_memory x) as (λ m. (m ≡ true → memory_count from < limits.mem) → memory_count to ≡ (if m then 1 else 0) + memory_count from → memory_count to ≤ limits.mem) [

@@ -39,7 +39,8 @@ GoesOn-refl m σ = record { same = λ v h. refl }
 pub GoesOn-trans : (m n : ℕ) (σ τ υ : ℕ → ℤ) → m ≤ n → GoesOn m σ τ → GoesOn n τ υ → GoesOn m σ υ
 GoesOn-trans m n σ τ υ le p q = record { same = λ v h. let lt : v < n = omega arith in q.same v lt ∙ p.same v h }
 
-at_home_means : (σ : ℕ → ℤ) (forms : ℕ → Form) (values : ℕ → ℤ) (homes : ℕ → Operand) (o : Operand) → HomesMean σ forms values homes → OperandMeans σ forms values (at_home homes o)
+at_home_means : (σ : ℕ → ℤ) (forms : ℕ → Form) (values : ℕ → ℤ) (homes : ℕ → Operand) (o : Operand)
+    → HomesMean σ forms values homes → OperandMeans σ forms values (at_home homes o)
 at_home_means σ forms values homes (Name v) h = h.home v
 at_home_means σ forms values homes (Lit value) h = refl
 
@@ -90,14 +91,16 @@ OperandMeans-later names later σ τ values others (Name x) more goes b same lt 
     (Means-agree names.next_variable σ τ (names.forms x) (values x) goes.same (b.form x) h))
 OperandMeans-later names later σ τ values others (Lit value) more goes b same lt h = refl
 
-pub HomesMean-later : (names later : Supply) (σ τ : ℕ → ℤ) (values others : ℕ → ℤ) (homes : ℕ → Operand) → Extends names later → GoesOn names.next_variable σ τ → FormsBelow names
+pub HomesMean-later : (names later : Supply) (σ τ : ℕ → ℤ) (values others : ℕ → ℤ) (homes : ℕ → Operand)
+    → Extends names later → GoesOn names.next_variable σ τ → FormsBelow names
     → ((x : ℕ) → x < names.next → others x ≡ values x) → HomesBelow names.next homes → HomesMean σ names.forms values homes → HomesMean τ later.forms others homes
 unfolding HomesBelow
 HomesMean-later names later σ τ values others homes more goes b same below h =
     record { home = λ v. OperandMeans-later names later σ τ values others (homes v) more goes b same (below v) (h.home v) }
 
 -- one more home
-HomesMean-changed : (σ : ℕ → ℤ) (forms : ℕ → Form) (values : ℕ → ℤ) (homes : ℕ → Operand) (v : ℕ) (o : Operand) → OperandMeans σ forms values o → HomesMean σ forms values homes
+HomesMean-changed : (σ : ℕ → ℤ) (forms : ℕ → Form) (values : ℕ → ℤ) (homes : ℕ → Operand) (v : ℕ) (o : Operand)
+    → OperandMeans σ forms values o → HomesMean σ forms values homes
     → HomesMean σ forms values (changed homes v o)
 HomesMean-changed σ forms values homes v o h hs = record { home = λ x. by_test x (nat_eq v x) }
   where
@@ -145,8 +148,10 @@ brought-means lengths σ names homes s (More dest) h = tt
 -- ---- forms of a grafted tree
 
 module _ (table : Table) (loop : Option ℕ) (tag : ℕ) where
-  graft_item-below : (origin : ℕ) (b : Brought) (names : Supply) (homes : ℕ → Operand) (rest : Supply → (ℕ → Operand) → Grafted) → BelowIn names b → FormsBelow names → HomesBelow names.next homes
-      → ((names : Supply) (homes : ℕ → Operand) → FormsBelow names → HomesBelow names.next homes → FormsBelow (rest names homes).names) → FormsBelow (graft_item tag origin b names homes rest).names
+  graft_item-below : (origin : ℕ) (b : Brought) (names : Supply) (homes : ℕ → Operand) (rest : Supply → (ℕ → Operand) → Grafted)
+      → BelowIn names b → FormsBelow names → HomesBelow names.next homes
+      → ((names : Supply) (homes : ℕ → Operand) → FormsBelow names → HomesBelow names.next homes → FormsBelow (rest names homes).names)
+      → FormsBelow (graft_item tag origin b names homes rest).names
   graft_item-below origin (Moves_home variable from) names homes rest r b h next = next names (changed homes variable from) b (HomesBelow-changed names.next homes variable from r h)
   graft_item-below origin (Gets_name variable given form) names homes rest r b h next =
       next (with_name names form) (changed homes variable (Name names.next)) (with_name-below names form r b) (HomesBelow-new names form homes variable h)
@@ -248,7 +253,8 @@ module _ (table : Table) (loop : Option ℕ) (tag : ℕ) where
       → Held names.next_variable σ final.forms table.arrays (graft_item tag origin b names homes (graft table loop tag rest)).tree s
   unfolding GraftHolds
   held_item origin item rest names homes s σ final fb h m (Moves_home variable from) below means same more holds_for =
-      holds_for names (changed homes variable from) s σ final fb (HomesBelow-changed names.next homes variable from below h) (HomesMean-changed σ names.forms s.names homes variable from means m) more
+      holds_for names (changed homes variable from) s σ final fb (HomesBelow-changed names.next homes variable from below h)
+      (HomesMean-changed σ names.forms s.names homes variable from means m) more
   held_item origin item rest names homes s σ final fb h m (Gets_name variable given form) below means same more holds_for =
       held_named origin item given form variable rest names homes s σ final same.new fb h m below means more holds_for
   held_item origin item rest names homes s σ final fb h m (Stays_plain given) below means same more holds_for =

@@ -177,7 +177,8 @@ unfolding HomesBelow
 at_home_below n homes (Name v) h = h v
 at_home_below n homes (Lit value) h = tt
 
-pub HomesBelow-new : (names : Supply) (form : Option Form) (homes : ℕ → Operand) (v : ℕ) → HomesBelow names.next homes → HomesBelow (with_name names form).next (changed homes v (Name names.next))
+pub HomesBelow-new : (names : Supply) (form : Option Form) (homes : ℕ → Operand) (v : ℕ) → HomesBelow names.next homes
+    → HomesBelow (with_name names form).next (changed homes v (Name names.next))
 HomesBelow-new names form homes v h =
     let e = with_name-next names form in
     let lt : names.next < (with_name names form).next = omega arith in

@@ -92,7 +92,8 @@ no_effect forms x (y ∷ path) h is =
     only true b e k = e
     only false b e k = absurd (cc)
 
-paths_one_effect : (forms : ℕ → Form) (known : ℕ → Bool) (left : Tree → Left) (front : Front) → Independent forms known front → AllPaths (λ path. count_by is_effect path ≤ 1) left front
+paths_one_effect : (forms : ℕ → Form) (known : ℕ → Bool) (left : Tree → Left) (front : Front)
+    → Independent forms known front → AllPaths (λ path. count_by is_effect path ≤ 1) left front
 paths_one_effect forms known left (Issued t o x rest) h =
     map_of_all (λ path. count_by is_effect path ≤ 1) (λ path. x ∷ path) (paths_of (front_row left rest))
     (pair (AllByRecursion (MayFollow forms x)) (λ path. count_by is_effect path ≤ 1) (λ path. count_by is_effect (x ∷ path) ≤ 1)

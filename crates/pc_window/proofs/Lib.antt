@@ -43,3 +43,5 @@ pub mod Moving
 pub mod FirstJumps
 pub mod FilledRows
 pub mod LegalRows
+pub mod There
+pub mod Bare

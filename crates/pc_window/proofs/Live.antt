@@ -44,7 +44,8 @@ module _ (table : Table) (keeps : TableKeeps table) where
   arrive_needs (Traps_here kind line) x h = h
 
   item_same : (item : Item) (s t : State) (leaf : TableTree) (rest : Place → Seen) (f : Option MachineFault)
-      → prints_of s (item ∷ []) ≡ prints_of t (item ∷ []) → rest (place_at table leaf (state_after table.arrays s (item ∷ []))) ≡ rest (place_at table leaf (state_after table.arrays t (item ∷ [])))
+      → prints_of s (item ∷ []) ≡ prints_of t (item ∷ [])
+      → rest (place_at table leaf (state_after table.arrays s (item ∷ []))) ≡ rest (place_at table leaf (state_after table.arrays t (item ∷ [])))
       → seen_of (lead_on (commit_of table.arrays s (item ∷ []) leaf f) (place_at table)) rest ≡ seen_of (lead_on (commit_of table.arrays t (item ∷ []) leaf f) (place_at table)) rest
   item_same item s t leaf rest (Some fault) p q = refl
   item_same item s t leaf rest None p q = λ d. after_printing (p d) (q d)

@@ -76,7 +76,8 @@ moves_forms forms forms' new known from to (Below k t o z rest rest' apart moves
 moves_forms forms forms' new known from to (On_yes_side k t o on p q p' apart moves) y d = moves_forms forms forms' new k p p' moves y d
 moves_forms forms forms' new known from to (On_no_side k t o on p q q' apart moves) y d = moves_forms forms forms' new k q q' moves y d
 
-untouched : (lengths : List ℕ) (σ : ℕ → ℤ) (forms forms' : ℕ → Form) (new : Option ℕ) (side : Tree) (s : State) → ((y : ℕ) → writes new y ≡ false → forms' y ≡ forms y) → NotWritten new side
+untouched : (lengths : List ℕ) (σ : ℕ → ℤ) (forms forms' : ℕ → Form) (new : Option ℕ) (side : Tree) (s : State)
+    → ((y : ℕ) → writes new y ≡ false → forms' y ≡ forms y) → NotWritten new side
     → DefinedHold σ forms lengths side s → Moved lengths σ forms forms' new side side s
 untouched lengths σ forms forms' new side s same apart d =
     record {
@@ -131,19 +132,23 @@ moved lengths σ forms forms' new known from to s (Below k t o y rest rest' apar
     }
 moved lengths σ forms forms' new known from to s (On_yes_side k t o on p q p' apart moves) scoped holds' defines ok =
     pass (outcome_at_test σ forms forms' new (holds (operand_value s.names on)) (walk lengths p s) (walk lengths q s) (walk lengths p' s) (walk lengths q s)
-    (DefinedHold σ forms lengths p s) (DefinedHold σ forms lengths q s) (λ v. DefinedHold v forms' lengths p' s) (λ v. DefinedHold v forms' lengths q s) 0 0 0 0 (λ n. []) (λ n. []) (λ n. []) (λ n. [])
+    (DefinedHold σ forms lengths p s) (DefinedHold σ forms lengths q s) (λ v. DefinedHold v forms' lengths p' s)
+    (λ v. DefinedHold v forms' lengths q s) 0 0 0 0 (λ n. []) (λ n. []) (λ n. []) (λ n. [])
     (λ ok' d. moved lengths σ forms forms' new k p p' s moves scoped.1 holds' d ok')
     (λ ok' d. untouched lengths σ forms forms' new q s (moves_forms forms forms' new k p p' moves) apart d) ok defines)
   where
-    pass : {v w : Walked} {D : (ℕ → ℤ) → Type 0} {l m : ℕ} {p q : ℕ → List ℤ} → Outcome σ forms forms' new v w D l m p q → Outcome σ forms forms' new v w D 0 0 (λ n. []) (λ n. [])
+    pass : {v w : Walked} {D : (ℕ → ℤ) → Type 0} {l m : ℕ} {p q : ℕ → List ℤ}
+        → Outcome σ forms forms' new v w D l m p q → Outcome σ forms forms' new v w D 0 0 (λ n. []) (λ n. [])
     pass h = record { values = h.values; same_forms = h.same_forms; still = record { same = h.still.same; defines = h.still.defines; no_longer = omega arith; no_later = λ n. Begins-none [] } }
 moved lengths σ forms forms' new known from to s (On_no_side k t o on p q q' apart moves) scoped holds' defines ok =
     pass (outcome_at_test σ forms forms' new (holds (operand_value s.names on)) (walk lengths p s) (walk lengths q s) (walk lengths p s) (walk lengths q' s)
-    (DefinedHold σ forms lengths p s) (DefinedHold σ forms lengths q s) (λ v. DefinedHold v forms' lengths p s) (λ v. DefinedHold v forms' lengths q' s) 0 0 0 0 (λ n. []) (λ n. []) (λ n. []) (λ n. [])
+    (DefinedHold σ forms lengths p s) (DefinedHold σ forms lengths q s) (λ v. DefinedHold v forms' lengths p s)
+    (λ v. DefinedHold v forms' lengths q' s) 0 0 0 0 (λ n. []) (λ n. []) (λ n. []) (λ n. [])
     (λ ok' d. untouched lengths σ forms forms' new p s (moves_forms forms forms' new k q q' moves) apart d)
     (λ ok' d. moved lengths σ forms forms' new k q q' s moves scoped.2 holds' d ok') ok defines)
   where
-    pass : {v w : Walked} {D : (ℕ → ℤ) → Type 0} {l m : ℕ} {p q : ℕ → List ℤ} → Outcome σ forms forms' new v w D l m p q → Outcome σ forms forms' new v w D 0 0 (λ n. []) (λ n. [])
+    pass : {v w : Walked} {D : (ℕ → ℤ) → Type 0} {l m : ℕ} {p q : ℕ → List ℤ}
+        → Outcome σ forms forms' new v w D l m p q → Outcome σ forms forms' new v w D 0 0 (λ n. []) (λ n. [])
     pass h = record { values = h.values; same_forms = h.same_forms; still = record { same = h.still.same; defines = h.still.defines; no_longer = omega arith; no_later = λ n. Begins-none [] } }
 
 -- and names stay as they must be

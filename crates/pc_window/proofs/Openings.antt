@@ -74,14 +74,20 @@ grafted_region table keeps loop tag region names homes s below =
       same = λ n. later.same n ∙ ap (λ (t : TableTree). run_from (region_step table) (later.units + n) (record { tree = t; state = state_at homes s })) (keeps.begins region);
     }
 
+-- a region does not tell a state from the one in which each variable has the value of its first home
+pub first_same : (table : Table) → TableKeeps table → (region n : ℕ) (s : State)
+    → region_run table (Next region) (state_at first_home s) n ≡ region_run table (Next region) s n
+first_same table keeps region n s =
+    run_same table keeps n (region_tree table region) (state_at first_home s) s
+    (λ x h. ap (λ (b : Bool). operand_value s.names (if b then Name x else Lit (pos 0))) (below_is x first_new (keeps.small region x (keeps.live region x h)))) refl
+
 -- an opened region runs as the region does, from every state
 pub opened_agrees : (table : Table) → TableKeeps table → (loop : Option ℕ) (region : ℕ) (s : State)
     → Agree (free_run table (opened table loop region).tree s) (region_run table (Next region) s)
 opened_agrees table keeps loop region s =
     let later = grafted_region table keeps loop 0 region first_supply first_home s first_home-below in
     Agree-later (free_run table (opened table loop region).tree s) (region_run table (Next region) s) later.units (run_from-grows (region_step table) (place_at table (Next region) s))
-    (λ n. later.same n ∙ run_same table keeps (later.units + n) (region_tree table region) (state_at first_home s) s
-    (λ x h. ap (λ (b : Bool). operand_value s.names (if b then Name x else Lit (pos 0))) (below_is x first_new (keeps.small region x (keeps.live region x h)))) refl)
+    (λ n. later.same n ∙ first_same table keeps region (later.units + n) s)
 
 -- its forms hold on every state
 pub opened_holds : (table : Table) (loop : Option ℕ) (region : ℕ) (s : State) → TreeHolds (opened table loop region).names.forms table.arrays (opened table loop region).tree s

@@ -115,7 +115,8 @@ scoped_fewer (Pending t o x rest) known' known fewer enough h = (
   known_reads known' x (λ z e. enough z (or_first (reads x z) _ e)),
   new_fewer known' known fewer (dest_of x) h.1,
   scoped_fewer rest (and_dest known' x) (and_dest known x)
-      (λ z e. or_cases (writes (dest_of x) z) (known' z) (and_dest known x z ≡ true) e (λ k. or_first (writes (dest_of x) z) (known z) k) (λ k. or_comes (writes (dest_of x) z) (known z) (fewer z k)))
+      (λ z e. or_cases (writes (dest_of x) z) (known' z) (and_dest known x z ≡ true) e
+      (λ k. or_first (writes (dest_of x) z) (known z) k) (λ k. or_comes (writes (dest_of x) z) (known z) (fewer z k)))
       (λ z e. below z (writes (dest_of x) z) refl e) h.2,
 )
   where
@@ -153,5 +154,6 @@ independent_by forms known base base' (Split t o on p q) within enough scoped in
 )
 independent_by forms known base base' (Unfinished rest) within enough scoped independent = tt
 
-pub independent_parameters : (forms : ℕ → Form) (known : ℕ → Bool) (front : Front) → Scoped known (whole front) → Independent forms known front → Independent forms (uses (whole front)) front
+pub independent_parameters : (forms : ℕ → Form) (known : ℕ → Bool) (front : Front) → Scoped known (whole front)
+    → Independent forms known front → Independent forms (uses (whole front)) front
 independent_parameters forms known front scoped independent = independent_by forms known known (uses (whole front)) front (λ z e. e) (λ z b u. u) scoped independent

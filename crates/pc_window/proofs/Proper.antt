@@ -225,7 +225,8 @@ given_next names (Some name) (Some x) = by_form (combined names.forms x)
 given_next names (Some name) None = omega arith
 given_next names None comes = omega arith
 
-new_name_below : (names : Supply) (new : Option ℕ) (comes : Option Item) → IsNext names.next new → (new ≡ None) ⊎ (comes ≡ None → ⊥) → NameBelow (given_supply names new comes).next new
+new_name_below : (names : Supply) (new : Option ℕ) (comes : Option Item) → IsNext names.next new
+    → (new ≡ None) ⊎ (comes ≡ None → ⊥) → NameBelow (given_supply names new comes).next new
 new_name_below names (Some name) (Some x) is some = by_form (combined names.forms x)
   where
     by_form : (f : Option Form) → name < (with_name names f).next
@@ -235,7 +236,8 @@ new_name_below names (Some name) None is (inl e) = absurd (cc)
 new_name_below names (Some name) None is (inr f) = absurd (f refl)
 new_name_below names None comes is some = tt
 
-mapped_item_below : (n m : ℕ) (f : Operand → Operand) → n ≤ m → ((o : Operand) → OperandBelow n o → OperandBelow m (f o)) → (x : Item) → ItemBelow n x → ItemBelow m (map_operands f x)
+mapped_item_below : (n m : ℕ) (f : Operand → Operand) → n ≤ m → ((o : Operand) → OperandBelow n o → OperandBelow m (f o))
+    → (x : Item) → ItemBelow n x → ItemBelow m (map_operands f x)
 mapped_item_below n m f le h (Bin op d l r) b = let a = b.0 in (omega arith, h l b.1, h r b.2)
 mapped_item_below n m f le h (Copy d from) b = let a = b.0 in (omega arith, h from b.1)
 mapped_item_below n m f le h (Load d array i) b = let a = b.0 in (omega arith, h i b.1)
@@ -244,7 +246,8 @@ mapped_item_below n m f le h (Print v) b = h v b
 mapped_item_below n m f le h (Read d) b = omega arith
 mapped_item_below n m f le h (More d) b = omega arith
 
-mapped_homes_below : (n m : ℕ) (f : Operand → Operand) → ((o : Operand) → OperandBelow n o → OperandBelow m (f o)) → (homes : List Home) → StubBelow n homes → StubBelow m (map_homes f homes)
+mapped_homes_below : (n m : ℕ) (f : Operand → Operand) → ((o : Operand) → OperandBelow n o → OperandBelow m (f o))
+    → (homes : List Home) → StubBelow n homes → StubBelow m (map_homes f homes)
 mapped_homes_below n m f h [] b = tt
 mapped_homes_below n m f h (home ∷ homes) b = (h home.value b.0, mapped_homes_below n m f h homes b.1)
 
@@ -292,7 +295,8 @@ dest_below m (Print v) b = tt
 dest_below m (Read d) b = b
 dest_below m (More d) b = b
 
-rises_item : (n : ℕ) (forms : ℕ → Form) (tag origin : ℕ) (stood x : Item) (crosses : Bool) (from left : Tree) → Rises forms tag origin stood x crosses from left → TreeBelow n from → ItemBelow n stood
+rises_item : (n : ℕ) (forms : ℕ → Form) (tag origin : ℕ) (stood x : Item) (crosses : Bool) (from left : Tree)
+    → Rises forms tag origin stood x crosses from left → TreeBelow n from → ItemBelow n stood
 rises_item n forms tag origin stood x crosses from left (Root rest unwritten) b = b.0
 rises_item n forms tag origin stood x crosses from left (Past_item t o y c rest l clear apart rises) b = rises_item n forms tag origin stood x c rest l rises b.1
 rises_item n forms tag origin stood x crosses from left (Past_yes t o on c p q l is unwritten rises) b = rises_item n forms tag origin stood x c p l rises b.1

@@ -260,7 +260,8 @@ fresh_name n P new (inr e) none some = subst P (sym e) some
 
 -- an item that comes with a new name
 comes_renamed : (base known : ℕ → Bool) (forms : ℕ → Form) (n variable : ℕ) (tag origin place : ℕ) (x : Item) (from : Tree)
-    → ((z : ℕ) → base z ≡ true → known z ≡ true) → known n ≡ false → Unwritten n from → ((y : ℕ) → Without variable (forms y)) → ReadsKnown base x → CanRise forms x tag origin place true from
+    → ((z : ℕ) → base z ≡ true → known z ≡ true) → known n ≡ false → Unwritten n from
+    → ((y : ℕ) → Without variable (forms y)) → ReadsKnown base x → CanRise forms x tag origin place true from
     → Comes base known forms n variable tag origin place (Some x) (Unfinished from)
 comes_renamed base known forms n variable tag origin place x from within unknown unwritten without reads can =
     let z = with_dest n x in

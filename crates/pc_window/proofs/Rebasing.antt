@@ -64,7 +64,8 @@ cancel_left a k b h =
     none z = omega (arith, ints)
 
     rest : (z : ℤ) → (a +ℤ ((k *ℤ pos 1) +ℤ z)) +ℤ neg_ℤ (a +ℤ ((k *ℤ pos 0) +ℤ z)) ≡ k
-    rest z = ap (λ (y : ℤ). (a +ℤ (y +ℤ z)) +ℤ neg_ℤ (a +ℤ ((k *ℤ pos 0) +ℤ z))) (*ℤ_comm k (pos 1) ∙ one_times k) ∙ ap (λ (y : ℤ). (a +ℤ (k +ℤ z)) +ℤ neg_ℤ (a +ℤ (y +ℤ z))) (*ℤ-zero k) ∙ last a k z
+    rest z = ap (λ (y : ℤ). (a +ℤ (y +ℤ z)) +ℤ neg_ℤ (a +ℤ ((k *ℤ pos 0) +ℤ z))) (*ℤ_comm k (pos 1) ∙ one_times k)
+        ∙ ap (λ (y : ℤ). (a +ℤ (k +ℤ z)) +ℤ neg_ℤ (a +ℤ (y +ℤ z))) (*ℤ-zero k) ∙ last a k z
       where
         last : (a k z : ℤ) → (a +ℤ (k +ℤ z)) +ℤ neg_ℤ (a +ℤ (pos 0 +ℤ z)) ≡ k
         last a k z = omega (arith, ints)
@@ -106,7 +107,8 @@ module _ (y : ℕ) (f form : Form) (fb : FormBelow y f) (gb : FormBelow y form) 
       none : (z : ℤ) → z +ℤ neg_ℤ z ≡ pos 0
       none z = omega (arith, ints)
 
-  rewritten_by-means : (σ : ℕ → ℤ) (k value : ℤ) → int_wrap w32 k ≡ k → σ y ≡ number_of σ form → Means σ f value → Means σ (rewritten_by k (plus (variable_form y) (negsuc 0) form) f) value
+  rewritten_by-means : (σ : ℕ → ℤ) (k value : ℤ) → int_wrap w32 k ≡ k → σ y ≡ number_of σ form → Means σ f value
+      → Means σ (rewritten_by k (plus (variable_form y) (negsuc 0) form) f) value
   rewritten_by-means σ (pos zero) value word at h = h
   rewritten_by-means σ (pos (suc n)) value word at h =
       number_says σ (plus f (pos (suc n)) (plus (variable_form y) (negsuc 0) form)) value
@@ -206,7 +208,8 @@ Stage-variable next old m σ names n s =
     by_test x true q = (omega arith, tt)
     by_test x false q = q
 
-    to_test : (τ : ℕ → ℤ) (x : ℕ) (value : ℤ) (b : Bool) → nat_eq n x ≡ b → (nat_eq n x ≡ true → Means τ (variable_form names.next_variable) value) → Means τ (names.forms x) value
+    to_test : (τ : ℕ → ℤ) (x : ℕ) (value : ℤ) (b : Bool) → nat_eq n x ≡ b
+        → (nat_eq n x ≡ true → Means τ (variable_form names.next_variable) value) → Means τ (names.forms x) value
         → Means τ (if b then variable_form names.next_variable else names.forms x) value
     to_test τ x value true e p q = p e
     to_test τ x value false e p q = q
@@ -233,7 +236,8 @@ Stage-rewrite_all next y x form old σ gb fb at (n ∷ ns) names s =
     (λ lt value h. rewritten_by-means y (old n) form (fb n) gb σ k value (wrap_same (factor_of (old n).terms x)) at h))
 
 -- a new base
-Stage-make_base : (next : ℕ) (old : ℕ → Form) (m : ℕ) (σ : ℕ → ℤ) (all : List ℕ) (p x : ℕ) (names : Supply) → p < next → Stage next old m σ names → Stage next old m σ (make_base all p x names)
+Stage-make_base : (next : ℕ) (old : ℕ → Form) (m : ℕ) (σ : ℕ → ℤ) (all : List ℕ) (p x : ℕ) (names : Supply)
+    → p < next → Stage next old m σ names → Stage next old m σ (make_base all p x names)
 Stage-make_base next old m σ all p x names lt s =
     let y = names.next_variable in
     let form = names.forms p in
@@ -304,7 +308,8 @@ module _ (next : ℕ) (old : ℕ → Form) (m : ℕ) (σ : ℕ → ℤ) (all : L
       second_turns-stage ps (second_turn all p ts turned) lt.1 (second_turn-stage p ts turned lt.0 s)
 
 -- rebasing: whatever the old forms said under some values, the new ones say under values that go on from them
-pub rebased-stage : (tree : Tree) (names : Supply) (σ : ℕ → ℤ) → FormsBelow names → AllBelow names.next (parameters_of tree) → Stage names.next names.forms names.next_variable σ (rebased tree names)
+pub rebased-stage : (tree : Tree) (names : Supply) (σ : ℕ → ℤ) → FormsBelow names → AllBelow names.next (parameters_of tree)
+    → Stage names.next names.forms names.next_variable σ (rebased tree names)
 rebased-stage tree names σ b lt =
     let all = all_names tree in
     let start : Turned = record { names = names; bases = []; left = [] } in

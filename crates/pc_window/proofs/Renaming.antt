@@ -164,7 +164,8 @@ or_false : (a b : Bool) → (a || b) ≡ false → b ≡ false
 or_false false b e = e
 or_false true b e = absurd (cc)
 
-pub keeps_below : (f : Operand → Operand) (known : ℕ → Bool) (tag origin : ℕ) (x : Item) (rest : Tree) → WindowKeeps f known (Pending tag origin x rest) → WindowKeeps f (and_dest known x) rest
+pub keeps_below : (f : Operand → Operand) (known : ℕ → Bool) (tag origin : ℕ) (x : Item) (rest : Tree)
+    → WindowKeeps f known (Pending tag origin x rest) → WindowKeeps f (and_dest known x) rest
 keeps_below f known tag origin x rest keeps e new written = keeps e (or_false (writes (dest_of x) e) (known e) new) (λ u. written u.1)
 
 -- ---- trees

@@ -1,5 +1,6 @@
 -- An item that rises to the root, and a test that divides a tree, keep the walk and its forms.
-use Rattle.std.proofs.Common.{◌≡◌, ℕ, zero, suc, ◌≤◌, Bool, true, false, List, [], ◌∷◌, ◌++◌, Option, Some, None, refl, sym, ◌∙◌, ap, subst, drop, arith, ◌⊎◌, inl, inr}
+use Rattle.std.proofs.Common.{◌≡◌, ℕ, zero, suc, ◌≤◌, Bool, true, false, List, [], ◌∷◌, ◌++◌}
+use Rattle.std.proofs.Common.{Option, Some, None, refl, sym, ◌∙◌, ap, subst, drop, arith, ◌⊎◌, inl, inr}
 use Rattle.std.specs.Prelude.{ℤ, ◌||◌, if◌then◌else◌, nat_eq}
 use Rattle.std.proofs.lemmas.Bool.{eqb-true, eq-eqb}
 use Rattle.pc_word.specs.declared.item.Item.{Item}
@@ -289,7 +290,8 @@ renamed-keeps known stood x rest new e unknown written = kept (dest_of stood) (d
 -- ---- the walk is kept
 
 -- what is known where an item is to rise through a tree
-pub record Ready (lengths : List ℕ) (known : ℕ → Bool) (σ : ℕ → ℤ) (forms : ℕ → Form) (σ' : ℕ → ℤ) (forms' : ℕ → Form) (stood x : Item) (from : Tree) (s : State) : Type 0 where
+pub record Ready (lengths : List ℕ) (known : ℕ → Bool) (σ : ℕ → ℤ) (forms : ℕ → Form) (σ' : ℕ
+    → ℤ) (forms' : ℕ → Form) (stood x : Item) (from : Tree) (s : State) : Type 0 where
   pub scoped : Scoped known from
   pub reads : ReadsKnown known x
   pub new : IsNew known (dest_of x)
@@ -310,7 +312,8 @@ exchangeable lengths known σ forms s holds y x yreads xreads ynew xnew clear ap
 }
 
 -- an item brought to the root keeps the walk, where it is no fault, and the forms
-pub risen : (lengths : List ℕ) (σ : ℕ → ℤ) (forms : ℕ → Form) (σ' : ℕ → ℤ) (forms' : ℕ → Form) (tag origin : ℕ) (stood x : Item) (known : ℕ → Bool) (crosses : Bool) (from left : Tree) (s : State)
+pub risen : (lengths : List ℕ) (σ : ℕ → ℤ) (forms : ℕ → Form) (σ' : ℕ → ℤ) (forms' : ℕ
+    → Form) (tag origin : ℕ) (stood x : Item) (known : ℕ → Bool) (crosses : Bool) (from left : Tree) (s : State)
     → Rises forms tag origin stood x crosses from left → Ready lengths known σ forms σ' forms' stood x from s → IsWhole (walk lengths from s)
     → Still (walk lengths from s) (walk lengths (Pending tag origin x left) s) (DefinedHold σ' forms' lengths left (after_item lengths x s)) (walk_length lengths from s)
     (walk_length lengths left (after_item lengths x s))

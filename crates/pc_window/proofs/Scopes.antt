@@ -73,7 +73,8 @@ stays_new known known' t o x rest new stays = by_dest (dest_of x) refl new
     by_dest None is new = tt
     by_dest (Some e) is new = stays e new (λ u. absurd (let h : writes (dest_of x) e ≡ true = written (dest_of x) e is in let k : writes (dest_of x) e ≡ false = u.0 in cc))
 
-pub scoped_mapped : (f : Operand → Operand) (tree : Tree) (known known' : ℕ → Bool) → Scoped known tree → StaysKnown f known known' → StaysNew known known' tree → WindowKeeps f known tree
+pub scoped_mapped : (f : Operand → Operand) (tree : Tree) (known known' : ℕ → Bool) → Scoped known tree
+    → StaysKnown f known known' → StaysNew known known' tree → WindowKeeps f known tree
     → Scoped known' (mapped f tree)
 scoped_mapped f (Pending t o x rest) known known' scoped stays new keeps =
     let y = map_operands f x in

@@ -3,7 +3,7 @@ use Rattle.std.proofs.Common.{ℕ, Option, sym, subst}
 use Rattle.std.specs.Prelude.{Bool}
 use Rattle.pc_word.specs.declared.item.Item.{Item}
 use Rattle.pc_word.specs.declared.item.Limits.{Limits}
-use Rattle.pc_word.specs.Run.{Follows, Agree}
+use Rattle.pc_word.specs.Run.{Seen, Answers, Follows, Agree}
 use Rattle.pc_word.proofs.Runs.{Answers-refl, Follows-refl, Follows-trans, Agree-trans}
 use Rattle.pc_word.specs.State.{State}
 use Rattle.pc_linear.specs.Form.{Form}
@@ -13,7 +13,7 @@ use Rattle.pc_table.specs.TableKeeps.{TableKeeps, reads}
 use Rattle.pc_window.specs.Tree.{Tree, Pending, Undecided, Exit, Stop_exit, Trap_exit, Front, Issued, Split, Unfinished, whole, front_of}
 use Rattle.pc_window.specs.Hold.{TreeHolds}
 use Rattle.pc_window.specs.WindowRun.{Window, supply_of, tree_run, window_run, free_run}
-use Rattle.pc_window.specs.Opening.{Supply, Grafted, opened}
+use Rattle.pc_window.specs.Opening.{Supply, Grafted, first_supply, first_home, opened}
 use Rattle.pc_window.proofs.Once.{Sound}
 use Rattle.pc_window.specs.Unwinding.{Unwinds, unwinds_no_more, unwinds_once}
 use Rattle.pc_window.specs.Tidying.{tidied}
@@ -23,7 +23,8 @@ use Rattle.pc_window.specs.Filled.{Filled, Full, Goes_on}
 use Rattle.pc_word.specs.Row.{Row}
 use Rattle.pc_window.specs.Kept.{Left, KeepsPace, KeptIn, WindowKeeps, IsRooted, OpensAlike, HasFront, HasItems}
 use Rattle.pc_window.specs.Steps.{window_of, grafted_of, loop_of, Opens, UnwindsTo, Tidies, Rebases, FillsTo, cut_row, Cuts, IsProper}
-use Rattle.pc_window.proofs.Openings.{opened_agrees, opened_holds}
+use Rattle.pc_window.proofs.Openings.{first_home-below, first_same, opened_agrees, opened_holds}
+use Rattle.pc_window.proofs.GraftPaces.{region_pace}
 use Rattle.pc_window.proofs.Soundness.{unwound-sound}
 use Rattle.pc_window.proofs.Repeated.{once_is, unwinds_agrees, unwinds_holds}
 use Rattle.pc_window.proofs.Unwinding.{unwound_is, IsUnwound}
@@ -97,6 +98,13 @@ rebases_keep table w v is proper s forms never =
 
 -- ---- opening
 
+-- an opened region is not behind the region
+opened_pace : (table : Table) → TableKeeps table → (loop : Option ℕ) (region : ℕ) (s : State)
+    → KeepsPace (region_run table (Next region) s) (tree_run table (opened table loop region).tree s)
+opened_pace table keeps loop region s n =
+    subst (λ (x : Seen). Answers x (tree_run table (opened table loop region).tree s n) x.end) (first_same table keeps region n s)
+    (region_pace table keeps loop 0 region first_supply first_home s first_home-below n)
+
 pub opens_alike : (table : Table) → TableKeeps table → (limits : Limits) (region : ℕ) (w : Window) → Opens table limits region w → (s : State) → OpensAlike table region w s
 opens_alike table keeps limits region w is s =
     let g = opened table (loop_of table region) region in
@@ -105,6 +113,7 @@ opens_alike table keeps limits region w is s =
       forms = subst (λ (t : Tree). TreeHolds g.names.forms table.arrays t s) same (opened_holds table (loop_of table region) region s);
       agree = subst (λ (t : Tree). Agree (tree_run table t s) (region_run table (Next region) s)) same
           (Agree-trans (tree_run table g.tree s) (free_run table g.tree s) (region_run table (Next region) s) (free_agrees table g.tree s) (opened_agrees table keeps (loop_of table region) region s));
+      pace = subst (λ (t : Tree). KeepsPace (region_run table (Next region) s) (tree_run table t s)) same (opened_pace table keeps (loop_of table region) region s);
     })
 
 -- ---- fronts

@@ -18,7 +18,8 @@ size_mapped f (Exit region tag homes) = refl
 size_mapped f Stop_exit = refl
 size_mapped f (Trap_exit kind line) = refl
 
-size_risen : (forms : ℕ → Form) (tag origin : ℕ) (stood x : Item) (crosses : Bool) (from left : Tree) → Rises forms tag origin stood x crosses from left → suc (tree_size left) ≡ tree_size from
+size_risen : (forms : ℕ → Form) (tag origin : ℕ) (stood x : Item) (crosses : Bool) (from left : Tree)
+    → Rises forms tag origin stood x crosses from left → suc (tree_size left) ≡ tree_size from
 size_risen forms tag origin stood x crosses from left (Root rest unwritten) = ap suc (size_mapped _ rest)
 size_risen forms tag origin stood x crosses from left (Past_item t o y c rest left' clear apart rises) = ap suc (size_risen forms tag origin stood x c rest left' rises)
 size_risen forms tag origin stood x crosses from left (Past_yes t o on c p q left' is unwritten rises) = let a = size_risen forms tag origin stood x c p left' rises in omega arith
@@ -51,6 +52,7 @@ jumps_count known w v jump =
     let a = counted known w.forms v.forms jump.new jump.comes w.front v.front jump.enters in
     one_more jump.comes a.0 a.2
   where
-    one_more : (c : Option Item) → item_count v.front ≡ one_item c + item_count w.front → test_count v.front ≡ one_test c + test_count w.front → front_size v.front ≡ suc (front_size w.front)
+    one_more : (c : Option Item) → item_count v.front ≡ one_item c + item_count w.front
+        → test_count v.front ≡ one_test c + test_count w.front → front_size v.front ≡ suc (front_size w.front)
     one_more (Some x) p q = omega arith
     one_more None p q = omega arith

@@ -73,7 +73,8 @@ brought-given n names homes (More dest) le h = λ lt. lt
 
 module _ (table : Table) (loop : Option ℕ) (tag : ℕ) where
   graft_item-tree : (origin : ℕ) (b : Brought) (names : Supply) (homes : ℕ → Operand) (rest : TableTree) (n : ℕ) → GivenBelow n names b → HomesBelow names.next homes
-      → ((names : Supply) (homes : ℕ → Operand) → HomesBelow names.next homes → (graft table loop tag rest names homes).names.next ≤ n → TreeBelow n (graft table loop tag rest names homes).tree)
+      → ((names : Supply) (homes : ℕ → Operand) → HomesBelow names.next homes → (graft table loop tag rest names homes).names.next ≤ n
+      → TreeBelow n (graft table loop tag rest names homes).tree)
       → (graft_item tag origin b names homes (graft table loop tag rest)).names.next ≤ n → TreeBelow n (graft_item tag origin b names homes (graft table loop tag rest)).tree
   graft_item-tree origin (Moves_home variable from) names homes rest n g h next le = next names (changed homes variable from) (HomesBelow-changed names.next homes variable from g h) le
   graft_item-tree origin (Gets_name variable given form) names homes rest n g h next le =
@@ -188,7 +189,8 @@ module _ (table : Table) (loop : Option ℕ) (tag : ℕ) where
   graft-defines (Traps_here kind line) names homes x h = absurd (cc)
 
   graft_item-once : (origin : ℕ) (b : Brought) (names : Supply) (homes : ℕ → Operand) (rest : TableTree) → WritesNew names b
-      → ((names : Supply) (homes : ℕ → Operand) → OncePerPath (graft table loop tag rest names homes).tree) → OncePerPath (graft_item tag origin b names homes (graft table loop tag rest)).tree
+      → ((names : Supply) (homes : ℕ → Operand) → OncePerPath (graft table loop tag rest names homes).tree)
+      → OncePerPath (graft_item tag origin b names homes (graft table loop tag rest)).tree
   graft_item-once origin (Moves_home variable from) names homes rest w next = next names (changed homes variable from)
   graft_item-once origin (Gets_name variable given form) names homes rest w next =
       let names' = with_name names form in

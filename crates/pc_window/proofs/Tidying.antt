@@ -104,7 +104,8 @@ shown_agrees lengths Stop_exit s t a n = refl
 shown_agrees lengths (Trap_exit kind line) s t a n = refl
 
 -- and define the same
-pub defined_agrees : (σ : ℕ → ℤ) (forms : ℕ → Form) (lengths : List ℕ) (tree : Tree) (s t : State) → AgreeOn tree s t → DefinedHold σ forms lengths tree s → DefinedHold σ forms lengths tree t
+pub defined_agrees : (σ : ℕ → ℤ) (forms : ℕ → Form) (lengths : List ℕ) (tree : Tree) (s t : State)
+    → AgreeOn tree s t → DefinedHold σ forms lengths tree s → DefinedHold σ forms lengths tree t
 defined_agrees σ forms lengths (Pending tag origin item rest) s t a h =
     let alike = AgreeOn-alike tag origin item rest s t a in (
       subst (λ (z : ℤ). DefinedMeans σ forms (dest_of item) z) (Alike-value lengths s item t item alike) h.0,
@@ -131,7 +132,8 @@ record OnlyWrites (lengths : List ℕ) (item : Item) (dest : ℕ) : Type 0 where
   writes_it : dest_of item ≡ Some dest
   leaves : (s : State) → bare (state_after lengths s (item ∷ [])) ≡ bare s
 
-unused_agrees : (lengths : List ℕ) (item : Item) (dest : ℕ) (rest : Tree) (s : State) → OnlyWrites lengths item dest → uses rest dest ≡ false → AgreeOn rest (state_after lengths s (item ∷ [])) s
+unused_agrees : (lengths : List ℕ) (item : Item) (dest : ℕ) (rest : Tree) (s : State) → OnlyWrites lengths item dest
+    → uses rest dest ≡ false → AgreeOn rest (state_after lengths s (item ∷ [])) s
 unused_agrees lengths item dest rest s o u = record {
   name = λ x p.
       ap (λ (d : Option ℕ). if writes d x then value_of lengths s item else s.names x) o.writes_it
@@ -271,7 +273,8 @@ Tidy-test lengths tag origin on one one' other other' p q = record {
     ])
   ];
   still_holds = λ σ forms s h.
-      Side-map (holds (operand_value s.names on)) (DefinedHold σ forms lengths one' s) (DefinedHold σ forms lengths other' s) (DefinedHold σ forms lengths one s) (DefinedHold σ forms lengths other s)
+      Side-map (holds (operand_value s.names on)) (DefinedHold σ forms lengths one' s) (DefinedHold σ forms lengths other' s)
+      (DefinedHold σ forms lengths one s) (DefinedHold σ forms lengths other s)
       (λ d. p.still_holds σ forms s d) (λ d. q.still_holds σ forms s d) h;
   below = λ n h. (h.0, p.below n h.1, q.below n h.2);
   defines_less = λ x h. elim (or_is (defines one x) (defines other x) h) [

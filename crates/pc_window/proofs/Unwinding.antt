@@ -50,7 +50,8 @@ pub home_of-used : (homes : List Home) (v x : ℕ) → home_of homes v ≡ Name 
 home_of-used [] v x h = absurd (cc)
 home_of-used (home ∷ homes) v x h = by_test (nat_eq home.variable v) h (λ p. home_of-used homes v x p)
   where
-    by_test : (b : Bool) → (if b then home.value else home_of homes v) ≡ Name x → (home_of homes v ≡ Name x → homes_use homes x ≡ true) → (reads_name home.value x || homes_use homes x) ≡ true
+    by_test : (b : Bool) → (if b then home.value else home_of homes v) ≡ Name x
+        → (home_of homes v ≡ Name x → homes_use homes x ≡ true) → (reads_name home.value x || homes_use homes x) ≡ true
     by_test true p next = or_first (reads_name home.value x) (homes_use homes x) (ap (λ (o : Operand). reads_name o x) p ∙ nat_eq-same x)
     by_test false p next = or_second (reads_name home.value x) (homes_use homes x) (next p)
 
@@ -221,7 +222,8 @@ after_parameters σ forms lengths item rest s (Some y) value h m x u = by_test (
     by_test false e = h x (needed_above (reads item x) (nat_eq y x) (uses rest x) e u)
 
 -- forms hold on the rest after an item
-pub HoldUnder-after : (σ : ℕ → ℤ) (forms : ℕ → Form) (lengths : List ℕ) (tag origin : ℕ) (item : Item) (rest : Tree) (s : State) → HoldUnder σ forms lengths (Pending tag origin item rest) s
+pub HoldUnder-after : (σ : ℕ → ℤ) (forms : ℕ → Form) (lengths : List ℕ) (tag origin : ℕ) (item : Item) (rest : Tree) (s : State)
+    → HoldUnder σ forms lengths (Pending tag origin item rest) s
     → HoldUnder σ forms lengths rest (state_after lengths s (item ∷ []))
 HoldUnder-after σ forms lengths tag origin item rest s h = record {
   parameters = after_parameters σ forms lengths item rest s (dest_of item) (value_of lengths s item) h.parameters h.defined.0;
@@ -248,7 +250,8 @@ pub Side-map : (b : Bool) (A B C D : Type 0) → (A → C) → (B → D) → Sid
 Side-map true A B C D f g h = f h
 Side-map false A B C D f g h = g h
 
-pub defined_later : (names later : Supply) (σ τ : ℕ → ℤ) (lengths : List ℕ) (t : Tree) (s : State) → Extends names later → GoesOn names.next_variable σ τ → FormsBelow names → TreeBelow names.next t
+pub defined_later : (names later : Supply) (σ τ : ℕ → ℤ) (lengths : List ℕ) (t : Tree) (s : State)
+    → Extends names later → GoesOn names.next_variable σ τ → FormsBelow names → TreeBelow names.next t
     → DefinedHold σ names.forms lengths t s → DefinedHold τ later.forms lengths t s
 defined_later names later σ τ lengths (Pending tag origin item rest) s more goes b lt h = (
   defined_item names later σ τ item (value_of lengths s item) more goes b lt.0 h.0,
@@ -263,7 +266,8 @@ defined_later names later σ τ lengths Stop_exit s more goes b lt h = tt
 defined_later names later σ τ lengths (Trap_exit kind line) s more goes b lt h = tt
 
 -- a test's side, where forms hold on it if it is the one that is taken
-held_side : (σ : ℕ → ℤ) (forms later : ℕ → Form) (lengths : List ℕ) (m tag origin : ℕ) (on : Operand) (one other new new' : Tree) (s : State) (b : Bool) → holds (operand_value s.names on) ≡ b
+held_side : (σ : ℕ → ℤ) (forms later : ℕ → Form) (lengths : List ℕ) (m tag origin : ℕ) (on : Operand) (one other new new' : Tree) (s : State) (b : Bool)
+    → holds (operand_value s.names on) ≡ b
     → (DefinedHold σ forms lengths one s → Held m σ later lengths new s) → (DefinedHold σ forms lengths other s → Held m σ later lengths new' s)
     → DefinedHold σ forms lengths (Undecided tag origin on one other) s → Held m σ later lengths (Undecided tag origin on new new') s
 held_side σ forms later lengths m tag origin on one other new new' s true e f g h =
@@ -282,7 +286,8 @@ held_side σ forms later lengths m tag origin on one other new new' s false e f 
     }
 
 -- the homes of a stub whose parameters have the values of their forms
-stub_means : (σ : ℕ → ℤ) (forms : ℕ → Form) (region tag : ℕ) (homes : List Home) (s : State) → ParametersHold σ forms (Exit region tag homes) s → HomesMean σ forms s.names (home_of homes)
+stub_means : (σ : ℕ → ℤ) (forms : ℕ → Form) (region tag : ℕ) (homes : List Home) (s : State)
+    → ParametersHold σ forms (Exit region tag homes) s → HomesMean σ forms s.names (home_of homes)
 stub_means σ forms region tag homes s h = record { home = λ v. operand_means σ forms s.names (home_of homes v) (λ x e. h x (home_of-used homes v x e)) }
 
 module _ (table : Table) (loop : Option ℕ) (names after : Supply) (fb : FormsBelow names) where
@@ -343,12 +348,22 @@ module _ (table : Table) (loop : Option ℕ) (names after : Supply) (fb : FormsB
       let sides = side_parameters σ tag origin on one other s h.parameters in
       held_side σ names.forms after.forms table.arrays names.next_variable tag origin on one other new other s (holds (operand_value s.names on)) refl
       (λ d. unwound_held u b.1 s σ (record { parameters = sides.0; defined = d }))
-      (λ d. record { values = σ; goes_on = record { same = λ v lt. refl }; defined = defined_later names after σ σ table.arrays other s (unwound-extends u) (record { same = λ v lt. refl }) fb b.2 d })
+      (λ d. record {
+        values = σ;
+        goes_on = record { same = λ v lt. refl };
+        defined = defined_later names after σ σ table.arrays other s
+            (unwound-extends u) (record { same = λ v lt. refl }) fb b.2 d;
+      })
       h.defined
   unwound_held (at_no tag origin on one {other = other} {new = new} u) b s σ h =
       let sides = side_parameters σ tag origin on one other s h.parameters in
       held_side σ names.forms after.forms table.arrays names.next_variable tag origin on one other one new s (holds (operand_value s.names on)) refl
-      (λ d. record { values = σ; goes_on = record { same = λ v lt. refl }; defined = defined_later names after σ σ table.arrays one s (unwound-extends u) (record { same = λ v lt. refl }) fb b.1 d })
+      (λ d. record {
+        values = σ;
+        goes_on = record { same = λ v lt. refl };
+        defined = defined_later names after σ σ table.arrays one s
+            (unwound-extends u) (record { same = λ v lt. refl }) fb b.1 d;
+      })
       (λ d. unwound_held u b.2 s σ (record { parameters = sides.1; defined = d }))
       h.defined
 

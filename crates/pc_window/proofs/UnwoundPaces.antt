@@ -26,7 +26,8 @@ test_pace table true one other one' other' s n p q = p
 test_pace table false one other one' other' s n p q = q
 
 -- where a stub was unwound, n units show what they showed
-pub unwound_pace : (table : Table) → TableKeeps table → (loop : Option ℕ) (names after : Supply) {t u : Tree} → Unwound table loop names after t u → TreeBelow names.next t → (s : State) (n : ℕ)
+pub unwound_pace : (table : Table) → TableKeeps table → (loop : Option ℕ) (names after : Supply) {t u : Tree}
+    → Unwound table loop names after t u → TreeBelow names.next t → (s : State) (n : ℕ)
     → Answers (tree_run table t s n) (tree_run table u s n) (tree_run table t s n).end
 unwound_pace table keeps loop names after (at_stub region tag homes tree is kept) b s n =
     subst (λ (x : Seen). Answers x (tree_run table tree s n) x.end) (sym (beyond_is_region table n (place_at table (Next region) (state_at (home_of homes) s))))

@@ -56,7 +56,8 @@ single_window tree names limits inside g is single =
 -- ---- whether some element is so
 
 -- of one element more
-pub any_more : {X : Type 0} (f : X → Bool) (xs : List X) (at : ℕ) (x : X) → list_any f (take at xs) ≡ false → slice_get xs at ≡ Some x → f x ≡ false → list_any f (take (suc at) xs) ≡ false
+pub any_more : {X : Type 0} (f : X → Bool) (xs : List X) (at : ℕ) (x : X) → list_any f (take at xs) ≡ false
+    → slice_get xs at ≡ Some x → f x ≡ false → list_any f (take (suc at) xs) ≡ false
 any_more f [] at x h e f_no = absurd (cc)
 any_more f (y ∷ xs) zero x h e f_no = let same : y ≡ x = (cc) in or_made_false (f y) false (ap f same ∙ f_no) refl
 any_more f (y ∷ xs) (suc at) x h e f_no =

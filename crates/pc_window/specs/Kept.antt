@@ -54,10 +54,25 @@ pub record RestKept (table : Table) (w : Window) (s : State) (printed : List ℤ
   pub back : Follows (λ n. after_printing printed (window_run table rest new n)) (window_run table w s)
   pub forms : FormsHold table rest new
 
--- what is left goes on as the window before did: a window is a unit ahead, and else the runs agree
+-- nothing is left to do in a window: no item and no test
+abbrev pub IsBare : Tree → Type 0
+IsBare (Pending tag origin item rest) = ⊥
+IsBare (Undecided tag origin on on_yes on_no) = ⊥
+IsBare (Exit region tag homes) = Unit {0}
+IsBare Stop_exit = Unit {0}
+IsBare (Trap_exit kind line) = Unit {0}
+
+-- what was printed, and then what follows where no window is left: its run agrees with the one before and is not behind it,
+-- and it is a unit ahead where the window had an item or test
+pub record OutKept (table : Table) (w : Window) (s : State) (printed : List ℤ) (new : State) (left : Left) : Type 0 where
+  pub pace : KeepsPace (window_run table w s) (λ n. after_printing printed (left_run table left new n))
+  pub gains : (IsBare (whole w.front) → ⊥) → GainsUnit (window_run table w s) (λ n. after_printing printed (left_run table left new n))
+  pub back : Follows (λ n. after_printing printed (left_run table left new n)) (window_run table w s)
+
+-- what is left goes on as the window before did
 abbrev pub LeftKept : Table → Window → State → List ℤ → State → Left → Type 0
 LeftKept table w s printed new (Rest rest) = RestKept table w s printed new rest
-LeftKept table w s printed new left = Agree (window_run table w s) (λ n. after_printing printed (left_run table left new n))
+LeftKept table w s printed new left = OutKept table w s printed new left
 
 -- a row does not fault; what it prints and what is left at its leaf are the window's run
 abbrev pub TakenKept : Table → Window → State → RowOutcome Left → Type 0
@@ -67,14 +82,6 @@ TakenKept table w s (Commits printed new left) = LeftKept table w s printed new 
 -- so does a row, on each state where forms hold and the run never faults
 abbrev pub RowKeeps : Table → Window → Row Left → Type 0
 RowKeeps table w row = (s : State) → FormsHold table w s → NeverFaults (window_run table w s) → TakenKept table w s (row_step table.arrays row s)
-
--- nothing is left to do in a window: no item and no test
-abbrev pub IsBare : Tree → Type 0
-IsBare (Pending tag origin item rest) = ⊥
-IsBare (Undecided tag origin on on_yes on_no) = ⊥
-IsBare (Exit region tag homes) = Unit {0}
-IsBare Stop_exit = Unit {0}
-IsBare (Trap_exit kind line) = Unit {0}
 
 -- the front has the window's first item or test, if there is one
 abbrev pub IsRooted : Front → Type 0
@@ -101,10 +108,15 @@ pub record RestCut (table : Table) (w : Window) (s : State) (printed : List ℤ)
   pub forms : FormsHold table rest new
   pub items : IsBare (whole w.front) → ⊥
 
+-- what follows where no window is left: its run agrees with that of the front and of what stands behind it, and is not behind it
+pub record OutCut (table : Table) (w : Window) (s : State) (printed : List ℤ) (new : State) (left : Left) : Type 0 where
+  pub pace : KeepsPace (front_run table w.front s) (λ n. after_printing printed (left_run table left new n))
+  pub back : Follows (λ n. after_printing printed (left_run table left new n)) (front_run table w.front s)
+
 -- what was printed, and what is left, are the run of the front and of what stands behind it
 abbrev pub LeftCut : Table → Window → State → List ℤ → State → Left → Type 0
 LeftCut table w s printed new (Rest rest) = RestCut table w s printed new rest
-LeftCut table w s printed new left = Agree (front_run table w.front s) (λ n. after_printing printed (left_run table left new n))
+LeftCut table w s printed new left = OutCut table w s printed new left
 
 -- the row of a front does not fault; what it prints and what is left at its leaf are the run of the front and of what stands behind it
 abbrev pub TakenCut : Table → Window → State → RowOutcome Left → Type 0
@@ -117,10 +129,11 @@ CutKeeps table w row = (s : State) → FormsHold table w s → NeverFaults (wind
 
 -- ---- opening, and what begins with an item or a test
 
--- an opened window does what its region does, and its forms hold
+-- an opened window does what its region does and is not behind it, and its forms hold
 pub record OpensAlike (table : Table) (region : ℕ) (w : Window) (s : State) : Type 0 where
   pub forms : FormsHold table w s
   pub agree : Agree (window_run table w s) (region_run table (Next region) s)
+  pub pace : KeepsPace (region_run table (Next region) s) (window_run table w s)
 
 -- the front has an item or a test, and so has a row
 abbrev pub HasFront : Front → Type 0

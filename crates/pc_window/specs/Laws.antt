@@ -1,14 +1,15 @@
 -- The laws of windows. Each is the contract of a function of laws.rt, which does nothing.
-use Rattle.std.specs.Prelude.{◌≡◌, ℕ, suc, ◌≤◌, ℤ, Bool, List, length, nat_eq, Option}
-use Rattle.std.specs.List.{AllByRecursion, count_by, filter_map, IsDistinct}
+use Rattle.std.specs.Prelude.{◌≡◌, ℕ, suc, ◌≤◌, ℤ, Bool, true, List, length, nat_eq, Option, Some}
+use Rattle.std.specs.List.{AllByRecursion, count_by, filter_map, list_any, IsDistinct}
 use Rattle.pc_word.specs.declared.item.Limits.{Limits}
 use Rattle.pc_word.specs.State.{State}
 use Rattle.pc_word.specs.Items.{dest_of, is_memory, is_effect}
 use Rattle.pc_word.specs.Row.{Row, items_of, tests_of, paths_of, row_step}
 use Rattle.pc_linear.specs.Form.{Form}
-use Rattle.pc_table.specs.Table.{Table}
-use Rattle.pc_table.specs.TableKeeps.{TableKeeps}
-use Rattle.pc_window.specs.Tree.{Tree, whole}
+use Rattle.pc_table.specs.Table.{Table, region_tree, region_live}
+use Rattle.pc_table.specs.TableKeeps.{TableKeeps, untested}
+use Rattle.pc_window.specs.declared.home.Home.{Home}
+use Rattle.pc_window.specs.Tree.{Tree, Exit, whole}
 use Rattle.pc_window.specs.Names.{uses, IsNew, Scoped}
 use Rattle.pc_window.specs.Walk.{IsWhole, walk, outcome_walk}
 use Rattle.pc_window.specs.Hold.{HoldFor, TreeHolds}
@@ -18,13 +19,19 @@ use Rattle.pc_window.specs.Filled.{IsWindow, Jump, IsFirstJump, priority_of, Fil
 use Rattle.pc_window.specs.Ready.{HasFresh, ReadyPlace, BringsFrom, NotBehind}
 use Rattle.pc_window.specs.Move.{Moves}
 use Rattle.pc_window.specs.Kept.{Left, WindowKeeps, FillKeeps, CutKeeps, RowKeeps, IsRooted, OpensAlike, HasFront, HasItems}
+use Rattle.pc_window.specs.There.{PartsAreThere, RowIsThere}
 use Rattle.pc_window.specs.Steps.{opened_window, UnwindsTo, Tidies, Rebases, FillsTo, Cuts, front_row, Positive, IsProper, EachLeft}
 
 -- ---- opening
 
--- from every state an opened window does what its region does, and its forms hold
+-- from every state an opened window does what its region does and is not behind it, and its forms hold
 abbrev pub OpenedWindowsRunAsTheirRegion : Type 0
 OpenedWindowsRunAsTheirRegion = (table : Table) → TableKeeps table → (limits : Limits) (region : ℕ) (s : State) → OpensAlike table region (opened_window table limits region) s
+
+-- where it is a stub once it is tidied, its region's tree leads there without a test
+abbrev pub BareWindowsAreUntested : Type 0
+BareWindowsAreUntested = (table : Table) (limits : Limits) (region to tag : ℕ) (homes : List Home) (w : Window)
+    → Tidies (opened_window table limits region) w → whole w.front ≡ Exit to tag homes → untested (region_tree table region) ≡ Some to
 
 -- an opened window is proper, where its limits leave room
 abbrev pub OpenedWindowsAreProper : Type 0
@@ -40,11 +47,11 @@ UnwindingKeeps = (table : Table) → TableKeeps table → (number : ℕ) (w v : 
 abbrev pub UnwindingHasOneEnd : Type 0
 UnwindingHasOneEnd = (table : Table) (number : ℕ) (w a b : Window) → UnwindsTo table number w a → UnwindsTo table number w b → a ≡ b
 
--- so does tidying
+-- tidying keeps a proper window proper, its run, its pace and its forms
 abbrev pub TidyingKeeps : Type 0
 TidyingKeeps = (table : Table) (w v : Window) → Tidies w v → IsProper w → IsProper v × WindowKeeps table w v
 
--- a tidied tree has nothing that may go, and a tidied window has its first item or test, if there is one, in its front
+-- a tidied tree has nothing that may go
 abbrev pub TidiedTreesAreTidy : Type 0
 TidiedTreesAreTidy = (tree : Tree) → IsTidy (tidied tree)
 
@@ -52,7 +59,7 @@ TidiedTreesAreTidy = (tree : Tree) → IsTidy (tidied tree)
 abbrev pub TidiedWindowsAreRooted : Type 0
 TidiedWindowsAreRooted = (w v : Window) → Tidies w v → IsRooted v.front
 
--- so does rebasing
+-- rebasing keeps a proper window proper, its run, its pace and its forms
 abbrev pub RebasingKeeps : Type 0
 RebasingKeeps = (table : Table) (w v : Window) → Rebases w v → IsProper w → IsProper v × WindowKeeps table w v
 
@@ -113,6 +120,35 @@ pub record IsLegal (w : Window) (row : Row Left) : Type 0 where
 -- the row of a proper window is legal
 abbrev pub RowsAreLegal : Type 0
 RowsAreLegal = (table : Table) (w : Window) (row : Row Left) → Cuts table w row → IsProper w → IsLegal w row
+
+-- ---- what a window names is there
+
+-- an opened window names what is there, at tags of at most 1
+abbrev pub OpenedPartsAreThere : Type 0
+OpenedPartsAreThere = (table : Table) → TableKeeps table → (limits : Limits) (region : ℕ) → PartsAreThere table 1 (whole (opened_window table limits region).front)
+
+-- and its parameters are variables that are live at the region's head
+abbrev pub OpenedParametersAreLive : Type 0
+OpenedParametersAreLive = (table : Table) → TableKeeps table → (limits : Limits) (region x : ℕ)
+    → uses (whole (opened_window table limits region).front) x ≡ true → list_any (nat_eq x) (region_live table region) ≡ true
+
+-- what a window names stays there, and its tags as low, where it is tidied, rebased or filled
+abbrev pub TidiedPartsAreThere : Type 0
+TidiedPartsAreThere = (table : Table) (most : ℕ) (w v : Window) → Tidies w v → PartsAreThere table most (whole w.front) → PartsAreThere table most (whole v.front)
+
+abbrev pub RebasedPartsAreThere : Type 0
+RebasedPartsAreThere = (table : Table) (most : ℕ) (w v : Window) → Rebases w v → PartsAreThere table most (whole w.front) → PartsAreThere table most (whole v.front)
+
+abbrev pub FilledPartsAreThere : Type 0
+FilledPartsAreThere = (table : Table) (most : ℕ) (w v : Window) → FillsTo w v → PartsAreThere table most (whole w.front) → PartsAreThere table most (whole v.front)
+
+-- so is what the row names of a front that is cut, and what is left at its leaves
+abbrev pub CutPartsAreThere : Type 0
+CutPartsAreThere = (table : Table) (most : ℕ) (w : Window) (row : Row Left) → Cuts table w row → PartsAreThere table most (whole w.front) → RowIsThere table most row
+
+-- a parameter of a tidied window was one before
+abbrev pub TidyingAddsNoParameter : Type 0
+TidyingAddsNoParameter = (w v : Window) → Tidies w v → (x : ℕ) → uses (whole v.front) x ≡ true → uses (whole w.front) x ≡ true
 
 -- ---- what is ready, and moves
 

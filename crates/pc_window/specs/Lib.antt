@@ -16,6 +16,7 @@ pub mod Ready
 pub mod Move
 pub mod Kept
 pub mod Steps
+pub mod There
 pub mod StoredWindow
 pub mod Grafting
 pub mod Laws

@@ -3,11 +3,15 @@
 ghost use Rattle.pc_window.specs.Laws.{OpenedWindowsRunAsTheirRegion, OpenedWindowsAreProper, UnwindingKeeps, UnwindingHasOneEnd, TidyingKeeps, TidiedTreesAreTidy};
 ghost use Rattle.pc_window.specs.Laws.{TidiedWindowsAreRooted, RebasingKeeps, FillingKeeps, FillingHasOneEnd, FilledFrontsHaveItems, JumpsFillTheFront, FillingIsBounded};
 ghost use Rattle.pc_window.specs.Laws.{RowsDoWhatTheirPathsDo, CutPartsAreProper, CutsKeep, CutRowsHaveItems, FilledRowsKeep, RowsAreLegal, ReadyJumps, JumpsWereReady};
-ghost use Rattle.pc_window.specs.Laws.{FirstJumpsAreFirst, MovesKeep, ProperWindowsHaveFreshNames};
+ghost use Rattle.pc_window.specs.Laws.{FirstJumpsAreFirst, MovesKeep, ProperWindowsHaveFreshNames, BareWindowsAreUntested, OpenedPartsAreThere};
+ghost use Rattle.pc_window.specs.Laws.{OpenedParametersAreLive};
+ghost use Rattle.pc_window.specs.Laws.{TidiedPartsAreThere, TidyingAddsNoParameter, RebasedPartsAreThere, FilledPartsAreThere, CutPartsAreThere};
 
-/// From every state an opened window runs as its region does, and its forms hold; it is proper.
+/// From every state an opened window runs as its region does and is not behind it, and its forms
+/// hold; it is proper. Where it comes to nothing but a stub, its region leads there without a test.
 pub fn laws_of_opening()
     ensures runs { OpenedWindowsRunAsTheirRegion }
+    ensures bare { BareWindowsAreUntested }
     ensures proper { OpenedWindowsAreProper }
 {}
 
@@ -42,6 +46,18 @@ pub fn laws_of_cutting()
     ensures items { CutRowsHaveItems }
     ensures filled { FilledRowsKeep }
     ensures legal { RowsAreLegal }
+{}
+
+/// The arrays and stubs that a window names are there in its table: this is so of an opened window,
+/// whose parameters are live at its region's head, and of what is tidied, rebased, filled and cut.
+pub fn laws_of_tables()
+    ensures opened { OpenedPartsAreThere }
+    ensures live { OpenedParametersAreLive }
+    ensures tidied { TidiedPartsAreThere }
+    ensures fewer { TidyingAddsNoParameter }
+    ensures rebased { RebasedPartsAreThere }
+    ensures filled { FilledPartsAreThere }
+    ensures cut { CutPartsAreThere }
 {}
 
 /// A proper window has fresh names; what is ready and has room can jump, and nothing else does; the first jump brings what is first

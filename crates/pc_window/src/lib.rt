@@ -20,6 +20,7 @@ pub use grafting::{VARIABLES, graft};
 pub use home::Home;
 pub use laws::{
     laws_of_cutting, laws_of_filling, laws_of_moves, laws_of_opening, laws_of_settling,
+    laws_of_tables,
 };
 pub use loops::is_inside;
 pub use names::NameTable;

@@ -46,6 +46,7 @@ returns-in-Some c =
     ∙ word_add-is c.args.factor c.in-Some.found in
     c.put-in-Some.ensures
     ∙ ap (λ (z : ℤ). take c.place_of-place.result c.remove.new.self.items ++ prepended c.args.variable z (drop c.place_of-place.result c.remove.new.self.items)) sum
-    ∙ ap (λ (us : List Term). take c.place_of-place.result us ++ prepended c.args.variable (int_wrap w32 (c.args.factor +ℤ c.in-Some.found)) (drop c.place_of-place.result us)) c.remove.ensures.items
+    ∙ ap (λ (us : List Term). take c.place_of-place.result us ++ prepended c.args.variable
+    (int_wrap w32 (c.args.factor +ℤ c.in-Some.found)) (drop c.place_of-place.result us)) c.remove.ensures.items
     ∙ ap (λ (place : ℕ). take place (remove ts place) ++ prepended c.args.variable (int_wrap w32 (c.args.factor +ℤ c.in-Some.found)) (drop place (remove ts place))) at
     ∙ put_some c.args.variable c.args.factor c.in-Some.found ts some

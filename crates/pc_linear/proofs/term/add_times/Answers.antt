@@ -32,5 +32,6 @@ loop-term-preserved c =
     let room = c.loop-term.invariant.room in
     record {
       room = rw added (omega (arith, longer, shorter, room));
-      sum = ap (λ (us : List Term). add_times number (drop (at + 1) more) us) added ∙ sym (at_drop_more (λ (ts : List Term). add_times number ts before) more at blank lt) ∙ c.loop-term.invariant.sum;
+      sum = ap (λ (us : List Term). add_times number (drop (at + 1) more) us) added
+          ∙ sym (at_drop_more (λ (ts : List Term). add_times number ts before) more at blank lt) ∙ c.loop-term.invariant.sum;
     }
