@@ -2,3 +2,4 @@ pub mod models
 pub mod StoredRow
 pub mod Automaton
 pub mod AutomatonRun
+pub mod RunsAsRegion

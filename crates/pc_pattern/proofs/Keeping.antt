@@ -6,8 +6,9 @@ use Rattle.pc_word.specs.State.{State}
 use Rattle.pc_word.proofs.Runs.{Follows-trans, Answers-after}
 use Rattle.pc_table.specs.Table.{Table}
 use Rattle.pc_table.specs.TableKeeps.{TableKeeps}
+use Rattle.pc_window.specs.Tree.{whole}
 use Rattle.pc_window.specs.WindowRun.{Window, window_run, FormsHold}
-use Rattle.pc_window.specs.Kept.{KeepsPace, GainsUnit, NeverFaults, KeptIn, WindowKeeps, RestKept}
+use Rattle.pc_window.specs.Kept.{KeepsPace, GainsUnit, NeverFaults, KeptIn, WindowKeeps, RestKept, IsBare}
 use Rattle.pc_window.specs.Steps.{IsProper}
 use Rattle.pc_window.proofs.Paces.{answer_of_answer, NeverFaults-follows}
 use Rattle.pc_window.proofs.Proper.{unwinds_proper, tidies_proper, rebases_proper}
@@ -16,12 +17,13 @@ use Rattle.pc_pattern.specs.Pairs.{Pair, Correspond}
 use Rattle.pc_pattern.specs.Searches.{Rules, Settles, BringsOn}
 
 -- what is owed where windows are taken for the same: they have the same run where corresponding parameters have the same
--- values, and the forms of the other hold where those of the one do
+-- values, the forms of the other hold where those of the one do, and the other has an item or test where the one has
 pub record SameKeeps (rules : Rules) : Type 0 where
   pub runs : (pairs : List Pair) (w v : Window) (s t : State) → rules.Same pairs w v → Correspond pairs s t
       → (n : ℕ) → window_run rules.table w s n ≡ window_run rules.table v t n
   pub forms : (pairs : List Pair) (w v : Window) (s t : State) → rules.Same pairs w v → Correspond pairs s t
       → FormsHold rules.table w s → FormsHold rules.table v t
+  pub items : (pairs : List Pair) (w v : Window) → rules.Same pairs w v → (IsBare (whole w.front) → ⊥) → IsBare (whole v.front) → ⊥
 
 -- runs after the same list follow if the runs do
 Follows-after : (out : List ℤ) (X Y : Run) → Follows X Y → Follows (λ n. after_printing out (X n)) (λ n. after_printing out (Y n))
@@ -52,9 +54,10 @@ WindowKeeps-trans table w v u p q s forms never =
 -- what is unwound and tidied is proper and keeps run and forms, and so is what is brought on
 pub settles_keep : (rules : Rules) → TableKeeps rules.table → (w v : Window) → Settles rules w v → IsProper w → IsProper v × WindowKeeps rules.table w v
 settles_keep rules keeps w v h p =
-    let one = unwinds_proper rules.table rules.number w h.unwound h.unwinds p in
-    (tidies_proper h.unwound v h.tidies one,
-     WindowKeeps-trans rules.table w h.unwound v (unwinds_keep rules.table keeps rules.number w h.unwound h.unwinds p) (tidies_keep rules.table h.unwound v h.tidies))
+    let one = unwinds_proper rules.table rules.number w h.unwound h.unwinds p in (
+      tidies_proper h.unwound v h.tidies one,
+      WindowKeeps-trans rules.table w h.unwound v (unwinds_keep rules.table keeps rules.number w h.unwound h.unwinds p) (tidies_keep rules.table h.unwound v h.tidies),
+    )
 
 pub brings_on_keeps : (rules : Rules) → TableKeeps rules.table → (w v : Window) → BringsOn rules w v → IsProper w → IsProper v × WindowKeeps rules.table w v
 brings_on_keeps rules keeps w v h p =

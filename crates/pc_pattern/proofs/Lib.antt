@@ -10,4 +10,5 @@ pub mod Members
 pub mod Determinism
 pub mod RowsFit
 pub mod Automata
+pub mod FirstRows
 pub mod Patterns

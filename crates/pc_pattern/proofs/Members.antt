@@ -4,7 +4,7 @@ use Rattle.std.specs.Prelude.{Option, Some, None, slice_get}
 use Rattle.std.specs.List.{AllByRecursion}
 use Rattle.std.proofs.lemmas.Option.{slice_get_within}
 use Rattle.pc_word.specs.declared.item.Limits.{Limits}
-use Rattle.pc_word.specs.Run.{Agree}
+use Rattle.pc_word.specs.Run.{Answers, Agree}
 use Rattle.pc_word.proofs.Runs.{Agree-trans}
 use Rattle.pc_word.proofs.Lists.{all_both, all_at}
 use Rattle.pc_word.specs.State.{State}
@@ -12,16 +12,26 @@ use Rattle.pc_word.specs.Row.{Row, Then, Either, At_leaf, leaves_of}
 use Rattle.pc_table.specs.Table.{Table, Next}
 use Rattle.pc_table.specs.TableKeeps.{TableKeeps}
 use Rattle.pc_table.specs.RegionRun.{region_run}
-use Rattle.pc_window.specs.Tree.{Pending, Undecided, Exit, Stop_exit, Trap_exit, Front, Issued, Split, Unfinished, whole}
+use Rattle.std.specs.Prelude.{Bool, true, false}
+use Rattle.pc_word.specs.declared.item.Item.{Item}
+use Rattle.pc_word.specs.declared.item.Operand.{Operand}
+use Rattle.pc_linear.specs.Form.{Form}
+use Rattle.pc_window.specs.Names.{uses}
+use Rattle.pc_window.specs.Rename.{with_dest}
+use Rattle.pc_window.specs.Jump.{Rises, Root, Past_item, Past_yes, Past_no, DividesTree, Root_test, Past, EntersFront, Lands, Lands_renamed, Lands_test}
+use Rattle.pc_window.specs.Jump.{Lands_once, Behind_item, On_yes, On_no}
+use Rattle.pc_window.specs.Filled.{Filled, Full, Goes_on}
+use Rattle.pc_window.specs.Tree.{Tree, Pending, Undecided, Exit, Stop_exit, Trap_exit, Front, Issued, Split, Unfinished, whole}
 use Rattle.pc_window.specs.WindowRun.{Window, window_run}
-use Rattle.pc_window.specs.Kept.{Left, NeverFaults, IsRooted, HasFront, HasItems}
-use Rattle.pc_window.specs.Steps.{LeftIs, EachLeft, Positive, IsProper, opened_window}
-use Rattle.pc_window.proofs.Paces.{NeverFaults-follows}
+use Rattle.pc_window.specs.Kept.{Left, NeverFaults, IsBare, IsRooted, HasFront, HasItems}
+use Rattle.pc_window.specs.Steps.{LeftIs, EachLeft, Positive, IsProper, cut_row, opened_window}
+use Rattle.pc_window.proofs.Paces.{answer_of_answer, NeverFaults-follows}
 use Rattle.pc_window.proofs.Proper.{opens_proper, fills_proper, cuts_proper}
 use Rattle.pc_window.proofs.Settling.{opens_alike, tidies_roots, fills_front, cuts_front}
 use Rattle.pc_automaton.specs.declared.automaton.AutomatonLeaf.{AutomatonLeaf}
 use Rattle.pc_automaton.specs.Automaton.{AutomatonState}
 use Rattle.pc_automaton.specs.AutomatonRun.{automaton_run}
+use Rattle.pc_automaton.specs.RunsAsRegion.{RunsAlike}
 use Rattle.pc_pattern.specs.Pairs.{Pair}
 use Rattle.pc_pattern.specs.NamedRow.{RowsNamed, named_item, named_test, named_leaf}
 use Rattle.pc_pattern.specs.Searches.{Rules, Settles, bare_leaf, Looks, looks_new, looks_known, looks_bare, looks_out, looks_end, looks_trap}
@@ -40,6 +50,52 @@ pub EachLeft-leaves : (P : Window → Type 0) (row : Row Left) → EachLeft P ro
 EachLeft-leaves P (Then item rest) h = EachLeft-leaves P rest h
 EachLeft-leaves P (Either on on_yes on_no) h = all_both (LeftIs P) (leaves_of on_yes) (leaves_of on_no) (EachLeft-leaves P on_yes h.0) (EachLeft-leaves P on_no h.1)
 EachLeft-leaves P (At_leaf leaf) h = (h, tt)
+
+-- ---- rows that match
+
+pub matched_items : {L M : Type 0} {R : List Pair → L → M → Type 0} {names : List Pair} {row : Row L} {other : Row M} → RowsNamed R names row other → HasItems row → HasItems other
+matched_items (named_item name h) items = tt
+matched_items (named_test h k) items = tt
+matched_items (named_leaf h) items = items
+
+pub matched_back : {L M : Type 0} {R : List Pair → L → M → Type 0} {names : List Pair} {row : Row L} {other : Row M} → RowsNamed R names row other → HasItems other → HasItems row
+matched_back (named_item name h) items = tt
+matched_back (named_test h k) items = tt
+matched_back (named_leaf h) items = items
+
+-- ---- windows without items and tests
+
+risen_items : (forms : ℕ → Form) (tag origin : ℕ) (stood x : Item) (crosses : Bool) (from left : Tree) → Rises forms tag origin stood x crosses from left → IsBare from → ⊥
+risen_items forms tag origin stood x crosses from left (Root rest unwritten) bare = bare
+risen_items forms tag origin stood x crosses from left (Past_item t o y c rest left' clear apart rises) bare = bare
+risen_items forms tag origin stood x crosses from left (Past_yes t o on c p q left' is unwritten rises) bare = bare
+risen_items forms tag origin stood x crosses from left (Past_no t o on c p q left' is unwritten rises) bare = bare
+
+divided_items : (tag origin : ℕ) (on : Operand) (from p q : Tree) → DividesTree tag origin on from p q → IsBare from → ⊥
+divided_items tag origin on from p q (Root_test p' q') bare = bare
+divided_items tag origin on from p q (Past t o y rest p' q' divides) bare = bare
+
+entered_items : (known : ℕ → Bool) (forms forms' : ℕ → Form) (new : Option ℕ) (comes : Option Item) (from to : Front) → EntersFront known forms forms' new comes from to
+    → IsBare (whole from) → ⊥
+entered_items known forms forms' new comes from to (Lands tag origin x t left reads isnew none same rises) bare = risen_items forms tag origin x x false t left rises bare
+entered_items known forms forms' new comes from to (Lands_renamed tag origin name stood t left reads isnew is gives rises) bare =
+    risen_items forms tag origin stood (with_dest name stood) true t left rises bare
+entered_items known forms forms' new comes from to (Lands_test tag origin on t p q reads none same divides) bare = divided_items tag origin on t p q divides bare
+entered_items known forms forms' new comes from to (Lands_once t o on tag origin tag' origin' name stood other c c' p q l m equal reads isnew is gives rises rises') bare = bare
+entered_items known forms forms' new comes from to (Behind_item t o y c rest rest' may apart enters) bare = bare
+entered_items known forms forms' new comes from to (On_yes t o on c p q p' apart enters) bare = bare
+entered_items known forms forms' new comes from to (On_no t o on c p q q' apart enters) bare = bare
+
+-- filling leaves such a window as it is
+pub bare_fills : (known : ℕ → Bool) (w v : Window) → Filled known w v → IsBare (whole w.front) → v ≡ w
+bare_fills known w v (Full w' none) bare = refl
+bare_fills known w v (Goes_on w' v' u jump first filled) bare = absurd (entered_items known w'.forms v'.forms jump.new jump.comes w'.front v'.front jump.enters bare)
+
+-- and its row has neither
+bare_cut : (table : Table) (w : Window) (front : Front) → IsBare (whole front) → HasItems (cut_row table w front) → ⊥
+bare_cut table w (Issued tag origin item rest) bare items = bare
+bare_cut table w (Split tag origin on on_yes on_no) bare items = bare
+bare_cut table w (Unfinished rest) bare items = items
 
 module _ (rules : Rules) (keeps : TableKeeps rules.table) (room : Positive rules.limits) (region : ℕ) where
   abbrev Rooted : Window → Type 0
@@ -115,10 +171,26 @@ module _ (rules : Rules) (keeps : TableKeeps rules.table) (room : Positive rules
   begins_with (takes search at row) = begins_with search
   begins_with (looks search adds) = begins_more adds (begins_with search)
 
+  -- an element that is found is one
+  same_found : {X : Type 0} (a b : X) → Some a ≡ Some b → a ≡ b
+  same_found a b e = cc
+
+  -- the first row has neither item nor test where the first member has none
+  first_items : (members : List Window) (states : List AutomatonState) → Automates rules members states → (w : Window) → slice_get members 0 ≡ Some w → (first : AutomatonState)
+      → slice_get states 0 ≡ Some first → HasItems first.row → IsBare (whole w.front) → ⊥
+  first_items members states auto w at first here items bare =
+      let e = auto.each 0 w at in
+      let row = e.2.row_for in
+      let cut = matched_back e.2.matches (subst (λ (x : AutomatonState). HasItems x.row) (sym (same_found e.0 first (sym e.1 ∙ here))) items) in
+      bare_cut rules.table w w.front bare
+      (subst (λ (v : Window). HasItems (cut_row rules.table v v.front)) (bare_fills (uses (whole w.front)) w row.filled row.fills bare)
+      (subst (λ (r : Row Left). HasItems r) row.cuts cut))
+
   -- where a search is closed, its automaton does what the region does, in every state from which the region's run never faults
-  pub closed_agrees : SameKeeps rules → (members : List Window) (states : List AutomatonState) → IsClosed rules region members → Automates rules members states
-      → (s : State) → NeverFaults (region_run rules.table (Next region) s) → Agree (automaton_run rules.table states s) (region_run rules.table (Next region) s)
-  closed_agrees same_keeps members states closed auto s never =
+  pub closed_runs : SameKeeps rules → (members : List Window) (states : List AutomatonState) → IsClosed rules region members → Automates rules members states
+      → (first : AutomatonState) → slice_get states 0 ≡ Some first → (s : State) → NeverFaults (region_run rules.table (Next region) s)
+      → RunsAlike rules.table region states first s
+  closed_runs same_keeps members states closed auto first here s never =
       let b = begins_with closed.1 in
       let o = opens_alike rules.table keeps rules.limits region b.opened b.opens s in
       let p = opens_proper rules.table rules.limits region b.opened room b.opens in
@@ -126,14 +198,21 @@ module _ (rules : Rules) (keeps : TableKeeps rules.table) (room : Positive rules
       NeverFaults-follows (window_run rules.table b.opened s) (region_run rules.table (Next region) s) o.agree.forth never in
       let k = (settles_keep rules keeps b.opened b.first b.settles p).1 s o.forms never_opened in
       let at : slice_get members 0 ≡ Some b.first = ap (λ (ws : List Window). slice_get ws 0) b.at in
-      Agree-trans (automaton_run rules.table states s) (window_run rules.table b.first s) (region_run rules.table (Next region) s)
-      (state_agrees rules keeps same_keeps members states auto (λ number w here. all_at Rooted members number w (members_rooted closed.1) here)
-        (λ number w here. all_at IsProper members number w (members_proper closed.1).0 here) 0 b.first s at k.forms (never_kept rules.table b.opened b.first s k never_opened))
-      (Agree-trans (window_run rules.table b.first s) (window_run rules.table b.opened s) (region_run rules.table (Next region) s)
-      (record { forth = k.back; back = λ n. (n, k.pace n) }) o.agree)
+      let r = state_agrees rules keeps same_keeps members states auto (λ number w here. all_at Rooted members number w (members_rooted closed.1) here)
+      (λ number w here. all_at IsProper members number w (members_proper closed.1).0 here) 0 b.first s at k.forms (never_kept rules.table b.opened b.first s k never_opened) in
+      let X = region_run rules.table (Next region) s in
+      let level : (n : ℕ) → Answers (X n) (window_run rules.table b.first s n) (X n).end =
+      λ n. answer_of_answer (X n) (window_run rules.table b.opened s n) (window_run rules.table b.first s n) (o.pace n) (k.pace n) in
+      record {
+        agree = Agree-trans (automaton_run rules.table states s) (window_run rules.table b.first s) X r.agree
+            (Agree-trans (window_run rules.table b.first s) (window_run rules.table b.opened s) X (record { forth = k.back; back = λ n. (n, k.pace n) }) o.agree);
+        pace = λ items n. answer_of_answer (X n) (window_run rules.table b.first s n) (automaton_run rules.table states s n) (level n)
+            (r.pace (first_items members states auto b.first at first here items) n);
+        behind = λ n. answer_of_answer (X n) (window_run rules.table b.first s n) (automaton_run rules.table states s (suc n)) (level n) (r.behind n);
+      }
 
   -- a front that is rooted has an item or a test, where something is left to do
-  rooted_front : (front : Front) → IsRooted front → bare_leaf (whole front) ≡ None → HasFront front
+  pub rooted_front : (front : Front) → IsRooted front → bare_leaf (whole front) ≡ None → HasFront front
   rooted_front (Issued tag origin item rest) rooted left = tt
   rooted_front (Split tag origin on on_yes on_no) rooted left = tt
   rooted_front (Unfinished (Pending tag origin item rest)) rooted left = absurd rooted
@@ -141,11 +220,6 @@ module _ (rules : Rules) (keeps : TableKeeps rules.table) (room : Positive rules
   rooted_front (Unfinished (Exit to tag homes)) rooted left = absurd (cc)
   rooted_front (Unfinished Stop_exit) rooted left = absurd (cc)
   rooted_front (Unfinished (Trap_exit kind line)) rooted left = absurd (cc)
-
-  matched_items : {L M : Type 0} {R : List Pair → L → M → Type 0} {names : List Pair} {row : Row L} {other : Row M} → RowsNamed R names row other → HasItems row → HasItems other
-  matched_items (named_item name h) items = tt
-  matched_items (named_test h k) items = tt
-  matched_items (named_leaf h) items = items
 
   -- each state but the first has a row with an item or a test
   no_empty_state : (members : List Window) (states : List AutomatonState) → IsClosed rules region members → Automates rules members states
@@ -165,9 +239,6 @@ module _ (rules : Rules) (keeps : TableKeeps rules.table) (room : Positive rules
   element_within [] number h = absurd (let k : number < 0 = h in omega arith)
   element_within (x ∷ xs) zero h = (x, refl)
   element_within (x ∷ xs) (suc number) h = element_within xs number (omega (arith, h))
-
-  same_found : {X : Type 0} (a b : X) → Some a ≡ Some b → a ≡ b
-  same_found a b e = cc
 
   -- each state is that of a member
   pub state_of : (members : List Window) (states : List AutomatonState) → Automates rules members states → (number : ℕ) (state : AutomatonState)

@@ -7,18 +7,21 @@ use Rattle.pc_automaton.specs.Automaton.{AutomatonState}
 use Rattle.pc_pattern.specs.Pattern.{packed, RowFits}
 use Rattle.pc_pattern.specs.Laws.{PatternsRunAsTheRegion, PatternsHaveNoEmptyStates, PatternsFit, PatternsAreAutomata, SearchesHaveOneAnswer, SearchesAreOne}
 use Rattle.pc_pattern.proofs.Keeping.{SameKeeps}
-use Rattle.pc_pattern.proofs.Members.{closed_agrees, no_empty_states}
+use Rattle.pc_pattern.proofs.Members.{closed_runs, no_empty_states}
+use Rattle.pc_pattern.proofs.FirstRows.{first_untested}
 use Rattle.pc_pattern.proofs.RowsFit.{states_fit}
 use Rattle.pc_pattern.proofs.Automata.{all_from_places, are_automaton}
 use Rattle.pc_pattern.proofs.Determinism.{search_one, one_answer}
 
 -- nothing is owed where no two windows are taken for the same
 packed_keeps : (table : Table) (limits : Limits) → SameKeeps (packed table limits)
-packed_keeps table limits = record { runs = λ pairs w v s t same c n. absurd same; forms = λ pairs w v s t same c h. absurd same }
+packed_keeps table limits = record { runs = λ pairs w v s t same c n. absurd same; forms = λ pairs w v s t same c h. absurd same; items = λ pairs w v same h bare. absurd same }
 
 pub patterns_run : PatternsRunAsTheRegion
-patterns_run table keeps limits room region rows states p =
-    closed_agrees (packed table limits) keeps room region (packed_keeps table limits) p.members states p.closed p.automates
+patterns_run table keeps limits room region rows states p = record {
+  alike = closed_runs (packed table limits) keeps room region (packed_keeps table limits) p.members states p.closed p.automates;
+  untested = first_untested table keeps limits room region p.members states p.closed p.automates;
+}
 
 pub patterns_no_empty : PatternsHaveNoEmptyStates
 patterns_no_empty table keeps limits room region rows states p at state here =

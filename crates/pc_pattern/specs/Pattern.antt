@@ -2,7 +2,6 @@
 use Rattle.std.specs.Prelude.{◌≡◌, ℕ, suc, ◌≤◌, List, length, Some, slice_get}
 use Rattle.std.specs.List.{AllByRecursion, count_by}
 use Rattle.pc_word.specs.declared.item.Limits.{Limits}
-use Rattle.pc_word.specs.Run.{Agree}
 use Rattle.pc_word.specs.State.{State}
 use Rattle.pc_word.specs.Items.{is_memory, is_effect}
 use Rattle.pc_word.specs.Row.{Row, items_of, tests_of, paths_of}
@@ -10,7 +9,7 @@ use Rattle.pc_table.specs.Table.{Table, Next}
 use Rattle.pc_table.specs.RegionRun.{region_run}
 use Rattle.pc_window.specs.Kept.{NeverFaults, HasItems}
 use Rattle.pc_automaton.specs.Automaton.{AutomatonState}
-use Rattle.pc_automaton.specs.AutomatonRun.{automaton_run}
+use Rattle.pc_automaton.specs.RunsAsRegion.{RunsAlike, LeadsUntested}
 use Rattle.pc_pattern.specs.Searches.{Rules, IsPattern}
 
 -- nothing is unwound with window number 1, and no two windows are taken for the same
@@ -28,10 +27,11 @@ pub record RowFits {L : Type 0} (limits : Limits) (row : Row L) : Type 0 where
 abbrev pub NoneIsEmpty : List AutomatonState → Type 0
 NoneIsEmpty states = (at : ℕ) (state : AutomatonState) → slice_get states (suc at) ≡ Some state → HasItems state.row
 
--- from every state from which the region's run never faults, the states do what the region does
-abbrev pub RunsAsTheRegion : Table → ℕ → List AutomatonState → Type 0
-RunsAsTheRegion table region states =
-    (s : State) → NeverFaults (region_run table (Next region) s) → Agree (automaton_run table states s) (region_run table (Next region) s)
+-- from every state from which the region's run never faults, the states do what the region does, and are not behind it; the
+-- first leads out without an item or test only to a region to which its own leads without a test
+pub record RunsAsTheRegion (table : Table) (region : ℕ) (states : List AutomatonState) : Type 0 where
+  pub alike : (first : AutomatonState) → slice_get states 0 ≡ Some first → (s : State) → NeverFaults (region_run table (Next region) s) → RunsAlike table region states first s
+  pub untested : (first : AutomatonState) → slice_get states 0 ≡ Some first → LeadsUntested table region first.row
 
 -- the packed code of a region, of at most so many states
 pub record IsPacked (table : Table) (limits : Limits) (region rows : ℕ) (states : List AutomatonState) : Type 0 where
