@@ -11,3 +11,4 @@ pub mod Determinism
 pub mod RowsFit
 pub mod Automata
 pub mod Patterns
+pub mod LedWindows

@@ -4,6 +4,7 @@
 
 mod error;
 mod laws;
+mod leading;
 mod renaming;
 
 pub use error::SearchError;

@@ -21,7 +21,7 @@ use Rattle.pc_pattern.specs.declared.error.SearchError.{SearchError}
 use Rattle.pc_pattern.specs.declared.error.SearchError.TheVariants.{Memory, NoPattern}
 use Rattle.pc_pattern.specs.Pairs.{Pair, defined}
 use Rattle.pc_pattern.specs.Searches.{bare_leaf}
-use Rattle.pc_pattern.specs.models.Renaming.{renamed_homes, renamed_leaf, arguments_for}
+use Rattle.pc_pattern.specs.models.Renaming.{renamed_homes, renamed_bare, arguments_for}
 
 -- a window rebased and tidied
 abbrev pub brought_on : Window → Window
@@ -34,17 +34,21 @@ pub record LedLeaf : Type 0 where
   pub leaf : AutomatonLeaf
   pub waiting : List Window
 
--- a window that was brought on is a leaf, or waits, and is then a member behind all that were taken or wait
-abbrev pub led_window : ℕ → List Pair → List Window → Window → Option AutomatonLeaf → LedLeaf
-led_window taken names waiting w None = record {
+-- the leaf that a window is, if it is one, or else the member that it will be behind all that were taken or wait
+abbrev pub led_as : ℕ → List Pair → List Window → Window → Option AutomatonLeaf → LedLeaf
+led_as taken names waiting w None = record {
   leaf = To (taken + length waiting) (arguments_for names (parameters_of (whole w.front)));
   waiting = waiting ++ (w ∷ []);
 }
-led_window taken names waiting w (Some leaf) = record { leaf = renamed_leaf names leaf; waiting = waiting }
+led_as taken names waiting w (Some leaf) = record { leaf = leaf; waiting = waiting }
+
+-- a window that was brought on
+abbrev pub led_window : ℕ → List Pair → List Window → Window → LedLeaf
+led_window taken names waiting w = led_as taken names waiting w (renamed_bare names (bare_leaf (whole w.front)))
 
 -- what is left at a leaf
 abbrev pub led_left : ℕ → List Pair → List Window → Left → LedLeaf
-led_left taken names waiting (Rest w) = led_window taken names waiting (brought_on w) (bare_leaf (whole (brought_on w).front))
+led_left taken names waiting (Rest w) = led_window taken names waiting (brought_on w)
 led_left taken names waiting (Gone region homes) = record { leaf = Out region (renamed_homes names homes); waiting = waiting }
 led_left taken names waiting Finished = record { leaf = Stop; waiting = waiting }
 led_left taken names waiting (Trapped_at kind line) = record { leaf = Trap kind line; waiting = waiting }
