@@ -12,3 +12,7 @@ pub mod RowsFit
 pub mod Automata
 pub mod Patterns
 pub mod LedWindows
+pub mod Steps
+pub mod LedRows
+pub mod States
+pub mod Progress

@@ -41,7 +41,7 @@ fn brought_on(alloc: Global, window: Window) -> Result<Window, WindowError>
 }
 
 /// Puts a window behind those that wait.
-fn put_behind(window: Window, waiting: &mut VecDeque<Window>) -> Result<(), AllocError>
+pub(crate) fn put_behind(window: Window, waiting: &mut VecDeque<Window>) -> Result<(), AllocError>
     ensures { OnOk result (waiting.new.items ≡ waiting.old.items ++ window ∷ []) }
 {
     waiting.push_back(window)?;
