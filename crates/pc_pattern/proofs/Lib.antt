@@ -16,3 +16,5 @@ pub mod Steps
 pub mod LedRows
 pub mod States
 pub mod Progress
+pub mod Turns
+pub mod Packed
