@@ -104,7 +104,7 @@ others_themselves [] = refl
 others_themselves (x ∷ xs) = ap (λ (l : List ℕ). x ∷ l) (others_themselves xs)
 
 -- what corresponds to a name is among the names of the other side
-other_there : (pairs : List Pair) (x y : ℕ) → corresponds pairs x y ≡ true → is_in y (others pairs) ≡ true
+pub other_there : (pairs : List Pair) (x y : ℕ) → corresponds pairs x y ≡ true → is_in y (others pairs) ≡ true
 other_there [] x y h = absurd (cc)
 other_there (pair ∷ pairs) x y h = by (nat_eq pair.one x) (nat_eq pair.other y) refl (corresponds pairs x y) h (other_there pairs x y)
   where

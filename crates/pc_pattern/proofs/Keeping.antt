@@ -82,11 +82,3 @@ rest_kept_on table w v u s t out r never keeps =
 -- what is left never faults
 pub never_left : (table : Table) (w v : Window) (s t : State) (out : List ℤ) → RestKept table w s out t v → NeverFaults (window_run table w s) → NeverFaults (window_run table v t)
 never_left table w v s t out r never = NeverFaults-follows (λ n. after_printing out (window_run table v t n)) (window_run table w s) r.back never
-
--- the run of what is left, after what the row printed, agrees
-pub rest_kept_agrees : (table : Table) (w v : Window) (s t : State) (out : List ℤ) → RestKept table w s out t v
-    → Agree (λ n. after_printing out (window_run table v t n)) (window_run table w s)
-rest_kept_agrees table w v s t out r = record {
-  forth = r.back;
-  back = GainsUnit-follows (window_run table w s) (λ n. after_printing out (window_run table v t n)) refl r.pace;
-}

@@ -12,3 +12,10 @@ pub mod RowsFit
 pub mod Automata
 pub mod FirstRows
 pub mod Patterns
+pub mod LedWindows
+pub mod Steps
+pub mod LedRows
+pub mod States
+pub mod Progress
+pub mod Turns
+pub mod Packed

@@ -174,7 +174,7 @@ each_left P Q f (At_leaf (Rest w)) h = f w h
 each_left P Q f (At_leaf left) h = h
 
 module _ (rules : Rules) (region : ℕ) where
-  abbrev Limited : Window → Type 0
+  abbrev pub Limited : Window → Type 0
   Limited w = w.limits ≡ rules.limits
 
   limited_more : {members more : List Window} {left : Left} → Looks rules members left more → LeftIs Limited left → AllByRecursion Limited members → AllByRecursion Limited more
@@ -187,7 +187,7 @@ module _ (rules : Rules) (region : ℕ) where
   limited_more looks_trap p h = h
 
   -- each member has the limits of the search
-  members_limited : {steps number : ℕ} {members : List Window} {lefts : List Left} → Search rules region steps members number lefts
+  pub members_limited : {steps number : ℕ} {members : List Window} {lefts : List Left} → Search rules region steps members number lefts
       → AllByRecursion Limited members × AllByRecursion (LeftIs Limited) lefts
   members_limited (begins {opened} {first} opens settles) = ((settles_limits rules opened first settles ∙ ap (λ (u : Window). u.limits) opens, tt), tt)
   members_limited (takes {number} {members} {w} {row} search at row_for) =

@@ -10,7 +10,9 @@ use Rattle.pc_table.specs.RegionRun.{region_run}
 use Rattle.pc_window.specs.Kept.{NeverFaults, HasItems}
 use Rattle.pc_automaton.specs.Automaton.{AutomatonState}
 use Rattle.pc_automaton.specs.RunsAsRegion.{RunsAlike, LeadsUntested}
-use Rattle.pc_pattern.specs.Searches.{Rules, IsPattern}
+use Rattle.pc_pattern.specs.declared.error.SearchError.{SearchError}
+use Rattle.pc_pattern.specs.declared.error.SearchError.TheVariants.{Memory, NoPattern}
+use Rattle.pc_pattern.specs.Searches.{Rules, IsPattern, HasNoPattern}
 
 -- nothing is unwound with window number 1, and no two windows are taken for the same
 abbrev pub packed : Table → Limits → Rules
@@ -40,3 +42,8 @@ pub record IsPacked (table : Table) (limits : Limits) (region rows : ℕ) (state
   pub runs : RunsAsTheRegion table region states
   pub fits : AllByRecursion (λ state. RowFits limits state.row) states
   pub no_empty : NoneIsEmpty states
+
+-- why there is none: want of memory, or more windows than so many
+abbrev pub IsUnpacked : Table → Limits → ℕ → ℕ → SearchError → Type 0
+IsUnpacked table limits region rows Memory = Unit {0}
+IsUnpacked table limits region rows (NoPattern reached) = (reached ≡ suc rows) × HasNoPattern (packed table limits) region rows

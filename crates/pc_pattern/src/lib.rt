@@ -4,7 +4,10 @@
 
 mod error;
 mod laws;
+mod leading;
 mod renaming;
+mod searching;
 
 pub use error::SearchError;
 pub use laws::{laws_of_patterns, laws_of_searches};
+pub use searching::search;

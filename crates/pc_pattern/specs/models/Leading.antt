@@ -1,6 +1,7 @@
 -- The row of a state, made from a cut row: with new names, and with leaves that lead on; and the windows that come to wait.
 use Rattle.std.specs.Prelude.{◌≡◌, ℕ, suc, ◌+◌, ◌<◌, ◌≤◌, ◌^◌, true, List, [], ◌∷◌, ◌++◌, length, Option, Some, None}
 use Rattle.std.specs.List.{AllByRecursion}
+use Rattle.pc_word.specs.MachineLimits.{most_ops, most_tests}
 use Rattle.pc_word.specs.Items.{dest_of}
 use Rattle.pc_word.specs.Row.{Row, Then, Either, At_leaf}
 use Rattle.pc_table.specs.Table.{Table}
@@ -21,7 +22,7 @@ use Rattle.pc_pattern.specs.declared.error.SearchError.{SearchError}
 use Rattle.pc_pattern.specs.declared.error.SearchError.TheVariants.{Memory, NoPattern}
 use Rattle.pc_pattern.specs.Pairs.{Pair, defined}
 use Rattle.pc_pattern.specs.Searches.{bare_leaf}
-use Rattle.pc_pattern.specs.models.Renaming.{renamed_homes, renamed_leaf, arguments_for}
+use Rattle.pc_pattern.specs.models.Renaming.{renamed_homes, renamed_bare, arguments_for}
 
 -- a window rebased and tidied
 abbrev pub brought_on : Window → Window
@@ -34,17 +35,21 @@ pub record LedLeaf : Type 0 where
   pub leaf : AutomatonLeaf
   pub waiting : List Window
 
--- a window that was brought on is a leaf, or waits, and is then a member behind all that were taken or wait
-abbrev pub led_window : ℕ → List Pair → List Window → Window → Option AutomatonLeaf → LedLeaf
-led_window taken names waiting w None = record {
+-- the leaf that a window is, if it is one, or else the member that it will be behind all that were taken or wait
+abbrev pub led_as : ℕ → List Pair → List Window → Window → Option AutomatonLeaf → LedLeaf
+led_as taken names waiting w None = record {
   leaf = To (taken + length waiting) (arguments_for names (parameters_of (whole w.front)));
   waiting = waiting ++ (w ∷ []);
 }
-led_window taken names waiting w (Some leaf) = record { leaf = renamed_leaf names leaf; waiting = waiting }
+led_as taken names waiting w (Some leaf) = record { leaf = leaf; waiting = waiting }
+
+-- a window that was brought on
+abbrev pub led_window : ℕ → List Pair → List Window → Window → LedLeaf
+led_window taken names waiting w = led_as taken names waiting w (renamed_bare names (bare_leaf (whole w.front)))
 
 -- what is left at a leaf
 abbrev pub led_left : ℕ → List Pair → List Window → Left → LedLeaf
-led_left taken names waiting (Rest w) = led_window taken names waiting (brought_on w) (bare_leaf (whole (brought_on w).front))
+led_left taken names waiting (Rest w) = led_window taken names waiting (brought_on w)
 led_left taken names waiting (Gone region homes) = record { leaf = Out region (renamed_homes names homes); waiting = waiting }
 led_left taken names waiting Finished = record { leaf = Stop; waiting = waiting }
 led_left taken names waiting (Trapped_at kind line) = record { leaf = Trap kind line; waiting = waiting }
@@ -85,20 +90,31 @@ pub record IsSettled (w : StoredWindow) : Type 0 where
 
 -- ---- states
 
+-- the most items and tests that a front has
+abbrev pub most_in_front : ℕ
+most_in_front = most_ops + most_tests
+
 -- the state of a window: it is filled and cut, and its row leads on
 pub record Made (table : Table) (taken : ℕ) (w : Window) (waiting : List Window) (state : AutomatonState) (later : List Window) : Type 0 where
   pub parameters : state.parameters ≡ parameters_of (whole w.front)
   pub filled : Window
   pub fills : FillsTo w filled
+  pub grown : filled.next ≤ w.next + most_in_front
   pub cut : Row Left
   pub cuts : Cuts table filled cut
   pub row : state.row ≡ (led taken [] filled.next waiting cut).row
   pub waits : later ≡ (led taken [] filled.next waiting cut).waiting
 
--- it would have more members come to wait than there may be
-pub record Exceeds (table : Table) (taken rows : ℕ) (w : Window) (waiting : List Window) (error : SearchError) : Type 0 where
+-- more members than so many come to wait behind the row of a window
+pub record Exceeds (table : Table) (taken rows : ℕ) (w : Window) (waiting : List Window) (reached : ℕ) : Type 0 where
   pub filled : Window
   pub fills : FillsTo w filled
   pub cut : Row Left
   pub cuts : Cuts table filled cut
-  pub refuses : Refuses rows (taken + length (led taken [] filled.next waiting cut).waiting) error
+  pub is : reached ≡ suc rows
+  pub many : rows < taken + length (led taken [] filled.next waiting cut).waiting
+
+-- why a window has no state
+abbrev pub IsUnmade : Table → ℕ → ℕ → Window → List Window → SearchError → Type 0
+IsUnmade table taken rows w waiting Memory = Unit {0}
+IsUnmade table taken rows w waiting (NoPattern reached) = Exceeds table taken rows w waiting reached

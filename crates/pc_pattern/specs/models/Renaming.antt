@@ -1,5 +1,5 @@
 -- Names of a state's row in place of those of a window.
-use Rattle.std.specs.Prelude.{ℕ, if◌then◌else◌, nat_eq, List, [], ◌∷◌, map}
+use Rattle.std.specs.Prelude.{ℕ, if◌then◌else◌, nat_eq, List, [], ◌∷◌, map, Option, Some, None}
 use Rattle.pc_word.specs.declared.item.Operand.{Operand}
 use Rattle.pc_word.specs.declared.item.Operand.TheVariants.{Name, Lit}
 use Rattle.pc_window.specs.declared.home.Home.{Home}
@@ -39,3 +39,8 @@ renamed_leaf names (To number arguments) = To number arguments
 renamed_leaf names (Out region homes) = Out region (renamed_homes names homes)
 renamed_leaf names Stop = Stop
 renamed_leaf names (Trap kind line) = Trap kind line
+
+-- the same, if it is one
+abbrev pub renamed_bare : List Pair → Option AutomatonLeaf → Option AutomatonLeaf
+renamed_bare names None = None
+renamed_bare names (Some leaf) = Some (renamed_leaf names leaf)
