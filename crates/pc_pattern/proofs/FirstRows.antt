@@ -54,7 +54,7 @@ unwinds_none : (table : Table) (loop : Option ℕ) (g k : Grafted) → Unwinds t
 unwinds_none table loop g k (unwinds_no_more h none) = refl
 unwinds_none table loop g k (unwinds_once a b c once more) = absurd (cc)
 
-unwound_same : (table : Table) (w v : Window) → UnwindsTo table 1 w v → whole v.front ≡ whole w.front
+pub unwound_same : (table : Table) (w v : Window) → UnwindsTo table 1 w v → whole v.front ≡ whole w.front
 unwound_same table w v h =
     ap (λ (u : Window). whole u.front) h.is ∙ whole_front_of h.unwound.tree ∙ ap (λ (g : Grafted). g.tree) (unwinds_none table w.inside (grafted_of w) h.unwound h.unwinds)
 

@@ -19,3 +19,4 @@ pub mod States
 pub mod Progress
 pub mod Turns
 pub mod Packed
+pub mod NamedThere

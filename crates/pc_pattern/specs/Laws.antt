@@ -1,13 +1,14 @@
 -- The laws of packed code. Each is the contract of a function of laws.rt, which does nothing.
-use Rattle.std.specs.Prelude.{◌≡◌, ℕ, List}
-use Rattle.std.specs.List.{AllByRecursion}
+use Rattle.std.specs.Prelude.{◌≡◌, ℕ, true, nat_eq, List, Some, slice_get}
+use Rattle.std.specs.List.{AllByRecursion, list_any}
 use Rattle.pc_word.specs.declared.item.Limits.{Limits}
-use Rattle.pc_table.specs.Table.{Table}
+use Rattle.pc_table.specs.Table.{Table, region_live}
 use Rattle.pc_table.specs.TableKeeps.{TableKeeps}
 use Rattle.pc_window.specs.WindowRun.{Window}
 use Rattle.pc_window.specs.Kept.{Left}
 use Rattle.pc_window.specs.Steps.{Positive}
 use Rattle.pc_automaton.specs.Automaton.{AutomatonState, IsAutomaton}
+use Rattle.pc_automaton.specs.There.{StateIsThere}
 use Rattle.pc_pattern.specs.Searches.{Search, IsPattern, HasNoPattern}
 use Rattle.pc_pattern.specs.Pattern.{packed, RowFits, NoneIsEmpty, RunsAsTheRegion}
 
@@ -30,6 +31,17 @@ PatternsFit = (table : Table) → TableKeeps table → (limits : Limits) → Pos
 abbrev pub PatternsAreAutomata : Type 0
 PatternsAreAutomata = (table : Table) → TableKeeps table → (limits : Limits) → Positive limits → (region rows : ℕ) (states : List AutomatonState)
     → IsPattern (packed table limits) region rows states → IsAutomaton states
+
+-- and what they name is there in the table
+abbrev pub PatternsNameWhatIsThere : Type 0
+PatternsNameWhatIsThere = (table : Table) → TableKeeps table → (limits : Limits) → Positive limits → (region rows : ℕ) (states : List AutomatonState)
+    → IsPattern (packed table limits) region rows states → AllByRecursion (StateIsThere table) states
+
+-- the first is passed variables that are live at the region's head
+abbrev pub PatternsBeginWithLiveVariables : Type 0
+PatternsBeginWithLiveVariables = (table : Table) → TableKeeps table → (limits : Limits) → Positive limits → (region rows : ℕ) (states : List AutomatonState)
+    → IsPattern (packed table limits) region rows states → (first : AutomatonState) → slice_get states 0 ≡ Some first
+    → AllByRecursion (λ variable. list_any (nat_eq variable) (region_live table region) ≡ true) first.parameters
 
 -- a search has one answer: where it is closed within so many members, it comes to have no more
 abbrev pub SearchesHaveOneAnswer : Type 0
