@@ -3,3 +3,4 @@ pub mod StoredRow
 pub mod Automaton
 pub mod AutomatonRun
 pub mod RunsAsRegion
+pub mod There

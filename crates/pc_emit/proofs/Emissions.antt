@@ -73,7 +73,7 @@ module _ (e : Emission) (keeps : TableKeeps e.table) (limits : Limits) (rows : L
     abbrev packed : IsPackedForm e.table region states registers
     packed = forms region (Packed states registers) has
 
-    begins_at : (m : State) → StandsAt e keeps limits rows region states registers packed.automaton packed.apart packed.live (emitted.stands region (Packed states registers) has) 0 m m
+    begins_at : (m : State) → StandsAt e keeps limits rows region states registers packed.automaton packed.apart packed.there (emitted.stands region (Packed states registers) has) 0 m m
     begins_at m = record {
       state = packed.first;
       there = packed.is_first;
@@ -91,7 +91,7 @@ module _ (e : Emission) (keeps : TableKeeps e.table) (limits : Limits) (rows : L
         → (k : ℕ) × Answers (row_run (code e keeps limits rows) (e.places.state region 0) m n) (region_run e.table (Next region) m k)
         (row_run (code e keeps limits rows) (e.places.state region 0) m n).end
     packed_forth n regions m never =
-        let k = state_forth e keeps limits rows region states registers packed.automaton packed.apart packed.live (emitted.stands region (Packed states registers) has)
+        let k = state_forth e keeps limits rows region states registers packed.automaton packed.apart packed.there (emitted.stands region (Packed states registers) has)
         n regions 0 m m (begins_at m) (never_automaton m never) in
         let j = (packed.runs m never).agree.forth k.0 in
         (j.0, answer_of_answer (row_run (code e keeps limits rows) (e.places.state region 0) m n) (automaton_run e.table states m k.0) (region_run e.table (Next region) m j.0) k.1 j.1)
@@ -104,7 +104,7 @@ module _ (e : Emission) (keeps : TableKeeps e.table) (limits : Limits) (rows : L
       -- where the first row has an item or a test
       with_items : ((k : ℕ) → k < n → (to : ℕ) → BackAt e keeps limits rows k to) → HasItems packed.first.row → IsShown
       with_items regions items =
-          let k = state_back e keeps limits rows region states registers packed.automaton packed.apart packed.live (emitted.stands region (Packed states registers) has)
+          let k = state_back e keeps limits rows region states registers packed.automaton packed.apart packed.there (emitted.stands region (Packed states registers) has)
           n regions 0 m m (begins_at m) (never_automaton m never) in (
             k.0,
             answer_of_answer (region_run e.table (Next region) m n) (automaton_run e.table states m n) (row_run (code e keeps limits rows) (e.places.state region 0) m k.0)
@@ -113,20 +113,20 @@ module _ (e : Emission) (keeps : TableKeeps e.table) (limits : Limits) (rows : L
 
       -- the leaf at which a row that is a leaf alone commits
       alone_at : (leaf other : AutomatonLeaf) → packed.first.row ≡ At_leaf leaf
-          → CommitsAt e keeps limits rows region states registers packed.automaton packed.apart packed.live (emitted.stands region (Packed states registers) has)
+          → CommitsAt e keeps limits rows region states registers packed.automaton packed.apart packed.there (emitted.stands region (Packed states registers) has)
           (row_step e.table.arrays packed.first.row m) other
           → packed.first.row ≡ At_leaf other
       alone_at leaf other is at =
           is ∙ ap (λ (l : AutomatonLeaf). At_leaf l)
           (subst (λ (r : Row AutomatonLeaf).
-          CommitsAt e keeps limits rows region states registers packed.automaton packed.apart packed.live (emitted.stands region (Packed states registers) has)
+          CommitsAt e keeps limits rows region states registers packed.automaton packed.apart packed.there (emitted.stands region (Packed states registers) has)
           (row_step e.table.arrays r m) other) is at)
 
       -- and where it has none
       without_items : ((to : ℕ) → ComesUntested e.table region to → BackAt e keeps limits rows n to) → (leaf : AutomatonLeaf) → packed.first.row ≡ At_leaf leaf → IsShown
       unfolding begins_at
       without_items lower leaf is =
-          let k = row_back e keeps limits rows region states registers packed.automaton packed.apart packed.live (emitted.stands region (Packed states registers) has)
+          let k = row_back e keeps limits rows region states registers packed.automaton packed.apart packed.there (emitted.stands region (Packed states registers) has)
           n 0 m m (begins_at m) (never_automaton m never)
           (λ next arguments at t u stands never'. absurd (subst (LeadsUntested e.table region) (alone_at leaf (To next arguments) is at) packed.untested))
           (λ to homes at. lower to (subst (LeadsUntested e.table region) (alone_at leaf (Out to homes) is at) packed.untested)) in (

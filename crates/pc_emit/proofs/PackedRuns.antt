@@ -30,7 +30,7 @@ use Rattle.pc_emit.proofs.Undisturbing.{stays_undisturbed}
 use Rattle.pc_emit.specs.Laws.{code_with}
 use Rattle.pc_emit.specs.Emitted.{Emission, RegionForm, form_leaf, LeadsToRegion, Moves, LeafStands, leads_to_state, leads_to_region, ends_here, traps_here}
 use Rattle.pc_emit.specs.Emitted.{RowStands, item_stands, test_stands, leaf_stands, StateStands}
-use Rattle.pc_emit.specs.PackedForm.{LeavesWithLive}
+use Rattle.pc_automaton.specs.There.{LeafIsThere, StateIsThere}
 use Rattle.pc_emit.proofs.Rows.{LeafHolds, OutcomeStands, both_fault, both_commit, Holds, row_does}
 use Rattle.pc_emit.proofs.Passed.{state_passed, region_passed}
 use Rattle.pc_emit.proofs.Leading.{row_run, leaf_run, leaf_seen, row_seen, passes_forth, passes_back}
@@ -78,7 +78,7 @@ module _ (e : Emission) (keeps : TableKeeps e.table) (limits : Limits) (rows : L
 
   module _ (region : ℕ) (states : List AutomatonState) (registers : ℕ → ℕ → Option ℕ) (automaton : IsAutomaton states)
       (apart : (number : ℕ) (state : AutomatonState) → slice_get states number ≡ Some state → IsApart (registers number) state)
-      (live : (number : ℕ) (state : AutomatonState) → slice_get states number ≡ Some state → AllByRecursion (LeavesWithLive table) (leaves_of state.row))
+      (are_there : AllByRecursion (StateIsThere table) states)
       (stand : (number : ℕ) (state : AutomatonState) → slice_get states number ≡ Some state → StateStands e rows region states registers number state) where
     -- the run from a state, and from a leaf
     abbrev pub state_run : ℕ → State → Run
@@ -89,7 +89,7 @@ module _ (e : Emission) (keeps : TableKeeps e.table) (limits : Limits) (rows : L
 
     -- what is so of a leaf and of the leaf that it becomes
     abbrev pub Leads : (of : ℕ → ℕ) → AutomatonLeaf → Leaf → Type 0
-    Leads of leaf below = (LeafLeads states leaf × LeavesWithLive table leaf) × LeafStands e rows region states registers of leaf below
+    Leads of leaf below = (LeafLeads states leaf × LeafIsThere table leaf) × LeafStands e rows region states registers of leaf below
 
     -- the machine is at the row of a state, whose parameters have their values
     pub record StandsAt (number : ℕ) (s m : State) : Type 0 where
@@ -104,11 +104,11 @@ module _ (e : Emission) (keeps : TableKeeps e.table) (limits : Limits) (rows : L
     both_step number s m at =
         let stands = stand number at.state at.there in
         let among : IsStateAmong states at.state = all_at (IsStateAmong states) states number at.state automaton.each at.there in
-        let leaves = both (LeafLeads states) (LeavesWithLive table) (leaves_of at.state.row) among.lead (live number at.state at.there) in (
+        let leaves = both (LeafLeads states) (LeafIsThere table) (leaves_of at.state.row) among.lead (all_at (StateIsThere table) states number at.state are_there at.there).leaves in (
           stands.row,
           stands.there,
           row_does {Related = Leads (register_of (registers number))} table.arrays (register_of (registers number)) at.state.parameters s m
-              (with_leaves (λ leaf. LeafLeads states leaf × LeavesWithLive table leaf) leaves stands.stands)
+              (with_leaves (λ leaf. LeafLeads states leaf × LeafIsThere table leaf) leaves stands.stands)
               (stays_undisturbed (registers number) at.state (apart number at.state at.there)) among.items among.tests among.leaves at.holds,
         )
 
@@ -136,12 +136,12 @@ module _ (e : Emission) (keeps : TableKeeps e.table) (limits : Limits) (rows : L
         by_state None there many done = absurd many
 
     -- behind the copies a region shows what it shows from the homes
-    behind_same : (of : ℕ → ℕ) (s m : State) (to : ℕ) (homes : List Home) (leaf target : Leaf) → LeavesWithLive table (Out to homes) → LeafHolds of (Out to homes) s m
+    behind_same : (of : ℕ → ℕ) (s m : State) (to : ℕ) (homes : List Home) (leaf target : Leaf) → LeafIsThere table (Out to homes) → LeafHolds of (Out to homes) s m
         → (moves : Moves e rows leaf (home_moves of homes) target) → (n : ℕ)
         → region_run table (Next to) (after_rows table.arrays moves.copies m) n ≡ region_run table (Next to) (home_state s homes) n
     behind_same of s m to homes leaf target lives holds moves n =
         region_same table keeps to n (home_state s homes) (after_rows table.arrays moves.copies m)
-        (region_passed table of s m (after_rows table.arrays moves.copies m) e.scratch to homes lives holds (moves.arranged.done table.arrays m))
+        (region_passed table of s m (after_rows table.arrays moves.copies m) e.scratch to homes lives.live holds (moves.arranged.done table.arrays m))
 
     -- what an automaton shows that leads out
     out_seen : (out : List ℤ) (s : State) (to : ℕ) (homes : List Home) (n : ℕ)

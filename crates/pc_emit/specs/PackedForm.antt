@@ -1,24 +1,15 @@
 -- What the automaton of a packed region keeps, with registers for its names.
-use Rattle.std.specs.Prelude.{◌≡◌, ℕ, List, map, Option, Some, slice_get}
+use Rattle.std.specs.Prelude.{◌≡◌, ℕ, List, Option, Some, slice_get}
 use Rattle.std.specs.List.{AllByRecursion}
 use Rattle.pc_word.specs.State.{State}
-use Rattle.pc_word.specs.Row.{leaves_of}
-use Rattle.pc_table.specs.Table.{Table, Next, region_live}
+use Rattle.pc_table.specs.Table.{Table, Next}
 use Rattle.pc_table.specs.RegionRun.{region_run}
 use Rattle.pc_window.specs.Kept.{NeverFaults}
-use Rattle.pc_automaton.specs.declared.automaton.AutomatonLeaf.{AutomatonLeaf}
-use Rattle.pc_automaton.specs.declared.automaton.AutomatonLeaf.TheVariants.{To, Out, Stop, Trap}
 use Rattle.pc_automaton.specs.Automaton.{AutomatonState, IsAutomaton}
+use Rattle.pc_automaton.specs.There.{StateIsThere}
 use Rattle.pc_automaton.specs.RunsAsRegion.{RunsAlike, LeadsUntested}
 use Rattle.pc_assign.specs.Apart.{IsApart}
 use Rattle.pc_emit.specs.Emitted.{RegionForm, Plain, Packed}
-
--- a leaf that leads out has a home for each variable that is live there, in their order
-abbrev pub LeavesWithLive : Table → AutomatonLeaf → Type 0
-LeavesWithLive table (To number arguments) = Unit {0}
-LeavesWithLive table (Out to homes) = map (λ home. home.variable) homes ≡ region_live table to
-LeavesWithLive table Stop = Unit {0}
-LeavesWithLive table (Trap kind line) = Unit {0}
 
 -- the automaton of a region, and registers for its names: names that are live together have different ones, and each variable
 -- that the first state is passed is in the register of its number
@@ -30,7 +21,7 @@ pub record IsPackedForm (table : Table) (region : ℕ) (states : List AutomatonS
   pub untested : LeadsUntested table region first.row
   pub variables : AllByRecursion (λ variable. registers 0 variable ≡ Some variable) first.parameters
   pub apart : (number : ℕ) (state : AutomatonState) → slice_get states number ≡ Some state → IsApart (registers number) state
-  pub live : (number : ℕ) (state : AutomatonState) → slice_get states number ≡ Some state → AllByRecursion (LeavesWithLive table) (leaves_of state.row)
+  pub there : AllByRecursion (StateIsThere table) states
 
 -- a form that a region may have
 abbrev pub IsForm : Table → ℕ → RegionForm → Type 0

@@ -10,8 +10,9 @@ mod terms;
 mod tests;
 mod turns;
 
+pub use listing::parameters_of;
 use pc_word::Seq;
 pub use rebasing::rebase;
 
 /// Numbers of names or of form variables.
-pub(crate) type NumberList = Seq<u32>;
+pub type NumberList = Seq<u32>;

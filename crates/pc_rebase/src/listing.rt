@@ -15,7 +15,7 @@ use std::alloc::{AllocError, Global};
 
 /// The parameters of a tree, in the order of first use, where its names are below a number.
 #[tactic(auto, using(crate::proofs::Listed::parameters))]
-pub(crate) fn parameters_of(
+pub fn parameters_of(
     alloc: Global,
     tree: &WindowTree,
     names: usize,

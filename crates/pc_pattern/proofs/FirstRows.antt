@@ -1,0 +1,109 @@
+-- Where the first row of packed code leads that has neither item nor test.
+use Rattle.std.proofs.Common.{◌≡◌, ℕ, List, Option, Some, None, refl, sym, ◌∙◌, ap, subst}
+use Rattle.std.specs.Prelude.{slice_get}
+use Rattle.pc_word.specs.declared.item.Limits.{Limits}
+use Rattle.pc_word.specs.declared.item.TrapKind.{TrapKind}
+use Rattle.pc_word.specs.Row.{Row, Then, Either, At_leaf}
+use Rattle.pc_word.proofs.Lists.{all_at}
+use Rattle.pc_table.specs.Table.{Table, region_tree}
+use Rattle.pc_table.specs.TableKeeps.{TableKeeps, ComesUntested, By_one, untested}
+use Rattle.pc_window.specs.declared.home.Home.{Home}
+use Rattle.pc_window.specs.Tree.{Tree, Pending, Undecided, Exit, Stop_exit, Trap_exit, Front, whole, front_of}
+use Rattle.pc_window.specs.Names.{uses}
+use Rattle.pc_window.specs.WindowRun.{Window, supply_of}
+use Rattle.pc_window.specs.Opening.{Grafted}
+use Rattle.pc_window.specs.Unwinding.{Unwinds, unwinds_no_more, unwinds_once}
+use Rattle.pc_window.specs.Tidying.{tidied}
+use Rattle.pc_window.specs.Kept.{Left, Gone, Finished, Trapped_at, IsBare, HasFront, HasItems}
+use Rattle.pc_window.specs.Steps.{Positive, UnwindsTo, grafted_of, with_tree, opened_window, cut_row}
+use Rattle.pc_window.proofs.Bare.{bare_untested}
+use Rattle.pc_window.proofs.CutRows.{whole_front_of}
+use Rattle.pc_window.proofs.Settling.{fills_front, cuts_front}
+use Rattle.pc_automaton.specs.declared.automaton.AutomatonLeaf.{AutomatonLeaf}
+use Rattle.pc_automaton.specs.Automaton.{AutomatonState}
+use Rattle.pc_automaton.specs.RunsAsRegion.{LeadsUntested}
+use Rattle.pc_pattern.specs.Pairs.{Pair, themselves}
+use Rattle.pc_window.specs.Names.{parameters_of}
+use Rattle.pc_pattern.specs.NamedRow.{RowsNamed, named_item, named_test, named_leaf}
+use Rattle.pc_pattern.specs.Searches.{Rules, Settles, bare_leaf, IsClosed, Leads, to_region, to_end, to_trap, StateFor, Automates}
+use Rattle.pc_pattern.specs.Pattern.{packed}
+use Rattle.pc_pattern.proofs.Members.{bare_fills, rooted_front, matched_items, begins_with}
+
+-- ---- leaves
+
+items_lead : (table : Table) (region : ℕ) (row : Row AutomatonLeaf) → HasItems row → LeadsUntested table region row
+items_lead table region (Then item rest) items = tt
+items_lead table region (Either on p q) items = tt
+items_lead table region (At_leaf leaf) items = absurd items
+
+module _ (rules : Rules) (members : List Window) (table : Table) (region : ℕ) where
+  out_leads : (to : ℕ) (homes : List Home) {names : List Pair} {row : Row AutomatonLeaf} → RowsNamed (Leads rules members) names (At_leaf (Gone to homes)) row
+      → ComesUntested table region to → LeadsUntested table region row
+  out_leads to homes (named_leaf (to_region alike)) comes = comes
+
+  end_leads : {names : List Pair} {row : Row AutomatonLeaf} → RowsNamed (Leads rules members) names (At_leaf Finished) row → LeadsUntested table region row
+  end_leads (named_leaf to_end) = tt
+
+  trap_leads : (kind : TrapKind) (line : ℕ) {names : List Pair} {row : Row AutomatonLeaf} → RowsNamed (Leads rules members) names (At_leaf (Trapped_at kind line)) row
+      → LeadsUntested table region row
+  trap_leads kind line (named_leaf to_trap) = tt
+
+-- ---- with window number 1 nothing is unwound
+
+unwinds_none : (table : Table) (loop : Option ℕ) (g k : Grafted) → Unwinds table loop 1 g k → k ≡ g
+unwinds_none table loop g k (unwinds_no_more h none) = refl
+unwinds_none table loop g k (unwinds_once a b c once more) = absurd (cc)
+
+pub unwound_same : (table : Table) (w v : Window) → UnwindsTo table 1 w v → whole v.front ≡ whole w.front
+unwound_same table w v h =
+    ap (λ (u : Window). whole u.front) h.is ∙ whole_front_of h.unwound.tree ∙ ap (λ (g : Grafted). g.tree) (unwinds_none table w.inside (grafted_of w) h.unwound h.unwinds)
+
+-- ---- the first row
+
+module _ (rules : Rules) (members : List Window) (region : ℕ) (w : Window) (first : AutomatonState) (f : StateFor rules members w first) where
+  -- a window with an item or test has a row with one
+  with_front : HasFront w.front → LeadsUntested rules.table region first.row
+  with_front front =
+      items_lead rules.table region first.row
+      (matched_items f.matches (cuts_front rules.table f.row_for.filled f.cut f.row_for.cuts (fills_front w f.row_for.filled f.row_for.fills front)))
+
+  -- one without is cut as it is
+  cut_is : (tree : Tree) → w.front ≡ front_of tree → IsBare (whole w.front) → f.cut ≡ cut_row rules.table w (front_of tree)
+  cut_is tree is bare =
+      f.row_for.cuts ∙ ap (λ (v : Window). cut_row rules.table v v.front) (bare_fills (uses (whole w.front)) w f.row_for.filled f.row_for.fills bare)
+      ∙ ap (cut_row rules.table w) is
+
+  abbrev Matches : Row Left → Type 0
+  Matches row = RowsNamed (Leads rules members) (themselves (parameters_of (whole w.front))) row first.row
+
+  first_leads : (tree : Tree) → w.front ≡ front_of tree → ((to tag : ℕ) (homes : List Home) → tree ≡ Exit to tag homes → ComesUntested rules.table region to)
+      → LeadsUntested rules.table region first.row
+  first_leads (Pending tag origin item rest) is comes = with_front (subst HasFront (sym is) tt)
+  first_leads (Undecided tag origin on p q) is comes = with_front (subst HasFront (sym is) tt)
+  first_leads (Exit to tag homes) is comes =
+      out_leads rules members rules.table region to homes
+      (subst Matches (cut_is (Exit to tag homes) is (subst (λ (front : Front). IsBare (whole front)) (sym is) tt)) f.matches) (comes to tag homes refl)
+  first_leads Stop_exit is comes =
+      end_leads rules members rules.table region (subst Matches (cut_is Stop_exit is (subst (λ (front : Front). IsBare (whole front)) (sym is) tt)) f.matches)
+  first_leads (Trap_exit kind line) is comes =
+      trap_leads rules members rules.table region kind line
+      (subst Matches (cut_is (Trap_exit kind line) is (subst (λ (front : Front). IsBare (whole front)) (sym is) tt)) f.matches)
+
+same_state : (a b : AutomatonState) → Some a ≡ Some b → a ≡ b
+same_state a b e = cc
+
+pub first_untested : (table : Table) → TableKeeps table → (limits : Limits) → Positive limits → (region : ℕ) (members : List Window) (states : List AutomatonState)
+    → IsClosed (packed table limits) region members → Automates (packed table limits) members states → (first : AutomatonState) → slice_get states 0 ≡ Some first
+    → LeadsUntested table region first.row
+first_untested table keeps limits room region members states closed auto first here =
+    let b = begins_with (packed table limits) keeps room region closed.1 in
+    let e = auto.each 0 b.first (ap (λ (ws : List Window). slice_get ws 0) b.at) in
+    let opened = opened_window table limits region in
+    let tree = tidied (whole b.settles.unwound.front) in
+    let same : whole b.settles.unwound.front ≡ whole opened.front =
+    unwound_same table b.opened b.settles.unwound b.settles.unwinds ∙ ap (λ (w : Window). whole w.front) b.opens in
+    first_leads (packed table limits) members region b.first first
+    (subst (λ (x : AutomatonState). StateFor (packed table limits) members b.first x) (same_state e.0 first (sym e.1 ∙ here)) e.2)
+    tree (ap (λ (w : Window). w.front) b.settles.tidies)
+    (λ to tag homes is. By_one (bare_untested table limits region to tag homes (with_tree opened (tidied (whole opened.front))) refl
+    (whole_front_of (tidied (whole opened.front)) ∙ sym (ap tidied same) ∙ is)))

@@ -1,0 +1,55 @@
+-- The laws of packed code. Each is the contract of a function of laws.rt, which does nothing.
+use Rattle.std.specs.Prelude.{◌≡◌, ℕ, true, nat_eq, List, Some, slice_get}
+use Rattle.std.specs.List.{AllByRecursion, list_any}
+use Rattle.pc_word.specs.declared.item.Limits.{Limits}
+use Rattle.pc_table.specs.Table.{Table, region_live}
+use Rattle.pc_table.specs.TableKeeps.{TableKeeps}
+use Rattle.pc_window.specs.WindowRun.{Window}
+use Rattle.pc_window.specs.Kept.{Left}
+use Rattle.pc_window.specs.Steps.{Positive}
+use Rattle.pc_automaton.specs.Automaton.{AutomatonState, IsAutomaton}
+use Rattle.pc_automaton.specs.There.{StateIsThere}
+use Rattle.pc_pattern.specs.Searches.{Search, IsPattern, HasNoPattern}
+use Rattle.pc_pattern.specs.Pattern.{packed, RowFits, NoneIsEmpty, RunsAsTheRegion}
+
+-- the states of a closed search do what the region does
+abbrev pub PatternsRunAsTheRegion : Type 0
+PatternsRunAsTheRegion = (table : Table) → TableKeeps table → (limits : Limits) → Positive limits → (region rows : ℕ) (states : List AutomatonState)
+    → IsPattern (packed table limits) region rows states → RunsAsTheRegion table region states
+
+-- and each but the first has an item or a test
+abbrev pub PatternsHaveNoEmptyStates : Type 0
+PatternsHaveNoEmptyStates = (table : Table) → TableKeeps table → (limits : Limits) → Positive limits → (region rows : ℕ) (states : List AutomatonState)
+    → IsPattern (packed table limits) region rows states → NoneIsEmpty states
+
+-- and the row of each keeps the limits and the machine's rule for prints and reads
+abbrev pub PatternsFit : Type 0
+PatternsFit = (table : Table) → TableKeeps table → (limits : Limits) → Positive limits → (region rows : ℕ) (states : List AutomatonState)
+    → IsPattern (packed table limits) region rows states → AllByRecursion (λ state. RowFits limits state.row) states
+
+-- and they are those of an automaton
+abbrev pub PatternsAreAutomata : Type 0
+PatternsAreAutomata = (table : Table) → TableKeeps table → (limits : Limits) → Positive limits → (region rows : ℕ) (states : List AutomatonState)
+    → IsPattern (packed table limits) region rows states → IsAutomaton states
+
+-- and what they name is there in the table
+abbrev pub PatternsNameWhatIsThere : Type 0
+PatternsNameWhatIsThere = (table : Table) → TableKeeps table → (limits : Limits) → Positive limits → (region rows : ℕ) (states : List AutomatonState)
+    → IsPattern (packed table limits) region rows states → AllByRecursion (StateIsThere table) states
+
+-- the first is passed variables that are live at the region's head
+abbrev pub PatternsBeginWithLiveVariables : Type 0
+PatternsBeginWithLiveVariables = (table : Table) → TableKeeps table → (limits : Limits) → Positive limits → (region rows : ℕ) (states : List AutomatonState)
+    → IsPattern (packed table limits) region rows states → (first : AutomatonState) → slice_get states 0 ≡ Some first
+    → AllByRecursion (λ variable. list_any (nat_eq variable) (region_live table region) ≡ true) first.parameters
+
+-- a search has one answer: where it is closed within so many members, it comes to have no more
+abbrev pub SearchesHaveOneAnswer : Type 0
+SearchesHaveOneAnswer = (table : Table) (limits : Limits) (region rows : ℕ) (states : List AutomatonState)
+    → IsPattern (packed table limits) region rows states → HasNoPattern (packed table limits) region rows → ⊥
+
+-- after as many steps, two searches have come to the same
+abbrev pub SearchesAreOne : Type 0
+SearchesAreOne = (table : Table) (limits : Limits) (region steps : ℕ) (members others : List Window) (taken taken' : ℕ) (lefts lefts' : List Left)
+    → Search (packed table limits) region steps members taken lefts → Search (packed table limits) region steps others taken' lefts'
+    → (members ≡ others) × (taken ≡ taken') × (lefts ≡ lefts')

@@ -1,0 +1,49 @@
+-- Packed code: the automaton of a region that is not unwound, in which no two windows are taken for the same.
+use Rattle.std.specs.Prelude.{◌≡◌, ℕ, suc, ◌≤◌, List, length, Some, slice_get}
+use Rattle.std.specs.List.{AllByRecursion, count_by}
+use Rattle.pc_word.specs.declared.item.Limits.{Limits}
+use Rattle.pc_word.specs.State.{State}
+use Rattle.pc_word.specs.Items.{is_memory, is_effect}
+use Rattle.pc_word.specs.Row.{Row, items_of, tests_of, paths_of}
+use Rattle.pc_table.specs.Table.{Table, Next}
+use Rattle.pc_table.specs.RegionRun.{region_run}
+use Rattle.pc_window.specs.Kept.{NeverFaults, HasItems}
+use Rattle.pc_automaton.specs.Automaton.{AutomatonState}
+use Rattle.pc_automaton.specs.RunsAsRegion.{RunsAlike, LeadsUntested}
+use Rattle.pc_pattern.specs.declared.error.SearchError.{SearchError}
+use Rattle.pc_pattern.specs.declared.error.SearchError.TheVariants.{Memory, NoPattern}
+use Rattle.pc_pattern.specs.Searches.{Rules, IsPattern, HasNoPattern}
+
+-- nothing is unwound with window number 1, and no two windows are taken for the same
+abbrev pub packed : Table → Limits → Rules
+packed table limits = record { table = table; limits = limits; number = 1; Same = λ pairs w v. ⊥ }
+
+-- a row is within limits over its whole tree, and on each path at most one item is a print, read or more
+pub record RowFits {L : Type 0} (limits : Limits) (row : Row L) : Type 0 where
+  pub items : length (items_of row) ≤ limits.ops
+  pub tests : length (tests_of row) ≤ limits.tests
+  pub memory : count_by is_memory (items_of row) ≤ limits.mem
+  pub one_effect : AllByRecursion (λ path. count_by is_effect path ≤ 1) (paths_of row)
+
+-- each state but the first has an item or a test
+abbrev pub NoneIsEmpty : List AutomatonState → Type 0
+NoneIsEmpty states = (at : ℕ) (state : AutomatonState) → slice_get states (suc at) ≡ Some state → HasItems state.row
+
+-- from every state from which the region's run never faults, the states do what the region does, and are not behind it; the
+-- first leads out without an item or test only to a region to which its own leads without a test
+pub record RunsAsTheRegion (table : Table) (region : ℕ) (states : List AutomatonState) : Type 0 where
+  pub alike : (first : AutomatonState) → slice_get states 0 ≡ Some first → (s : State) → NeverFaults (region_run table (Next region) s) → RunsAlike table region states first s
+  pub untested : (first : AutomatonState) → slice_get states 0 ≡ Some first → LeadsUntested table region first.row
+
+-- the packed code of a region, of at most so many states
+pub record IsPacked (table : Table) (limits : Limits) (region rows : ℕ) (states : List AutomatonState) : Type 0 where
+  pub pattern : IsPattern (packed table limits) region rows states
+  pub few : length states ≤ rows
+  pub runs : RunsAsTheRegion table region states
+  pub fits : AllByRecursion (λ state. RowFits limits state.row) states
+  pub no_empty : NoneIsEmpty states
+
+-- why there is none: want of memory, or more windows than so many
+abbrev pub IsUnpacked : Table → Limits → ℕ → ℕ → SearchError → Type 0
+IsUnpacked table limits region rows Memory = Unit {0}
+IsUnpacked table limits region rows (NoPattern reached) = (reached ≡ suc rows) × HasNoPattern (packed table limits) region rows
