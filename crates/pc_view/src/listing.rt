@@ -1,0 +1,133 @@
+//! An object as a text to be read.
+ghost use Rattle.std.specs.Prelude.{◌≡◌, ◌++◌, ◌∷◌, [], ◌<◌, ◌≤◌, ◌^◌, length, map, All, IfOk, OnOk, string_bytes, slice_get, Some};
+ghost use Rattle.std.specs.List.{AllByRecursion};
+ghost use Rattle.pc_machine.specs.MachineCode.{row_of, rows_of, code_of};
+ghost use Rattle.pc_object.specs.ObjectText.{object_of, IsObject, IsChoice};
+ghost use Rattle.pc_report.specs.Report.{note_words};
+ghost use Rattle.pc_word.specs.Line.{line};
+ghost use Rattle.pc_view.specs.Leading.{rows_leading_to};
+ghost use Rattle.pc_view.specs.Listing.{separator, array_words, arrays_from, row_number_words, row_numbers_from};
+ghost use Rattle.pc_view.specs.Listing.{limits_line, heading, row_lines, lines_text, listing_text};
+ghost use Rattle.pc_view.specs.models.Counted.{HasFew};
+ghost use Rattle.pc_view.specs.models.Rows.{CanList};
+ghost use Rattle.pc_view.specs.models.Lists.{AreLists};
+
+use crate::counts::count;
+use crate::leading::{RowNumbers, leading_rows};
+use crate::rows::push_tree;
+use pc_machine::{Code, Tree};
+use pc_object::{Note, Object};
+use pc_report::push_note_words;
+use pc_word::Limits;
+use std::alloc::{AllocError, Global};
+
+/// An object as a text to be read: a line for the limits and the arrays; each row with its number, what it has
+/// of what it may have, the rows that lead to it, and its tree; a line for each note.
+pub fn listing_text(alloc: Global, object: &Object) -> Result<Vec<u8>, AllocError>
+    requires { IsObject (object_of object.now) }
+    ensures { IfOk result (λ text. text.items ≡ listing_text (object_of object.now)) }
+{
+    let mut text = String::new(alloc);
+    push_limits(&mut text, &object.code)?;
+    push_rows(alloc, &mut text, &object.code)?;
+    push_notes(&mut text, object.notes.as_slice())?;
+    Ok(text.into_bytes())
+}
+
+/// Puts the line of the limits and the arrays behind a text.
+fn push_limits(text: &mut String, code: &Code) -> Result<(), AllocError>
+    ensures { OnOk result (string_bytes text.new ≡ string_bytes text.old ++ line (limits_line (code_of code.now))) }
+{
+    let Limits { ops, tests, mem } = code.limits;
+    write!(
+        text,
+        "limits of a row: {ops} items, {tests} tests, {mem} loads and stores; arrays:"
+    )?;
+    push_arrays(text, code.arrays.as_slice())?;
+    text.push_str("\n")
+}
+
+/// Puts the arrays behind a text.
+fn push_arrays(text: &mut String, lengths: &[u32]) -> Result<(), AllocError>
+    ensures { OnOk result (string_bytes text.new ≡ string_bytes text.old ++ array_words lengths.now) }
+{
+    if lengths.is_empty() {
+        return text.push_str(" none");
+    }
+    for (number, length) in lengths.iter().enumerate() {
+        let front = separator(number);
+        write!(text, "{front}a{number}[{length}]")?;
+    }
+    Ok(())
+}
+
+/// What stands in front of an element of a list, by its number.
+fn separator(number: usize) -> &'static str
+    ensures { result.now ≡ separator number }
+{
+    if number == 0 { " " } else { ", " }
+}
+
+/// Puts numbers of rows behind a text.
+fn push_row_numbers(text: &mut String, numbers: &[u32]) -> Result<(), AllocError>
+    ensures { OnOk result (string_bytes text.new ≡ string_bytes text.old ++ row_number_words numbers.now) }
+{
+    if numbers.is_empty() {
+        return text.push_str(" none");
+    }
+    for (place, number) in numbers.iter().enumerate() {
+        let front = separator(place);
+        write!(text, "{front}{number}")?;
+    }
+    Ok(())
+}
+
+/// Puts the lines of the rows behind a text.
+fn push_rows(alloc: Global, text: &mut String, code: &Code) -> Result<(), AllocError>
+    requires few { length code.now.rows < 2 ^ 32 }
+    requires rows { CanList (length code.now.rows) code.now.rows }
+    ensures { OnOk result (string_bytes text.new ≡ string_bytes text.old ++ lines_text (row_lines (code_of code.now) 0 (rows_of code.now.rows))) }
+{
+    let rows = code.rows.as_slice();
+    let leading = leading_rows(alloc, rows)?;
+    for (number, row) in rows.iter().enumerate() {
+        push_heading(text, code.limits, number, row, &leading[number])?;
+        push_tree(alloc, text, "    ", "    ", row)?;
+    }
+    Ok(())
+}
+
+/// Puts the heading of a row behind a text.
+fn push_heading(
+    text: &mut String,
+    limits: Limits,
+    number: usize,
+    row: &Tree,
+    leading: &RowNumbers,
+) -> Result<(), AllocError>
+    requires { HasFew (row_of row.now) }
+    ensures { OnOk result (string_bytes text.new ≡ string_bytes text.old ++ line (heading limits number (row_of row.now) leading.now)) }
+{
+    let counts = count(row);
+    let (ops, most_ops) = (counts.ops, limits.ops);
+    let (tests, most_tests) = (counts.tests, limits.tests);
+    let (mem, most_mem) = (counts.mem, limits.mem);
+    write!(
+        text,
+        "row {number}: {ops} of {most_ops} items, {tests} of {most_tests} tests, {mem} of {most_mem} loads and stores; from rows:"
+    )?;
+    push_row_numbers(text, leading.as_slice())?;
+    text.push_str("\n")
+}
+
+/// Puts the lines of notes behind a text.
+fn push_notes(text: &mut String, notes: &[Note]) -> Result<(), AllocError>
+    requires { AllByRecursion IsChoice notes.now }
+    ensures { OnOk result (string_bytes text.new ≡ string_bytes text.old ++ lines_text (map note_words notes.now)) }
+{
+    for note in notes {
+        push_note_words(text, *note)?;
+        text.push_str("\n")?;
+    }
+    Ok(())
+}
