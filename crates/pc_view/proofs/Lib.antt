@@ -1,0 +1,4 @@
+pub mod Feeds
+pub mod Lines
+pub mod LeadingRows
+pub mod Objects

@@ -32,7 +32,7 @@ fields port (Either on on_yes on_no) =
 fields port (At_leaf leaf) = codes "<" ++ (port ++ (codes "> " ++ leaf_words leaf))
 
 -- the node of a row
-abbrev pub row_node : ℕ → CodeRow → List ℕ
+unfoldable pub row_node : ℕ → CodeRow → List ℕ
 row_node number row = codes "    " ++ (decimal number ++ (codes " [label=\"{row " ++ (decimal number ++ (codes "|" ++ (fields (codes "p") row ++ codes "}\"];")))))
 
 -- the edges of the row with this number: one for each leaf that leads to a row, from the leaf's port

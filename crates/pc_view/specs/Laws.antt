@@ -1,5 +1,5 @@
 -- Laws of the texts, of every object. Each is the contract of a function of laws.rt, which does nothing.
-use Rattle.std.specs.Prelude.{◌≡◌, ℕ, ◌+◌, ◌<◌, ◌↔◌, nat_eq, List, [], ◌∷◌, ◌++◌, length, Contains, Some, slice_get}
+use Rattle.std.specs.Prelude.{◌≡◌, ℕ, ◌+◌, ◌<◌, ◌↔◌, Bool, nat_eq, List, [], ◌∷◌, ◌++◌, length, Contains, Some, slice_get}
 use Rattle.std.specs.List.{AllByRecursion, count_by, sum_by}
 use Rattle.pc_word.specs.Row.{Then, Either, At_leaf, items_of, tests_of, leaves_of}
 use Rattle.pc_machine.specs.MachineCode.{CodeRow}
@@ -42,9 +42,13 @@ line_count object = 1 + (sum_by (λ row. 1 + part_count row) object.code.rows + 
 abbrev pub ListingsHaveALineEach : Type 0
 ListingsHaveALineEach = (object : CodeWithNotes) → length (listing_lines object) ≡ line_count object
 
--- and as many line feeds (10), so that no line has one in it
+-- whether a byte is a line feed
+abbrev pub is_line_feed : ℕ → Bool
+is_line_feed byte = nat_eq byte 10
+
+-- and as many line feeds, so that no line has one in it
 abbrev pub ListingsHaveALineFeedEach : Type 0
-ListingsHaveALineFeedEach = (object : CodeWithNotes) → count_by (λ byte. nat_eq byte 10) (listing_text object) ≡ line_count object
+ListingsHaveALineFeedEach = (object : CodeWithNotes) → count_by is_line_feed (listing_text object) ≡ line_count object
 
 -- ---- the rows that lead to a row
 

@@ -43,13 +43,13 @@ row_number_words (number ∷ rest) = row_numbers_from 0 (number ∷ rest)
 -- ---- lines
 
 -- how many items, tests, and loads and stores a row may have, and the arrays
-abbrev pub limits_line : RowCode → List ℕ
+unfoldable pub limits_line : RowCode → List ℕ
 limits_line code =
     codes "limits of a row: " ++ (decimal code.limits.ops ++ (codes " items, " ++ (decimal code.limits.tests ++ (codes " tests, "
     ++ (decimal code.limits.mem ++ (codes " loads and stores; arrays:" ++ array_words code.arrays))))))
 
 -- the number of a row, how many items, tests, and loads and stores it has of how many it may have, and which rows lead to it
-abbrev pub heading : Limits → ℕ → CodeRow → List ℕ → List ℕ
+unfoldable pub heading : Limits → ℕ → CodeRow → List ℕ → List ℕ
 heading limits number row leading =
     codes "row " ++ (decimal number ++ (codes ": " ++ (decimal (length (items_of row)) ++ (codes " of " ++ (decimal limits.ops ++ (codes " items, "
     ++ (decimal (length (tests_of row)) ++ (codes " of " ++ (decimal limits.tests ++ (codes " tests, "

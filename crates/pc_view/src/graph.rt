@@ -33,18 +33,20 @@ fn push_rows(alloc: Global, text: &mut String, rows: &[Tree]) -> Result<(), Allo
 {
     for (number, row) in rows.iter().enumerate() {
         push_node(alloc, text, number, row)?;
+        text.push_str("\n")?;
         push_edges(alloc, text, number, "p", row)?;
     }
     Ok(())
 }
 
 /// Puts the node of a row behind a text.
+#[tactic(auto, unfolding(crate::specs::Graph::row_node))]
 fn push_node(alloc: Global, text: &mut String, number: usize, row: &Tree) -> Result<(), AllocError>
-    ensures { OnOk result (string_bytes text.new ≡ string_bytes text.old ++ line (row_node number (row_of row.now))) }
+    ensures { OnOk result (string_bytes text.new ≡ string_bytes text.old ++ row_node number (row_of row.now)) }
 {
     write!(text, "    {number} [label=\"{{row {number}|")?;
     push_fields(alloc, text, "p", row)?;
-    text.push_str("}\"];\n")
+    text.push_str("}\"];")
 }
 
 /// Puts the fields of a tree behind a text. `port` is the name of the port of its leaf, if it has one alone.

@@ -23,7 +23,7 @@ pub(crate) fn leading_rows(alloc: Global, rows: &[Tree]) -> Result<Vec<RowNumber
 {
     let mut lists = no_numbers(alloc, rows.len())?;
     for (number, row) in rows.iter().enumerate() {
-        note_leaves(lists.as_mut_slice(), row, number as u32)?;
+        note_leaves(row, number as u32, lists.as_mut_slice())?;
     }
     Ok(lists)
 }
@@ -33,23 +33,23 @@ fn no_numbers(alloc: Global, count: usize) -> Result<Vec<RowNumbers>, AllocError
     ensures { IfOk result (λ lists. AreLists count [] lists.items) }
 {
     let mut lists = Vec::new(alloc);
-    for _ in 0..count {
+    for _i in 0..count {
         lists.push(Seq::new(alloc))?;
     }
     Ok(lists)
 }
 
 /// Notes the number of a row at each row that a leaf of its tree leads to.
-fn note_leaves(lists: &mut [RowNumbers], row: &Tree, number: u32) -> Result<(), AllocError>
+fn note_leaves(row: &Tree, number: u32, lists: &mut [RowNumbers]) -> Result<(), AllocError>
     requires { AllByRecursion (IsLeaf (length lists.old)) (leaves_of (row_of row.now)) }
     ensures { OnOk result ((target : ℕ) → slice_get lists.new target
         ≡ option_map (noted_where (leads_to target (row_of row.now)) number) (slice_get lists.old target)) }
 {
     match row {
-        Tree::Step { next, .. } => note_leaves(lists, next, number),
+        Tree::Step { next, .. } => note_leaves(next, number, lists),
         Tree::Test { yes, no, .. } => {
-            note_leaves(lists, yes, number)?;
-            note_leaves(lists, no, number)
+            note_leaves(yes, number, lists)?;
+            note_leaves(no, number, lists)
         }
         Tree::Goto { row } => note(&mut lists[*row as usize], number),
         Tree::Stop | Tree::Trap { .. } => Ok(()),

@@ -29,31 +29,39 @@ pub fn listing_text(alloc: Global, object: &Object) -> Result<Vec<u8>, AllocErro
 {
     let mut text = String::new(alloc);
     push_limits(&mut text, &object.code)?;
+    text.push_str("\n")?;
     push_rows(alloc, &mut text, &object.code)?;
     push_notes(&mut text, object.notes.as_slice())?;
     Ok(text.into_bytes())
 }
 
-/// Puts the line of the limits and the arrays behind a text.
+/// Puts the limits and the arrays behind a text.
+#[tactic(auto, unfolding(crate::specs::Listing::limits_line))]
 fn push_limits(text: &mut String, code: &Code) -> Result<(), AllocError>
-    ensures { OnOk result (string_bytes text.new ≡ string_bytes text.old ++ line (limits_line (code_of code.now))) }
+    ensures { OnOk result (string_bytes text.new ≡ string_bytes text.old ++ limits_line (code_of code.now)) }
 {
     let Limits { ops, tests, mem } = code.limits;
     write!(
         text,
         "limits of a row: {ops} items, {tests} tests, {mem} loads and stores; arrays:"
     )?;
-    push_arrays(text, code.arrays.as_slice())?;
-    text.push_str("\n")
+    push_arrays(text, code.arrays.as_slice())
 }
 
 /// Puts the arrays behind a text.
 fn push_arrays(text: &mut String, lengths: &[u32]) -> Result<(), AllocError>
     ensures { OnOk result (string_bytes text.new ≡ string_bytes text.old ++ array_words lengths.now) }
 {
-    if lengths.is_empty() {
-        return text.push_str(" none");
+    match lengths {
+        [] => text.push_str(" none"),
+        _ => push_each_array(text, lengths),
     }
+}
+
+/// Puts arrays behind a text, if there are any.
+fn push_each_array(text: &mut String, lengths: &[u32]) -> Result<(), AllocError>
+    ensures { OnOk result (string_bytes text.new ≡ string_bytes text.old ++ arrays_from 0 lengths.now) }
+{
     for (number, length) in lengths.iter().enumerate() {
         let front = separator(number);
         write!(text, "{front}a{number}[{length}]")?;
@@ -72,9 +80,16 @@ fn separator(number: usize) -> &'static str
 fn push_row_numbers(text: &mut String, numbers: &[u32]) -> Result<(), AllocError>
     ensures { OnOk result (string_bytes text.new ≡ string_bytes text.old ++ row_number_words numbers.now) }
 {
-    if numbers.is_empty() {
-        return text.push_str(" none");
+    match numbers {
+        [] => text.push_str(" none"),
+        _ => push_each_number(text, numbers),
     }
+}
+
+/// Puts numbers of rows behind a text, if there are any.
+fn push_each_number(text: &mut String, numbers: &[u32]) -> Result<(), AllocError>
+    ensures { OnOk result (string_bytes text.new ≡ string_bytes text.old ++ row_numbers_from 0 numbers.now) }
+{
     for (place, number) in numbers.iter().enumerate() {
         let front = separator(place);
         write!(text, "{front}{number}")?;
@@ -92,12 +107,14 @@ fn push_rows(alloc: Global, text: &mut String, code: &Code) -> Result<(), AllocE
     let leading = leading_rows(alloc, rows)?;
     for (number, row) in rows.iter().enumerate() {
         push_heading(text, code.limits, number, row, &leading[number])?;
+        text.push_str("\n")?;
         push_tree(alloc, text, "    ", "    ", row)?;
     }
     Ok(())
 }
 
 /// Puts the heading of a row behind a text.
+#[tactic(auto, unfolding(crate::specs::Listing::heading))]
 fn push_heading(
     text: &mut String,
     limits: Limits,
@@ -106,7 +123,7 @@ fn push_heading(
     leading: &RowNumbers,
 ) -> Result<(), AllocError>
     requires { HasFew (row_of row.now) }
-    ensures { OnOk result (string_bytes text.new ≡ string_bytes text.old ++ line (heading limits number (row_of row.now) leading.now)) }
+    ensures { OnOk result (string_bytes text.new ≡ string_bytes text.old ++ heading limits number (row_of row.now) leading.now) }
 {
     let counts = count(row);
     let (ops, most_ops) = (counts.ops, limits.ops);
@@ -116,8 +133,7 @@ fn push_heading(
         text,
         "row {number}: {ops} of {most_ops} items, {tests} of {most_tests} tests, {mem} of {most_mem} loads and stores; from rows:"
     )?;
-    push_row_numbers(text, leading.as_slice())?;
-    text.push_str("\n")
+    push_row_numbers(text, leading.as_slice())
 }
 
 /// Puts the lines of notes behind a text.
