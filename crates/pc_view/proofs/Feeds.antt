@@ -14,13 +14,20 @@ use Rattle.pc_word.specs.declared.item.Item.{Item}
 use Rattle.pc_word.specs.declared.item.Item.TheVariants.{Bin, Copy, Load, Store, Print, Read, More}
 use Rattle.pc_word.specs.declared.item.TrapKind.{TrapKind}
 use Rattle.pc_word.specs.declared.item.TrapKind.TheVariants.{DivideByZero, OutOfBounds, EndOfInput}
-use Rattle.pc_word.specs.Row.{Then, Either, At_leaf}
+use Rattle.pc_word.specs.declared.item.Limits.{Limits}
+use Rattle.pc_word.specs.Items.{is_memory}
+use Rattle.pc_word.specs.Row.{Then, Either, At_leaf, items_of, tests_of}
 use Rattle.pc_machine.specs.MachineCode.{Leaf, Leads_to, Ends, Traps, CodeRow, RowCode}
+use Rattle.pc_object.specs.declared.object.Note.{Note}
+use Rattle.pc_object.specs.ObjectText.{CodeWithNotes}
 use Rattle.pc_report.specs.FaultLine.{trap_text}
+use Rattle.pc_report.specs.Report.{choice_text, note_words}
 use Rattle.pc_view.specs.Words.{operator_words, operand_words, item_words, test_words, leaf_words}
+use Rattle.pc_view.specs.Leading.{rows_leading_to}
 use Rattle.pc_view.specs.Tree.{tree_lines}
-use Rattle.pc_view.specs.Listing.{separator, arrays_from, array_words, row_numbers_from, row_number_words, limits_line, heading, row_lines, listing_lines, lines_text}
-use Rattle.pc_view.specs.Laws.{is_line_feed}
+use Rattle.pc_view.specs.Listing.{separator, arrays_from, array_words, row_numbers_from, row_number_words, limit_words, limits_line, count_words, heading, row_lines, listing_lines, listing_text, lines_text}
+use Rattle.pc_view.specs.Laws.{is_line_feed, line_count}
+use Rattle.pc_view.proofs.Lines.{length-listing_lines}
 
 -- a text has no line feed
 abbrev pub Unfed : List ℕ → Type 0
@@ -159,3 +166,98 @@ unfed_row_numbers_from place (number ∷ rest) =
 unfed_row_numbers : (numbers : List ℕ) → Unfed (row_number_words numbers)
 unfed_row_numbers [] = refl
 unfed_row_numbers (number ∷ rest) = unfed_row_numbers_from 0 (number ∷ rest)
+
+unfed_limit_words : (limits : Limits) → Unfed (limit_words limits)
+unfolding limit_words
+unfed_limit_words limits =
+    let end = codes " loads and stores" in
+    numbered (codes "limits of a row: ") limits.ops (codes " items, " ++ (decimal limits.tests ++ (codes " tests, " ++ (decimal limits.mem ++ end)))) refl
+    (numbered (codes " items, ") limits.tests (codes " tests, " ++ (decimal limits.mem ++ end)) refl
+    (numbered (codes " tests, ") limits.mem end refl refl))
+
+unfed_limits : (code : RowCode) → Unfed (limits_line code)
+unfed_limits code =
+    unfed_both (limit_words code.limits) (codes "; arrays:" ++ array_words code.arrays) (unfed_limit_words code.limits)
+    (unfed_both (codes "; arrays:") (array_words code.arrays) refl (unfed_arrays code.arrays))
+
+unfed_count_words : (limits : Limits) (number : ℕ) (row : CodeRow) → Unfed (count_words limits number row)
+unfolding count_words
+unfed_count_words limits number row =
+    let items = length (items_of row) in
+    let tests = length (tests_of row) in
+    let mem = count_by is_memory (items_of row) in
+    let end = codes " loads and stores" in
+    let mem_end = codes " of " ++ (decimal limits.mem ++ end) in
+    let tests_end = codes " of " ++ (decimal limits.tests ++ (codes " tests, " ++ (decimal mem ++ mem_end))) in
+    let items_end = codes " of " ++ (decimal limits.ops ++ (codes " items, " ++ (decimal tests ++ tests_end))) in
+    numbered (codes "row ") number (codes ": " ++ (decimal items ++ items_end)) refl
+    (numbered (codes ": ") items items_end refl
+    (numbered (codes " of ") limits.ops (codes " items, " ++ (decimal tests ++ tests_end)) refl
+    (numbered (codes " items, ") tests tests_end refl
+    (numbered (codes " of ") limits.tests (codes " tests, " ++ (decimal mem ++ mem_end)) refl
+    (numbered (codes " tests, ") mem mem_end refl
+    (numbered (codes " of ") limits.mem end refl refl))))))
+
+unfed_heading : (limits : Limits) (number : ℕ) (row : CodeRow) (leading : List ℕ) → Unfed (heading limits number row leading)
+unfed_heading limits number row leading =
+    unfed_both (count_words limits number row) (codes "; from rows:" ++ row_number_words leading) (unfed_count_words limits number row)
+    (unfed_both (codes "; from rows:") (row_number_words leading) refl (unfed_row_numbers leading))
+
+unfed_row_lines : (code : RowCode) (number : ℕ) (rows : List CodeRow) → AllByRecursion Unfed (row_lines code number rows)
+unfed_row_lines code number [] = tt
+unfed_row_lines code number (row ∷ rest) = (
+  unfed_heading code.limits number row (rows_leading_to number 0 code.rows),
+  all_both Unfed (tree_lines (codes "    ") (codes "    ") row) (row_lines code (suc number) rest)
+      (unfed_tree (codes "    ") (codes "    ") row refl refl) (unfed_row_lines code (suc number) rest),
+)
+
+-- ---- notes
+
+-- the text of each choice, and that of none
+unfed_choice : (choice : ℕ) → Unfed (choice_text choice)
+unfed_choice zero = refl
+unfed_choice (suc zero) = refl
+unfed_choice (suc (suc zero)) = refl
+unfed_choice (suc (suc (suc zero))) = refl
+unfed_choice (suc (suc (suc (suc zero)))) = refl
+unfed_choice (suc (suc (suc (suc (suc zero))))) = refl
+unfed_choice (suc (suc (suc (suc (suc (suc zero)))))) = refl
+unfed_choice (suc (suc (suc (suc (suc (suc (suc zero))))))) = refl
+unfed_choice (suc (suc (suc (suc (suc (suc (suc (suc more)))))))) = refl
+
+unfed_note : (note : Note) → Unfed (note_words note)
+unfed_note note =
+    numbered (codes "loop ") note.line (codes ": " ++ (choice_text note.choice ++ (codes " " ++ (decimal note.number ++ (codes " of " ++ decimal note.limit))))) refl
+    (unfed_both (codes ": ") (choice_text note.choice ++ (codes " " ++ (decimal note.number ++ (codes " of " ++ decimal note.limit)))) refl
+    (unfed_both (choice_text note.choice) (codes " " ++ (decimal note.number ++ (codes " of " ++ decimal note.limit))) (unfed_choice note.choice)
+    (numbered (codes " ") note.number (codes " of " ++ decimal note.limit) refl
+    (unfed_both (codes " of ") (decimal note.limit) refl (unfed_decimal note.limit)))))
+
+unfed_notes : (notes : List Note) → AllByRecursion Unfed (map note_words notes)
+unfed_notes [] = tt
+unfed_notes (note ∷ notes) = (unfed_note note, unfed_notes notes)
+
+-- ---- the whole
+
+-- lines without line feeds have as many as they are
+feeds-lines_text : (lines : List (List ℕ)) → AllByRecursion Unfed lines → count_by is_line_feed (lines_text lines) ≡ length lines
+feeds-lines_text [] h = refl
+feeds-lines_text (first ∷ rest) h =
+    omega (
+      arith,
+      count_both is_line_feed (line first) (lines_text rest),
+      count_both is_line_feed first (10 ∷ []),
+      h.0,
+      one,
+      feeds-lines_text rest h.1,
+    )
+  where
+    one : count_by is_line_feed (10 ∷ []) ≡ 1
+    one = refl
+
+pub feeds-listing_text : (object : CodeWithNotes) → count_by is_line_feed (listing_text object) ≡ line_count object
+feeds-listing_text object =
+    feeds-lines_text (listing_lines object)
+    (unfed_limits object.code, all_both Unfed (row_lines object.code 0 object.code.rows) (map note_words object.notes)
+    (unfed_row_lines object.code 0 object.code.rows) (unfed_notes object.notes))
+    ∙ length-listing_lines object

@@ -31,9 +31,13 @@ fields port (Either on on_yes on_no) =
     ++ (codes "}|{no|" ++ (fields (port ++ codes "n") on_no ++ codes "}}"))))
 fields port (At_leaf leaf) = codes "<" ++ (port ++ (codes "> " ++ leaf_words leaf))
 
+-- the beginning of the node of a row: its number, and its label up to the fields
+unfoldable pub node_front : ℕ → List ℕ
+node_front number = codes "    " ++ (decimal number ++ (codes " [label=\"{row " ++ (decimal number ++ codes "|")))
+
 -- the node of a row
-unfoldable pub row_node : ℕ → CodeRow → List ℕ
-row_node number row = codes "    " ++ (decimal number ++ (codes " [label=\"{row " ++ (decimal number ++ (codes "|" ++ (fields (codes "p") row ++ codes "}\"];")))))
+abbrev pub row_node : ℕ → CodeRow → List ℕ
+row_node number row = node_front number ++ (fields (codes "p") row ++ codes "}\"];")
 
 -- the edges of the row with this number: one for each leaf that leads to a row, from the leaf's port
 abbrev pub row_edges : ℕ → List ℕ → CodeRow → List (List ℕ)
@@ -62,13 +66,19 @@ choice_colours =
 abbrev pub choice_colour : ℕ → List ℕ
 choice_colour choice = unwrap_or (slice_get choice_colours choice) []
 
--- notes, numbered from `number` on: each a coloured box
+-- the beginning of the box of a note: its number and its colour
+unfoldable pub note_front : ℕ → List ℕ → List ℕ
+note_front number colour =
+    codes "    note" ++ (decimal number ++ (codes " [shape=box, style=filled, fillcolor=" ++ (colour ++ codes ", label=\"")))
+
+-- the box of a note
+abbrev pub note_node : ℕ → Note → List ℕ
+note_node number note = note_front number (choice_colour note.choice) ++ (note_words note ++ codes "\"];")
+
+-- the boxes of notes, numbered from `number` on
 abbrev pub note_nodes : ℕ → List Note → List (List ℕ)
 note_nodes number [] = []
-note_nodes number (note ∷ rest) =
-    (codes "    note" ++ (decimal number ++ (codes " [shape=box, style=filled, fillcolor=" ++ (choice_colour note.choice
-    ++ (codes ", label=\"" ++ (note_words note ++ codes "\"];"))))))
-    ∷ note_nodes (suc number) rest
+note_nodes number (note ∷ rest) = note_node number note ∷ note_nodes (suc number) rest
 
 -- ---- the whole
 

@@ -42,19 +42,26 @@ row_number_words (number ∷ rest) = row_numbers_from 0 (number ∷ rest)
 
 -- ---- lines
 
--- how many items, tests, and loads and stores a row may have, and the arrays
-unfoldable pub limits_line : RowCode → List ℕ
-limits_line code =
-    codes "limits of a row: " ++ (decimal code.limits.ops ++ (codes " items, " ++ (decimal code.limits.tests ++ (codes " tests, "
-    ++ (decimal code.limits.mem ++ (codes " loads and stores; arrays:" ++ array_words code.arrays))))))
+-- how many items, tests, and loads and stores a row may have
+unfoldable pub limit_words : Limits → List ℕ
+limit_words limits =
+    codes "limits of a row: " ++ (decimal limits.ops ++ (codes " items, " ++ (decimal limits.tests ++ (codes " tests, "
+    ++ (decimal limits.mem ++ codes " loads and stores")))))
 
--- the number of a row, how many items, tests, and loads and stores it has of how many it may have, and which rows lead to it
-unfoldable pub heading : Limits → ℕ → CodeRow → List ℕ → List ℕ
-heading limits number row leading =
+-- the limits and the arrays
+abbrev pub limits_line : RowCode → List ℕ
+limits_line code = limit_words code.limits ++ (codes "; arrays:" ++ array_words code.arrays)
+
+-- the number of a row, and how many items, tests, and loads and stores it has of how many it may have
+unfoldable pub count_words : Limits → ℕ → CodeRow → List ℕ
+count_words limits number row =
     codes "row " ++ (decimal number ++ (codes ": " ++ (decimal (length (items_of row)) ++ (codes " of " ++ (decimal limits.ops ++ (codes " items, "
     ++ (decimal (length (tests_of row)) ++ (codes " of " ++ (decimal limits.tests ++ (codes " tests, "
-    ++ (decimal (count_by is_memory (items_of row)) ++ (codes " of " ++ (decimal limits.mem
-    ++ (codes " loads and stores; from rows:" ++ row_number_words leading))))))))))))))
+    ++ (decimal (count_by is_memory (items_of row)) ++ (codes " of " ++ (decimal limits.mem ++ codes " loads and stores")))))))))))))
+
+-- that, and which rows lead to it
+abbrev pub heading : Limits → ℕ → CodeRow → List ℕ → List ℕ
+heading limits number row leading = count_words limits number row ++ (codes "; from rows:" ++ row_number_words leading)
 
 -- the rows of a code, of which these are numbered from `number` on: to each its heading, and its tree behind four blanks
 abbrev pub row_lines : RowCode → ℕ → List CodeRow → List (List ℕ)

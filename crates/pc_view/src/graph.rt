@@ -5,7 +5,7 @@ ghost use Rattle.pc_machine.specs.MachineCode.{row_of, rows_of};
 ghost use Rattle.pc_object.specs.ObjectText.{object_of, IsObject, IsChoice};
 ghost use Rattle.pc_word.specs.Line.{line};
 ghost use Rattle.pc_view.specs.Listing.{lines_text};
-ghost use Rattle.pc_view.specs.Graph.{fields, row_node, row_edges, row_graph, choice_colour, note_nodes, graph_text};
+ghost use Rattle.pc_view.specs.Graph.{fields, node_front, row_node, row_edges, row_graph, choice_colour, note_front, note_node, note_nodes, graph_text};
 
 use crate::words::{ItemWords, Medium, OperandWords};
 use pc_machine::Tree;
@@ -40,13 +40,20 @@ fn push_rows(alloc: Global, text: &mut String, rows: &[Tree]) -> Result<(), Allo
 }
 
 /// Puts the node of a row behind a text.
-#[tactic(auto, unfolding(crate::specs::Graph::row_node))]
 fn push_node(alloc: Global, text: &mut String, number: usize, row: &Tree) -> Result<(), AllocError>
     ensures { OnOk result (string_bytes text.new ≡ string_bytes text.old ++ row_node number (row_of row.now)) }
 {
-    write!(text, "    {number} [label=\"{{row {number}|")?;
+    push_node_front(text, number)?;
     push_fields(alloc, text, "p", row)?;
     text.push_str("}\"];")
+}
+
+/// Puts the beginning of the node of a row behind a text.
+#[tactic(auto, unfolding(crate::specs::Graph::node_front))]
+fn push_node_front(text: &mut String, number: usize) -> Result<(), AllocError>
+    ensures { OnOk result (string_bytes text.new ≡ string_bytes text.old ++ node_front number) }
+{
+    write!(text, "    {number} [label=\"{{row {number}|")
 }
 
 /// Puts the fields of a tree behind a text. `port` is the name of the port of its leaf, if it has one alone.
@@ -110,15 +117,31 @@ fn push_notes(text: &mut String, notes: &[Note]) -> Result<(), AllocError>
     ensures { OnOk result (string_bytes text.new ≡ string_bytes text.old ++ lines_text (note_nodes 0 notes.now)) }
 {
     for (number, note) in notes.iter().enumerate() {
-        let colour = choice_colour(note.choice);
-        write!(
-            text,
-            "    note{number} [shape=box, style=filled, fillcolor={colour}, label=\""
-        )?;
-        push_note_words(text, *note)?;
-        text.push_str("\"];\n")?;
+        push_note(text, number, *note)?;
+        text.push_str("\n")?;
     }
     Ok(())
+}
+
+/// Puts the box of a note behind a text.
+fn push_note(text: &mut String, number: usize, note: Note) -> Result<(), AllocError>
+    requires { IsChoice note }
+    ensures { OnOk result (string_bytes text.new ≡ string_bytes text.old ++ note_node number note) }
+{
+    push_note_front(text, number, choice_colour(note.choice))?;
+    push_note_words(text, note)?;
+    text.push_str("\"];")
+}
+
+/// Puts the beginning of the box of a note behind a text.
+#[tactic(auto, unfolding(crate::specs::Graph::note_front))]
+fn push_note_front(text: &mut String, number: usize, colour: &str) -> Result<(), AllocError>
+    ensures { OnOk result (string_bytes text.new ≡ string_bytes text.old ++ note_front number colour.now) }
+{
+    write!(
+        text,
+        "    note{number} [shape=box, style=filled, fillcolor={colour}, label=\""
+    )
 }
 
 /// The colour of a loop, by the choice of its note.

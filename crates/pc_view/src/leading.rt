@@ -22,9 +22,7 @@ pub(crate) fn leading_rows(alloc: Global, rows: &[Tree]) -> Result<Vec<RowNumber
     ensures { IfOk result (λ lists. AreLists (length rows.now) (rows_of rows.now) lists.items) }
 {
     let mut lists = no_numbers(alloc, rows.len())?;
-    for (number, row) in rows.iter().enumerate() {
-        note_leaves(row, number as u32, lists.as_mut_slice())?;
-    }
+    note_rows(rows, lists.as_mut_slice())?;
     Ok(lists)
 }
 
@@ -37,6 +35,19 @@ fn no_numbers(alloc: Global, count: usize) -> Result<Vec<RowNumbers>, AllocError
         lists.push(Seq::new(alloc))?;
     }
     Ok(lists)
+}
+
+/// Notes the number of each row at each row that a leaf of its tree leads to.
+fn note_rows(rows: &[Tree], lists: &mut [RowNumbers]) -> Result<(), AllocError>
+    requires few { length rows.now < 2 ^ 32 }
+    requires leaves { All (λ tree. AllByRecursion (IsLeaf (length rows.now)) (leaves_of (row_of tree))) rows.now }
+    requires empty { AreLists (length rows.now) [] lists.old }
+    ensures { OnOk result (AreLists (length rows.now) (rows_of rows.now) lists.new) }
+{
+    for (number, row) in rows.iter().enumerate() {
+        note_leaves(row, number as u32, lists)?;
+    }
+    Ok(())
 }
 
 /// Notes the number of a row at each row that a leaf of its tree leads to.

@@ -7,15 +7,15 @@ ghost use Rattle.pc_report.specs.Report.{note_words};
 ghost use Rattle.pc_word.specs.Line.{line};
 ghost use Rattle.pc_view.specs.Leading.{rows_leading_to};
 ghost use Rattle.pc_view.specs.Listing.{separator, array_words, arrays_from, row_number_words, row_numbers_from};
-ghost use Rattle.pc_view.specs.Listing.{limits_line, heading, row_lines, lines_text, listing_text};
+ghost use Rattle.pc_view.specs.Listing.{limit_words, limits_line, count_words, heading, row_lines, lines_text, listing_text};
 ghost use Rattle.pc_view.specs.models.Counted.{HasFew};
 ghost use Rattle.pc_view.specs.models.Rows.{CanList};
 ghost use Rattle.pc_view.specs.models.Lists.{AreLists};
 
 use crate::counts::count;
-use crate::leading::{RowNumbers, leading_rows};
+use crate::leading::leading_rows;
 use crate::rows::push_tree;
-use pc_machine::{Code, Tree};
+use pc_machine::{Code, Counts, Tree};
 use pc_object::{Note, Object};
 use pc_report::push_note_words;
 use pc_word::Limits;
@@ -36,16 +36,24 @@ pub fn listing_text(alloc: Global, object: &Object) -> Result<Vec<u8>, AllocErro
 }
 
 /// Puts the limits and the arrays behind a text.
-#[tactic(auto, unfolding(crate::specs::Listing::limits_line))]
 fn push_limits(text: &mut String, code: &Code) -> Result<(), AllocError>
     ensures { OnOk result (string_bytes text.new ≡ string_bytes text.old ++ limits_line (code_of code.now)) }
 {
-    let Limits { ops, tests, mem } = code.limits;
+    push_limit_words(text, code.limits)?;
+    text.push_str("; arrays:")?;
+    push_arrays(text, code.arrays.as_slice())
+}
+
+/// Puts the limits behind a text.
+#[tactic(auto, unfolding(crate::specs::Listing::limit_words))]
+fn push_limit_words(text: &mut String, limits: Limits) -> Result<(), AllocError>
+    ensures { OnOk result (string_bytes text.new ≡ string_bytes text.old ++ limit_words limits) }
+{
+    let Limits { ops, tests, mem } = limits;
     write!(
         text,
-        "limits of a row: {ops} items, {tests} tests, {mem} loads and stores; arrays:"
-    )?;
-    push_arrays(text, code.arrays.as_slice())
+        "limits of a row: {ops} items, {tests} tests, {mem} loads and stores"
+    )
 }
 
 /// Puts the arrays behind a text.
@@ -106,7 +114,7 @@ fn push_rows(alloc: Global, text: &mut String, code: &Code) -> Result<(), AllocE
     let rows = code.rows.as_slice();
     let leading = leading_rows(alloc, rows)?;
     for (number, row) in rows.iter().enumerate() {
-        push_heading(text, code.limits, number, row, &leading[number])?;
+        push_heading(text, code.limits, number, row, leading[number].as_slice())?;
         text.push_str("\n")?;
         push_tree(alloc, text, "    ", "    ", row)?;
     }
@@ -114,26 +122,38 @@ fn push_rows(alloc: Global, text: &mut String, code: &Code) -> Result<(), AllocE
 }
 
 /// Puts the heading of a row behind a text.
-#[tactic(auto, unfolding(crate::specs::Listing::heading))]
 fn push_heading(
     text: &mut String,
     limits: Limits,
     number: usize,
     row: &Tree,
-    leading: &RowNumbers,
+    leading: &[u32],
 ) -> Result<(), AllocError>
     requires { HasFew (row_of row.now) }
     ensures { OnOk result (string_bytes text.new ≡ string_bytes text.old ++ heading limits number (row_of row.now) leading.now) }
 {
-    let counts = count(row);
-    let (ops, most_ops) = (counts.ops, limits.ops);
-    let (tests, most_tests) = (counts.tests, limits.tests);
-    let (mem, most_mem) = (counts.mem, limits.mem);
+    push_count_words(text, limits, number, row)?;
+    text.push_str("; from rows:")?;
+    push_row_numbers(text, leading)
+}
+
+/// Puts the number of a row, and what it has of what it may have, behind a text.
+#[tactic(auto, unfolding(crate::specs::Listing::count_words))]
+fn push_count_words(
+    text: &mut String,
+    limits: Limits,
+    number: usize,
+    row: &Tree,
+) -> Result<(), AllocError>
+    requires { HasFew (row_of row.now) }
+    ensures { OnOk result (string_bytes text.new ≡ string_bytes text.old ++ count_words limits number (row_of row.now)) }
+{
+    let Counts { ops, tests, mem } = count(row);
+    let (most_ops, most_tests, most_mem) = (limits.ops, limits.tests, limits.mem);
     write!(
         text,
-        "row {number}: {ops} of {most_ops} items, {tests} of {most_tests} tests, {mem} of {most_mem} loads and stores; from rows:"
-    )?;
-    push_row_numbers(text, leading.as_slice())
+        "row {number}: {ops} of {most_ops} items, {tests} of {most_tests} tests, {mem} of {most_mem} loads and stores"
+    )
 }
 
 /// Puts the lines of notes behind a text.
