@@ -25,7 +25,7 @@ use Rattle.pc_report.specs.Report.{choice_text, note_words}
 use Rattle.pc_view.specs.Words.{operator_words, operand_words, item_words, test_words, leaf_words}
 use Rattle.pc_view.specs.Leading.{rows_leading_to}
 use Rattle.pc_view.specs.Tree.{tree_lines}
-use Rattle.pc_view.specs.Listing.{separator, arrays_from, array_words, row_numbers_from, row_number_words, limit_words, limits_line, count_words, heading, row_lines, listing_lines, listing_text, lines_text}
+use Rattle.pc_view.specs.Listing.{separator, arrays_from, array_words, row_numbers_from, leading_words, limit_words, limits_line, count_words, heading, row_lines, rows_lines, listing_lines, listing_text, lines_text}
 use Rattle.pc_view.specs.Laws.{is_line_feed, line_count}
 use Rattle.pc_view.proofs.Lines.{length-listing_lines}
 
@@ -156,16 +156,16 @@ unfed_arrays_from number (length ∷ rest) =
 
 unfed_arrays : (lengths : List ℕ) → Unfed (array_words lengths)
 unfed_arrays [] = refl
-unfed_arrays (length ∷ rest) = unfed_arrays_from 0 (length ∷ rest)
+unfed_arrays (length ∷ rest) = unfed_both (codes "; arrays:") (arrays_from 0 (length ∷ rest)) refl (unfed_arrays_from 0 (length ∷ rest))
 
 unfed_row_numbers_from : (place : ℕ) (numbers : List ℕ) → Unfed (row_numbers_from place numbers)
 unfed_row_numbers_from place [] = refl
 unfed_row_numbers_from place (number ∷ rest) =
     numbered (separator place) number (row_numbers_from (suc place) rest) (unfed_separator place) (unfed_row_numbers_from (suc place) rest)
 
-unfed_row_numbers : (numbers : List ℕ) → Unfed (row_number_words numbers)
-unfed_row_numbers [] = refl
-unfed_row_numbers (number ∷ rest) = unfed_row_numbers_from 0 (number ∷ rest)
+unfed_leading : (numbers : List ℕ) → Unfed (leading_words numbers)
+unfed_leading [] = refl
+unfed_leading (number ∷ rest) = unfed_both (codes "; from rows:") (row_numbers_from 0 (number ∷ rest)) refl (unfed_row_numbers_from 0 (number ∷ rest))
 
 unfed_limit_words : (limits : Limits) → Unfed (limit_words limits)
 unfolding limit_words
@@ -176,9 +176,7 @@ unfed_limit_words limits =
     (numbered (codes " tests, ") limits.mem end refl refl))
 
 unfed_limits : (code : RowCode) → Unfed (limits_line code)
-unfed_limits code =
-    unfed_both (limit_words code.limits) (codes "; arrays:" ++ array_words code.arrays) (unfed_limit_words code.limits)
-    (unfed_both (codes "; arrays:") (array_words code.arrays) refl (unfed_arrays code.arrays))
+unfed_limits code = unfed_both (limit_words code.limits) (array_words code.arrays) (unfed_limit_words code.limits) (unfed_arrays code.arrays)
 
 unfed_count_words : (limits : Limits) (number : ℕ) (row : CodeRow) → Unfed (count_words limits number row)
 unfolding count_words
@@ -200,16 +198,14 @@ unfed_count_words limits number row =
 
 unfed_heading : (limits : Limits) (number : ℕ) (row : CodeRow) (leading : List ℕ) → Unfed (heading limits number row leading)
 unfed_heading limits number row leading =
-    unfed_both (count_words limits number row) (codes "; from rows:" ++ row_number_words leading) (unfed_count_words limits number row)
-    (unfed_both (codes "; from rows:") (row_number_words leading) refl (unfed_row_numbers leading))
+    unfed_both (count_words limits number row) (leading_words leading) (unfed_count_words limits number row) (unfed_leading leading)
 
-unfed_row_lines : (code : RowCode) (number : ℕ) (rows : List CodeRow) → AllByRecursion Unfed (row_lines code number rows)
-unfed_row_lines code number [] = tt
-unfed_row_lines code number (row ∷ rest) = (
-  unfed_heading code.limits number row (rows_leading_to number 0 code.rows),
-  all_both Unfed (tree_lines (codes "    ") (codes "    ") row) (row_lines code (suc number) rest)
-      (unfed_tree (codes "    ") (codes "    ") row refl refl) (unfed_row_lines code (suc number) rest),
-)
+unfed_rows_lines : (code : RowCode) (number : ℕ) (rows : List CodeRow) → AllByRecursion Unfed (rows_lines code number rows)
+unfed_rows_lines code number [] = tt
+unfed_rows_lines code number (row ∷ rest) =
+    all_both Unfed (row_lines code number row) (rows_lines code (suc number) rest)
+    (unfed_heading code.limits number row (rows_leading_to number 0 code.rows), unfed_tree (codes "    ") (codes "    ") row refl refl)
+    (unfed_rows_lines code (suc number) rest)
 
 -- ---- notes
 
@@ -258,6 +254,6 @@ feeds-lines_text (first ∷ rest) h =
 pub feeds-listing_text : (object : CodeWithNotes) → count_by is_line_feed (listing_text object) ≡ line_count object
 feeds-listing_text object =
     feeds-lines_text (listing_lines object)
-    (unfed_limits object.code, all_both Unfed (row_lines object.code 0 object.code.rows) (map note_words object.notes)
-    (unfed_row_lines object.code 0 object.code.rows) (unfed_notes object.notes))
+    (unfed_limits object.code, all_both Unfed (rows_lines object.code 0 object.code.rows) (map note_words object.notes)
+    (unfed_rows_lines object.code 0 object.code.rows) (unfed_notes object.notes))
     ∙ length-listing_lines object

@@ -2,3 +2,4 @@ pub mod Feeds
 pub mod Lines
 pub mod LeadingRows
 pub mod Objects
+pub mod LeadsTo

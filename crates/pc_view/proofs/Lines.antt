@@ -9,7 +9,7 @@ use Rattle.pc_object.specs.ObjectText.{CodeWithNotes}
 use Rattle.pc_report.specs.Report.{note_words}
 use Rattle.pc_view.specs.Words.{operator_words, item_words, test_words, leaf_words}
 use Rattle.pc_view.specs.Tree.{tree_lines}
-use Rattle.pc_view.specs.Listing.{row_lines, listing_lines}
+use Rattle.pc_view.specs.Listing.{row_lines, rows_lines, listing_lines}
 use Rattle.pc_view.specs.Laws.{words_of, EndWith, part_count, line_count}
 
 -- ---- what the lines of a tree end with
@@ -47,14 +47,14 @@ length-tree_lines first below (Either on on_yes on_no) =
         )
 length-tree_lines first below (At_leaf leaf) = refl
 
-length-row_lines : (code : RowCode) (number : ℕ) (rows : List CodeRow) → length (row_lines code number rows) ≡ sum_by (λ row. 1 + part_count row) rows
-length-row_lines code number [] = refl
-length-row_lines code number (row ∷ rest) =
+length-rows_lines : (code : RowCode) (number : ℕ) (rows : List CodeRow) → length (rows_lines code number rows) ≡ sum_by (λ row. 1 + part_count row) rows
+length-rows_lines code number [] = refl
+length-rows_lines code number (row ∷ rest) =
     omega (
       arith,
-      length-append (tree_lines (codes "    ") (codes "    ") row) (row_lines code (suc number) rest),
+      length-append (row_lines code number row) (rows_lines code (suc number) rest),
       length-tree_lines (codes "    ") (codes "    ") row,
-      length-row_lines code (suc number) rest,
+      length-rows_lines code (suc number) rest,
       sum_by-cons (λ (row : CodeRow). 1 + part_count row) row rest,
     )
 
@@ -62,7 +62,7 @@ pub length-listing_lines : (object : CodeWithNotes) → length (listing_lines ob
 length-listing_lines object =
     omega (
       arith,
-      length-append (row_lines object.code 0 object.code.rows) (map note_words object.notes),
-      length-row_lines object.code 0 object.code.rows,
+      length-append (rows_lines object.code 0 object.code.rows) (map note_words object.notes),
+      length-rows_lines object.code 0 object.code.rows,
       length-map object.notes note_words,
     )

@@ -27,18 +27,18 @@ arrays_from number (length ∷ rest) =
 
 -- the arrays, if there are any
 abbrev pub array_words : List ℕ → List ℕ
-array_words [] = codes " none"
-array_words (length ∷ rest) = arrays_from 0 (length ∷ rest)
+array_words [] = codes "; arrays: none"
+array_words (length ∷ rest) = codes "; arrays:" ++ arrays_from 0 (length ∷ rest)
 
 -- numbers of rows, of which the first is the element `place` of its list
 abbrev pub row_numbers_from : ℕ → List ℕ → List ℕ
 row_numbers_from place [] = []
 row_numbers_from place (number ∷ rest) = separator place ++ (decimal number ++ row_numbers_from (suc place) rest)
 
--- numbers of rows, if there are any
-abbrev pub row_number_words : List ℕ → List ℕ
-row_number_words [] = codes " none"
-row_number_words (number ∷ rest) = row_numbers_from 0 (number ∷ rest)
+-- the rows that lead to a row, if there are any
+abbrev pub leading_words : List ℕ → List ℕ
+leading_words [] = codes "; from rows: none"
+leading_words (number ∷ rest) = codes "; from rows:" ++ row_numbers_from 0 (number ∷ rest)
 
 -- ---- lines
 
@@ -50,7 +50,7 @@ limit_words limits =
 
 -- the limits and the arrays
 abbrev pub limits_line : RowCode → List ℕ
-limits_line code = limit_words code.limits ++ (codes "; arrays:" ++ array_words code.arrays)
+limits_line code = limit_words code.limits ++ array_words code.arrays
 
 -- the number of a row, and how many items, tests, and loads and stores it has of how many it may have
 unfoldable pub count_words : Limits → ℕ → CodeRow → List ℕ
@@ -61,18 +61,21 @@ count_words limits number row =
 
 -- that, and which rows lead to it
 abbrev pub heading : Limits → ℕ → CodeRow → List ℕ → List ℕ
-heading limits number row leading = count_words limits number row ++ (codes "; from rows:" ++ row_number_words leading)
+heading limits number row leading = count_words limits number row ++ leading_words leading
 
--- the rows of a code, of which these are numbered from `number` on: to each its heading, and its tree behind four blanks
-abbrev pub row_lines : RowCode → ℕ → List CodeRow → List (List ℕ)
-row_lines code number [] = []
-row_lines code number (row ∷ rest) =
-    heading code.limits number row (rows_leading_to number 0 code.rows)
-    ∷ (tree_lines (codes "    ") (codes "    ") row ++ row_lines code (suc number) rest)
+-- a row of a code: its heading, and its tree behind four blanks
+abbrev pub row_lines : RowCode → ℕ → CodeRow → List (List ℕ)
+row_lines code number row =
+    heading code.limits number row (rows_leading_to number 0 code.rows) ∷ tree_lines (codes "    ") (codes "    ") row
+
+-- rows of a code, numbered from `number` on
+abbrev pub rows_lines : RowCode → ℕ → List CodeRow → List (List ℕ)
+rows_lines code number [] = []
+rows_lines code number (row ∷ rest) = row_lines code number row ++ rows_lines code (suc number) rest
 
 -- the lines of an object
 abbrev pub listing_lines : CodeWithNotes → List (List ℕ)
-listing_lines object = limits_line object.code ∷ (row_lines object.code 0 object.code.rows ++ map note_words object.notes)
+listing_lines object = limits_line object.code ∷ (rows_lines object.code 0 object.code.rows ++ map note_words object.notes)
 
 -- ---- the text
 

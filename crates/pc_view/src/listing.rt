@@ -6,14 +6,14 @@ ghost use Rattle.pc_object.specs.ObjectText.{object_of, IsObject, IsChoice};
 ghost use Rattle.pc_report.specs.Report.{note_words};
 ghost use Rattle.pc_word.specs.Line.{line};
 ghost use Rattle.pc_view.specs.Leading.{rows_leading_to};
-ghost use Rattle.pc_view.specs.Listing.{separator, array_words, arrays_from, row_number_words, row_numbers_from};
-ghost use Rattle.pc_view.specs.Listing.{limit_words, limits_line, count_words, heading, row_lines, lines_text, listing_text};
+ghost use Rattle.pc_view.specs.Listing.{separator, array_words, arrays_from, leading_words, row_numbers_from};
+ghost use Rattle.pc_view.specs.Listing.{limit_words, limits_line, count_words, heading, row_lines, rows_lines, lines_text, listing_text};
 ghost use Rattle.pc_view.specs.models.Counted.{HasFew};
 ghost use Rattle.pc_view.specs.models.Rows.{CanList};
 ghost use Rattle.pc_view.specs.models.Lists.{AreLists};
 
 use crate::counts::count;
-use crate::leading::leading_rows;
+use crate::leading::{RowNumbers, leading_rows};
 use crate::rows::push_tree;
 use pc_machine::{Code, Counts, Tree};
 use pc_object::{Note, Object};
@@ -40,7 +40,6 @@ fn push_limits(text: &mut String, code: &Code) -> Result<(), AllocError>
     ensures { OnOk result (string_bytes text.new ≡ string_bytes text.old ++ limits_line (code_of code.now)) }
 {
     push_limit_words(text, code.limits)?;
-    text.push_str("; arrays:")?;
     push_arrays(text, code.arrays.as_slice())
 }
 
@@ -61,8 +60,11 @@ fn push_arrays(text: &mut String, lengths: &[u32]) -> Result<(), AllocError>
     ensures { OnOk result (string_bytes text.new ≡ string_bytes text.old ++ array_words lengths.now) }
 {
     match lengths {
-        [] => text.push_str(" none"),
-        _ => push_each_array(text, lengths),
+        [] => text.push_str("; arrays: none"),
+        _ => {
+            text.push_str("; arrays:")?;
+            push_each_array(text, lengths)
+        }
     }
 }
 
@@ -84,13 +86,16 @@ fn separator(number: usize) -> &'static str
     if number == 0 { " " } else { ", " }
 }
 
-/// Puts numbers of rows behind a text.
-fn push_row_numbers(text: &mut String, numbers: &[u32]) -> Result<(), AllocError>
-    ensures { OnOk result (string_bytes text.new ≡ string_bytes text.old ++ row_number_words numbers.now) }
+/// Puts the rows that lead to a row behind a text.
+fn push_leading(text: &mut String, numbers: &[u32]) -> Result<(), AllocError>
+    ensures { OnOk result (string_bytes text.new ≡ string_bytes text.old ++ leading_words numbers.now) }
 {
     match numbers {
-        [] => text.push_str(" none"),
-        _ => push_each_number(text, numbers),
+        [] => text.push_str("; from rows: none"),
+        _ => {
+            text.push_str("; from rows:")?;
+            push_each_number(text, numbers)
+        }
     }
 }
 
@@ -109,16 +114,33 @@ fn push_each_number(text: &mut String, numbers: &[u32]) -> Result<(), AllocError
 fn push_rows(alloc: Global, text: &mut String, code: &Code) -> Result<(), AllocError>
     requires few { length code.now.rows < 2 ^ 32 }
     requires rows { CanList (length code.now.rows) code.now.rows }
-    ensures { OnOk result (string_bytes text.new ≡ string_bytes text.old ++ lines_text (row_lines (code_of code.now) 0 (rows_of code.now.rows))) }
+    ensures { OnOk result (string_bytes text.new ≡ string_bytes text.old ++ lines_text (rows_lines (code_of code.now) 0 (rows_of code.now.rows))) }
 {
     let rows = code.rows.as_slice();
     let leading = leading_rows(alloc, rows)?;
     for (number, row) in rows.iter().enumerate() {
-        push_heading(text, code.limits, number, row, leading[number].as_slice())?;
-        text.push_str("\n")?;
-        push_tree(alloc, text, "    ", "    ", row)?;
+        push_row(alloc, text, code, number, row, leading.as_slice())?;
     }
     Ok(())
+}
+
+/// Puts the lines of a row behind a text. `leading` has the rows that lead to each row.
+fn push_row(
+    alloc: Global,
+    text: &mut String,
+    code: &Code,
+    number: usize,
+    row: &Tree,
+    leading: &[RowNumbers],
+) -> Result<(), AllocError>
+    requires number { number < length code.now.rows }
+    requires few { HasFew (row_of row.now) }
+    requires leading { AreLists (length code.now.rows) (rows_of code.now.rows) leading.now }
+    ensures { OnOk result (string_bytes text.new ≡ string_bytes text.old ++ lines_text (row_lines (code_of code.now) number (row_of row.now))) }
+{
+    push_heading(text, code.limits, number, row, leading[number].as_slice())?;
+    text.push_str("\n")?;
+    push_tree(alloc, text, "    ", "    ", row)
 }
 
 /// Puts the heading of a row behind a text.
@@ -133,8 +155,7 @@ fn push_heading(
     ensures { OnOk result (string_bytes text.new ≡ string_bytes text.old ++ heading limits number (row_of row.now) leading.now) }
 {
     push_count_words(text, limits, number, row)?;
-    text.push_str("; from rows:")?;
-    push_row_numbers(text, leading)
+    push_leading(text, leading)
 }
 
 /// Puts the number of a row, and what it has of what it may have, behind a text.
