@@ -46,7 +46,7 @@ unfed_onto : (fuel n : ℕ) (behind : List ℕ) → Unfed behind → Unfed (digi
 unfed_onto zero n behind h = h
 unfed_onto (suc fuel) n behind h =
     let more : Unfed (digit_glyph false (n % 10) ∷ behind) =
-        count_more is_line_feed (digit_glyph false (n % 10)) behind ∙ rw (unfed_glyph (n % 10), h) refl in
+    count_more is_line_feed (digit_glyph false (n % 10)) behind ∙ rw (unfed_glyph (n % 10), h) refl in
     by (n / 10 == 0) _ _ more (unfed_onto fuel (n / 10) (digit_glyph false (n % 10) ∷ behind) more)
   where
     by : (b : Bool) (x y : List ℕ) → Unfed x → Unfed y → Unfed (cond b x y)
@@ -253,7 +253,9 @@ feeds-lines_text (first ∷ rest) h =
 
 pub feeds-listing_text : (object : CodeWithNotes) → count_by is_line_feed (listing_text object) ≡ line_count object
 feeds-listing_text object =
-    feeds-lines_text (listing_lines object)
-    (unfed_limits object.code, all_both Unfed (rows_lines object.code 0 object.code.rows) (map note_words object.notes)
-    (unfed_rows_lines object.code 0 object.code.rows) (unfed_notes object.notes))
+    feeds-lines_text (listing_lines object) (
+      unfed_limits object.code,
+      all_both Unfed (rows_lines object.code 0 object.code.rows) (map note_words object.notes)
+          (unfed_rows_lines object.code 0 object.code.rows) (unfed_notes object.notes),
+    )
     ∙ length-listing_lines object

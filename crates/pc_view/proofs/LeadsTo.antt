@@ -100,7 +100,7 @@ leads_listed : (target first place : ℕ) (rows : List CodeRow) (row : CodeRow) 
 leads_listed target first place [] row e leaf = absurd (cc)
 leads_listed target first zero (top ∷ rest) row e leaf =
     let leads : leads_to target top ≡ true =
-        finds_leaf target (leaves_of top) (subst (λ (r : CodeRow). HasLeafTo r target) (sym (some_same top row e)) leaf) in
+    finds_leaf target (leaves_of top) (subst (λ (r : CodeRow). HasLeafTo r target) (sym (some_same top row e)) leaf) in
     let number : first ≡ first + 0 = omega arith in
     rw leads (subst (λ n. Contains (first ∷ rows_leading_to target (suc first) rest) n) number (contains_here first (rows_leading_to target (suc first) rest)))
 leads_listed target first (suc place) (top ∷ rest) row e leaf =

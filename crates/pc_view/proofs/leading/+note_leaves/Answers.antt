@@ -21,8 +21,8 @@ note_leaves-requires-in-Test-2 t c =
     let whole : row_size (row_of c.args.row.now) ≡ suc (row_size one + row_size other) = ap row_size is in
     let part : row_size (row_of c.deref-in-Test-2.result.now) ≡ row_size other = ap (λ t. row_size (row_of t)) c.deref-in-Test-2.ensures in
     let leaves : AllByRecursion (IsLeaf (length c.args.lists.now)) (leaves_of other) =
-        all_back (IsLeaf (length c.args.lists.now)) (leaves_of one) (leaves_of other)
-        (subst (λ (row : CodeRow). AllByRecursion (IsLeaf (length c.args.lists.now)) (leaves_of row)) is c.requires) in (
+    all_back (IsLeaf (length c.args.lists.now)) (leaves_of one) (leaves_of other)
+    (subst (λ (row : CodeRow). AllByRecursion (IsLeaf (length c.args.lists.now)) (leaves_of row)) is c.requires) in (
       omega (arith, c.decreases),
       subst (λ many. AllByRecursion (IsLeaf many) (leaves_of (row_of c.deref-in-Test-2.result.now))) (sym c.note_leaves-in-Test.auto.lists)
           (subst (λ t. AllByRecursion (IsLeaf (length c.args.lists.now)) (leaves_of (row_of t))) (sym c.deref-in-Test-2.ensures) leaves),
@@ -35,9 +35,9 @@ returns-in_ok-note_leaves-in-Test t c =
     let other = row_of c.in-Test.no.value in
     let is : row_of c.args.row.now ≡ Either c.in-Test.on one other = ap row_of c.in-Test.is in
     let first : (target : ℕ) → slice_get c.note_leaves-in-Test.new.lists target
-        ≡ option_map (noted_where (leads_to target one) c.args.number) (slice_get c.args.lists.now target) =
-        λ target. c.in_ok-note_leaves-in-Test.ensures target
-        ∙ ap (λ t. option_map (noted_where (leads_to target (row_of t)) c.args.number) (slice_get c.args.lists.now target)) c.deref-in-Test.ensures in
+    ≡ option_map (noted_where (leads_to target one) c.args.number) (slice_get c.args.lists.now target) =
+    λ target. c.in_ok-note_leaves-in-Test.ensures target
+    ∙ ap (λ t. option_map (noted_where (leads_to target (row_of t)) c.args.number) (slice_get c.args.lists.now target)) c.deref-in-Test.ensures in
     ok_map c.note_leaves-in-Test-2.result (λ second target.
     second target
     ∙ ap (λ t. option_map (noted_where (leads_to target (row_of t)) c.args.number) (slice_get c.note_leaves-in-Test.new.lists target)) c.deref-in-Test-2.ensures
