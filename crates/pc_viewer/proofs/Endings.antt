@@ -14,7 +14,7 @@ use Rattle.pc_object.specs.ObjectText.{CodeWithNotes}
 use Rattle.pc_object.specs.Reading.{object_reading}
 use Rattle.pc_object.specs.declared.refusal.ObjectError.{ObjectError}
 use Rattle.pc_object.specs.declared.refusal.ObjectError.TheVariants as error
-use Rattle.pc_outside.specs.Shelf.{Files, Shelved, ReadFaultOf, ReadKeeps}
+use Rattle.pc_outside.specs.Shelf.{Files, Shelved, GivesFile, ReadFaultOf, ReadKeeps}
 use Rattle.pc_outside.specs.Stream.{AppendsPart}
 use Rattle.pc_command.specs.Requests.{ViewRequest, view_command_of}
 use Rattle.pc_command.proofs.PlainWords.{no_words-command}
@@ -30,12 +30,45 @@ use Rattle.pc_viewer.specs.models.Steps.{StopsAt, Without_memory, Without_file, 
 
 -- ---- the file
 
--- a text of which at most one byte more than there may be was taken is longer than it may be
-longer_of : (most : ℕ) (text bytes : List ℕ) → take (most + 1) text ≡ bytes → most < length bytes → most < length text
-longer_of most text bytes cut big =
-    let n : length (take (most + 1) text) ≡ min (most + 1) (length text) = length-take (most + 1) text in
-    let same : length (take (most + 1) text) ≡ length bytes = ap length cut in
-    omega arith
+module _ (most : ℕ) (text bytes : List ℕ) (cut : take (most + 1) text ≡ bytes) where
+  same_length : length bytes ≡ min (most + 1) (length text)
+  same_length = sym (ap length cut) ∙ length-take (most + 1) text
+
+  -- a text of which no more bytes were taken than there may be is all that was taken
+  whole_of : length bytes ≤ most → text ≡ bytes
+  whole_of few = sym (take_all (most + 1) text (omega (arith, same_length))) ∙ cut
+
+  -- and one of which more were taken is longer
+  longer_of : most < length bytes → most < length text
+  longer_of many = omega (arith, same_length)
+
+some_same : {X : Type 0} (x y : X) → Some x ≡ Some y → x ≡ y
+some_same x y e = cc
+
+-- the bytes that a read gave are the text of the file
+read_text : (most : ℕ) (found : Option (List ℕ)) (bytes : List ℕ) → option_map (take (most + 1)) found ≡ Some bytes → length bytes ≤ most → found ≡ Some bytes
+read_text most None bytes e few = absurd (cc)
+read_text most (Some text) bytes e few = ap (λ (t : List ℕ). Some t) (whole_of most text bytes (some_same (take (most + 1) text) bytes e) few)
+
+pub has_text : (held : Option Files) (name bytes : List ℕ) → GivesFile held name (most_object + 1) bytes → length bytes ≤ most_object → HasText held name bytes
+has_text None name bytes given few = tt
+has_text (Some files) name bytes given few = read_text most_object (get files name) bytes given.first few
+
+-- or the file is too long
+read_longer : (files : Files) (name : List ℕ) (found : Option (List ℕ)) (bytes : List ℕ) → get files name ≡ found
+    → option_map (take (most_object + 1)) found ≡ Some bytes → most_object < length bytes
+    → HoldsText (Some files) name (λ text. HasObjectFault text object.TooLong)
+read_longer files name None bytes is e many = absurd (cc)
+read_longer files name (Some text) bytes is e many =
+    (text, is, Long_object (longer_of most_object text bytes (some_same (take (most_object + 1) text) bytes e) many))
+
+pub long_stops : (name : List ℕ) (old new : Shelved) (bytes : List ℕ) → GivesFile old.held name (most_object + 1) bytes → most_object < length bytes
+    → StopsAt name old new (Object object.TooLong)
+long_stops name old new bytes given many = Without_object (by old.held given)
+  where
+    by : (held : Option Files) → GivesFile held name (most_object + 1) bytes → HoldsText held name (λ text. HasObjectFault text object.TooLong)
+    by None given = tt
+    by (Some files) given = read_longer files name (get files name) bytes refl given.first many
 
 -- of the text that a file has, P holds
 pub holds : (held : Option Files) (name text : List ℕ) (P : List ℕ → Type 0) → HasText held name text → P text → HoldsText held name P
