@@ -1,5 +1,6 @@
 -- No line of a listing has a line feed in it.
-use Rattle.std.proofs.Common.{◌≡◌, ℕ, zero, suc, ◌+◌, ◌/◌, ◌%◌, ◌==◌, Bool, true, false, cond, List, [], ◌∷◌, ◌++◌, length, map, Some, None, refl, sym, ◌∙◌, ap, arith, codes}
+use Rattle.std.proofs.Common.{◌≡◌, ℕ, zero, suc, ◌+◌, ◌/◌, ◌%◌, ◌==◌, Bool, true, false, cond, List, [], ◌∷◌}
+use Rattle.std.proofs.Common.{◌++◌, length, map, Some, None, refl, sym, ◌∙◌, ap, arith, codes}
 use Rattle.std.specs.Prelude.{ℤ, pos, negsuc, nat_eq, slice_get, unwrap_or}
 use Rattle.std.proofs.lemmas.Bool.Decides.{nat_tests}
 use Rattle.std.specs.List.{AllByRecursion, count_by}
@@ -25,7 +26,8 @@ use Rattle.pc_report.specs.Report.{choice_text, note_words}
 use Rattle.pc_view.specs.Words.{operator_words, operand_words, item_words, test_words, leaf_words}
 use Rattle.pc_view.specs.Leading.{rows_leading_to}
 use Rattle.pc_view.specs.Tree.{tree_lines}
-use Rattle.pc_view.specs.Listing.{separator, arrays_from, array_words, row_numbers_from, leading_words, limit_words, limits_line, count_words, heading, row_lines, rows_lines, listing_lines, listing_text, lines_text}
+use Rattle.pc_view.specs.Listing.{separator, arrays_from, array_words, row_numbers_from, leading_words, limit_words, limits_line, count_words}
+use Rattle.pc_view.specs.Listing.{heading, row_lines, rows_lines, listing_lines, listing_text, lines_text}
 use Rattle.pc_view.specs.Laws.{is_line_feed, line_count}
 use Rattle.pc_view.proofs.Lines.{length-listing_lines}
 

@@ -3,3 +3,4 @@ pub mod Lines
 pub mod LeadingRows
 pub mod Objects
 pub mod LeadsTo
+pub mod GraphLines

@@ -1,12 +1,14 @@
 -- Laws of the texts, of every object. Each is the contract of a function of laws.rt, which does nothing.
-use Rattle.std.specs.Prelude.{◌≡◌, ℕ, ◌+◌, ◌<◌, ◌↔◌, Bool, nat_eq, List, [], ◌∷◌, ◌++◌, length, Contains, Some, slice_get}
+use Rattle.std.specs.Prelude.{◌≡◌, ℕ, ◌+◌, ◌<◌, ◌↔◌, Bool, true, false, nat_eq, List, [], ◌∷◌, ◌++◌, length}
+use Rattle.std.specs.Prelude.{Contains, Some, slice_get}
 use Rattle.std.specs.List.{AllByRecursion, count_by, sum_by}
 use Rattle.pc_word.specs.Row.{Then, Either, At_leaf, items_of, tests_of, leaves_of}
-use Rattle.pc_machine.specs.MachineCode.{CodeRow}
+use Rattle.pc_machine.specs.MachineCode.{Leaf, Leads_to, Ends, Traps, CodeRow}
 use Rattle.pc_machine.specs.Reachable.{HasLeafTo}
-use Rattle.pc_object.specs.ObjectText.{CodeWithNotes, IsChoice}
+use Rattle.pc_object.specs.ObjectText.{CodeWithNotes}
 use Rattle.pc_view.specs.Words.{operator_words, item_words, test_words, leaf_words}
 use Rattle.pc_view.specs.Tree.{tree_lines}
+use Rattle.pc_view.specs.Graph.{graph_lines}
 use Rattle.pc_view.specs.Leading.{rows_leading_to}
 use Rattle.pc_view.specs.Listing.{listing_lines, listing_text}
 
@@ -49,6 +51,22 @@ is_line_feed byte = nat_eq byte 10
 -- and as many line feeds, so that no line has one in it
 abbrev pub ListingsHaveALineFeedEach : Type 0
 ListingsHaveALineFeedEach = (object : CodeWithNotes) → count_by is_line_feed (listing_text object) ≡ line_count object
+
+-- ---- the lines of a graph
+
+-- whether a leaf leads to a row
+abbrev pub is_edge : Leaf → Bool
+is_edge (Leads_to row) = true
+is_edge Ends = false
+is_edge (Traps kind line) = false
+
+-- the graph of an object has two lines at its beginning and one at its end; for each row a node, and an edge for each leaf that leads to a
+-- row; and a box for each note
+abbrev pub graph_line_count : CodeWithNotes → ℕ
+graph_line_count object = 3 + (sum_by (λ row. 1 + count_by is_edge (leaves_of row)) object.code.rows + length object.notes)
+
+abbrev pub GraphsHaveALineEach : Type 0
+GraphsHaveALineEach = (object : CodeWithNotes) → length (graph_lines object) ≡ graph_line_count object
 
 -- ---- the rows that lead to a row
 

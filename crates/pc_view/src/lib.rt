@@ -12,5 +12,5 @@ mod tests;
 mod words;
 
 pub use graph::graph_text;
-pub use laws::{laws_of_leading_rows, laws_of_listings};
+pub use laws::{laws_of_graphs, laws_of_leading_rows, laws_of_listings};
 pub use listing::listing_text;

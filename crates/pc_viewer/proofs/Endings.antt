@@ -1,5 +1,6 @@
 -- How the viewer ends, put together from what its steps leave.
-use Rattle.std.proofs.Common.{◌≡◌, ℕ, ◌+◌, ◌<◌, ◌≤◌, ◌⊎◌, inl, inr, List, [], length, take, Option, Some, None, refl, sym, ◌∙◌, ap, subst, arith, length-take, zero-le}
+use Rattle.std.proofs.Common.{◌≡◌, ℕ, ◌+◌, ◌<◌, ◌≤◌, ◌⊎◌, inl, inr, List, [], length, take, Option, Some, None, refl}
+use Rattle.std.proofs.Common.{sym, ◌∙◌, ap, subst, arith, length-take, zero-le}
 use Rattle.std.specs.Prelude.{IsSome, IfSome, Ok, Err, min}
 use Rattle.std.specs.Borrow.{Bor}
 use Rattle.std.specs.FinMap.{get}
@@ -23,10 +24,12 @@ use Rattle.pc_report.specs.declared.fault.ObjectFault.TheVariants as object
 use Rattle.pc_viewer.specs.Objects.{HasObjectFault, Long_object, Unread_object, HasText, Holds, HoldsText, told_of_object}
 use Rattle.pc_viewer.specs.Outside.{SendsFront, Streamed, Surroundings}
 use Rattle.pc_viewer.specs.Told.{Told}
-use Rattle.pc_viewer.specs.Viewer.{ViewerEnds, Viewed, Misused, Unread, Refused, Broke, Lacking, ViewerLacks, Early, Sending, ViewerPromise, view_text}
+use Rattle.pc_viewer.specs.Viewer.{ViewerEnds, Viewed, Misused, Unread, Refused, Broke, Lacking, ViewerLacks, Early, Sending, ViewerPromise}
+use Rattle.pc_viewer.specs.Viewer.{view_text}
 use Rattle.pc_viewer.specs.declared.fault.ViewFault.{ViewFault}
 use Rattle.pc_viewer.specs.declared.fault.ViewFault.TheVariants.{NoMemory, Usage, ReadObject, Object, WriteOutput}
-use Rattle.pc_viewer.specs.models.Steps.{StopsAt, Without_memory, Without_file, Without_object, fault_of_object, ShowsObject, SendsAll, Sent_whole, Sent_part}
+use Rattle.pc_viewer.specs.models.Steps.{StopsAt, Without_memory, Without_file, Without_object, fault_of_object, ShowsObject, SendsAll, Sent_whole}
+use Rattle.pc_viewer.specs.models.Steps.{Sent_part}
 
 -- ---- the file
 

@@ -1,5 +1,6 @@
 -- What follows from the viewer's promise.
-use Rattle.std.proofs.Common.{◌≡◌, ℕ, ◌≤◌, ◌⊎◌, inl, inr, List, length, Option, Some, None, refl, sym, ◌∙◌, ap, subst, arith}
+use Rattle.std.proofs.Common.{◌≡◌, ℕ, ◌≤◌, ◌⊎◌, inl, inr, List, length, Option, Some, None, refl, sym, ◌∙◌, ap, subst}
+use Rattle.std.proofs.Common.{arith}
 use Rattle.std.specs.Prelude.{Ok, Err}
 use Rattle.std.specs.FinMap.{get}
 use Rattle.std.specs.Option.{IsSomeAnd}

@@ -6,6 +6,8 @@ mod host;
 mod laws;
 mod loading;
 mod telling;
+#[cfg(test)]
+mod tests;
 mod viewer;
 mod words;
 

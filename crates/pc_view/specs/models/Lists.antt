@@ -1,5 +1,6 @@
 -- For each row the list of those that lead to it, as it grows.
-use Rattle.std.specs.Prelude.{◌≡◌, ℕ, ◌-◌, ◌<◌, Bool, false, nat_eq, if◌then◌else◌, List, [], ◌∷◌, ◌++◌, length, Option, Some, None, slice_get}
+use Rattle.std.specs.Prelude.{◌≡◌, ℕ, ◌-◌, ◌<◌, Bool, false, nat_eq, if◌then◌else◌, List, [], ◌∷◌, ◌++◌, length}
+use Rattle.std.specs.Prelude.{Option, Some, None, slice_get}
 use Rattle.pc_machine.specs.MachineCode.{CodeRow}
 use Rattle.pc_view.specs.Leading.{rows_leading_to}
 

@@ -1,4 +1,5 @@
-use Rattle.std.proofs.Common.{◌≡◌, ◌∙◌, ◌++◌, ◌∷◌, [], ◌<◌, List, ℕ, length, map, take, get_or, ◌+◌, ap, arith, subst, sym}
+use Rattle.std.proofs.Common.{◌≡◌, ◌∙◌, ◌++◌, ◌∷◌, [], ◌<◌, List, ℕ, length, map, take, get_or, ◌+◌, ap, arith}
+use Rattle.std.proofs.Common.{subst, sym}
 use Rattle.std.proofs.lemmas.List.{length-map, length-take, map-append, take_more}
 use Rattle.pc_machine.specs.declared.tree.Tree.{Tree}
 use Rattle.pc_machine.specs.MachineCode.{CodeRow, row_of, rows_of}

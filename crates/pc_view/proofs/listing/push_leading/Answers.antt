@@ -1,4 +1,5 @@
-use Rattle.std.proofs.Common.{◌≡◌, ◌∙◌, ◌≤◌, ◌++◌, ◌∷◌, [], List, ℕ, length, refl, sym, ap, append_assoc, arith, codes, string_bytes}
+use Rattle.std.proofs.Common.{◌≡◌, ◌∙◌, ◌≤◌, ◌++◌, ◌∷◌, [], List, ℕ, length, refl, sym, ap, append_assoc, arith}
+use Rattle.std.proofs.Common.{codes, string_bytes}
 use Rattle.pc_view.specs.Listing.{leading_words, row_numbers_from}
 use Rattle.pc_view.proofs.LeadingRows.{ok_map}
 use Rattle.pc_view.proofs.listing.push_leading.Goals as goal
