@@ -129,17 +129,22 @@ unfed_leaf (Leads_to row) = unfed_both (codes "goto row ") (decimal row) refl (u
 unfed_leaf Ends = refl
 unfed_leaf (Traps kind line) =
     unfed_both (codes "trap: ") (trap_text kind ++ (codes " at line " ++ decimal line)) refl
-    (unfed_both (trap_text kind) (codes " at line " ++ decimal line) (unfed_trap kind) (unfed_both (codes " at line ") (decimal line) refl (unfed_decimal line)))
+    (unfed_both (trap_text kind) (codes " at line " ++ decimal line) (unfed_trap kind)
+        (unfed_both (codes " at line ") (decimal line) refl (unfed_decimal line)))
 
 -- ---- lines
 
 unfed_tree : (first below : List ℕ) (row : CodeRow) → Unfed first → Unfed below → AllByRecursion Unfed (tree_lines first below row)
-unfed_tree first below (Then item rest) p q = (unfed_both first (item_words operator_words item) p (unfed_item item), unfed_tree below below rest q q)
+unfed_tree first below (Then item rest) p q =
+    (unfed_both first (item_words operator_words item) p (unfed_item item), unfed_tree below below rest q q)
 unfed_tree first below (Either on on_yes on_no) p q = (
   unfed_both first (test_words on) p (unfed_test on),
-  all_both Unfed (tree_lines (below ++ codes "yes ") (below ++ codes "|   ") on_yes) (tree_lines (below ++ codes "no  ") (below ++ codes "    ") on_no)
-      (unfed_tree (below ++ codes "yes ") (below ++ codes "|   ") on_yes (unfed_both below (codes "yes ") q refl) (unfed_both below (codes "|   ") q refl))
-      (unfed_tree (below ++ codes "no  ") (below ++ codes "    ") on_no (unfed_both below (codes "no  ") q refl) (unfed_both below (codes "    ") q refl)),
+  all_both Unfed (tree_lines (below ++ codes "yes ") (below ++ codes "|   ") on_yes)
+      (tree_lines (below ++ codes "no  ") (below ++ codes "    ") on_no)
+      (unfed_tree (below ++ codes "yes ") (below ++ codes "|   ") on_yes (unfed_both below (codes "yes ") q refl)
+          (unfed_both below (codes "|   ") q refl))
+      (unfed_tree (below ++ codes "no  ") (below ++ codes "    ") on_no (unfed_both below (codes "no  ") q refl)
+          (unfed_both below (codes "    ") q refl)),
 )
 unfed_tree first below (At_leaf leaf) p q = (unfed_both first (leaf_words leaf) p (unfed_leaf leaf), tt)
 
@@ -167,13 +172,15 @@ unfed_row_numbers_from place (number ∷ rest) =
 
 unfed_leading : (numbers : List ℕ) → Unfed (leading_words numbers)
 unfed_leading [] = refl
-unfed_leading (number ∷ rest) = unfed_both (codes "; from rows:") (row_numbers_from 0 (number ∷ rest)) refl (unfed_row_numbers_from 0 (number ∷ rest))
+unfed_leading (number ∷ rest) = unfed_both (codes "; from rows:") (row_numbers_from 0 (number ∷ rest)) refl
+    (unfed_row_numbers_from 0 (number ∷ rest))
 
 unfed_limit_words : (limits : Limits) → Unfed (limit_words limits)
 unfolding limit_words
 unfed_limit_words limits =
     let end = codes " loads and stores" in
-    numbered (codes "limits of a row: ") limits.ops (codes " items, " ++ (decimal limits.tests ++ (codes " tests, " ++ (decimal limits.mem ++ end)))) refl
+    numbered (codes "limits of a row: ") limits.ops
+        (codes " items, " ++ (decimal limits.tests ++ (codes " tests, " ++ (decimal limits.mem ++ end)))) refl
     (numbered (codes " items, ") limits.tests (codes " tests, " ++ (decimal limits.mem ++ end)) refl
     (numbered (codes " tests, ") limits.mem end refl refl))
 
@@ -225,7 +232,8 @@ unfed_choice (suc (suc (suc (suc (suc (suc (suc (suc more)))))))) = refl
 
 unfed_note : (note : Note) → Unfed (note_words note)
 unfed_note note =
-    numbered (codes "loop ") note.line (codes ": " ++ (choice_text note.choice ++ (codes " " ++ (decimal note.number ++ (codes " of " ++ decimal note.limit))))) refl
+    numbered (codes "loop ") note.line
+        (codes ": " ++ (choice_text note.choice ++ (codes " " ++ (decimal note.number ++ (codes " of " ++ decimal note.limit))))) refl
     (unfed_both (codes ": ") (choice_text note.choice ++ (codes " " ++ (decimal note.number ++ (codes " of " ++ decimal note.limit)))) refl
     (unfed_both (choice_text note.choice) (codes " " ++ (decimal note.number ++ (codes " of " ++ decimal note.limit))) (unfed_choice note.choice)
     (numbered (codes " ") note.number (codes " of " ++ decimal note.limit) refl

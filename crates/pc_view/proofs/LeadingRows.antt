@@ -75,11 +75,13 @@ not_noted number None = refl
 not_noted number (Some list) = refl
 
 -- a number is noted at one row
-pub noted_at : (lists : List (List ℕ)) (row number target : ℕ) (default new : List ℕ) → row < length lists → new ≡ noted number (get_or lists row default)
+pub noted_at : (lists : List (List ℕ)) (row number target : ℕ) (default new : List ℕ) → row < length lists
+    → new ≡ noted number (get_or lists row default)
     → slice_get (slice_set lists row new) target ≡ option_map (noted_where (nat_eq row target || false) number) (slice_get lists target)
 noted_at lists row number target default new h is = by (nat_eq row target) refl
   where
-    by : (b : Bool) → nat_eq row target ≡ b → slice_get (slice_set lists row new) target ≡ option_map (noted_where (b || false) number) (slice_get lists target)
+    by : (b : Bool) → nat_eq row target ≡ b
+        → slice_get (slice_set lists row new) target ≡ option_map (noted_where (b || false) number) (slice_get lists target)
     by true e =
         let same : row ≡ target = grind (arith, nat_tests) in
         subst (λ t. slice_get (slice_set lists row new) t ≡ option_map (noted_where true number) (slice_get lists t)) same
@@ -94,10 +96,12 @@ next_at : (b : Bool) (n m : ℕ) → n ≡ m → cond b (n ∷ []) [] ≡ cond b
 next_at b n m e = ap (λ (k : ℕ). cond b (k ∷ []) []) e
 
 rows_leading_to-behind : (target number : ℕ) (rows : List CodeRow) (row : CodeRow)
-    → rows_leading_to target number (rows ++ row ∷ []) ≡ rows_leading_to target number rows ++ cond (leads_to target row) ((number + length rows) ∷ []) []
+    → rows_leading_to target number (rows ++ row ∷ []) ≡ rows_leading_to target number rows ++ cond (leads_to target row)
+        ((number + length rows) ∷ []) []
 rows_leading_to-behind target number [] row = next_at (leads_to target row) number (number + 0) (omega arith)
 rows_leading_to-behind target number (first ∷ rows) row =
-    by (leads_to target first) _ _ _ (rows_leading_to-behind target (suc number) rows row ∙ ap (λ (l : List ℕ). rows_leading_to target (suc number) rows ++ l)
+    by (leads_to target first) _ _ _
+        (rows_leading_to-behind target (suc number) rows row ∙ ap (λ (l : List ℕ). rows_leading_to target (suc number) rows ++ l)
     (next_at (leads_to target row) (suc number + length rows) (number + suc (length rows)) (omega arith)))
   where
     by : (b : Bool) (x y z : List ℕ) → x ≡ y ++ z → cond b (number ∷ x) x ≡ cond b (number ∷ y) y ++ z
@@ -105,13 +109,15 @@ rows_leading_to-behind target number (first ∷ rows) row =
     by false x y z e = e
 
 -- the numbers are below that of the next row
-rows_leading_to-below : (target number : ℕ) (rows : List CodeRow) → AllByRecursion (λ n. n < number + length rows) (rows_leading_to target number rows)
+rows_leading_to-below : (target number : ℕ) (rows : List CodeRow)
+    → AllByRecursion (λ n. n < number + length rows) (rows_leading_to target number rows)
 rows_leading_to-below target number [] = tt
 rows_leading_to-below target number (row ∷ rows) =
     by (leads_to target row) _ (all_imply (λ n. n < suc number + length rows) (λ n. n < number + suc (length rows)) _ (λ n h. omega arith)
     (rows_leading_to-below target (suc number) rows))
   where
-    by : (b : Bool) (x : List ℕ) → AllByRecursion (λ n. n < number + suc (length rows)) x → AllByRecursion (λ n. n < number + suc (length rows)) (cond b (number ∷ x) x)
+    by : (b : Bool) (x : List ℕ) → AllByRecursion (λ n. n < number + suc (length rows)) x
+        → AllByRecursion (λ n. n < number + suc (length rows)) (cond b (number ∷ x) x)
     by true x h = (omega arith, h)
     by false x h = h
 
@@ -135,7 +141,8 @@ noted-next target rows row = by (leads_to target row) ∙ sym (rows_leading_to-b
         not_last (length rows) (rows_leading_to target 0 rows)
         (all_imply (λ n. n < 0 + length rows) (λ n. n < length rows) _ (λ n h. omega arith) (rows_leading_to-below target 0 rows))
 
-    by : (b : Bool) → noted_where b (length rows) (rows_leading_to target 0 rows) ≡ rows_leading_to target 0 rows ++ cond b ((0 + length rows) ∷ []) []
+    by : (b : Bool) → noted_where b (length rows) (rows_leading_to target 0 rows) ≡ rows_leading_to target 0 rows ++ cond b
+        ((0 + length rows) ∷ []) []
     by true = rw fresh (ap (λ (n : ℕ). rows_leading_to target 0 rows ++ n ∷ []) (omega arith))
     by false = sym (append-nil (rows_leading_to target 0 rows))
 

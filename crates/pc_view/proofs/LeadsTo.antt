@@ -69,14 +69,17 @@ record Leads (target first : ℕ) (rows : List CodeRow) (number : ℕ) : Type 0 
   pub here : slice_get rows place ≡ Some row
   pub leaf : HasLeafTo row target
 
-leads_later : (target first : ℕ) (row : CodeRow) (rest : List CodeRow) (number : ℕ) → Leads target (suc first) rest number → Leads target first (row ∷ rest) number
+leads_later : (target first : ℕ) (row : CodeRow) (rest : List CodeRow) (number : ℕ) → Leads target (suc first) rest number
+    → Leads target first (row ∷ rest) number
 leads_later target first row rest number l = record { place = suc l.place; is = l.is ∙ omega arith; row = l.row; here = l.here; leaf = l.leaf }
 
-listed_leads : (target first : ℕ) (rows : List CodeRow) (number : ℕ) → Contains (rows_leading_to target first rows) number → Leads target first rows number
+listed_leads : (target first : ℕ) (rows : List CodeRow) (number : ℕ) → Contains (rows_leading_to target first rows) number
+    → Leads target first rows number
 listed_leads target first [] number h = absurd (contains_none number h)
 listed_leads target first (row ∷ rest) number h = by (leads_to target row) refl h (listed_leads target (suc first) rest number)
   where
-    by : (b : Bool) → leads_to target row ≡ b → Contains (cond b (first ∷ rows_leading_to target (suc first) rest) (rows_leading_to target (suc first) rest)) number
+    by : (b : Bool) → leads_to target row ≡ b
+        → Contains (cond b (first ∷ rows_leading_to target (suc first) rest) (rows_leading_to target (suc first) rest)) number
         → (Contains (rows_leading_to target (suc first) rest) number → Leads target (suc first) rest number) → Leads target first (row ∷ rest) number
     by true e h f = elim (contains_either first number (rows_leading_to target (suc first) rest) h) [
       | inl same ↦ record { place = 0; is = sym same ∙ omega arith; row = row; here = refl; leaf = has_leaf target (leaves_of row) e }
@@ -103,7 +106,8 @@ leads_listed target first zero (top ∷ rest) row e leaf =
     let leads : leads_to target top ≡ true =
     finds_leaf target (leaves_of top) (subst (λ (r : CodeRow). HasLeafTo r target) (sym (some_same top row e)) leaf) in
     let number : first ≡ first + 0 = omega arith in
-    rw leads (subst (λ n. Contains (first ∷ rows_leading_to target (suc first) rest) n) number (contains_here first (rows_leading_to target (suc first) rest)))
+    rw leads (subst (λ n. Contains (first ∷ rows_leading_to target (suc first) rest) n) number
+        (contains_here first (rows_leading_to target (suc first) rest)))
 leads_listed target first (suc place) (top ∷ rest) row e leaf =
     let number : suc first + place ≡ first + suc place = omega arith in
     listed_later target first (first + suc place) top rest

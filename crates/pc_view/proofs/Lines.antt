@@ -33,9 +33,11 @@ length-tree_lines : (first below : List ℕ) (row : CodeRow) → length (tree_li
 length-tree_lines first below (Then item rest) = omega (arith, length-tree_lines below below rest)
 length-tree_lines first below (Either on on_yes on_no) =
     two (tree_lines (below ++ codes "yes ") (below ++ codes "|   ") on_yes) (tree_lines (below ++ codes "no  ") (below ++ codes "    ") on_no)
-    (length-tree_lines (below ++ codes "yes ") (below ++ codes "|   ") on_yes) (length-tree_lines (below ++ codes "no  ") (below ++ codes "    ") on_no)
+    (length-tree_lines (below ++ codes "yes ") (below ++ codes "|   ") on_yes)
+        (length-tree_lines (below ++ codes "no  ") (below ++ codes "    ") on_no)
   where
-    two : (a b : List (List ℕ)) → length a ≡ part_count on_yes → length b ≡ part_count on_no → suc (length (a ++ b)) ≡ part_count (Either on on_yes on_no)
+    two : (a b : List (List ℕ)) → length a ≡ part_count on_yes → length b ≡ part_count on_no
+        → suc (length (a ++ b)) ≡ part_count (Either on on_yes on_no)
     two a b p q =
         omega (
           arith,
@@ -48,7 +50,8 @@ length-tree_lines first below (Either on on_yes on_no) =
         )
 length-tree_lines first below (At_leaf leaf) = refl
 
-length-rows_lines : (code : RowCode) (number : ℕ) (rows : List CodeRow) → length (rows_lines code number rows) ≡ sum_by (λ row. 1 + part_count row) rows
+length-rows_lines : (code : RowCode) (number : ℕ) (rows : List CodeRow)
+    → length (rows_lines code number rows) ≡ sum_by (λ row. 1 + part_count row) rows
 length-rows_lines code number [] = refl
 length-rows_lines code number (row ∷ rest) =
     omega (

@@ -49,11 +49,13 @@ some_same : {X : Type 0} (x y : X) → Some x ≡ Some y → x ≡ y
 some_same x y e = cc
 
 -- the bytes that a read gave are the text of the file
-read_text : (most : ℕ) (found : Option (List ℕ)) (bytes : List ℕ) → option_map (take (most + 1)) found ≡ Some bytes → length bytes ≤ most → found ≡ Some bytes
+read_text : (most : ℕ) (found : Option (List ℕ)) (bytes : List ℕ) → option_map (take (most + 1)) found ≡ Some bytes → length bytes ≤ most
+    → found ≡ Some bytes
 read_text most None bytes e few = absurd (cc)
 read_text most (Some text) bytes e few = ap (λ (t : List ℕ). Some t) (whole_of most text bytes (some_same (take (most + 1) text) bytes e) few)
 
-pub has_text : (held : Option Files) (name bytes : List ℕ) → GivesFile held name (most_object + 1) bytes → length bytes ≤ most_object → HasText held name bytes
+pub has_text : (held : Option Files) (name bytes : List ℕ) → GivesFile held name (most_object + 1) bytes → length bytes ≤ most_object
+    → HasText held name bytes
 has_text None name bytes given few = tt
 has_text (Some files) name bytes given few = read_text most_object (get files name) bytes given.first few
 
@@ -87,7 +89,8 @@ no_file_stops name old new failed = Without_file refl failed
 
 -- a file was read, and is no object
 module _ (name : List ℕ) (old new : Shelved) (bytes : List ℕ) (has : HasText old.held name bytes) (few : length bytes ≤ most_object) where
-  flawed : (why : ObjectError) (what : ObjectFault) → object_reading bytes ≡ Err why → told_of_object why ≡ Some what → StopsAt name old new (Object what)
+  flawed : (why : ObjectError) (what : ObjectFault) → object_reading bytes ≡ Err why → told_of_object why ≡ Some what
+      → StopsAt name old new (Object what)
   flawed why what first is = Without_object (holds old.held name bytes (λ bytes. HasObjectFault bytes what) has (Unread_object few first is))
 
   pub object_stops : (why : ObjectError) → IsRefusal (object_cause why) (object_reading bytes) → StopsAt name old new (fault_of_object why)
@@ -102,7 +105,8 @@ module _ (name : List ℕ) (old new : Shelved) (bytes : List ℕ) (has : HasText
 pub sent_whole : (text : List ℕ) (old new : Streamed) → Appends old.told new.told text → SendsAll text old new None
 sent_whole text old new sent = Sent_whole sent
 
-pub sent_part : (text : List ℕ) (old new : Streamed) → Rose old.faults new.faults → AppendsPart old.told new.told text → SendsAll text old new (Some WriteOutput)
+pub sent_part : (text : List ℕ) (old new : Streamed) → Rose old.faults new.faults → AppendsPart old.told new.told text
+    → SendsAll text old new (Some WriteOutput)
 sent_part text old new rose part = Sent_part rose part
 
 pub ruleset sends_due = (sent_whole, sent_part)
@@ -136,7 +140,8 @@ module _ (request : ViewRequest) (old new : Shelved) (out out_now : Streamed) wh
   stops fault (Without_file {word} is failed) = Unread is (subst (λ name. ReadFaultOf old new name) is failed) refl
   stops fault (Without_object faulty) = Refused faulty refl
 
-  pub stop_ends : (fault : ViewFault) → StopsAt request.object old new fault → out_now ≡ out → ViewerEnds old new out out_now (Some request) (Some fault)
+  pub stop_ends : (fault : ViewFault) → StopsAt request.object old new fault → out_now ≡ out
+      → ViewerEnds old new out out_now (Some request) (Some fault)
   stop_ends fault stopped same = subst (λ (now : Streamed). ViewerEnds old new out now (Some request) (Some fault)) (sym same) (stops fault stopped)
 
   -- there is one
@@ -148,13 +153,16 @@ module _ (request : ViewRequest) (old new : Shelved) (out out_now : Streamed) wh
 -- ---- no memory for a line
 
 -- where something is due, what stands is what may stand where memory ran out
-ends_lacking : (given : Option ViewRequest) (old new : Shelved) (out out_now : Streamed) (due : Option ViewFault) → ViewerEnds old new out out_now given due
+ends_lacking : (given : Option ViewRequest) (old new : Shelved) (out out_now : Streamed) (due : Option ViewFault)
+    → ViewerEnds old new out out_now given due
     → ViewerLacks old out out_now given
-ends_lacking given old new out out_now due (Viewed {request} {object} held sent) = Sending held (sends_all out out_now (view_text request.dot object) sent)
+ends_lacking given old new out out_now due (Viewed {request} {object} held sent) = Sending held
+    (sends_all out out_now (view_text request.dot object) sent)
 ends_lacking given old new out out_now due (Misused same silent) = Early silent
 ends_lacking given old new out out_now due (Unread is failed silent) = Early silent
 ends_lacking given old new out out_now due (Refused faulty silent) = Early silent
-ends_lacking given old new out out_now due (Broke {request} {object} held rose part) = Sending held (sends_part out out_now (view_text request.dot object) part)
+ends_lacking given old new out out_now due (Broke {request} {object} held rose part) = Sending held
+    (sends_part out out_now (view_text request.dot object) part)
 ends_lacking given old new out out_now due (Lacking lacks) = lacks
 
 -- what the viewer came to is what it promises, once it is told

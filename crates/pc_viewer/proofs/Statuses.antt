@@ -33,7 +33,8 @@ faulty_object bytes what (Unread_object {error} few first told) object is =
     cc
 
 -- P holds of a text, and so does Q
-held_map : (held : Option Files) (name : List ℕ) (P Q : List ℕ → Type 0) → ((text : List ℕ) → P text → Q text) → HoldsText held name P → HoldsText held name Q
+held_map : (held : Option Files) (name : List ℕ) (P Q : List ℕ → Type 0) → ((text : List ℕ) → P text → Q text) → HoldsText held name P
+    → HoldsText held name Q
 held_map None name P Q f h = tt
 held_map (Some files) name P Q f (text, here, p) = (text, here, f text p)
 
@@ -53,7 +54,8 @@ module _ (old new : Surroundings) (request : ViewRequest) (text : List ℕ) (fil
   -- the object that was loaded from it has its text
   loaded_text : (object : CodeWithNotes) → Holds old.shelf.held request.object object → IsTextOf text object
   loaded_text object h =
-      let here : get file.files request.object ≡ Some (object_text object) = subst (λ (o : Option Files). HasText o request.object (object_text object)) file.held h.text in
+      let here : get file.files request.object ≡ Some (object_text object) = subst
+          (λ (o : Option Files). HasText o request.object (object_text object)) file.held h.text in
       record { loads = h.loads; text = some_same text (object_text object) (sym file.here ∙ here) }
 
   -- so it is the object of that text
@@ -70,7 +72,8 @@ due_status None = 0
 due_status (Some fault) = view_status fault
 
 -- the status is that of what is due, or 5 where the error output failed
-status_of : (due : Option ViewFault) (old new : Streamed) (code : ℕ) → Told due old new code → (code ≡ due_status due) ⊎ ((code ≡ 5) × Rose old.faults new.faults)
+status_of : (due : Option ViewFault) (old new : Streamed) (code : ℕ) → Told due old new code
+    → (code ≡ due_status due) ⊎ ((code ≡ 5) × Rose old.faults new.faults)
 status_of None old new code told = inl told.0
 status_of (Some fault) old new code (inl whole) = inl whole.ended
 status_of (Some fault) old new code (inr part) = inr (part.ended, part.failed)
@@ -102,7 +105,8 @@ module _ (old new : Surroundings) where
   viewed_of given due (Viewed {request} {object} held sent) e = record { object = object; in_file = held; sent = sent }
   viewed_of given due _ e = absurd (cc)
 
-  lacking_of : (given : Option ViewRequest) (due : Option ViewFault) → Ends given due → due_status due ≡ 1 → ViewerLacks old.shelf old.out new.out given
+  lacking_of : (given : Option ViewRequest) (due : Option ViewFault) → Ends given due → due_status due ≡ 1
+      → ViewerLacks old.shelf old.out new.out given
   lacking_of given due (Lacking lacks) e = lacks
   lacking_of given due _ e = absurd (cc)
 
@@ -121,7 +125,8 @@ module _ (old new : Surroundings) where
   refused_of given due _ e = absurd (cc)
 
   failed_of : (given : Option ViewRequest) (due : Option ViewFault) → Ends given due → due_status due ≡ 5 → IsSomeAnd given (HasBroken old new)
-  failed_of given due (Broke {request} {object} held rose part) e = record { object = object; in_file = held; breaks_off = record { fault = rose; part = part } }
+  failed_of given due (Broke {request} {object} held rose part) e =
+      record { object = object; in_file = held; breaks_off = record { fault = rose; part = part } }
   failed_of given due _ e = absurd (cc)
 
   known_of : (given : Option ViewRequest) (due : Option ViewFault) → Ends given due → due_status due ≤ 5
@@ -144,7 +149,8 @@ module _ (old new : Surroundings) where
   usage_of due (Misused same silent) = inl refl
   usage_of due (Lacking lacks) = inr refl
 
-  complete_of : (request : ViewRequest) (text : List ℕ) (object : CodeWithNotes) (due : Option ViewFault) → IsToldObject old request text → IsTextOf text object
+  complete_of : (request : ViewRequest) (text : List ℕ) (object : CodeWithNotes) (due : Option ViewFault) → IsToldObject old request text
+      → IsTextOf text object
       → Ends (Some request) due
       → ((due_status due ≡ 0) × SendsText old new request object)
       ⊎ (due_status due ≡ 1) ⊎ ((due_status due ≡ 3) × HasReadFault old new request) ⊎ ((due_status due ≡ 5) × BreaksOff old new request object)
@@ -159,7 +165,8 @@ module _ (old new : Surroundings) where
       inr (inr (inr (refl, subst (λ (o : CodeWithNotes). BreaksOff old new request o) (same_object old new request text file loaded object held is) breaks)))
   complete_of request text object due file is (Lacking lacks) = inr (inl refl)
 
-  strict_of : (request : ViewRequest) (text : List ℕ) (due : Option ViewFault) → IsToldObject old request text → IsNoObject text → Ends (Some request) due
+  strict_of : (request : ViewRequest) (text : List ℕ) (due : Option ViewFault) → IsToldObject old request text → IsNoObject text
+      → Ends (Some request) due
       → (due_status due ≡ 4) ⊎ (due_status due ≡ 1) ⊎ ((due_status due ≡ 3) × HasReadFault old new request)
   strict_of request text due file none (Viewed {object} held sent) = absurd (none object (loaded_text old new request text file object held))
   strict_of request text due file none (Unread {name} named failed silent) =
@@ -182,15 +189,21 @@ module _ (old new : Surroundings) where
 
     pub statuses : ViewerStatuses given old new code
     statuses = record {
-      viewed = by_status (λ code. code ≡ 0 → IsSomeAnd given (HasViewed old new)) (viewed_of given due ends) (λ part e. absurd (omega (arith, part.0, e)));
-      lacking = by_status (λ code. code ≡ 1 → ViewerLacks old.shelf old.out new.out given) (lacking_of given due ends) (λ part e. absurd (omega (arith, part.0, e)));
-      misused = by_status (λ code. code ≡ 2 → (given ≡ None) × (new.shelf ≡ old.shelf)) (misused_of given due ends) (λ part e. absurd (omega (arith, part.0, e)));
-      unread = by_status (λ code. code ≡ 3 → IsSomeAnd given (HasReadFault old new)) (unread_of given due ends) (λ part e. absurd (omega (arith, part.0, e)));
+      viewed = by_status (λ code. code ≡ 0 → IsSomeAnd given (HasViewed old new)) (viewed_of given due ends)
+          (λ part e. absurd (omega (arith, part.0, e)));
+      lacking = by_status (λ code. code ≡ 1 → ViewerLacks old.shelf old.out new.out given) (lacking_of given due ends)
+          (λ part e. absurd (omega (arith, part.0, e)));
+      misused = by_status (λ code. code ≡ 2 → (given ≡ None) × (new.shelf ≡ old.shelf)) (misused_of given due ends)
+          (λ part e. absurd (omega (arith, part.0, e)));
+      unread = by_status (λ code. code ≡ 3 → IsSomeAnd given (HasReadFault old new)) (unread_of given due ends)
+          (λ part e. absurd (omega (arith, part.0, e)));
       refused = by_status (λ code. code ≡ 4 → IsSomeAnd given (λ request. HoldsText old.shelf.held request.object IsNoObject))
           (refused_of given due ends) (λ part e. absurd (omega (arith, part.0, e)));
-      failed = by_status (λ code. code ≡ 5 → IsSomeAnd given (HasBroken old new) ⊎ HasErrorFault old new) (λ e. inl (failed_of given due ends e)) (λ part e. inr part.1);
+      failed = by_status (λ code. code ≡ 5 → IsSomeAnd given (HasBroken old new) ⊎ HasErrorFault old new) (λ e. inl (failed_of given due ends e))
+          (λ part e. inr part.1);
       known = by_status (λ code. code ≤ 5) (known_of given due ends) (λ part. omega (arith, part.0));
-      silent = by_status (λ code. (2 ≤ code) → (code ≤ 4) → new.out ≡ old.out) (silent_of given due ends) (λ part low high. absurd (omega (arith, part.0, high)));
+      silent = by_status (λ code. (2 ≤ code) → (code ≤ 4) → new.out ≡ old.out) (silent_of given due ends)
+          (λ part low high. absurd (omega (arith, part.0, high)));
       usage = λ none. by_status (λ code. (code ≡ 2) ⊎ (code ≡ 1) ⊎ ((code ≡ 5) × HasErrorFault old new))
           (either_first (usage_of due (subst (λ (g : Option ViewRequest). Ends g due) none ends))) (λ part. inr (inr part));
       complete = λ request text object given_is file is. by_status
@@ -203,5 +216,6 @@ module _ (old new : Surroundings) where
     }
 
 -- the promise says all this
-pub statuses_of : (given : Option ViewRequest) (old new : Surroundings) (code : ℕ) → ViewerPromise given old new code → ViewerStatuses given old new code
+pub statuses_of : (given : Option ViewRequest) (old new : Surroundings) (code : ℕ) → ViewerPromise given old new code
+    → ViewerStatuses given old new code
 statuses_of given old new code promise = statuses old new given promise.due code promise.ends promise.told

@@ -73,4 +73,5 @@ pub record ViewerStatuses (given : Option ViewRequest) (old new : Surroundings) 
 
 -- the law: the promise says all this
 abbrev pub ViewerPromisesSay : Type 0
-ViewerPromisesSay = (given : Option ViewRequest) (old new : Surroundings) (code : ℕ) → ViewerPromise given old new code → ViewerStatuses given old new code
+ViewerPromisesSay = (given : Option ViewRequest) (old new : Surroundings) (code : ℕ) → ViewerPromise given old new code
+    → ViewerStatuses given old new code

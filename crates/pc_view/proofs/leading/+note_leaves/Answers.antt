@@ -40,7 +40,8 @@ returns-in_ok-note_leaves-in-Test t c =
     ∙ ap (λ t. option_map (noted_where (leads_to target (row_of t)) c.args.number) (slice_get c.args.lists.now target)) c.deref-in-Test.ensures in
     ok_map c.note_leaves-in-Test-2.result (λ second target.
     second target
-    ∙ ap (λ t. option_map (noted_where (leads_to target (row_of t)) c.args.number) (slice_get c.note_leaves-in-Test.new.lists target)) c.deref-in-Test-2.ensures
+    ∙ ap (λ t. option_map (noted_where (leads_to target (row_of t)) c.args.number)
+        (slice_get c.note_leaves-in-Test.new.lists target)) c.deref-in-Test-2.ensures
     ∙ ap (option_map (noted_where (leads_to target other) c.args.number)) (first target)
     ∙ noted_where-both (leads_to target one) (leads_to target other) c.args.number (slice_get c.args.lists.now target)
     ∙ ap (λ b. option_map (noted_where b c.args.number) (slice_get c.args.lists.now target))
@@ -49,7 +50,9 @@ returns-in_ok-note_leaves-in-Test t c =
 pub returns-in-Goto : goal.returns-in-Goto
 returns-in-Goto t c =
     let is : row_of c.args.row.now ≡ At_leaf (Leads_to c.in-Goto.row) = ap row_of c.in-Goto.is in
-    let there : c.in-Goto.row < length c.args.lists.now = (subst (λ (row : CodeRow). AllByRecursion (IsLeaf (length c.args.lists.now)) (leaves_of row)) is c.requires).0 in
+    let there : c.in-Goto.row < length c.args.lists.now =
+        (subst (λ (row : CodeRow). AllByRecursion (IsLeaf (length c.args.lists.now)) (leaves_of row)) is c.requires).0 in
     ok_map c.note.result (λ new target.
     noted_at c.args.lists.now c.in-Goto.row c.args.number target _ c.note.new.list there new
-    ∙ ap (λ (row : CodeRow). option_map (noted_where (leads_to target row) c.args.number) (slice_get c.args.lists.now target)) (sym is)) c.note.ensures
+    ∙ ap (λ (row : CodeRow). option_map (noted_where (leads_to target row) c.args.number) (slice_get c.args.lists.now target))
+        (sym is)) c.note.ensures

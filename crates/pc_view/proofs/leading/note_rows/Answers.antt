@@ -8,7 +8,8 @@ use Rattle.pc_view.proofs.LeadingRows.{lists-next}
 use Rattle.pc_view.proofs.leading.note_rows.Goals as goal
 
 -- one row more
-rows_more : (trees : List Tree) (i : ℕ) (tree : Tree) → i < length trees → tree ≡ get_or trees i tree → rows_of (take i trees) ++ row_of tree ∷ [] ≡ rows_of (take (i + 1) trees)
+rows_more : (trees : List Tree) (i : ℕ) (tree : Tree) → i < length trees → tree ≡ get_or trees i tree
+    → rows_of (take i trees) ++ row_of tree ∷ [] ≡ rows_of (take (i + 1) trees)
 rows_more trees i tree h is =
     sym (ap rows_of (take_more trees i tree h) ∙ map-append row_of (take i trees) (get_or trees i tree ∷ [])
     ∙ ap (λ (t : Tree). rows_of (take i trees) ++ row_of t ∷ []) (sym is))
@@ -22,5 +23,6 @@ loop-number-preserved c =
     let h : i < length c.args.rows.now = omega arith in
     subst (λ (rows : List CodeRow). AreLists (length c.args.rows.now) rows c.note_leaves.new.lists)
     (rows_more c.args.rows.now i c.index-rows-number.result h c.index-rows-number.is)
-    (lists-next (length c.args.rows.now) i (rows_of (take i c.args.rows.now)) (row_of c.index-rows-number.result) c.loop-number.lists c.note_leaves.new.lists
+    (lists-next (length c.args.rows.now) i (rows_of (take i c.args.rows.now))
+        (row_of c.index-rows-number.result) c.loop-number.lists c.note_leaves.new.lists
     c.loop-number.invariant (length-so_far c.args.rows.now i h) c.note_leaves.auto.lists c.in_ok-note_leaves.ensures)
