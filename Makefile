@@ -1,13 +1,14 @@
 # make        proves and builds the programs into build/
-# make demo   compiles the examples with them, runs their objects, and compares bytes and output
+# make demo   compiles the examples with them, runs their objects, compares bytes and output, and shows the rows of one
 # make test   runs the gate
 # make try    compiles one example and runs another, without proving anything
 
-PROGRAMS = pcc pvm
+PROGRAMS = pcc pvm pview
 
 # Words with which a program, once it is built, ends with status 0.
 pcc_words = data/seven.c -o /dev/null
 pvm_words = data/seven.tv
+pview_words = data/seven.tv
 
 all: $(PROGRAMS:%=build/%)
 

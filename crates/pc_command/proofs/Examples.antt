@@ -6,6 +6,7 @@ use Rattle.pc_command.specs.Arguments.{flag_in, matches_taken, word_in}
 use Rattle.pc_command.specs.Laws.{plain_request}
 use Rattle.pc_command.specs.Options.{number_in}
 use Rattle.pc_command.specs.Requests.{CompileRequest, OfFile, OfSample, SourcePlace, behind_at, compile_command_of, compile_request_in, source_place_of, simulate_command_of, simulate_request_in}
+use Rattle.pc_command.specs.Requests.{view_command_of, view_request_in}
 use Rattle.pc_command.proofs.Programs.{argument_tables}
 
 -- what is asked of the compiler with the defaults
@@ -14,7 +15,7 @@ plain source = plain_request source (codes "y")
 
 -- what is opened to compute them
 unfoldable requests : Unit {0}
-unfolding compile_command_of compile_request_in simulate_command_of simulate_request_in source_place_of behind_at
+unfolding compile_command_of compile_request_in simulate_command_of simulate_request_in view_command_of view_request_in source_place_of behind_at
 requests = tt
 
 unfoldable commands : Unit {0}
@@ -114,3 +115,12 @@ cycles-greatest = refl
 cycles-below : simulate_command_of (codes "y" ∷ (codes "--cycles" ∷ (codes "0" ∷ []))) ≡ None
 unfolding commands
 cycles-below = refl
+
+-- the viewer's
+dot-given : view_command_of (codes "--dot" ∷ (codes "y" ∷ [])) ≡ Some (record { object = codes "y"; dot = true })
+unfolding commands
+dot-given = refl
+
+dot-twice : view_command_of (codes "y" ∷ (codes "--dot" ∷ (codes "--dot" ∷ []))) ≡ None
+unfolding commands
+dot-twice = refl

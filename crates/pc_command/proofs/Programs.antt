@@ -9,7 +9,7 @@ use Rattle.clap.specs.declared.builder.arg.Arg.{Arg}
 use Rattle.clap.specs.declared.builder.command.Command.{Command}
 use Rattle.clap.specs.declared.builder.command.Command.TheViews.{out-Command}
 use Rattle.clap.proofs.OnLiterals.{clap_on_literals}
-use Rattle.pc_command.specs.Arguments.{compile_app, app_with, simulate_app}
+use Rattle.pc_command.specs.Arguments.{compile_app, app_with, simulate_app, view_app}
 use Rattle.pc_command.specs.Options.{ops_option, tests_option, mem_option, window_option, rows_option, cycles_option}
 
 -- a command whose words begin behind the program's name
@@ -24,7 +24,7 @@ added old arg new app rule adds local is rule_is = adds.shape local ∙ ap₂ wi
 
 -- what is opened to compute the programs' arguments
 unfoldable pub argument_tables : Unit {0}
-unfolding compile_app simulate_app ops_option tests_option mem_option window_option rows_option cycles_option digits
+unfolding compile_app simulate_app view_app ops_option tests_option mem_option window_option rows_option cycles_option digits
 argument_tables = tt
 
 -- `clap` says exactly which words the programs take
@@ -35,3 +35,7 @@ compile_app_is_simple = refl
 pub simulate_app_is_simple : is_simple_and_free simulate_app ≡ true
 unfolding argument_tables clap_on_literals
 simulate_app_is_simple = refl
+
+pub view_app_is_simple : is_simple_and_free view_app ≡ true
+unfolding argument_tables clap_on_literals
+view_app_is_simple = refl

@@ -17,8 +17,8 @@ use Rattle.clap.specs.declared.builder.value_parser.ValueParser.TheVariants as v
 use Rattle.clap.proofs.OnLiterals.{clap_on_literals}
 use Rattle.pc_word.proofs.Truth.{or_false}
 use Rattle.pc_command.specs.Matching.{Matches}
-use Rattle.pc_command.specs.Arguments.{compile_app, flag_found, flag_spelled, matches_taken, simulate_app}
-use Rattle.pc_command.specs.Laws.{CompileMatchesAreWhole, SimulateMatchesAreWhole}
+use Rattle.pc_command.specs.Arguments.{compile_app, flag_found, flag_spelled, matches_taken, simulate_app, view_app}
+use Rattle.pc_command.specs.Laws.{CompileMatchesAreWhole, SimulateMatchesAreWhole, ViewMatchesAreWhole}
 use Rattle.pc_command.specs.Options.{NumberOption, cycles_option, mem_option, number_found, number_spelled, ops_option, rows_option, tests_option, window_option}
 use Rattle.pc_command.proofs.Values.{Holds, IsPlainRule, is_plain_action, no_faults}
 use Rattle.pc_command.proofs.Walks.{settled_at_end, walk-holds}
@@ -145,7 +145,7 @@ not_lacking : (b : Bool) → not b ≡ false → b ≡ true
 not_lacking true e = refl
 not_lacking false e = absurd (cc)
 
--- ---- the two programs
+-- ---- the programs
 
 -- the arguments of each, as `clap` builds them
 abbrev compile_rules : List Rule
@@ -153,6 +153,9 @@ compile_rules = (built compile_app).top.rules
 
 abbrev simulate_rules : List Rule
 simulate_rules = (built simulate_app).top.rules
+
+abbrev view_rules : List Rule
+view_rules = (built view_app).top.rules
 
 -- an argument that may be used
 used_rule : (rules : List Rule) (a : Rule) → arg_by_id rules a.id ≡ Some a → is_plain_action (action_of a) ≡ true
@@ -182,6 +185,15 @@ compile_rules_are_plain =
 simulate_rules_are_plain : AllByRecursion (IsPlainRule simulate_rules) simulate_rules
 unfolding argument_tables clap_on_literals
 simulate_rules_are_plain =
+    also (used_rule _ _ refl refl refl refl)
+    (also (used_rule _ _ refl refl refl refl)
+    (also (record { first = refl; plain = refl; valued = λ used. used; defaults = refl })
+    tt))
+
+-- and each of the viewer
+view_rules_are_plain : AllByRecursion (IsPlainRule view_rules) view_rules
+unfolding argument_tables clap_on_literals
+view_rules_are_plain =
     also (used_rule _ _ refl refl refl refl)
     (also (used_rule _ _ refl refl refl refl)
     (also (record { first = refl; plain = refl; valued = λ used. used; defaults = refl })
@@ -229,4 +241,16 @@ simulate_matches-whole words matches e =
     record {
       object = word_of simulate_rules matches are.hold _ plain.0 (not_lacking _ lacking.0);
       cycles = number_of simulate_rules matches are.hold cycles_option _ plain.1.0 refl refl (are.defaults.1.0 refl);
+    }
+
+-- nor of the viewer's
+pub view_matches-whole : ViewMatchesAreWhole
+unfolding argument_tables
+view_matches-whole words matches e =
+    let are = matches_are_filled view_app words matches view_rules_are_plain e in
+    let plain = view_rules_are_plain in
+    let lacking = or_false _ _ (asks_for_none _ _ _ are.checked) in
+    record {
+      object = word_of view_rules matches are.hold _ plain.0 (not_lacking _ lacking.0);
+      dot = flag_of view_rules matches are.hold _ plain.1.0 refl (are.defaults.1.0 refl);
     }

@@ -1,4 +1,4 @@
--- The arguments of both programs, as `clap` takes them, and the matches that `clap` gives of words.
+-- The arguments of the programs, as `clap` takes them, and the matches that `clap` gives of words.
 use Rattle.std.specs.Prelude.{ℕ, Bool, true, false, List, [], ◌∷◌, Option, Some, None, codes, decimal, bytes_eq, if◌then◌else◌, option_and_then, unwrap_or}
 use Rattle.clap.specs.Walk.{Rule, Text, first_of, one_of}
 use Rattle.clap.specs.Simple.{App, matches_of, new_rule, new_shape}
@@ -52,6 +52,13 @@ unfoldable pub simulate_app : App
 simulate_app = app_with (codes "pvm") (
     word_argument (codes "OBJ")
     ∷ (number_argument cycles_option
+    ∷ []))
+
+-- `pview OBJ [--dot]`
+unfoldable pub view_app : App
+view_app = app_with (codes "pview") (
+    word_argument (codes "OBJ")
+    ∷ (flag_argument (codes "dot")
     ∷ []))
 
 -- matches, unless there is a fault

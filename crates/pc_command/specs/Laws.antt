@@ -4,9 +4,10 @@ use Rattle.std.specs.Option.{IsSome}
 use Rattle.clap.specs.Walk.{first_of}
 use Rattle.pc_word.specs.Ranges.{AreCycles, IsExtent, AreLimits}
 use Rattle.pc_command.specs.Matching.{Matches}
-use Rattle.pc_command.specs.Arguments.{compile_app, flag_found, matches_taken, simulate_app}
+use Rattle.pc_command.specs.Arguments.{compile_app, flag_found, matches_taken, simulate_app, view_app}
 use Rattle.pc_command.specs.Options.{cycles_option, mem_option, number_found, ops_option, rows_option, tests_option, window_option}
 use Rattle.pc_command.specs.Requests.{CompileRequest, OfFile, OfSample, SourcePlace, SimulateRequest, compile_command_of, simulate_command_of, source_place_of}
+use Rattle.pc_command.specs.Requests.{view_command_of}
 
 -- ---- the ranges of a command
 
@@ -47,12 +48,20 @@ pub record AreSimulateMatches (matches : Matches) : Type 0 where
   pub object : IsSome (first_of (codes "OBJ") matches)
   pub cycles : IsSome (number_found cycles_option matches)
 
+-- and of the viewer's
+pub record AreViewMatches (matches : Matches) : Type 0 where
+  pub object : IsSome (first_of (codes "OBJ") matches)
+  pub dot : IsSome (flag_found (codes "dot") matches)
+
 -- the matches that `clap` gives of words that it takes lack nothing, so no command has a word or a number that stands for a missing one
 abbrev pub CompileMatchesAreWhole : Type 0
 CompileMatchesAreWhole = (words : List (List ℕ)) (matches : Matches) → matches_taken compile_app words ≡ Some matches → AreCompileMatches matches
 
 abbrev pub SimulateMatchesAreWhole : Type 0
 SimulateMatchesAreWhole = (words : List (List ℕ)) (matches : Matches) → matches_taken simulate_app words ≡ Some matches → AreSimulateMatches matches
+
+abbrev pub ViewMatchesAreWhole : Type 0
+ViewMatchesAreWhole = (words : List (List ℕ)) (matches : Matches) → matches_taken view_app words ≡ Some matches → AreViewMatches matches
 
 -- ---- plain words
 
@@ -79,6 +88,10 @@ PlainWordsCompile = (source object : List ℕ) (place : SourcePlace) → IsPlain
 abbrev pub PlainWordSimulates : Type 0
 PlainWordSimulates = (object : List ℕ) → IsPlainWord object → simulate_command_of (object ∷ []) ≡ Some (record { object = object; cycles = 100000000 })
 
+-- `OBJ` asks for the listing of the object at OBJ
+abbrev pub PlainWordViews : Type 0
+PlainWordViews = (object : List ℕ) → IsPlainWord object → view_command_of (object ∷ []) ≡ Some (record { object = object; dot = false })
+
 -- no words are no command
 abbrev pub NoWordsAreNoCommand : Type 0
-NoWordsAreNoCommand = (compile_command_of [] ≡ None) × (simulate_command_of [] ≡ None)
+NoWordsAreNoCommand = (compile_command_of [] ≡ None) × (simulate_command_of [] ≡ None) × (view_command_of [] ≡ None)

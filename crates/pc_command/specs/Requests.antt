@@ -1,11 +1,11 @@
--- What the words of a command line ask of the compiler and of the simulator.
+-- What the words of a command line ask of the compiler, of the simulator and of the viewer.
 use Rattle.std.specs.Prelude.{ℕ, ◌^◌, ◌==◌, ◌&&◌, Bool, List, [], ◌∷◌, Option, Some, None, codes, if◌then◌else◌, nat_lt, option_and_then, option_map}
 use Rattle.std.specs.Str.Parse.{digits_value}
 use Rattle.pc_word.specs.NumberText.{is_numeral}
 use Rattle.pc_word.specs.declared.item.Limits.{Limits}
 use Rattle.pc_word.specs.declared.item.Extent.{Extent}
 use Rattle.pc_command.specs.Matching.{Matches}
-use Rattle.pc_command.specs.Arguments.{compile_app, flag_in, matches_taken, simulate_app, word_in}
+use Rattle.pc_command.specs.Arguments.{compile_app, flag_in, matches_taken, simulate_app, view_app, word_in}
 use Rattle.pc_command.specs.Options.{number_in, ops_option, tests_option, mem_option, window_option, rows_option, cycles_option}
 use Rattle.pc_command.specs.declared.error.CommandError.{CommandError}
 use Rattle.pc_command.specs.declared.error.CommandError.TheVariants as error
@@ -13,6 +13,7 @@ use Rattle.pc_command.specs.declared.source.SourceName.{SourceName}
 use Rattle.pc_command.specs.declared.source.SourceName.TheVariants as name
 use Rattle.pc_command.specs.declared.compile.CompileCommand.{CompileCommand}
 use Rattle.pc_command.specs.declared.simulate.SimulateCommand.{SimulateCommand}
+use Rattle.pc_command.specs.declared.view.ViewCommand.{ViewCommand}
 
 -- where a source comes from: the file of this name, or the generated sample of this number
 pub data SourcePlace : Type 0 where
@@ -31,6 +32,11 @@ pub record CompileRequest : Type 0 where
 pub record SimulateRequest : Type 0 where
   pub object : List ℕ
   pub cycles : ℕ
+
+-- what the viewer is asked to do: to write an object as a listing, or as a graph in the language DOT
+pub record ViewRequest : Type 0 where
+  pub object : List ℕ
+  pub dot : Bool
 
 -- the number that bytes spell in decimal digits alone, where it is one from 0 to 4294967295
 abbrev pub sample_number_of : List ℕ → Option ℕ
@@ -72,6 +78,10 @@ compile_request_in matches = option_map (λ source. record {
 unfoldable pub simulate_request_in : Matches → SimulateRequest
 simulate_request_in matches = record { object = word_in (codes "OBJ") matches; cycles = number_in cycles_option matches }
 
+-- what the viewer's matches ask
+unfoldable pub view_request_in : Matches → ViewRequest
+view_request_in matches = record { object = word_in (codes "OBJ") matches; dot = flag_in (codes "dot") matches }
+
 -- what words ask of the compiler, if they are a command: `clap` takes them, and SRC names a source
 unfoldable pub compile_command_of : List (List ℕ) → Option CompileRequest
 compile_command_of words = option_and_then compile_request_in (matches_taken compile_app words)
@@ -79,6 +89,10 @@ compile_command_of words = option_and_then compile_request_in (matches_taken com
 -- what words ask of the simulator, if they are a command: `clap` takes them
 unfoldable pub simulate_command_of : List (List ℕ) → Option SimulateRequest
 simulate_command_of words = option_map simulate_request_in (matches_taken simulate_app words)
+
+-- what words ask of the viewer, if they are a command: `clap` takes them
+unfoldable pub view_command_of : List (List ℕ) → Option ViewRequest
+view_command_of words = option_map view_request_in (matches_taken view_app words)
 
 -- a name of a source, as plain data
 abbrev pub source_place : SourceName → SourcePlace
@@ -97,6 +111,9 @@ compile_request command = record {
 
 abbrev pub simulate_request : SimulateCommand → SimulateRequest
 simulate_request command = record { object = command.object.now; cycles = command.cycles }
+
+abbrev pub view_request : ViewCommand → ViewRequest
+view_request command = record { object = command.object.now; dot = command.dot }
 
 -- why words are refused: they are no command; want of memory has no cause
 abbrev pub command_cause : CommandError → Option CommandError

@@ -1,4 +1,4 @@
-//! The arguments of both programs, as `clap` takes them.
+//! The arguments of the programs, as `clap` takes them.
 ghost use Rattle.std.specs.Prelude.{◌≡◌, true, false, codes, IfOk, IfErr, ok_or};
 ghost use Rattle.std.specs.Option.{IsSome};
 ghost use Rattle.clap.specs.Walk.{first_of, rule_of};
@@ -8,7 +8,7 @@ ghost use Rattle.clap.specs.Values.{kind_of};
 ghost use Rattle.clap.specs.declared.error.kind.ErrorKind.TheVariants.{OutOfMemory};
 ghost use Rattle.pc_word.specs.Exact.{IsExact};
 ghost use Rattle.pc_command.specs.Matching.{matches_in};
-ghost use Rattle.pc_command.specs.Arguments.{compile_app, flag_argument, flag_found, flag_in, letter_argument, matches_taken, simulate_app, word_argument, word_in};
+ghost use Rattle.pc_command.specs.Arguments.{compile_app, flag_argument, flag_found, flag_in, letter_argument, matches_taken, simulate_app, view_app, word_argument, word_in};
 ghost use Rattle.pc_command.specs.Requests.{command_cause};
 ghost use Rattle.pc_command.specs.Words.{spelled};
 
@@ -68,6 +68,18 @@ pub(crate) fn simulate_app<'a>(alloc: Global) -> Result<Command<'a>, clap::Error
         .no_binary_name(true)
         .arg(word_argument(alloc, "OBJ"))?
         .arg(OptionLine::cycles().argument(alloc))?;
+    Ok(command)
+}
+
+/// `pview OBJ [--dot]`.
+pub(crate) fn view_app<'a>(alloc: Global) -> Result<Command<'a>, clap::Error>
+    ensures app { IfOk result (λ command. app_of command ≡ view_app) }
+    ensures memory { IfErr result (λ error. kind_of error ≡ OutOfMemory) }
+{
+    let command = Command::new(alloc, "pview")
+        .no_binary_name(true)
+        .arg(word_argument(alloc, "OBJ"))?
+        .arg(flag_argument(alloc, "dot"))?;
     Ok(command)
 }
 

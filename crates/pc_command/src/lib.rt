@@ -1,4 +1,4 @@
-//! The words of the command line of both programs, read with `clap`.
+//! The words of the command line of the programs, read with `clap`.
 #![tactic(auto)]
 
 mod arguments;
@@ -8,12 +8,14 @@ mod laws;
 mod number_option;
 mod simulate;
 mod source;
+mod view;
 
 pub use compile::{CompileCommand, compile_command};
 pub use error::CommandError;
 pub use laws::{laws_of_matches, laws_of_plain_words, laws_of_ranges};
 pub use simulate::{SimulateCommand, simulate_command};
 pub use source::SourceName;
+pub use view::{ViewCommand, view_command};
 
 #[cfg(test)]
 mod tests;

@@ -1,4 +1,4 @@
-use crate::{CommandError, CompileCommand, SourceName, compile_command, simulate_command};
+use crate::{CommandError, CompileCommand, SourceName, compile_command, simulate_command, view_command};
 use pc_word::{Extent, Limits};
 use std::alloc::{AllocError, Global};
 use std::test::Fail;
@@ -80,6 +80,12 @@ static NO_SIMULATE: [&str; 8] = [
     "y --help",
     "y --version",
 ];
+
+// Whether the words of the viewer ask for a graph.
+static DOTS: [(&str, bool); 3] = [("y", false), ("y --dot", true), ("--dot -- y", true)];
+
+// Words that the viewer refuses.
+static NO_VIEW: [&str; 5] = ["", "y z", "y --dot --dot", "y --dot=yes", "y --help"];
 
 /// The words of a line.
 fn words_of(alloc: Global, line: &str) -> Result<Vec<String>, AllocError> {
@@ -182,6 +188,27 @@ fn simulator_refuses(rt: HostRuntime) -> Result<(), Fail> {
     for line in NO_SIMULATE.iter() {
         let words = words_of(rt.alloc(), line)?;
         let answer = simulate_command(rt.alloc(), words.as_slice());
+        assert!(rt; answer == Err(CommandError::NoCommand), "{line}");
+    }
+    Ok(())
+}
+
+#[test]
+fn viewer_takes(rt: HostRuntime) -> Result<(), Fail> {
+    for (line, dot) in DOTS.iter() {
+        let words = words_of(rt.alloc(), line)?;
+        let command = view_command(rt.alloc(), words.as_slice())?;
+        assert_eq!(rt; command.object, "y");
+        assert_eq!(rt; command.dot, *dot);
+    }
+    Ok(())
+}
+
+#[test]
+fn viewer_refuses(rt: HostRuntime) -> Result<(), Fail> {
+    for line in NO_VIEW.iter() {
+        let words = words_of(rt.alloc(), line)?;
+        let answer = view_command(rt.alloc(), words.as_slice());
         assert!(rt; answer == Err(CommandError::NoCommand), "{line}");
     }
     Ok(())

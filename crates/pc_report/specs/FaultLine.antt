@@ -8,7 +8,7 @@ use Rattle.pc_word.specs.declared.item.MachineFault.TheVariants.{StoreOutOfRange
 use Rattle.pc_word.specs.declared.item.TrapKind.{TrapKind}
 use Rattle.pc_word.specs.declared.item.TrapKind.TheVariants.{DivideByZero, OutOfBounds, EndOfInput}
 use Rattle.pc_report.specs.declared.fault.Speaker.{Speaker}
-use Rattle.pc_report.specs.declared.fault.Speaker.TheVariants.{Pcc, Pvm}
+use Rattle.pc_report.specs.declared.fault.Speaker.TheVariants.{Pcc, Pvm, Pview}
 use Rattle.pc_report.specs.declared.fault.LineFault.{LineFault}
 use Rattle.pc_report.specs.declared.fault.LineFault.TheVariants as at_line
 use Rattle.pc_report.specs.declared.fault.SourceFault.{SourceFault}
@@ -25,11 +25,13 @@ use Rattle.pc_word.specs.Line.{line}
 abbrev pub speaker_text : Speaker → List ℕ
 speaker_text Pcc = codes "pcc"
 speaker_text Pvm = codes "pvm"
+speaker_text Pview = codes "pview"
 
 -- how a program is called
 abbrev pub usage_text : Speaker → List ℕ
 usage_text Pcc = codes "usage: pcc SRC -o OBJ [--ops N] [--tests N] [--mem N] [--window N] [--rows N] [--report]"
 usage_text Pvm = codes "usage: pvm OBJ [--cycles N]"
+usage_text Pview = codes "usage: pview OBJ [--dot]"
 
 -- what is wrong at a line of a source
 abbrev pub line_fault_text : LineFault → List ℕ

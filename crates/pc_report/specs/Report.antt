@@ -48,11 +48,16 @@ choice_text choice = unwrap_or (slice_get choice_texts choice) []
 abbrev pub pass_line : PassCount → List ℕ
 pass_line pass = line (codes "pass " ++ (pass.name ++ (codes " " ++ decimal pass.changes)))
 
--- the line of a loop: the line of its keyword, its form and what decided it, and the number that was met of the number that is allowed
+-- a note in words: the line of the loop's keyword, its form and what decided it, and the number that was met of the number that is
+-- allowed
+abbrev pub note_words : Note → List ℕ
+note_words note =
+    codes "loop " ++ (decimal note.line ++ (codes ": " ++ (choice_text note.choice
+    ++ (codes " " ++ (decimal note.number ++ (codes " of " ++ decimal note.limit))))))
+
+-- the line of a loop
 abbrev pub note_line : Note → List ℕ
-note_line note =
-    line (codes "loop " ++ (decimal note.line ++ (codes ": " ++ (choice_text note.choice
-    ++ (codes " " ++ (decimal note.number ++ (codes " of " ++ decimal note.limit)))))))
+note_line note = line (note_words note)
 
 -- the lines of a report
 abbrev pub report_lines : Report → List ℕ

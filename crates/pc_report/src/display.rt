@@ -13,6 +13,7 @@ impl fmt::Display for Speaker {
         f.write_str(match self {
             Speaker::Pcc => "pcc",
             Speaker::Pvm => "pvm",
+            Speaker::Pview => "pview",
         })
     }
 }
@@ -91,6 +92,7 @@ fn usage(who: Speaker) -> &'static str
             "usage: pcc SRC -o OBJ [--ops N] [--tests N] [--mem N] [--window N] [--rows N] [--report]"
         }
         Speaker::Pvm => "usage: pvm OBJ [--cycles N]",
+        Speaker::Pview => "usage: pview OBJ [--dot]",
     }
 }
 

@@ -9,6 +9,8 @@ pub enum Speaker {
     Pcc,
     /// The simulator.
     Pvm,
+    /// The viewer.
+    Pview,
 }
 
 /// Why a program does not end with success. It borrows the name of a file.

@@ -2,7 +2,7 @@
 ghost use Rattle.std.specs.Prelude.{◌≡◌, ◌≤◌, ◌++◌, IfOk, OnOk, map, string_bytes};
 ghost use Rattle.std.specs.List.{flat_map, AllByRecursion};
 ghost use Rattle.pc_object.specs.ObjectText.{IsChoice};
-ghost use Rattle.pc_report.specs.Report.{choice_text, pass_of, pass_line, note_line, report_of, report_lines};
+ghost use Rattle.pc_report.specs.Report.{choice_text, pass_of, pass_line, note_line, note_words, report_of, report_lines};
 
 use crate::error::ReportError;
 use pc_object::Note;
@@ -71,9 +71,18 @@ fn push_note(text: &mut String, note: Note) -> Result<(), AllocError>
     requires { IsChoice note }
     ensures { OnOk result (string_bytes text.new ≡ string_bytes text.old ++ note_line note) }
 {
+    push_note_words(text, note)?;
+    text.push_str("\n")
+}
+
+/// Puts a note in words behind a text, without a line feed.
+pub fn push_note_words(text: &mut String, note: Note) -> Result<(), AllocError>
+    requires { IsChoice note }
+    ensures { OnOk result (string_bytes text.new ≡ string_bytes text.old ++ note_words note) }
+{
     let form = choice_words(note.choice);
     let (line, number, limit) = (note.line, note.number, note.limit);
-    writeln!(text, "loop {line}: {form} {number} of {limit}")
+    write!(text, "loop {line}: {form} {number} of {limit}")
 }
 
 /// The form of a loop, and what decided it, by the choice of its note.

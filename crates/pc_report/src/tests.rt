@@ -71,6 +71,35 @@ static SIMULATOR: [(ToolFault<'static>, &str); 7] = [
     ),
 ];
 
+/// The faults of the viewer.
+static VIEWER: [(ToolFault<'static>, &str); 4] = [
+    (
+        ToolFault::NoMemory {
+            who: Speaker::Pview,
+        },
+        "pview: out of memory\n",
+    ),
+    (
+        ToolFault::Usage {
+            who: Speaker::Pview,
+        },
+        "usage: pview OBJ [--dot]\n",
+    ),
+    (
+        ToolFault::Object {
+            who: Speaker::Pview,
+            fault: ObjectFault::BadMagic,
+        },
+        "pview: object: bad magic\n",
+    ),
+    (
+        ToolFault::WriteOutput {
+            who: Speaker::Pview,
+        },
+        "pview: write failed: output\n",
+    ),
+];
+
 static SOURCES: [(SourceFault, &str); 4] = [
     (
         SourceFault::TooLong,
@@ -278,6 +307,9 @@ fn tells_faults_without_a_kind(rt: HostRuntime) -> Result<(), Fail> {
     for (fault, line) in SIMULATOR.iter() {
         assert!(rt; tells(alloc, *fault, line)?, "{line}");
     }
+    for (fault, line) in VIEWER.iter() {
+        assert!(rt; tells(alloc, *fault, line)?, "{line}");
+    }
     Ok(())
 }
 
@@ -344,6 +376,7 @@ fn tells_faults_of_runs(rt: HostRuntime) -> Result<(), Fail> {
 fn tells_want_of_memory_without_memory(rt: HostRuntime) {
     assert!(rt; out_of_memory_line(Speaker::Pcc) == b"pcc: out of memory\n".as_slice());
     assert!(rt; out_of_memory_line(Speaker::Pvm) == b"pvm: out of memory\n".as_slice());
+    assert!(rt; out_of_memory_line(Speaker::Pview) == b"pview: out of memory\n".as_slice());
 }
 
 /// The report of a compilation with two passes and a note of each choice.

@@ -43,7 +43,7 @@ pub(crate) fn machine_fault_words(fault: MachineFault) -> &'static str
 }
 
 /// What a trap is called.
-pub(crate) fn trap_words(kind: TrapKind) -> &'static str
+pub fn trap_words(kind: TrapKind) -> &'static str
     ensures { result.now ≡ trap_text kind }
 {
     match kind {

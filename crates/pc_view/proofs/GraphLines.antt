@@ -1,0 +1,51 @@
+-- How many lines a graph has.
+use Rattle.std.proofs.Common.{◌≡◌, ℕ, suc, ◌+◌, List, [], ◌∷◌, ◌++◌, length, refl, sym, ◌∙◌, ap, arith, codes}
+use Rattle.std.proofs.Common.{length-append}
+use Rattle.std.specs.List.{count_by, sum_by}
+use Rattle.std.proofs.lemmas.List.Sums.{sum_by-cons}
+use Rattle.pc_word.proofs.Lists.{count_both}
+use Rattle.pc_word.specs.Row.{Then, Either, At_leaf, leaves_of}
+use Rattle.pc_machine.specs.MachineCode.{Leads_to, Ends, Traps, CodeRow}
+use Rattle.pc_object.specs.declared.object.Note.{Note}
+use Rattle.pc_object.specs.ObjectText.{CodeWithNotes}
+use Rattle.pc_view.specs.Graph.{row_edges, row_graph, note_nodes, graph_lines}
+use Rattle.pc_view.specs.Laws.{is_edge, graph_line_count}
+
+length-row_edges : (number : ℕ) (port : List ℕ) (row : CodeRow) → length (row_edges number port row) ≡ count_by is_edge (leaves_of row)
+length-row_edges number port (Then item rest) = length-row_edges number port rest
+length-row_edges number port (Either on on_yes on_no) =
+    omega (
+      arith,
+      length-append (row_edges number (port ++ codes "y") on_yes) (row_edges number (port ++ codes "n") on_no),
+      length-row_edges number (port ++ codes "y") on_yes,
+      length-row_edges number (port ++ codes "n") on_no,
+      count_both is_edge (leaves_of on_yes) (leaves_of on_no),
+    )
+length-row_edges number port (At_leaf (Leads_to row)) = refl
+length-row_edges number port (At_leaf Ends) = refl
+length-row_edges number port (At_leaf (Traps kind line)) = refl
+
+length-row_graph : (number : ℕ) (rows : List CodeRow) → length (row_graph number rows) ≡ sum_by (λ row. 1 + count_by is_edge (leaves_of row)) rows
+length-row_graph number [] = refl
+length-row_graph number (row ∷ rest) =
+    omega (
+      arith,
+      length-append (row_edges number (codes "p") row) (row_graph (suc number) rest),
+      length-row_edges number (codes "p") row,
+      length-row_graph (suc number) rest,
+      sum_by-cons (λ (row : CodeRow). 1 + count_by is_edge (leaves_of row)) row rest,
+    )
+
+length-note_nodes : (number : ℕ) (notes : List Note) → length (note_nodes number notes) ≡ length notes
+length-note_nodes number [] = refl
+length-note_nodes number (note ∷ rest) = ap suc (length-note_nodes (suc number) rest)
+
+pub length-graph_lines : (object : CodeWithNotes) → length (graph_lines object) ≡ graph_line_count object
+length-graph_lines object =
+    omega (
+      arith,
+      length-append (row_graph 0 object.code.rows) (note_nodes 0 object.notes ++ codes "}" ∷ []),
+      length-append (note_nodes 0 object.notes) (codes "}" ∷ []),
+      length-row_graph 0 object.code.rows,
+      length-note_nodes 0 object.notes,
+    )

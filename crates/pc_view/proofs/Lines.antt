@@ -1,0 +1,72 @@
+-- The lines of a listing, one by one and how many.
+use Rattle.std.proofs.Common.{◌≡◌, ℕ, suc, ◌+◌, List, [], ◌∷◌, ◌++◌, length, map, refl, sym, ◌∙◌, ap, arith, codes}
+use Rattle.std.proofs.Common.{length-append}
+use Rattle.std.specs.List.{sum_by}
+use Rattle.std.proofs.lemmas.List.{length-map}
+use Rattle.std.proofs.lemmas.List.Sums.{sum_by-cons}
+use Rattle.pc_word.specs.Row.{Then, Either, At_leaf, items_of, tests_of, leaves_of}
+use Rattle.pc_machine.specs.MachineCode.{CodeRow, RowCode}
+use Rattle.pc_object.specs.ObjectText.{CodeWithNotes}
+use Rattle.pc_report.specs.Report.{note_words}
+use Rattle.pc_view.specs.Words.{operator_words, item_words, test_words, leaf_words}
+use Rattle.pc_view.specs.Tree.{tree_lines}
+use Rattle.pc_view.specs.Listing.{row_lines, rows_lines, listing_lines}
+use Rattle.pc_view.specs.Laws.{words_of, EndWith, part_count, line_count}
+
+-- ---- what the lines of a tree end with
+
+ends_both : (a b c d : List (List ℕ)) → EndWith a b → EndWith c d → EndWith (a ++ c) (b ++ d)
+ends_both [] [] c d h k = k
+ends_both (x ∷ a) (y ∷ b) c d h k = (h.0, ends_both a b c d h.1 k)
+ends_both [] (y ∷ b) c d h k = absurd h
+ends_both (x ∷ a) [] c d h k = absurd h
+
+pub tree_ends : (first below : List ℕ) (row : CodeRow) → EndWith (tree_lines first below row) (words_of row)
+tree_ends first below (Then item rest) = ((first, refl), tree_ends below below rest)
+tree_ends first below (Either on on_yes on_no) =
+    ((first, refl), ends_both _ (words_of on_yes) _ (words_of on_no) (tree_ends _ _ on_yes) (tree_ends _ _ on_no))
+tree_ends first below (At_leaf leaf) = ((first, refl), tt)
+
+-- ---- how many lines
+
+length-tree_lines : (first below : List ℕ) (row : CodeRow) → length (tree_lines first below row) ≡ part_count row
+length-tree_lines first below (Then item rest) = omega (arith, length-tree_lines below below rest)
+length-tree_lines first below (Either on on_yes on_no) =
+    two (tree_lines (below ++ codes "yes ") (below ++ codes "|   ") on_yes) (tree_lines (below ++ codes "no  ") (below ++ codes "    ") on_no)
+    (length-tree_lines (below ++ codes "yes ") (below ++ codes "|   ") on_yes)
+        (length-tree_lines (below ++ codes "no  ") (below ++ codes "    ") on_no)
+  where
+    two : (a b : List (List ℕ)) → length a ≡ part_count on_yes → length b ≡ part_count on_no
+        → suc (length (a ++ b)) ≡ part_count (Either on on_yes on_no)
+    two a b p q =
+        omega (
+          arith,
+          p,
+          q,
+          length-append a b,
+          length-append (items_of on_yes) (items_of on_no),
+          length-append (tests_of on_yes) (tests_of on_no),
+          length-append (leaves_of on_yes) (leaves_of on_no),
+        )
+length-tree_lines first below (At_leaf leaf) = refl
+
+length-rows_lines : (code : RowCode) (number : ℕ) (rows : List CodeRow)
+    → length (rows_lines code number rows) ≡ sum_by (λ row. 1 + part_count row) rows
+length-rows_lines code number [] = refl
+length-rows_lines code number (row ∷ rest) =
+    omega (
+      arith,
+      length-append (row_lines code number row) (rows_lines code (suc number) rest),
+      length-tree_lines (codes "    ") (codes "    ") row,
+      length-rows_lines code (suc number) rest,
+      sum_by-cons (λ (row : CodeRow). 1 + part_count row) row rest,
+    )
+
+pub length-listing_lines : (object : CodeWithNotes) → length (listing_lines object) ≡ line_count object
+length-listing_lines object =
+    omega (
+      arith,
+      length-append (rows_lines object.code 0 object.code.rows) (map note_words object.notes),
+      length-rows_lines object.code 0 object.code.rows,
+      length-map object.notes note_words,
+    )

@@ -1,0 +1,94 @@
+-- An object as a graph in the language DOT: its rows are record nodes, and each leaf that leads to a row an edge.
+use Rattle.std.specs.Prelude.{ℕ, suc, List, [], ◌∷◌, ◌++◌, codes, slice_get, unwrap_or}
+use Rattle.std.specs.Fmt.{decimal}
+use Rattle.pc_word.specs.declared.item.OpCode.{OpCode}
+use Rattle.pc_word.specs.declared.item.OpCode.TheVariants.{Add, Sub, Mul, Div, Rem, Shl, Shr, And, Or, Xor, Less, LessEq, Equal, Unequal, Below}
+use Rattle.pc_word.specs.Row.{Then, Either, At_leaf}
+use Rattle.pc_machine.specs.MachineCode.{Leads_to, Ends, Traps, CodeRow}
+use Rattle.pc_object.specs.declared.object.Note.{Note}
+use Rattle.pc_object.specs.ObjectText.{CodeWithNotes}
+use Rattle.pc_report.specs.Report.{note_words}
+use Rattle.pc_view.specs.Words.{operator_words, item_words, test_words, leaf_words}
+use Rattle.pc_view.specs.Listing.{lines_text}
+
+-- ---- rows
+
+-- an operator in a field of a record, where `<`, `>` and `|` stand behind a backslash
+abbrev pub field_operator : OpCode → List ℕ
+field_operator Shl = codes "\\<\\<"
+field_operator Shr = codes "\\>\\>"
+field_operator Or = codes "\\|"
+field_operator Less = codes "\\<"
+field_operator LessEq = codes "\\<="
+field_operator op = operator_words op
+
+-- The fields of a tree, from top to bottom; under a test its sides stand beside each other. A leaf's field has a port, whose name
+-- says the way to it: `port`, and a `y` or `n` for each test.
+abbrev pub fields : List ℕ → CodeRow → List ℕ
+fields port (Then item rest) = item_words field_operator item ++ (codes "|" ++ fields port rest)
+fields port (Either on on_yes on_no) =
+    test_words on ++ (codes "|{{yes|" ++ (fields (port ++ codes "y") on_yes
+    ++ (codes "}|{no|" ++ (fields (port ++ codes "n") on_no ++ codes "}}"))))
+fields port (At_leaf leaf) = codes "<" ++ (port ++ (codes "> " ++ leaf_words leaf))
+
+-- the beginning of the node of a row: its number, and its label up to the fields
+unfoldable pub node_front : ℕ → List ℕ
+node_front number = codes "    " ++ (decimal number ++ (codes " [label=\"{row " ++ (decimal number ++ codes "|")))
+
+-- the node of a row
+abbrev pub row_node : ℕ → CodeRow → List ℕ
+row_node number row = node_front number ++ (fields (codes "p") row ++ codes "}\"];")
+
+-- the edges of the row with this number: one for each leaf that leads to a row, from the leaf's port
+abbrev pub row_edges : ℕ → List ℕ → CodeRow → List (List ℕ)
+row_edges number port (Then item rest) = row_edges number port rest
+row_edges number port (Either on on_yes on_no) = row_edges number (port ++ codes "y") on_yes ++ row_edges number (port ++ codes "n") on_no
+row_edges number port (At_leaf (Leads_to row)) =
+    (codes "    " ++ (decimal number ++ (codes ":" ++ (port ++ (codes " -> " ++ (decimal row ++ codes ";")))))) ∷ []
+row_edges number port (At_leaf Ends) = []
+row_edges number port (At_leaf (Traps kind line)) = []
+
+-- rows, numbered from `number` on
+abbrev pub row_graph : ℕ → List CodeRow → List (List ℕ)
+row_graph number [] = []
+row_graph number (row ∷ rest) = row_node number row ∷ (row_edges number (codes "p") row ++ row_graph (suc number) rest)
+
+-- ---- notes
+
+-- the colour of a loop for each choice that its note may have, from 0 to 7: one for each form
+abbrev pub choice_colours : List (List ℕ)
+choice_colours =
+    codes "palegreen"
+    ∷ codes "khaki" ∷ codes "khaki" ∷ codes "khaki" ∷ codes "khaki"
+    ∷ codes "lightsalmon" ∷ codes "lightsalmon" ∷ codes "lightsalmon" ∷ []
+
+-- that of one choice
+abbrev pub choice_colour : ℕ → List ℕ
+choice_colour choice = unwrap_or (slice_get choice_colours choice) []
+
+-- the beginning of the box of a note: its number and its colour
+unfoldable pub note_front : ℕ → List ℕ → List ℕ
+note_front number colour =
+    codes "    note" ++ (decimal number ++ (codes " [shape=box, style=filled, fillcolor=" ++ (colour ++ codes ", label=\"")))
+
+-- the box of a note
+abbrev pub note_node : ℕ → Note → List ℕ
+note_node number note = note_front number (choice_colour note.choice) ++ (note_words note ++ codes "\"];")
+
+-- the boxes of notes, numbered from `number` on
+abbrev pub note_nodes : ℕ → List Note → List (List ℕ)
+note_nodes number [] = []
+note_nodes number (note ∷ rest) = note_node number note ∷ note_nodes (suc number) rest
+
+-- ---- the whole
+
+-- the lines of the graph of an object
+abbrev pub graph_lines : CodeWithNotes → List (List ℕ)
+graph_lines object =
+    codes "digraph rows {"
+    ∷ (codes "    node [shape=record];"
+    ∷ (row_graph 0 object.code.rows ++ (note_nodes 0 object.notes ++ codes "}" ∷ [])))
+
+-- the text of the graph
+abbrev pub graph_text : CodeWithNotes → List ℕ
+graph_text object = lines_text (graph_lines object)

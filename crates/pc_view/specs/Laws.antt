@@ -1,0 +1,84 @@
+-- Laws of the texts, of every object. Each is the contract of a function of laws.rt, which does nothing.
+use Rattle.std.specs.Prelude.{◌≡◌, ℕ, ◌+◌, ◌<◌, ◌↔◌, Bool, true, false, nat_eq, List, [], ◌∷◌, ◌++◌, length}
+use Rattle.std.specs.Prelude.{Contains, Some, slice_get}
+use Rattle.std.specs.List.{AllByRecursion, count_by, sum_by}
+use Rattle.pc_word.specs.Row.{Then, Either, At_leaf, items_of, tests_of, leaves_of}
+use Rattle.pc_machine.specs.MachineCode.{Leaf, Leads_to, Ends, Traps, CodeRow}
+use Rattle.pc_machine.specs.Reachable.{HasLeafTo}
+use Rattle.pc_object.specs.ObjectText.{CodeWithNotes}
+use Rattle.pc_view.specs.Words.{operator_words, item_words, test_words, leaf_words}
+use Rattle.pc_view.specs.Tree.{tree_lines}
+use Rattle.pc_view.specs.Graph.{graph_lines}
+use Rattle.pc_view.specs.Leading.{rows_leading_to}
+use Rattle.pc_view.specs.Listing.{listing_lines, listing_text}
+
+-- ---- the lines of a tree
+
+-- the words of each item, test and leaf of a row, in preorder
+abbrev pub words_of : CodeRow → List (List ℕ)
+words_of (Then item rest) = item_words operator_words item ∷ words_of rest
+words_of (Either on on_yes on_no) = test_words on ∷ (words_of on_yes ++ words_of on_no)
+words_of (At_leaf leaf) = leaf_words leaf ∷ []
+
+-- each line ends with its words
+abbrev pub EndWith : List (List ℕ) → List (List ℕ) → Type 0
+EndWith [] [] = Unit {0}
+EndWith (line ∷ lines) (words ∷ more) = ((front : List ℕ) × (line ≡ front ++ words)) × EndWith lines more
+EndWith _ _ = ⊥
+
+-- a tree has one line for each item, test and leaf, in preorder, which ends with its words
+abbrev pub TreesShowEachPart : Type 0
+TreesShowEachPart = (first below : List ℕ) (row : CodeRow) → EndWith (tree_lines first below row) (words_of row)
+
+-- ---- the lines of an object
+
+-- how many parts a row has: its items, tests and leaves
+abbrev pub part_count : CodeRow → ℕ
+part_count row = length (items_of row) + (length (tests_of row) + length (leaves_of row))
+
+-- a line for the limits; for each row a heading and a line for each part; and a line for each note
+abbrev pub line_count : CodeWithNotes → ℕ
+line_count object = 1 + (sum_by (λ row. 1 + part_count row) object.code.rows + length object.notes)
+
+-- the listing of an object has so many lines
+abbrev pub ListingsHaveALineEach : Type 0
+ListingsHaveALineEach = (object : CodeWithNotes) → length (listing_lines object) ≡ line_count object
+
+-- whether a byte is a line feed
+abbrev pub is_line_feed : ℕ → Bool
+is_line_feed byte = nat_eq byte 10
+
+-- and as many line feeds, so that no line has one in it
+abbrev pub ListingsHaveALineFeedEach : Type 0
+ListingsHaveALineFeedEach = (object : CodeWithNotes) → count_by is_line_feed (listing_text object) ≡ line_count object
+
+-- ---- the lines of a graph
+
+-- whether a leaf leads to a row
+abbrev pub is_edge : Leaf → Bool
+is_edge (Leads_to row) = true
+is_edge Ends = false
+is_edge (Traps kind line) = false
+
+-- the graph of an object has two lines at its beginning and one at its end; for each row a node, and an edge for each leaf that leads to a
+-- row; and a box for each note
+abbrev pub graph_line_count : CodeWithNotes → ℕ
+graph_line_count object = 3 + (sum_by (λ row. 1 + count_by is_edge (leaves_of row)) object.code.rows + length object.notes)
+
+abbrev pub GraphsHaveALineEach : Type 0
+GraphsHaveALineEach = (object : CodeWithNotes) → length (graph_lines object) ≡ graph_line_count object
+
+-- ---- the rows that lead to a row
+
+-- the numbers rise
+abbrev pub Rise : List ℕ → Type 0
+Rise [] = Unit {0}
+Rise (number ∷ rest) = AllByRecursion (λ later. number < later) rest × Rise rest
+
+-- the numbers of the rows that lead to a row are those of the rows that have a leaf to it, each once, and they rise
+pub record LeadTo (rows : List CodeRow) (target : ℕ) (numbers : List ℕ) : Type 0 where
+  pub each : (number : ℕ) → Contains numbers number ↔ ((row : CodeRow) × (slice_get rows number ≡ Some row) × HasLeafTo row target)
+  pub rise : Rise numbers
+
+abbrev pub LeadingRowsLead : Type 0
+LeadingRowsLead = (rows : List CodeRow) (target : ℕ) → LeadTo rows target (rows_leading_to target 0 rows)

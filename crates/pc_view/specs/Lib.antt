@@ -1,0 +1,7 @@
+pub mod models
+pub mod Words
+pub mod Tree
+pub mod Leading
+pub mod Listing
+pub mod Graph
+pub mod Laws

@@ -1,0 +1,4 @@
+pub mod Counted
+pub mod Lists
+pub mod Media
+pub mod Rows

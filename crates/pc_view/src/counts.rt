@@ -1,0 +1,43 @@
+//! How many items, tests, and loads and stores a row has.
+ghost use Rattle.std.specs.Prelude.{◌≡◌, ◌≤◌, length};
+ghost use Rattle.std.specs.List.{count_by};
+ghost use Rattle.pc_word.specs.Items.{is_memory};
+ghost use Rattle.pc_word.specs.Row.{items_of, tests_of};
+ghost use Rattle.pc_machine.specs.MachineCode.{row_of};
+ghost use Rattle.pc_view.specs.models.Counted.{counted, HasFew};
+
+use pc_machine::{Counts, Tree};
+use pc_word::Item;
+
+/// How many items, tests, and loads and stores a row has, over its whole tree.
+pub(crate) fn count(row: &Tree) -> Counts
+    requires { HasFew (row_of row.now) }
+    ensures { result ≡ counted (row_of row.now) }
+{
+    match row {
+        Tree::Step { item, next } => {
+            let below = count(next);
+            Counts {
+                ops: below.ops + 1,
+                tests: below.tests,
+                mem: below.mem + u8::from(is_memory(*item)),
+            }
+        }
+        Tree::Test { yes, no, .. } => {
+            let (left, right) = (count(yes), count(no));
+            Counts {
+                ops: left.ops + right.ops,
+                tests: left.tests + right.tests + 1,
+                mem: left.mem + right.mem,
+            }
+        }
+        Tree::Goto { .. } | Tree::Stop | Tree::Trap { .. } => Counts::none(),
+    }
+}
+
+/// Whether an item is a load or store.
+fn is_memory(item: Item) -> bool
+    ensures { result ≡ is_memory item }
+{
+    matches!(item, Item::Load { .. } | Item::Store { .. })
+}

@@ -1,0 +1,157 @@
+//! An object as a graph in the language DOT.
+ghost use Rattle.std.specs.Prelude.{◌≡◌, ◌++◌, ◌∷◌, [], ◌≤◌, IfOk, OnOk, string_bytes};
+ghost use Rattle.std.specs.List.{AllByRecursion};
+ghost use Rattle.pc_machine.specs.MachineCode.{row_of, rows_of};
+ghost use Rattle.pc_object.specs.ObjectText.{object_of, IsObject, IsChoice};
+ghost use Rattle.pc_word.specs.Line.{line};
+ghost use Rattle.pc_view.specs.Listing.{lines_text};
+ghost use Rattle.pc_view.specs.Graph.{fields, node_front, row_node, row_edges, row_graph, choice_colour, note_front, note_node, note_nodes, graph_text};
+
+use crate::words::{ItemWords, Medium, OperandWords};
+use pc_machine::Tree;
+use pc_object::{Note, Object};
+use pc_report::{push_note_words, trap_words};
+use std::alloc::{AllocError, Global};
+
+/// An object as a graph in the language DOT: each row is a record node with its tree, each leaf that leads to a row
+/// an edge, and each note a box whose colour says the loop's form: green where it is pipelined, yellow where it is
+/// packed, red where it is plain.
+pub fn graph_text(alloc: Global, object: &Object) -> Result<Vec<u8>, AllocError>
+    requires { IsObject (object_of object.now) }
+    ensures { IfOk result (λ text. text.items ≡ graph_text (object_of object.now)) }
+{
+    let mut text = format!(in alloc; "digraph rows {{\n    node [shape=record];\n")?;
+    push_rows(alloc, &mut text, object.code.rows.as_slice())?;
+    push_notes(&mut text, object.notes.as_slice())?;
+    text.push_str("}\n")?;
+    Ok(text.into_bytes())
+}
+
+/// Puts the nodes and edges of rows behind a text.
+fn push_rows(alloc: Global, text: &mut String, rows: &[Tree]) -> Result<(), AllocError>
+    ensures { OnOk result (string_bytes text.new ≡ string_bytes text.old ++ lines_text (row_graph 0 (rows_of rows.now))) }
+{
+    for (number, row) in rows.iter().enumerate() {
+        push_node(alloc, text, number, row)?;
+        text.push_str("\n")?;
+        push_edges(alloc, text, number, "p", row)?;
+    }
+    Ok(())
+}
+
+/// Puts the node of a row behind a text.
+fn push_node(alloc: Global, text: &mut String, number: usize, row: &Tree) -> Result<(), AllocError>
+    ensures { OnOk result (string_bytes text.new ≡ string_bytes text.old ++ row_node number (row_of row.now)) }
+{
+    push_node_front(text, number)?;
+    push_fields(alloc, text, "p", row)?;
+    text.push_str("}\"];")
+}
+
+/// Puts the beginning of the node of a row behind a text.
+#[tactic(auto, unfolding(crate::specs::Graph::node_front))]
+fn push_node_front(text: &mut String, number: usize) -> Result<(), AllocError>
+    ensures { OnOk result (string_bytes text.new ≡ string_bytes text.old ++ node_front number) }
+{
+    write!(text, "    {number} [label=\"{{row {number}|")
+}
+
+/// Puts the fields of a tree behind a text. `port` is the name of the port of its leaf, if it has one alone.
+fn push_fields(alloc: Global, text: &mut String, port: &str, row: &Tree) -> Result<(), AllocError>
+    ensures { OnOk result (string_bytes text.new ≡ string_bytes text.old ++ fields port.now (row_of row.now)) }
+{
+    match row {
+        Tree::Step { item, next } => {
+            let item = ItemWords {
+                medium: Medium::Field,
+                item: *item,
+            };
+            write!(text, "{item}|")?;
+            push_fields(alloc, text, port, next)
+        }
+        Tree::Test { on, yes, no } => {
+            let operand = OperandWords { operand: *on };
+            write!(text, "if {operand}|{{{{yes|")?;
+            let yes_port = format!(in alloc; "{port}y")?;
+            push_fields(alloc, text, yes_port.as_str(), yes)?;
+            text.push_str("}|{no|")?;
+            let no_port = format!(in alloc; "{port}n")?;
+            push_fields(alloc, text, no_port.as_str(), no)?;
+            text.push_str("}}")
+        }
+        Tree::Goto { row } => write!(text, "<{port}> goto row {row}"),
+        Tree::Stop => write!(text, "<{port}> stop"),
+        Tree::Trap { kind, line } => {
+            let kind = trap_words(*kind);
+            write!(text, "<{port}> trap: {kind} at line {line}")
+        }
+    }
+}
+
+/// Puts the edges of a row behind a text, from the ports of its leaves.
+fn push_edges(
+    alloc: Global,
+    text: &mut String,
+    number: usize,
+    port: &str,
+    row: &Tree,
+) -> Result<(), AllocError>
+    ensures { OnOk result (string_bytes text.new ≡ string_bytes text.old ++ lines_text (row_edges number port.now (row_of row.now))) }
+{
+    match row {
+        Tree::Step { next, .. } => push_edges(alloc, text, number, port, next),
+        Tree::Test { yes, no, .. } => {
+            let yes_port = format!(in alloc; "{port}y")?;
+            push_edges(alloc, text, number, yes_port.as_str(), yes)?;
+            let no_port = format!(in alloc; "{port}n")?;
+            push_edges(alloc, text, number, no_port.as_str(), no)
+        }
+        Tree::Goto { row } => writeln!(text, "    {number}:{port} -> {row};"),
+        Tree::Stop | Tree::Trap { .. } => Ok(()),
+    }
+}
+
+/// Puts the boxes of notes behind a text.
+fn push_notes(text: &mut String, notes: &[Note]) -> Result<(), AllocError>
+    requires { AllByRecursion IsChoice notes.now }
+    ensures { OnOk result (string_bytes text.new ≡ string_bytes text.old ++ lines_text (note_nodes 0 notes.now)) }
+{
+    for (number, note) in notes.iter().enumerate() {
+        push_note(text, number, *note)?;
+        text.push_str("\n")?;
+    }
+    Ok(())
+}
+
+/// Puts the box of a note behind a text.
+fn push_note(text: &mut String, number: usize, note: Note) -> Result<(), AllocError>
+    requires { IsChoice note }
+    ensures { OnOk result (string_bytes text.new ≡ string_bytes text.old ++ note_node number note) }
+{
+    push_note_front(text, number, choice_colour(note.choice))?;
+    push_note_words(text, note)?;
+    text.push_str("\"];")
+}
+
+/// Puts the beginning of the box of a note behind a text.
+#[tactic(auto, unfolding(crate::specs::Graph::note_front))]
+fn push_note_front(text: &mut String, number: usize, colour: &str) -> Result<(), AllocError>
+    ensures { OnOk result (string_bytes text.new ≡ string_bytes text.old ++ note_front number colour.now) }
+{
+    write!(
+        text,
+        "    note{number} [shape=box, style=filled, fillcolor={colour}, label=\""
+    )
+}
+
+/// The colour of a loop, by the choice of its note.
+fn choice_colour(choice: u8) -> &'static str
+    requires { choice ≤ 7 }
+    ensures { result.now ≡ choice_colour choice }
+{
+    match choice {
+        0 => "palegreen",
+        1..=4 => "khaki",
+        _ => "lightsalmon",
+    }
+}

@@ -1,0 +1,16 @@
+//! Objects as text: a listing that draws each row as the tree that it is, and the graph of the rows in the language DOT.
+#![tactic(auto)]
+
+mod counts;
+mod graph;
+mod laws;
+mod leading;
+mod listing;
+mod rows;
+#[cfg(test)]
+mod tests;
+mod words;
+
+pub use graph::graph_text;
+pub use laws::{laws_of_graphs, laws_of_leading_rows, laws_of_listings};
+pub use listing::listing_text;

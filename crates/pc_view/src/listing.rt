@@ -1,0 +1,190 @@
+//! An object as a text to be read.
+ghost use Rattle.std.specs.Prelude.{◌≡◌, ◌++◌, ◌∷◌, [], ◌<◌, ◌≤◌, ◌^◌, length, map, All, IfOk, OnOk, string_bytes, slice_get, Some};
+ghost use Rattle.std.specs.List.{AllByRecursion};
+ghost use Rattle.pc_machine.specs.MachineCode.{row_of, rows_of, code_of};
+ghost use Rattle.pc_object.specs.ObjectText.{object_of, IsObject, IsChoice};
+ghost use Rattle.pc_report.specs.Report.{note_words};
+ghost use Rattle.pc_word.specs.Line.{line};
+ghost use Rattle.pc_view.specs.Leading.{rows_leading_to};
+ghost use Rattle.pc_view.specs.Listing.{separator, array_words, arrays_from, leading_words, row_numbers_from};
+ghost use Rattle.pc_view.specs.Listing.{limit_words, limits_line, count_words, heading, row_lines, rows_lines, lines_text, listing_text};
+ghost use Rattle.pc_view.specs.models.Counted.{HasFew};
+ghost use Rattle.pc_view.specs.models.Rows.{CanList};
+ghost use Rattle.pc_view.specs.models.Lists.{AreLists};
+
+use crate::counts::count;
+use crate::leading::{RowNumbers, leading_rows};
+use crate::rows::push_tree;
+use pc_machine::{Code, Counts, Tree};
+use pc_object::{Note, Object};
+use pc_report::push_note_words;
+use pc_word::Limits;
+use std::alloc::{AllocError, Global};
+
+/// An object as a text to be read: a line for the limits and the arrays; each row with its number, what it has
+/// of what it may have, the rows that lead to it, and its tree; a line for each note.
+pub fn listing_text(alloc: Global, object: &Object) -> Result<Vec<u8>, AllocError>
+    requires { IsObject (object_of object.now) }
+    ensures { IfOk result (λ text. text.items ≡ listing_text (object_of object.now)) }
+{
+    let mut text = String::new(alloc);
+    push_limits(&mut text, &object.code)?;
+    text.push_str("\n")?;
+    push_rows(alloc, &mut text, &object.code)?;
+    push_notes(&mut text, object.notes.as_slice())?;
+    Ok(text.into_bytes())
+}
+
+/// Puts the limits and the arrays behind a text.
+fn push_limits(text: &mut String, code: &Code) -> Result<(), AllocError>
+    ensures { OnOk result (string_bytes text.new ≡ string_bytes text.old ++ limits_line (code_of code.now)) }
+{
+    push_limit_words(text, code.limits)?;
+    push_arrays(text, code.arrays.as_slice())
+}
+
+/// Puts the limits behind a text.
+#[tactic(auto, unfolding(crate::specs::Listing::limit_words))]
+fn push_limit_words(text: &mut String, limits: Limits) -> Result<(), AllocError>
+    ensures { OnOk result (string_bytes text.new ≡ string_bytes text.old ++ limit_words limits) }
+{
+    let Limits { ops, tests, mem } = limits;
+    write!(
+        text,
+        "limits of a row: {ops} items, {tests} tests, {mem} loads and stores"
+    )
+}
+
+/// Puts the arrays behind a text.
+fn push_arrays(text: &mut String, lengths: &[u32]) -> Result<(), AllocError>
+    ensures { OnOk result (string_bytes text.new ≡ string_bytes text.old ++ array_words lengths.now) }
+{
+    match lengths {
+        [] => text.push_str("; arrays: none"),
+        _ => {
+            text.push_str("; arrays:")?;
+            push_each_array(text, lengths)
+        }
+    }
+}
+
+/// Puts arrays behind a text, if there are any.
+fn push_each_array(text: &mut String, lengths: &[u32]) -> Result<(), AllocError>
+    ensures { OnOk result (string_bytes text.new ≡ string_bytes text.old ++ arrays_from 0 lengths.now) }
+{
+    for (number, length) in lengths.iter().enumerate() {
+        let front = separator(number);
+        write!(text, "{front}a{number}[{length}]")?;
+    }
+    Ok(())
+}
+
+/// What stands in front of an element of a list, by its number.
+fn separator(number: usize) -> &'static str
+    ensures { result.now ≡ separator number }
+{
+    if number == 0 { " " } else { ", " }
+}
+
+/// Puts the rows that lead to a row behind a text.
+fn push_leading(text: &mut String, numbers: &[u32]) -> Result<(), AllocError>
+    ensures { OnOk result (string_bytes text.new ≡ string_bytes text.old ++ leading_words numbers.now) }
+{
+    match numbers {
+        [] => text.push_str("; from rows: none"),
+        _ => {
+            text.push_str("; from rows:")?;
+            push_each_number(text, numbers)
+        }
+    }
+}
+
+/// Puts numbers of rows behind a text, if there are any.
+fn push_each_number(text: &mut String, numbers: &[u32]) -> Result<(), AllocError>
+    ensures { OnOk result (string_bytes text.new ≡ string_bytes text.old ++ row_numbers_from 0 numbers.now) }
+{
+    for (place, number) in numbers.iter().enumerate() {
+        let front = separator(place);
+        write!(text, "{front}{number}")?;
+    }
+    Ok(())
+}
+
+/// Puts the lines of the rows behind a text.
+fn push_rows(alloc: Global, text: &mut String, code: &Code) -> Result<(), AllocError>
+    requires few { length code.now.rows < 2 ^ 32 }
+    requires rows { CanList (length code.now.rows) code.now.rows }
+    ensures { OnOk result (string_bytes text.new ≡ string_bytes text.old ++ lines_text (rows_lines (code_of code.now) 0 (rows_of code.now.rows))) }
+{
+    let rows = code.rows.as_slice();
+    let leading = leading_rows(alloc, rows)?;
+    for (number, row) in rows.iter().enumerate() {
+        push_row(alloc, text, code, number, row, leading.as_slice())?;
+    }
+    Ok(())
+}
+
+/// Puts the lines of a row behind a text. `leading` has the rows that lead to each row.
+fn push_row(
+    alloc: Global,
+    text: &mut String,
+    code: &Code,
+    number: usize,
+    row: &Tree,
+    leading: &[RowNumbers],
+) -> Result<(), AllocError>
+    requires number { number < length code.now.rows }
+    requires few { HasFew (row_of row.now) }
+    requires leading { AreLists (length code.now.rows) (rows_of code.now.rows) leading.now }
+    ensures { OnOk result (string_bytes text.new ≡ string_bytes text.old ++ lines_text (row_lines (code_of code.now) number (row_of row.now))) }
+{
+    push_heading(text, code.limits, number, row, leading[number].as_slice())?;
+    text.push_str("\n")?;
+    push_tree(alloc, text, "    ", "    ", row)
+}
+
+/// Puts the heading of a row behind a text.
+fn push_heading(
+    text: &mut String,
+    limits: Limits,
+    number: usize,
+    row: &Tree,
+    leading: &[u32],
+) -> Result<(), AllocError>
+    requires { HasFew (row_of row.now) }
+    ensures { OnOk result (string_bytes text.new ≡ string_bytes text.old ++ heading limits number (row_of row.now) leading.now) }
+{
+    push_count_words(text, limits, number, row)?;
+    push_leading(text, leading)
+}
+
+/// Puts the number of a row, and what it has of what it may have, behind a text.
+#[tactic(auto, unfolding(crate::specs::Listing::count_words))]
+fn push_count_words(
+    text: &mut String,
+    limits: Limits,
+    number: usize,
+    row: &Tree,
+) -> Result<(), AllocError>
+    requires { HasFew (row_of row.now) }
+    ensures { OnOk result (string_bytes text.new ≡ string_bytes text.old ++ count_words limits number (row_of row.now)) }
+{
+    let Counts { ops, tests, mem } = count(row);
+    let (most_ops, most_tests, most_mem) = (limits.ops, limits.tests, limits.mem);
+    write!(
+        text,
+        "row {number}: {ops} of {most_ops} items, {tests} of {most_tests} tests, {mem} of {most_mem} loads and stores"
+    )
+}
+
+/// Puts the lines of notes behind a text.
+fn push_notes(text: &mut String, notes: &[Note]) -> Result<(), AllocError>
+    requires { AllByRecursion IsChoice notes.now }
+    ensures { OnOk result (string_bytes text.new ≡ string_bytes text.old ++ lines_text (map note_words notes.now)) }
+{
+    for note in notes {
+        push_note_words(text, *note)?;
+        text.push_str("\n")?;
+    }
+    Ok(())
+}

@@ -1,0 +1,6 @@
+pub mod models
+pub mod Laws
+pub mod Objects
+pub mod Outside
+pub mod Told
+pub mod Viewer

@@ -1,0 +1,43 @@
+//! The end of the viewer: its line on the error output, and its status.
+ghost use Rattle.std.specs.Prelude.{◌≡◌, ◌⊎◌, IsSome, Some};
+ghost use Rattle.pc_viewer.specs.declared.fault.ViewFault.TheVariants.{NoMemory};
+ghost use Rattle.pc_viewer.specs.Outside.{streamed};
+ghost use Rattle.pc_viewer.specs.Told.{Told, TellsLine};
+
+use crate::fault::{ViewFault, fault_told, view_status};
+use pc_outside::{Sink, send};
+use pc_report::{Speaker, fault_text, out_of_memory_line};
+use std::alloc::Global;
+
+/// Tells what is due: sends its line, and gives the status that the viewer ends with. Where there is no
+/// memory for the line, it tells this.
+pub(crate) fn tell<E: Sink>(alloc: Global, due: Option<ViewFault>, err: &mut E) -> u8
+    ensures { Told due.entry (streamed (E.taken err.old) (E.faults err.old)) (streamed (E.taken err.new) (E.faults err.new)) result
+        ⊎ (IsSome due.entry × Told (Some NoMemory) (streamed (E.taken err.old) (E.faults err.old)) (streamed (E.taken err.new) (E.faults err.new)) result) }
+{
+    match due {
+        Some(fault) => tell_fault(alloc, fault, err),
+        None => 0,
+    }
+}
+
+/// Tells a fault, or that there is no memory for its line.
+fn tell_fault<E: Sink>(alloc: Global, fault: ViewFault, err: &mut E) -> u8
+    ensures { Told (Some fault.entry) (streamed (E.taken err.old) (E.faults err.old)) (streamed (E.taken err.new) (E.faults err.new)) result
+        ⊎ Told (Some NoMemory) (streamed (E.taken err.old) (E.faults err.old)) (streamed (E.taken err.new) (E.faults err.new)) result }
+{
+    match fault_text(alloc, &fault_told(fault)) {
+        Ok(line) => send_line(line.as_slice(), view_status(fault), err),
+        Err(_) => send_line(out_of_memory_line(Speaker::Pview), 1, err),
+    }
+}
+
+/// Sends a line, and gives the status that goes with it, or 5 where the error output fails.
+fn send_line<E: Sink>(line: &[u8], status: u8, err: &mut E) -> u8
+    ensures { TellsLine line.now status (streamed (E.taken err.old) (E.faults err.old)) (streamed (E.taken err.new) (E.faults err.new)) result }
+{
+    match send(err, line) {
+        Ok(()) => status,
+        Err(_) => 5,
+    }
+}

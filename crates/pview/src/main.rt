@@ -1,0 +1,9 @@
+//! The viewer: `pview OBJ`.
+#![tactic(auto)]
+
+use pc_viewer::run;
+use std::process::ExitCode;
+
+fn main(rt: HostRuntime) -> ExitCode {
+    run(&rt)
+}
