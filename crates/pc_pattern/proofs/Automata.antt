@@ -80,8 +80,11 @@ named_reads : {L M : Type 0} {R : List Pair → L → M → Type 0} {names : Lis
 named_reads known more f (named_item {item} {rest} name h) k =
     let m = named_reads known more f h (record { items = k.items.1; tests = k.tests }) in
     record {
-      items = (subst (λ (l : List Operand). AllByRecursion (IsKnown more) l) (sym (same_operands name item))
-          (all_imply (IsKnown known) (IsKnown more) (operands_of item) (known_more known more f) k.items.0), m.items);
+      items = (
+        subst (λ (l : List Operand). AllByRecursion (IsKnown more) l) (sym (same_operands name item))
+            (all_imply (IsKnown known) (IsKnown more) (operands_of item) (known_more known more f) k.items.0),
+        m.items,
+      );
       tests = m.tests;
     }
 named_reads known more f (named_test {on} {on_yes} {on_no} {other_yes} {other_no} h g) k =

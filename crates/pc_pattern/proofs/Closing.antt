@@ -107,7 +107,7 @@ module _ (rules : Rules) (keeps : TableKeeps rules.table) (same_keeps : SameKeep
   region_agrees out new region tag homes =
       Agree-equal (after_leaf out new (Out region homes)) (λ n. after_printing out (tree_run rules.table (Exit region tag homes) new n))
       (λ n. region_after out new region homes n
-        ∙ ap (λ (x : Seen). after_printing out x) (sym (beyond_is_region rules.table n (place_at rules.table (Next region) (home_state new homes)))))
+      ∙ ap (λ (x : Seen). after_printing out x) (sym (beyond_is_region rules.table n (place_at rules.table (Next region) (home_state new homes)))))
 
   -- the end, or a trap, after what was printed
   abbrev shown_with : Option End → List ℤ → Seen
@@ -152,7 +152,7 @@ module _ (rules : Rules) (keeps : TableKeeps rules.table) (same_keeps : SameKeep
   leaf_same names (Out region homes) (Out region' homes') out new new' c h n =
       ap (λ (k : ℕ). after_leaf out new' (Out k homes') n) (sym h.0)
       ∙ ap (λ (u : State). after_printing out (run_from (automaton_step rules.table states) n (In_region (place_at rules.table (Next region) u))))
-        (sym (home_states_alike names new new' homes homes' c h.1))
+      (sym (home_states_alike names new new' homes homes' c h.1))
   leaf_same names Stop Stop out new new' c h n = refl
   leaf_same names (Trap kind line) (Trap kind' line') out new new' c h n = λ i. after_leaf out new' (Trap (sym h.0 i) (sym h.1 i)) n
   leaf_same names (To number one) (Out region homes) out new new' c h n = absurd h
@@ -200,13 +200,13 @@ module _ (rules : Rules) (keeps : TableKeeps rules.table) (same_keeps : SameKeep
   goes names auto w s out new new' c never kept proper (to_bare {rest} {other} brought leaf brings bare alike) =
       let k = rest_kept_on rules.table w rest brought s new out kept never (brings_on_keeps rules keeps rest brought brings proper).1 in
       along (Agree-trans (after_leaf out new' other) (after_leaf out new leaf) (window_run rules.table w s)
-        (Agree-equal (after_leaf out new' other) (after_leaf out new leaf) (leaf_same names leaf other out new new' c alike))
-        (Agree-trans (after_leaf out new leaf) (λ n. after_printing out (window_run rules.table brought new n)) (window_run rules.table w s)
-          (bare_agrees (whole brought.front) leaf out new bare) (rest_kept_agrees rules.table w brought s new out k)))
+      (Agree-equal (after_leaf out new' other) (after_leaf out new leaf) (leaf_same names leaf other out new new' c alike))
+      (Agree-trans (after_leaf out new leaf) (λ n. after_printing out (window_run rules.table brought new n)) (window_run rules.table w s)
+      (bare_agrees (whole brought.front) leaf out new bare) (rest_kept_agrees rules.table w brought s new out k)))
   goes names auto w s out new new' c never kept proper (to_region {region} {homes} {homes'} alike) =
       along (Agree-trans (after_leaf out new' (Out region homes')) (λ n. after_printing out (left_run rules.table (Gone region homes) new n)) (window_run rules.table w s)
       (Agree-equal (after_leaf out new' (Out region homes')) (λ n. after_printing out (left_run rules.table (Gone region homes) new n))
-        (λ n. leaf_same names (Out region homes) (Out region homes') out new new' c (refl, alike) n ∙ region_after out new region homes n))
+      (λ n. leaf_same names (Out region homes) (Out region homes') out new new' c (refl, alike) n ∙ region_after out new region homes n))
       (Agree-sym (window_run rules.table w s) (λ n. after_printing out (left_run rules.table (Gone region homes) new n)) kept))
   goes names auto w s out new new' c never kept proper to_end =
       along (Agree-trans (after_leaf out new' Stop) (λ n. after_printing out (left_run rules.table Finished new n)) (window_run rules.table w s)
@@ -248,8 +248,8 @@ module _ (rules : Rules) (keeps : TableKeeps rules.table) (same_keeps : SameKeep
         let p = proper number w stands.at in
         let row = rows_keep rules w f.cut (rooted number w stands.at) f.row_for p in
         let do_same = named_rows_do rules.table.arrays s (uses (whole f.row_for.filled.front)) (λ x. false) (matches_with IsProper row.0 f.matches)
-            (row_once rules w f.cut f.row_for p) (state_once rules members w e.0 f)
-            (λ x y h. ap (λ (z : ℕ). s.names z) (themselves_same (parameters_of (whole w.front)) x y h)) in (
+        (row_once rules w f.cut f.row_for p) (state_once rules members w e.0 f)
+        (λ x y h. ap (λ (z : ℕ). s.names z) (themselves_same (parameters_of (whole w.front)) x y h)) in (
           row_step rules.table.arrays e.0.row s,
           taken_goes w s stands.never (row.1 s stands.forms stands.never) do_same,
           λ n. ap (λ (o : Option AutomatonState). seen_of (state_step rules.table states o s) (run_from (automaton_step rules.table states) n)) e.1,
@@ -259,7 +259,7 @@ module _ (rules : Rules) (keeps : TableKeeps rules.table) (same_keeps : SameKeep
     forth_of : (n : ℕ) (w : Window) (s : State) (b : RowOutcome AutomatonLeaf) → NeverFaults (window_run rules.table w s) → Row_goes w s b
         → ((number : ℕ) (v : Window) (t : State) → Stands number v t → (m : ℕ) × Answers (run_at number t n) (window_run rules.table v t m) (run_at number t n).end)
         → (m : ℕ) × Answers (seen_of (outcome_step rules.table states b) (run_from (automaton_step rules.table states) n)) (window_run rules.table w s m)
-          (seen_of (outcome_step rules.table states b) (run_from (automaton_step rules.table states) n)).end
+        (seen_of (outcome_step rules.table states b) (run_from (automaton_step rules.table states) n)).end
     forth_of n w s b never (commits {out} {new} (along {leaf} agree)) next = agree.forth n
     forth_of n w s b never (commits {out} {new} (ahead {number} {arguments} member at kept)) next =
         let t = passed_state new (state_parameters (slice_get states number)) arguments in
@@ -281,9 +281,9 @@ module _ (rules : Rules) (keeps : TableKeeps rules.table) (same_keeps : SameKeep
     -- what n + 1 units show, a row comes to answer, and then the rows that answer n units from each member
     back_of : (n : ℕ) (w : Window) (s : State) (b : RowOutcome AutomatonLeaf) → NeverFaults (window_run rules.table w s) → Row_goes w s b
         → ((number : ℕ) (v : Window) (t : State) → Stands number v t
-          → (m : ℕ) × Answers (window_run rules.table v t n) (run_at number t m) (window_run rules.table v t n).end)
+        → (m : ℕ) × Answers (window_run rules.table v t n) (run_at number t m) (window_run rules.table v t n).end)
         → (m : ℕ) × Answers (window_run rules.table w s (suc n)) (seen_of (outcome_step rules.table states b) (run_from (automaton_step rules.table states) m))
-          (window_run rules.table w s (suc n)).end
+        (window_run rules.table w s (suc n)).end
     back_of n w s b never (commits {out} {new} (along {leaf} agree)) next = agree.back (suc n)
     back_of n w s b never (commits {out} {new} (ahead {number} {arguments} member at kept)) next =
         let t = passed_state new (state_parameters (slice_get states number)) arguments in

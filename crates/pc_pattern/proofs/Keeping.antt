@@ -52,9 +52,10 @@ WindowKeeps-trans table w v u p q s forms never =
 -- what is unwound and tidied is proper and keeps run and forms, and so is what is brought on
 pub settles_keep : (rules : Rules) → TableKeeps rules.table → (w v : Window) → Settles rules w v → IsProper w → IsProper v × WindowKeeps rules.table w v
 settles_keep rules keeps w v h p =
-    let one = unwinds_proper rules.table rules.number w h.unwound h.unwinds p in
-    (tidies_proper h.unwound v h.tidies one,
-     WindowKeeps-trans rules.table w h.unwound v (unwinds_keep rules.table keeps rules.number w h.unwound h.unwinds p) (tidies_keep rules.table h.unwound v h.tidies))
+    let one = unwinds_proper rules.table rules.number w h.unwound h.unwinds p in (
+      tidies_proper h.unwound v h.tidies one,
+      WindowKeeps-trans rules.table w h.unwound v (unwinds_keep rules.table keeps rules.number w h.unwound h.unwinds p) (tidies_keep rules.table h.unwound v h.tidies),
+    )
 
 pub brings_on_keeps : (rules : Rules) → TableKeeps rules.table → (w v : Window) → BringsOn rules w v → IsProper w → IsProper v × WindowKeeps rules.table w v
 brings_on_keeps rules keeps w v h p =

@@ -224,8 +224,8 @@ module _ (known : ℕ → Bool) (pairs written : List Pair) (next : ℕ) (r : Re
     window_leads waiting w h None e places =
         to_member (brought_on w) (brings_on table limits w) e (places (length waiting) (brought_on w) (last_there waiting (brought_on w)))
         (arguments_alike (parameters_of (whole (brought_on w).front))
-          (all_imply (λ x. uses (whole (brought_on w).front) x ≡ true) (λ x. known x ≡ true) (parameters_of (whole (brought_on w).front)) (brought_known w h)
-          (parameters_used (whole (brought_on w).front))))
+        (all_imply (λ x. uses (whole (brought_on w).front) x ≡ true) (λ x. known x ≡ true) (parameters_of (whole (brought_on w).front)) (brought_known w h)
+        (parameters_used (whole (brought_on w).front))))
     window_leads waiting w h (Some leaf) e places =
         to_bare (brought_on w) leaf (brings_on table limits w) e (bare_alike (whole (brought_on w).front) leaf (brought_known w h) e)
 
@@ -266,8 +266,8 @@ pub row_leads : (table : Table) (limits : Limits) (final : List Window) (taken :
 row_leads table limits final taken known pairs written next waiting (Then item rest) r h places =
     named_item next
     (row_leads table limits final taken (and_dest known item) (defined pairs (dest_of item) (dest_of (with_dest next item)))
-      (defined written (dest_of item) (dest_of (with_dest next item))) (suc next) waiting rest
-      (renames_below known pairs written next (dest_of item) (dest_of (with_dest next item)) (write_next next item) r) h places)
+    (defined written (dest_of item) (dest_of (with_dest next item))) (suc next) waiting rest
+    (renames_below known pairs written next (dest_of item) (dest_of (with_dest next item)) (write_next next item) r) h places)
 row_leads table limits final taken known pairs written next waiting (Either on one other) r h places =
     let a = led taken written next waiting one in
     let all : waiting ++ all_added (leaves_of one ++ leaves_of other) ≡ (waiting ++ all_added (leaves_of one)) ++ all_added (leaves_of other) =
@@ -276,13 +276,13 @@ row_leads table limits final taken known pairs written next waiting (Either on o
     λ i v at. places i v (ap (λ (l : List Window). slice_get l i) all ∙ at) in
     named_test
     (row_leads table limits final taken known pairs written next waiting one r h.0
-      (places_first final taken (waiting ++ all_added (leaves_of one)) (all_added (leaves_of other)) both))
+    (places_first final taken (waiting ++ all_added (leaves_of one)) (all_added (leaves_of other)) both))
     (row_leads table limits final taken known pairs written a.next a.waiting other
-      (later_below known pairs written next a.next (led_next taken written next waiting one) r) h.1
-      (λ i v at. both i v (ap (λ (l : List Window). slice_get (l ++ all_added (leaves_of other)) i) (sym (row_waits taken written next waiting one)) ∙ at)))
+    (later_below known pairs written next a.next (led_next taken written next waiting one) r) h.1
+    (λ i v at. both i v (ap (λ (l : List Window). slice_get (l ++ all_added (leaves_of other)) i) (sym (row_waits taken written next waiting one)) ∙ at)))
 row_leads table limits final taken known pairs written next waiting (At_leaf left) r h places =
     named_leaf (left_leads known pairs written next r table limits final taken waiting left h
-      (λ i v at. places i v (ap (λ (l : List Window). slice_get (waiting ++ l) i) (nothing_more (added left)) ∙ at)))
+    (λ i v at. places i v (ap (λ (l : List Window). slice_get (waiting ++ l) i) (nothing_more (added left)) ∙ at)))
   where
     nothing_more : (l : List Window) → l ++ [] ≡ l
     nothing_more [] = refl
@@ -353,5 +353,5 @@ row_fresh taken written next waiting (Either on one other) =
     let b = led taken written a.next a.waiting other in
     subst (λ (l : List ℕ). Fresh next b.next l) (sym (filter_map-append dest_of (items_of a.row) (items_of b.row)))
     (fresh_both next a.next b.next (names_written a.row) (names_written b.row) (led_next taken written next waiting one) (led_next taken written a.next a.waiting other)
-      (row_fresh taken written next waiting one) (row_fresh taken written a.next a.waiting other))
+    (row_fresh taken written next waiting one) (row_fresh taken written a.next a.waiting other))
 row_fresh taken written next waiting (At_leaf left) = fresh_none next next

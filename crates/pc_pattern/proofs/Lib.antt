@@ -18,3 +18,4 @@ pub mod States
 pub mod Progress
 pub mod Turns
 pub mod Packed
+pub mod EchoingKept

@@ -128,7 +128,7 @@ module _ (rules : Rules) (keeps : TableKeeps rules.table) (room : Positive rules
       let at : slice_get members 0 ≡ Some b.first = ap (λ (ws : List Window). slice_get ws 0) b.at in
       Agree-trans (automaton_run rules.table states s) (window_run rules.table b.first s) (region_run rules.table (Next region) s)
       (state_agrees rules keeps same_keeps members states auto (λ number w here. all_at Rooted members number w (members_rooted closed.1) here)
-        (λ number w here. all_at IsProper members number w (members_proper closed.1).0 here) 0 b.first s at k.forms (never_kept rules.table b.opened b.first s k never_opened))
+      (λ number w here. all_at IsProper members number w (members_proper closed.1).0 here) 0 b.first s at k.forms (never_kept rules.table b.opened b.first s k never_opened))
       (Agree-trans (window_run rules.table b.first s) (window_run rules.table b.opened s) (region_run rules.table (Next region) s)
       (record { forth = k.back; back = λ n. (n, k.pace n) }) o.agree)
 

@@ -141,7 +141,7 @@ takes_same : {L M : Type 0} {Related : List Pair → L → M → Type 0} {pairs 
 takes_same lengths s base base' known known' (named_item {names = pairs} {item} {rest} {other} name h) once once' same =
     let k = same_but_name lengths s name item in
     let t = takes_same lengths s (put lengths s base item) (put lengths s base' (with_dest name item)) (and_dest known item) (and_dest known' (with_dest name item)) h once.1 once'.1
-          (one_more_name pairs (dest_of item) (dest_of (with_dest name item)) base base' (value_of lengths s item) (value_of lengths s (with_dest name item)) k.dests same k.value) in
+    (one_more_name pairs (dest_of item) (dest_of (with_dest name item)) base base' (value_of lengths s item) (value_of lengths s (with_dest name item)) k.dests same k.value) in
     record {
       last = t.last;
       names = λ x y e. over_first lengths s base known item rest x once.1 ∙ t.names x y e ∙ sym (over_first lengths s base' known' (with_dest name item) other y once'.1);
@@ -156,7 +156,7 @@ takes_same {Related} lengths s base base' known known' (named_test {on} {on_yes}
     by_test : (b : Bool) → TakesSame Related lengths s base base' (path_of s.names on_yes) (path_of s.names other_yes) (leaf_of s.names on_yes) (leaf_of s.names other_yes)
         → TakesSame Related lengths s base base' (path_of s.names on_no) (path_of s.names other_no) (leaf_of s.names on_no) (leaf_of s.names other_no)
         → TakesSame Related lengths s base base' (if b then path_of s.names on_yes else path_of s.names on_no) (if b then path_of s.names other_yes else path_of s.names other_no)
-          (if b then leaf_of s.names on_yes else leaf_of s.names on_no) (if b then leaf_of s.names other_yes else leaf_of s.names other_no)
+        (if b then leaf_of s.names on_yes else leaf_of s.names on_no) (if b then leaf_of s.names other_yes else leaf_of s.names other_no)
     by_test true h g = h
     by_test false h g = g
 takes_same lengths s base base' known known' (named_leaf {names = pairs} h) once once' same =
@@ -196,8 +196,8 @@ named_rows_do {Related} {row} {other} lengths s known known' h once once' same =
     let others = path_of s.names other in
     subst (λ (f : Option MachineFault). OutcomesNamed Related (row_step lengths row s) (commit_of lengths s others (leaf_of s.names other) f)) (fault_same lengths s items others t.stores t.reads)
     (named_of lengths s items others (leaf_of s.names row) (leaf_of s.names other) (fault_of lengths s items) t.last t.prints
-      (record {
-        same_names = λ x y e. over_is lengths s items x ∙ t.names x y e ∙ sym (over_is lengths s others y);
-        same_cells = ap (λ (l : List Stored). cells_after s.cells l) t.stores;
-        same_input = ap (λ (n : ℕ). drop n s.input) t.reads;
-      }) t.related)
+    (record {
+      same_names = λ x y e. over_is lengths s items x ∙ t.names x y e ∙ sym (over_is lengths s others y);
+      same_cells = ap (λ (l : List Stored). cells_after s.cells l) t.stores;
+      same_input = ap (λ (n : ℕ). drop n s.input) t.reads;
+    }) t.related)

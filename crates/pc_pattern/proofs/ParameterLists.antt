@@ -160,18 +160,18 @@ free_used : (tree : Tree) → AllByRecursion (λ x. uses tree x ≡ true) (free_
 free_used (Pending tag origin item rest) =
     all_both (λ x. uses (Pending tag origin item rest) x ≡ true) (names_read item) (without_name (dest_of item) (free_uses rest))
     (all_imply (λ x. reads item x ≡ true) (λ x. uses (Pending tag origin item rest) x ≡ true) (names_read item)
-      (λ x h. or_first (reads item x) (not (writes (dest_of item) x) && uses rest x) h) (item_read item))
+    (λ x h. or_first (reads item x) (not (writes (dest_of item) x) && uses rest x) h) (item_read item))
     (all_imply (λ x. (writes (dest_of item) x ≡ false) × (uses rest x ≡ true)) (λ x. uses (Pending tag origin item rest) x ≡ true) (without_name (dest_of item) (free_uses rest))
-      (λ x h. above_used (reads item x) (writes (dest_of item) x) (uses rest x) h.0 h.1) (without_written (λ x. uses rest x ≡ true) (dest_of item) (free_uses rest) (free_used rest)))
+    (λ x h. above_used (reads item x) (writes (dest_of item) x) (uses rest x) h.0 h.1) (without_written (λ x. uses rest x ≡ true) (dest_of item) (free_uses rest) (free_used rest)))
 free_used (Undecided tag origin on one other) =
     all_both (λ x. uses (Undecided tag origin on one other) x ≡ true) (name_in on) (free_uses one ++ free_uses other)
     (all_imply (λ x. reads_name on x ≡ true) (λ x. uses (Undecided tag origin on one other) x ≡ true) (name_in on)
-      (λ x h. or_first (reads_name on x) (uses one x || uses other x) h) (name_read on))
+    (λ x h. or_first (reads_name on x) (uses one x || uses other x) h) (name_read on))
     (all_both (λ x. uses (Undecided tag origin on one other) x ≡ true) (free_uses one) (free_uses other)
-      (all_imply (λ x. uses one x ≡ true) (λ x. uses (Undecided tag origin on one other) x ≡ true) (free_uses one)
-        (λ x h. or_second (reads_name on x) (uses one x || uses other x) (or_first (uses one x) (uses other x) h)) (free_used one))
-      (all_imply (λ x. uses other x ≡ true) (λ x. uses (Undecided tag origin on one other) x ≡ true) (free_uses other)
-        (λ x h. or_second (reads_name on x) (uses one x || uses other x) (or_second (uses one x) (uses other x) h)) (free_used other)))
+    (all_imply (λ x. uses one x ≡ true) (λ x. uses (Undecided tag origin on one other) x ≡ true) (free_uses one)
+    (λ x h. or_second (reads_name on x) (uses one x || uses other x) (or_first (uses one x) (uses other x) h)) (free_used one))
+    (all_imply (λ x. uses other x ≡ true) (λ x. uses (Undecided tag origin on one other) x ≡ true) (free_uses other)
+    (λ x h. or_second (reads_name on x) (uses one x || uses other x) (or_second (uses one x) (uses other x) h)) (free_used other)))
 free_used (Exit region tag homes) = homes_read homes
 free_used Stop_exit = tt
 free_used (Trap_exit kind line) = tt

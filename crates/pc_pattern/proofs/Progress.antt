@@ -139,7 +139,7 @@ made_state table limits final taken w waiting state later proper m places =
     let fresh = row_fresh taken [] m.filled.next waiting m.cut in
     let once : IsDistinct nat_eq (ps ++ names_written row) =
     distinct_apart m.filled.next ps (names_written row) below (all_imply (λ x. (m.filled.next ≤ x) × (x < (led taken [] m.filled.next waiting m.cut).next)) (λ x. m.filled.next ≤ x) (names_written row) (λ x h. h.0) fresh.inside)
-      (parameters_distinct (whole w.front)) fresh.once in
+    (parameters_distinct (whole w.front)) fresh.once in
     record {
       parameters = m.parameters;
       cut = m.cut;
@@ -257,12 +257,12 @@ module _ (table : Table) (keeps : TableKeeps table) (limits : Limits) (room : Po
       let proper = next_proper in
       let places : (i : ℕ) (v : Window) → slice_get (rest ++ more) i ≡ Some v → slice_get final (suc (length states) + i) ≡ Some v =
       λ i v at.
-          ap (λ (l : List Window). slice_get l (suc (length states) + i)) (regrouped more)
-          ∙ ap (λ (n : ℕ). slice_get ((s.took ++ (w ∷ [])) ++ (rest ++ more)) n) (let e = length-append s.took (w ∷ []) in let k = many in let z : suc (length states) + i ≡ length (s.took ++ (w ∷ [])) + i = omega (arith, e, k) in z)
-          ∙ behind (s.took ++ (w ∷ [])) (rest ++ more) i v at in
+      ap (λ (l : List Window). slice_get l (suc (length states) + i)) (regrouped more)
+      ∙ ap (λ (n : ℕ). slice_get ((s.took ++ (w ∷ [])) ++ (rest ++ more)) n) (let e = length-append s.took (w ∷ []) in let k = many in let z : suc (length states) + i ≡ length (s.took ++ (w ∷ [])) + i = omega (arith, e, k) in z)
+      ∙ behind (s.took ++ (w ∷ [])) (rest ++ more) i v at in
       let made : EachMade table limits final (s.took ++ (w ∷ [])) (states ++ (state ∷ [])) =
       made_last table limits final s.took states w state (made_more table limits (s.took ++ (w ∷ rest)) more s.took states s.made)
-        (made_state table limits final (suc (length states)) w rest state later proper m places) in
+      (made_state table limits final (suc (length states)) w rest state later proper m places) in
       let filled_proper = fills_proper w m.filled m.fills proper in
       let small = next_small in
       let names = small.names in
@@ -273,7 +273,7 @@ module _ (table : Table) (keeps : TableKeeps table) (limits : Limits) (room : Po
       let enough : most_names (length states) + most_in_front ≤ n = omega (arith, one_more) in
       let left_small : AllByRecursion (LeftIs (IsSmall n)) (leaves_of m.cut) =
       EachLeft-leaves (IsSmall n) m.cut (each_left (LeftFrom m.filled most_region_nodes) (IsSmall n)
-        (λ v k. record { names = (let a = k.next in omega (arith, a, grown, names, enough)); size = k.size }) m.cut parts) in
+      (λ v k. record { names = (let a = k.next in omega (arith, a, grown, names, enough)); size = k.size }) m.cut parts) in
       let left_proper = EachLeft-leaves IsProper m.cut (cuts_proper table m.filled m.cut m.cuts filled_proper) in
       record {
         steps = search.0;
@@ -313,8 +313,11 @@ pattern_found table limits region rows states s =
     let few = s.few in
     record {
       members = s.took;
-      closed = (s.steps, subst (λ (n : ℕ). Search (packed table limits) region s.steps s.took n []) (sym many)
-          (subst (λ (l : List Window). Search (packed table limits) region s.steps l (length states) []) all s.search));
+      closed = (
+        s.steps,
+        subst (λ (n : ℕ). Search (packed table limits) region s.steps s.took n []) (sym many)
+            (subst (λ (l : List Window). Search (packed table limits) region s.steps l (length states) []) all s.search),
+      );
       few = omega (arith, few, many);
       automates = record { as_many = sym many; each = made_at table limits s.took s.took states made };
     }

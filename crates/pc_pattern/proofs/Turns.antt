@@ -50,7 +50,7 @@ begun table limits region rows first waiting states alone none some tidies size 
     subst (λ (l : List StoredWindow). Searching table limits region rows (states_in states) (map window_in l)) (sym alone)
     (subst (λ (l : List StoredState). Searching table limits region rows (states_in l) (window_in first ∷ [])) (sym none)
     (begins_searching table limits region rows (window_in first) some tidies names
-      (subst (λ (t : Tree). tree_size t ≤ most_region_nodes) (sym (whole_in first.tree)) size)))
+    (subst (λ (t : Tree). tree_size t ≤ most_region_nodes) (sym (whole_in first.tree)) size)))
 
 module _ (table : Table) (keeps : TableKeeps table) (limits : Limits) (ranges : AreLimits limits) (region rows : ℕ) (states : List StoredState)
     (old rest : List StoredWindow) (w : StoredWindow) (is : old ≡ w ∷ rest) (s : Searching table limits region rows (states_in states) (map window_in old)) where
@@ -100,7 +100,7 @@ module _ (table : Table) (keeps : TableKeeps table) (limits : Limits) (ranges : 
         let still = room within in
         subst (λ (l : List AutomatonState). Searching table limits region rows l (map window_in later)) (sym more)
         (searching_on table keeps limits (room_of limits ranges) region rows (states_in states) (window_in w) (map window_in rest) here (state_in state) (map window_in later)
-          (subst (λ (n : ℕ). Made table n (window_in w) (map window_in rest) (state_in state) (map window_in later)) t made) (omega (arith, still, later_many, t)))
+        (subst (λ (n : ℕ). Made table n (window_in w) (map window_in rest) (state_in state) (map window_in later)) t made) (omega (arith, still, later_many, t)))
 
 -- where no window waits, there is a pattern
 pub turned : (table : Table) (limits : Limits) (region rows : ℕ) (states : List StoredState) (waiting : List StoredWindow) → waiting ≡ []

@@ -49,11 +49,7 @@ pub(crate) fn put_behind(window: Window, waiting: &mut VecDeque<Window>) -> Resu
 }
 
 /// Makes a window the next member, and gives its number, unless there are as many as there may be.
-fn wait(
-    window: Window,
-    waiting: &mut VecDeque<Window>,
-    counts: Counts,
-) -> Result<u32, SearchError>
+fn wait(window: Window, waiting: &mut VecDeque<Window>, counts: Counts) -> Result<u32, SearchError>
     requires taken { counts.taken ≤ counts.rows }
     requires rows { counts.rows ≤ 512 }
     ensures number { IfOk result (λ number. number ≡ counts.taken + length waiting.old.items) }

@@ -95,7 +95,10 @@ pub(crate) fn with_dest(name: u32, item: Item) -> Item
 {
     match item {
         Item::Bin {
-            op, left, right, ..
+            op,
+            left,
+            right,
+            ..
         } => Item::Bin {
             op,
             dest: name,

@@ -8,10 +8,10 @@ use Rattle.pc_pattern.proofs.searching.members.Goals as goal
 pub loop-window-init : goal.loop-window-init
 loop-window-init c =
     let alone = one_behind c.put_behind.new.waiting.items c.new-waiting.result.items c.in_ok-first.first c.in_ok-put_behind.ensures c.new-waiting.ensures.items in (
-  begun (table_of c.args.table.now) c.args.limits c.args.region c.args.rows c.in_ok-first.first c.put_behind.new.waiting.items c.new-states.result
-      alone c.new-states.ensures c.requires.rows.0 c.in_ok-first.ensures.tidies c.in_ok-first.ensures.size c.in_ok-first.ensures.names,
-  all_of_one IsSettled c.put_behind.new.waiting.items c.in_ok-first.first alone c.in_ok-first.ensures.settled,
-)
+      begun (table_of c.args.table.now) c.args.limits c.args.region c.args.rows c.in_ok-first.first c.put_behind.new.waiting.items c.new-states.result
+          alone c.new-states.ensures c.requires.rows.0 c.in_ok-first.ensures.tidies c.in_ok-first.ensures.size c.in_ok-first.ensures.names,
+      all_of_one IsSettled c.put_behind.new.waiting.items c.in_ok-first.first alone c.in_ok-first.ensures.settled,
+    )
 
 pub state-requires-clause-proper : goal.state-requires-clause-proper
 state-requires-clause-proper c =
