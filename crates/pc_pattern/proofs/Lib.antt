@@ -20,3 +20,4 @@ pub mod Progress
 pub mod Turns
 pub mod Packed
 pub mod NamedThere
+pub mod EchoingKept

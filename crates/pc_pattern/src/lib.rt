@@ -7,6 +7,8 @@ mod laws;
 mod leading;
 mod renaming;
 mod searching;
+#[cfg(test)]
+mod tests;
 
 pub use error::SearchError;
 pub use laws::{laws_of_patterns, laws_of_searches};
