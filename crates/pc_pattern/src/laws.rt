@@ -1,6 +1,7 @@
 //! Laws of packed code. No function here does anything: each one's contract is a law, and that it is
 //! proved is all that it is for.
-ghost use Rattle.pc_pattern.specs.Laws.{PatternsRunAsTheRegion, PatternsHaveNoEmptyStates, PatternsFit, PatternsAreAutomata, SearchesHaveOneAnswer, SearchesAreOne};
+ghost use Rattle.pc_pattern.specs.Laws.{PatternsRunAsTheRegion, PatternsHaveNoEmptyStates, PatternsFit, PatternsAreAutomata};
+ghost use Rattle.pc_pattern.specs.Laws.{SearchesHaveOneAnswer, SearchesAreOne};
 
 /// The states of a closed search do what its region does; each but the first has an item or a test;
 /// each row keeps the limits of fronts; and they are those of an automaton.
