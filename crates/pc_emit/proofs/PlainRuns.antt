@@ -133,12 +133,18 @@ module _ (e : Emission) (keeps : TableKeeps e.table) (limits : Limits) (rows : L
   tree_forth zero row (Asks origin on p q) m regions stands root never = (0, ([], refl))
   tree_forth (suc n) row (Does origin item rest) m regions (item_row {leaf} there leads below) root never =
       let k = item_forth origin item rest leaf m n (fault_of e.table.arrays m (item ∷ [])) refl
-      (λ none. behind_forth n (suc row) rest leaf (state_after e.table.arrays m (item ∷ [])) (λ row' tree' m' stands' root' never'. tree_forth n row' tree' m' (λ k less. regions k (omega arith)) stands' root' never') (regions n (omega arith)) leads below (never_later origin item rest m never none)) in
+      (λ none. behind_forth n (suc row) rest leaf (state_after e.table.arrays m (item ∷ []))
+      (λ row' tree' m' stands' root' never'. tree_forth n row' tree' m' (λ k less. regions k (omega arith)) stands' root' never') (regions n (omega arith))
+      leads below (never_later origin item rest m never none)) in
       (suc k.0, subst (λ (x : Seen). Answers x (run (Does origin item rest) m (suc k.0)) x.end) (sym (item_shown row origin item rest leaf m n there)) k.1)
   tree_forth (suc n) row (Asks origin on p q) m regions (test_row {yes_leaf} {no_leaf} there yes_leads no_leads yes_below no_below) root never =
       let k = by_test (holds (operand_value m.names on)) refl
-      (λ never'. behind_forth n (suc row) p yes_leaf m (λ row' tree' m' stands' root' never'. tree_forth n row' tree' m' (λ k less. regions k (omega arith)) stands' root' never') (regions n (omega arith)) yes_leads yes_below never')
-      (λ never'. behind_forth n (suc row + units p) q no_leaf m (λ row' tree' m' stands' root' never'. tree_forth n row' tree' m' (λ k less. regions k (omega arith)) stands' root' never') (regions n (omega arith)) no_leads no_below never') in
+      (λ never'. behind_forth n (suc row) p yes_leaf m
+      (λ row' tree' m' stands' root' never'. tree_forth n row' tree' m' (λ k less. regions k (omega arith)) stands' root' never') (regions n (omega arith))
+      yes_leads yes_below never')
+      (λ never'. behind_forth n (suc row + units p) q no_leaf m
+      (λ row' tree' m' stands' root' never'. tree_forth n row' tree' m' (λ k less. regions k (omega arith)) stands' root' never') (regions n (omega arith))
+      no_leads no_below never') in
       (suc k.0, subst (λ (x : Seen). Answers x (run (Asks origin on p q) m (suc k.0)) x.end) (sym (test_shown row on yes_leaf no_leaf m n there)) k.1)
     where
       by_test : (b : Bool) → holds (operand_value m.names on) ≡ b → (NeverFaults (run p m) → Shows n p yes_leaf m) → (NeverFaults (run q m) → Shows n q no_leaf m)
@@ -178,13 +184,19 @@ module _ (e : Emission) (keeps : TableKeeps e.table) (limits : Limits) (rows : L
   tree_back zero row (Asks origin on p q) m regions stands root never = (0, ([], refl))
   tree_back (suc n) row (Does origin item rest) m regions (item_row {leaf} there leads below) root never =
       let k = item_back origin item rest leaf m n (fault_of e.table.arrays m (item ∷ [])) refl
-      (λ none. behind_back n (suc row) rest leaf (state_after e.table.arrays m (item ∷ [])) (λ row' tree' m' stands' root' never'. tree_back n row' tree' m' (λ k less to. regions k (omega arith) to) stands' root' never') (λ to. regions n (omega arith) to) leads below (never_later origin item rest m never none)) in
+      (λ none. behind_back n (suc row) rest leaf (state_after e.table.arrays m (item ∷ []))
+      (λ row' tree' m' stands' root' never'. tree_back n row' tree' m' (λ k less to. regions k (omega arith) to) stands' root' never') (λ to. regions n (omega arith) to)
+      leads below (never_later origin item rest m never none)) in
       let x = run (Does origin item rest) m (suc n) in
       (suc k.0, subst (λ (y : Seen). Answers x y x.end) (sym (item_shown row origin item rest leaf m k.0 there)) k.1)
   tree_back (suc n) row (Asks origin on p q) m regions (test_row {yes_leaf} {no_leaf} there yes_leads no_leads yes_below no_below) root never =
       let k = by_test (holds (operand_value m.names on)) refl
-      (λ never'. behind_back n (suc row) p yes_leaf m (λ row' tree' m' stands' root' never'. tree_back n row' tree' m' (λ k less to. regions k (omega arith) to) stands' root' never') (λ to. regions n (omega arith) to) yes_leads yes_below never')
-      (λ never'. behind_back n (suc row + units p) q no_leaf m (λ row' tree' m' stands' root' never'. tree_back n row' tree' m' (λ k less to. regions k (omega arith) to) stands' root' never') (λ to. regions n (omega arith) to) no_leads no_below never') in
+      (λ never'. behind_back n (suc row) p yes_leaf m
+      (λ row' tree' m' stands' root' never'. tree_back n row' tree' m' (λ k less to. regions k (omega arith) to) stands' root' never') (λ to. regions n (omega arith) to)
+      yes_leads yes_below never')
+      (λ never'. behind_back n (suc row + units p) q no_leaf m
+      (λ row' tree' m' stands' root' never'. tree_back n row' tree' m' (λ k less to. regions k (omega arith) to) stands' root' never') (λ to. regions n (omega arith) to)
+      no_leads no_below never') in
       let x = run (Asks origin on p q) m (suc n) in
       (suc k.0, subst (λ (y : Seen). Answers x y x.end) (sym (test_shown row on yes_leaf no_leaf m k.0 there)) k.1)
     where

@@ -1,6 +1,7 @@
 //! Laws of the definitions that contracts speak of. No function here does anything: each one's
 //! contract is a law, and that it is proved is all that it is for.
-ghost use Rattle.pc_linear.specs.Laws.{SumsAddFactors, SumsAreNormal, FactorsTellTheForm, FormsMeanTheirValues, VariablesMeanTheirValues, WhatIsMeantIsTheValue, ValuesCountAsWords, NeverEqualFormsDiffer};
+ghost use Rattle.pc_linear.specs.Laws.{SumsAddFactors, SumsAreNormal, FactorsTellTheForm, FormsMeanTheirValues, VariablesMeanTheirValues, WhatIsMeantIsTheValue, ValuesCountAsWords};
+ghost use Rattle.pc_linear.specs.Laws.{NeverEqualFormsDiffer};
 
 /// A sum of two forms is in normal form, and each variable's factor in it is the sum of its
 /// factors; normal forms with the same factors and the same constant are one.

@@ -9,7 +9,8 @@ use Rattle.pc_window.specs.declared.home.Home.{Home}
 use Rattle.pc_window.specs.Tree.{home_of, home_state}
 use Rattle.pc_pattern.specs.Pairs.{Pair, OperandsAlike, HomesAlike, Correspond}
 
-pub operands_alike : (names : List Pair) (s t : State) (a b : Operand) → Correspond names s t → OperandsAlike names a b → operand_value s.names a ≡ operand_value t.names b
+pub operands_alike : (names : List Pair) (s t : State) (a b : Operand) → Correspond names s t → OperandsAlike names a b
+    → operand_value s.names a ≡ operand_value t.names b
 operands_alike names s t (Name x) (Name y) c h = c.same_names x y h
 operands_alike names s t (Lit a) (Lit b) c h = h
 operands_alike names s t (Name x) (Lit b) c h = absurd h
@@ -31,7 +32,8 @@ homes_alike names s t [] (home' ∷ homes') c h x = absurd h
 homes_alike names s t (home ∷ homes) [] c h x = absurd h
 
 -- the states in which regions are entered are equal
-pub home_states_alike : (names : List Pair) (s t : State) (homes homes' : List Home) → Correspond names s t → HomesAlike names homes homes' → home_state s homes ≡ home_state t homes'
+pub home_states_alike : (names : List Pair) (s t : State) (homes homes' : List Home) → Correspond names s t → HomesAlike names homes homes'
+    → home_state s homes ≡ home_state t homes'
 home_states_alike names s t homes homes' c h = λ i. record {
   names = λ x. homes_alike names s t homes homes' c h x i;
   cells = c.same_cells i;

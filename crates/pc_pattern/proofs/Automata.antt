@@ -27,7 +27,8 @@ use Rattle.pc_window.proofs.Filling.{filling_window}
 use Rattle.pc_window.proofs.Live.{or_first, or_second}
 use Rattle.pc_automaton.specs.declared.automaton.AutomatonLeaf.{AutomatonLeaf}
 use Rattle.pc_automaton.specs.declared.automaton.AutomatonLeaf.TheVariants.{To, Out, Stop, Trap}
-use Rattle.pc_automaton.specs.Automaton.{AutomatonState, is_parameter, names_written, LeafIsKnown, LeavesAreKnown, Takes, LeafLeads, IsStateAmong, IsAutomaton}
+use Rattle.pc_automaton.specs.Automaton.{AutomatonState, is_parameter, names_written, LeafIsKnown, LeavesAreKnown, Takes, LeafLeads, IsStateAmong}
+use Rattle.pc_automaton.specs.Automaton.{IsAutomaton}
 use Rattle.pc_pattern.specs.Pairs.{Pair, corresponds, ones, others, themselves, defined, operands_for, OperandsAlike, ArgumentsAlike, HomesAlike}
 use Rattle.pc_pattern.specs.NamedRow.{RowsNamed, named_item, named_test, named_leaf, LeavesAlike}
 use Rattle.pc_pattern.specs.Searches.{Rules, IsClosed, bare_leaf, Leads, to_same, to_member, to_bare, to_region, to_end, to_trap, StateFor, Automates}
@@ -49,8 +50,10 @@ record RowReads {L : Type 0} (known : ℕ → Bool) (row : Row L) : Type 0 where
   items : AllByRecursion (ReadsKnown known) (items_of row)
   tests : AllByRecursion (IsKnown known) (tests_of row)
 
-front_reads : (left : Tree → Left) (forms : ℕ → Form) (known : ℕ → Bool) (front : Front) → Independent forms known front → RowReads known (front_row left front)
-front_reads left forms known (Issued t o x rest) h = let k = front_reads left forms known rest h.2 in record { items = (h.0, k.items); tests = k.tests }
+front_reads : (left : Tree → Left) (forms : ℕ → Form) (known : ℕ → Bool) (front : Front) → Independent forms known front
+    → RowReads known (front_row left front)
+front_reads left forms known (Issued t o x rest) h =
+    let k = front_reads left forms known rest h.2 in record { items = (h.0, k.items); tests = k.tests }
 front_reads left forms known (Split t o on p q) h =
     let k = front_reads left forms known p h.1 in
     let m = front_reads left forms known q h.2 in
@@ -75,7 +78,8 @@ same_operands name (Print v) = refl
 same_operands name (Read d) = refl
 same_operands name (More d) = refl
 
-named_reads : {L M : Type 0} {R : List Pair → L → M → Type 0} {names : List Pair} {row : Row L} {other : Row M} (known more : ℕ → Bool) → Within known more
+named_reads : {L M : Type 0} {R : List Pair → L → M → Type 0} {names : List Pair} {row : Row L} {other : Row M} (known more : ℕ → Bool)
+    → Within known more
     → RowsNamed R names row other → RowReads known row → RowReads more other
 named_reads known more f (named_item {item} {rest} name h) k =
     let m = named_reads known more f h (record { items = k.items.1; tests = k.tests }) in
@@ -88,8 +92,14 @@ named_reads known more f (named_item {item} {rest} name h) k =
       tests = m.tests;
     }
 named_reads known more f (named_test {on} {on_yes} {on_no} {other_yes} {other_no} h g) k =
-    let m = named_reads known more f h (record { items = all_front (ReadsKnown known) (items_of on_yes) (items_of on_no) k.items; tests = all_front (IsKnown known) (tests_of on_yes) (tests_of on_no) k.tests.1 }) in
-    let n = named_reads known more f g (record { items = all_back (ReadsKnown known) (items_of on_yes) (items_of on_no) k.items; tests = all_back (IsKnown known) (tests_of on_yes) (tests_of on_no) k.tests.1 }) in
+    let m = named_reads known more f h (record {
+      items = all_front (ReadsKnown known) (items_of on_yes) (items_of on_no) k.items;
+      tests = all_front (IsKnown known) (tests_of on_yes) (tests_of on_no) k.tests.1;
+    }) in
+    let n = named_reads known more f g (record {
+      items = all_back (ReadsKnown known) (items_of on_yes) (items_of on_no) k.items;
+      tests = all_back (IsKnown known) (tests_of on_yes) (tests_of on_no) k.tests.1;
+    }) in
     record {
       items = all_both (ReadsKnown more) (items_of other_yes) (items_of other_no) m.items n.items;
       tests = (known_more known more f on k.tests.0, all_both (IsKnown more) (tests_of other_yes) (tests_of other_no) m.tests n.tests);
@@ -131,13 +141,15 @@ arguments_known names known f (a ∷ one) (b ∷ other) h = (operand_known names
 arguments_known names known f [] (b ∷ other) h = absurd h
 arguments_known names known f (a ∷ one) [] h = absurd h
 
-homes_known : (names : List Pair) (known : ℕ → Bool) → OthersKnown names known → (one other : List Home) → HomesAlike names one other → HomesKnown known other
+homes_known : (names : List Pair) (known : ℕ → Bool) → OthersKnown names known → (one other : List Home) → HomesAlike names one other
+    → HomesKnown known other
 homes_known names known f [] [] h = tt
 homes_known names known f (a ∷ one) (b ∷ other) h = (operand_known names known f a.value b.value h.1, homes_known names known f one other h.2)
 homes_known names known f [] (b ∷ other) h = absurd h
 homes_known names known f (a ∷ one) [] h = absurd h
 
-alike_known : (names : List Pair) (known : ℕ → Bool) → OthersKnown names known → (one other : AutomatonLeaf) → LeavesAlike names one other → LeafIsKnown known other
+alike_known : (names : List Pair) (known : ℕ → Bool) → OthersKnown names known → (one other : AutomatonLeaf) → LeavesAlike names one other
+    → LeafIsKnown known other
 alike_known names known f (To number one) (To number' other) h = arguments_known names known f one other h.1
 alike_known names known f (Out region one) (Out region' other) h = homes_known names known f one other h.1
 alike_known names known f one Stop h = tt
@@ -149,27 +161,33 @@ alike_known names known f Stop (Out region other) h = absurd h
 alike_known names known f (Trap kind line) (To number other) h = absurd h
 alike_known names known f (Trap kind line) (Out region other) h = absurd h
 
-leaf_known : {rules : Rules} {members : List Window} {names : List Pair} {left : Left} {leaf : AutomatonLeaf} (known : ℕ → Bool) → OthersKnown names known
+leaf_known : {rules : Rules} {members : List Window} {names : List Pair} {left : Left} {leaf : AutomatonLeaf} (known : ℕ → Bool)
+    → OthersKnown names known
     → Leads rules members names left leaf → LeafIsKnown known leaf
-leaf_known {names} known f (to_same {arguments} brought member pairs brings items at alike params given) = arguments_known names known f (operands_for (ones pairs)) arguments given
-leaf_known {names} known f (to_member {arguments} brought brings items at given) = arguments_known names known f (operands_for (parameters_of (whole brought.front))) arguments given
+leaf_known {names} known f (to_same {arguments} brought member pairs brings items at alike params given) =
+    arguments_known names known f (operands_for (ones pairs)) arguments given
+leaf_known {names} known f (to_member {arguments} brought brings items at given) =
+    arguments_known names known f (operands_for (parameters_of (whole brought.front))) arguments given
 leaf_known {names} known f (to_bare {other} brought leaf brings bare alike) = alike_known names known f leaf other alike
 leaf_known {names} known f (to_region {homes} {homes'} alike) = homes_known names known f homes homes' alike
 leaf_known known f to_end = tt
 leaf_known known f to_trap = tt
 
-one_more_known : (b y : ℕ) (rest known : Bool) (p q : Bool) → nat_eq y b ≡ p → nat_eq b y ≡ q → (p || rest) ≡ true → (rest ≡ true → known ≡ true) → (q || known) ≡ true
+one_more_known : (b y : ℕ) (rest known : Bool) (p q : Bool) → nat_eq y b ≡ p → nat_eq b y ≡ q → (p || rest) ≡ true → (rest ≡ true → known ≡ true)
+    → (q || known) ≡ true
 one_more_known b y rest known p true e e' h next = refl
 one_more_known b y rest known true false e e' h next = absurd (let k = eq-eqb b y (sym (eqb-true y b e)) in let z : true ≡ false = sym k ∙ e' in cc)
 one_more_known b y rest known false false e e' h next = next h
 
 -- the names that both items write are known below
-defined_known : (names : List Pair) (known : ℕ → Bool) (d e : Option ℕ) → OthersKnown names known → OthersKnown (defined names d e) (λ y. writes e y || known y)
+defined_known : (names : List Pair) (known : ℕ → Bool) (d e : Option ℕ) → OthersKnown names known
+    → OthersKnown (defined names d e) (λ y. writes e y || known y)
 defined_known names known (Some a) (Some b) f y h = one_more_known b y (is_in y (others names)) (known y) (nat_eq y b) (nat_eq b y) refl refl h (f y)
 defined_known names known None e f y h = or_second (writes e y) (known y) (f y h)
 defined_known names known (Some a) None f y h = f y h
 
-leaves_known : {rules : Rules} {members : List Window} {names : List Pair} {row : Row Left} {other : Row AutomatonLeaf} (known : ℕ → Bool) → OthersKnown names known
+leaves_known : {rules : Rules} {members : List Window} {names : List Pair} {row : Row Left} {other : Row AutomatonLeaf} (known : ℕ → Bool)
+    → OthersKnown names known
     → RowsNamed (Leads rules members) names row other → LeavesAreKnown known other
 leaves_known known f (named_item {names} {item} name h) =
     leaves_known (and_dest known (with_dest name item)) (defined_known names known (dest_of item) (dest_of (with_dest name item)) f) h
@@ -192,7 +210,8 @@ as_many_sides : (pairs : List Pair) → length (ones pairs) ≡ length (others p
 as_many_sides [] = refl
 as_many_sides (pair ∷ pairs) = ap (λ (n : ℕ). suc n) (as_many_sides pairs)
 
-bare_leads : (states : List AutomatonState) (names : List Pair) (tree : Tree) (leaf other : AutomatonLeaf) → bare_leaf tree ≡ Some leaf → LeavesAlike names leaf other
+bare_leads : (states : List AutomatonState) (names : List Pair) (tree : Tree) (leaf other : AutomatonLeaf) → bare_leaf tree ≡ Some leaf
+    → LeavesAlike names leaf other
     → LeafLeads states other
 bare_leads states names tree leaf (Out region homes) e h = tt
 bare_leads states names tree leaf Stop e h = tt
@@ -208,7 +227,8 @@ bare_leads states names (Trap_exit kind line) (To number' one) (To number argume
 
 module _ (rules : Rules) (members : List Window) (states : List AutomatonState) (auto : Automates rules members states) where
   -- a member's state takes as many arguments as the member has parameters
-  takes_arguments : (number count : ℕ) (member : Window) → slice_get members number ≡ Some member → count ≡ length (parameters_of (whole member.front))
+  takes_arguments : (number count : ℕ) (member : Window) → slice_get members number ≡ Some member
+      → count ≡ length (parameters_of (whole member.front))
       → Takes (slice_get states number) count
   takes_arguments number count member at many =
       let e = auto.each number member at in
@@ -217,10 +237,12 @@ module _ (rules : Rules) (members : List Window) (states : List AutomatonState) 
   leaf_leads : {names : List Pair} {left : Left} {leaf : AutomatonLeaf} → Leads rules members names left leaf → LeafLeads states leaf
   leaf_leads {names} (to_same {number} {arguments} brought member pairs brings items at alike params given) =
       takes_arguments number (length arguments) member at
-      (as_many_alike names (operands_for (ones pairs)) arguments given ∙ as_many_operands (ones pairs) ∙ as_many_sides pairs ∙ ap (λ (l : List ℕ). length l) params)
+      (as_many_alike names (operands_for (ones pairs)) arguments given ∙ as_many_operands (ones pairs) ∙ as_many_sides pairs
+      ∙ ap (λ (l : List ℕ). length l) params)
   leaf_leads {names} (to_member {number} {arguments} brought brings items at given) =
       takes_arguments number (length arguments) brought at
-      (as_many_alike names (operands_for (parameters_of (whole brought.front))) arguments given ∙ as_many_operands (parameters_of (whole brought.front)))
+      (as_many_alike names (operands_for (parameters_of (whole brought.front))) arguments given
+      ∙ as_many_operands (parameters_of (whole brought.front)))
   leaf_leads {names} (to_bare {other} brought leaf brings bare alike) = bare_leads states names (whole brought.front) leaf other bare alike
   leaf_leads (to_region alike) = tt
   leaf_leads to_end = tt
@@ -229,7 +251,8 @@ module _ (rules : Rules) (members : List Window) (states : List AutomatonState) 
   leaves_lead : {names : List Pair} {row : Row Left} {other : Row AutomatonLeaf} → RowsNamed (Leads rules members) names row other
       → AllByRecursion (LeafLeads states) (leaves_of other)
   leaves_lead (named_item name h) = leaves_lead h
-  leaves_lead (named_test {other_yes} {other_no} h g) = all_both (LeafLeads states) (leaves_of other_yes) (leaves_of other_no) (leaves_lead h) (leaves_lead g)
+  leaves_lead (named_test {other_yes} {other_no} h g) =
+      all_both (LeafLeads states) (leaves_of other_yes) (leaves_of other_no) (leaves_lead h) (leaves_lead g)
   leaves_lead (named_leaf h) = (leaf_leads h, tt)
 
   -- the state of a proper member is one among the states
@@ -241,12 +264,14 @@ module _ (rules : Rules) (members : List Window) (states : List AutomatonState) 
       let listed : Within known (is_parameter state) =
       λ x h. subst (λ (l : List ℕ). is_in x l ≡ true) (sym f.parameters) (parameters_listed (whole w.front) x h) in
       let reads : RowReads known f.cut =
-      subst (λ (r : Row Left). RowReads known r) (sym f.row_for.cuts) (cut_reads rules.table f.row_for.filled known f.row_for.filled.front filled.independent) in
+      subst (λ (r : Row Left). RowReads known r) (sym f.row_for.cuts)
+      (cut_reads rules.table f.row_for.filled known f.row_for.filled.front filled.independent) in
       let row = named_reads known (is_parameter state) listed f.matches reads in
       record {
         items = row.items;
         tests = row.tests;
-        leaves = leaves_known (is_parameter state) (λ y h. subst (λ (l : List ℕ). is_in y l ≡ true) (others_themselves ps ∙ sym f.parameters) h) f.matches;
+        leaves = leaves_known (is_parameter state) (λ y h. subst (λ (l : List ℕ). is_in y l ≡ true)
+            (others_themselves ps ∙ sym f.parameters) h) f.matches;
         once = f.once;
         lead = leaves_lead f.matches;
       }
@@ -258,7 +283,8 @@ pub all_from_places : {X : Type 0} (P : X → Type 0) (xs : List X) → ((i : �
 all_from_places P [] h = tt
 all_from_places P (x ∷ xs) h = (h zero x refl, all_from_places P xs (λ i y at. h (suc i) y at))
 
-pub are_automaton : (rules : Rules) → TableKeeps rules.table → Positive rules.limits → (region : ℕ) (members : List Window) (states : List AutomatonState)
+pub are_automaton : (rules : Rules) → TableKeeps rules.table → Positive rules.limits
+    → (region : ℕ) (members : List Window) (states : List AutomatonState)
     → IsClosed rules region members → Automates rules members states → IsAutomaton states
 are_automaton rules keeps room region members states closed auto =
     let b = begins_with rules keeps room region closed.1 in

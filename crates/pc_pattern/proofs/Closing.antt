@@ -50,7 +50,8 @@ matches_with P each (named_test h k) = named_test (matches_with P each.0 h) (mat
 matches_with P each (named_leaf h) = named_leaf (each, h)
 
 -- the row of a window that has its root keeps the window's run, forms and pace, and leaves proper windows
-rows_keep : (rules : Rules) (w : Window) (row : Row Left) → IsRooted w.front → RowFor rules w row → IsProper w → EachLeft IsProper row × RowKeeps rules.table w row
+rows_keep : (rules : Rules) (w : Window) (row : Row Left) → IsRooted w.front → RowFor rules w row → IsProper w
+    → EachLeft IsProper row × RowKeeps rules.table w row
 rows_keep rules w row rooted h p = (
   cuts_proper rules.table h.filled row h.cuts (fills_proper w h.filled h.fills p),
   filled_rows_keep rules.table w h.filled row rooted h.fills h.cuts p,
@@ -67,8 +68,10 @@ none_known : (xs : List ℕ) → AllByRecursion (λ x. false ≡ false) xs
 none_known [] = tt
 none_known (x ∷ xs) = (refl, none_known xs)
 
-state_once : (rules : Rules) (members : List Window) (w : Window) (state : AutomatonState) → StateFor rules members w state → WritesOnce (λ x. false) state.row
-state_once rules members w state h = each_once (λ x. false) state.row (none_known (names_written state.row)) (distinct_back state.parameters (names_written state.row) h.once)
+state_once : (rules : Rules) (members : List Window) (w : Window) (state : AutomatonState) → StateFor rules members w state
+    → WritesOnce (λ x. false) state.row
+state_once rules members w state h =
+    each_once (λ x. false) state.row (none_known (names_written state.row)) (distinct_back state.parameters (names_written state.row) h.once)
 
 -- what is left to do in a window with an item or a test
 not_bare : (tree : Tree) → bare_leaf tree ≡ None → IsBare tree → ⊥
@@ -141,13 +144,15 @@ module _ (rules : Rules) (keeps : TableKeeps rules.table) (same_keeps : SameKeep
   shown_with end l = record { printed = l; end = end }
 
   end_agrees : (out : List ℤ) (new : State) → Agree (after_leaf out new Stop) (λ n. after_printing out (tree_run rules.table Stop_exit new n))
-  end_agrees out new = Agree-ends_at_once out Ended (after_leaf out new Stop) (λ n. after_printing out (tree_run rules.table Stop_exit new n)) (λ n. refl)
+  end_agrees out new = Agree-ends_at_once out Ended (after_leaf out new Stop) (λ n. after_printing out (tree_run rules.table Stop_exit new n))
+      (λ n. refl)
       (ap (shown_with None) (append-nil out)) (λ n. ap (shown_with (Some Ended)) (append-nil out))
 
   trap_agrees : (out : List ℤ) (new : State) (kind : TrapKind) (line : ℕ)
       → Agree (after_leaf out new (Trap kind line)) (λ n. after_printing out (tree_run rules.table (Trap_exit kind line) new n))
   trap_agrees out new kind line =
-      Agree-ends_at_once out (Trapped kind line) (after_leaf out new (Trap kind line)) (λ n. after_printing out (tree_run rules.table (Trap_exit kind line) new n)) (λ n. refl)
+      Agree-ends_at_once out (Trapped kind line) (after_leaf out new (Trap kind line))
+      (λ n. after_printing out (tree_run rules.table (Trap_exit kind line) new n)) (λ n. refl)
       (ap (shown_with None) (append-nil out)) (λ n. ap (shown_with (Some (Trapped kind line))) (append-nil out))
 
   -- a leaf that a bare window is does what the window does
@@ -157,7 +162,8 @@ module _ (rules : Rules) (keeps : TableKeeps rules.table) (same_keeps : SameKeep
       subst (λ (l : AutomatonLeaf). Agree (after_leaf out new l) (λ n. after_printing out (tree_run rules.table (Exit region tag homes) new n)))
       (same_leaf (Out region homes) leaf e) (region_agrees out new region tag homes)
   bare_agrees Stop_exit leaf out new e =
-      subst (λ (l : AutomatonLeaf). Agree (after_leaf out new l) (λ n. after_printing out (tree_run rules.table Stop_exit new n))) (same_leaf Stop leaf e) (end_agrees out new)
+      subst (λ (l : AutomatonLeaf). Agree (after_leaf out new l) (λ n. after_printing out (tree_run rules.table Stop_exit new n)))
+      (same_leaf Stop leaf e) (end_agrees out new)
   bare_agrees (Trap_exit kind line) leaf out new e =
       subst (λ (l : AutomatonLeaf). Agree (after_leaf out new l) (λ n. after_printing out (tree_run rules.table (Trap_exit kind line) new n)))
       (same_leaf (Trap kind line) leaf e) (trap_agrees out new kind line)
@@ -212,7 +218,8 @@ module _ (rules : Rules) (keeps : TableKeeps rules.table) (same_keeps : SameKeep
   ended_same out e n = ap (shown_with (Some e)) (sym (append-nil out))
 
   -- leaves that are alike lead on alike
-  leaf_same : (names : List Pair) (leaf other : AutomatonLeaf) (out : List ℤ) (new new' : State) → Correspond names new new' → LeavesAlike names leaf other
+  leaf_same : (names : List Pair) (leaf other : AutomatonLeaf) (out : List ℤ) (new new' : State) → Correspond names new new'
+      → LeavesAlike names leaf other
       → (n : ℕ) → after_leaf out new' other n ≡ after_leaf out new leaf n
   leaf_same names (To number one) (To number' other) out new new' c h n =
       let same = states_same names new new' c (state_parameters (slice_get states number)) one other h.1 in
@@ -238,7 +245,8 @@ module _ (rules : Rules) (keeps : TableKeeps rules.table) (same_keeps : SameKeep
   leaf_same names (Trap kind line) Stop out new new' c h n = absurd h
 
   -- a leaf that passes the values of some names to a member that goes on from there
-  leads_ahead : (names : List Pair) (member w : Window) (number : ℕ) (s new new' : State) (out : List ℤ) (parameters : List ℕ) (given arguments : List Operand)
+  leads_ahead : (names : List Pair) (member w : Window) (number : ℕ) (s new new' : State) (out : List ℤ) (parameters : List ℕ)
+      (given arguments : List Operand)
       → Correspond names new new' → state_parameters (slice_get states number) ≡ parameters → slice_get members number ≡ Some member
       → ArgumentsAlike names given arguments → (IsBare (whole member.front) → ⊥) → RestKept rules.table w s out (passed_state new parameters given) member
       → Goes_on w s out new' (To number arguments)
@@ -248,10 +256,12 @@ module _ (rules : Rules) (keeps : TableKeeps rules.table) (same_keeps : SameKeep
       (subst (λ (u : State). RestKept rules.table w s out u member) (states_same names new new' c parameters given arguments alike) k))
 
   -- where each leaf goes on
-  goes : {left : Left} {leaf : AutomatonLeaf} (names : List Pair) → Automates rules members states → (w : Window) (s : State) (out : List ℤ) (new new' : State)
+  goes : {left : Left} {leaf : AutomatonLeaf} (names : List Pair) → Automates rules members states
+      → (w : Window) (s : State) (out : List ℤ) (new new' : State)
       → Correspond names new new' → NeverFaults (window_run rules.table w s) → LeftKept rules.table w s out new left → LeftIs IsProper left
       → Leads rules members names left leaf → Goes_on w s out new' leaf
-  goes names auto w s out new new' c never kept proper (to_same {rest} {number} {arguments} brought member pairs brings items at alike params args_alike) =
+  goes names auto w s out new new' c never kept proper (to_same {rest} {number}
+      {arguments} brought member pairs brings items at alike params args_alike) =
       let k = rest_kept_on rules.table w rest brought s new out kept never (brings_on_keeps rules keeps rest brought brings proper).1 in
       let e = auto.each number member at in
       let t = passed_state new (others pairs) (operands_for (ones pairs)) in
@@ -298,9 +308,11 @@ module _ (rules : Rules) (keeps : TableKeeps rules.table) (same_keeps : SameKeep
       commits : {out : List ℤ} {new : State} {leaf : AutomatonLeaf} → Goes_on w s out new leaf → Row_goes w s (Commits out new leaf)
 
     taken_goes : {a : RowOutcome Left} {b : RowOutcome AutomatonLeaf} (w : Window) (s : State) → NeverFaults (window_run rules.table w s)
-        → TakenKept rules.table w s a → OutcomesNamed (λ names left leaf. LeftIs IsProper left × Leads rules members names left leaf) a b → Row_goes w s b
+        → TakenKept rules.table w s a → OutcomesNamed (λ names left leaf. LeftIs IsProper left × Leads rules members names left leaf) a b
+        → Row_goes w s b
     taken_goes w s never kept both_fault = absurd kept
-    taken_goes w s never kept (both_commit {printed} {new} {new'} names c leads) = commits (goes names auto w s printed new new' c never kept leads.0 leads.1)
+    taken_goes w s never kept (both_commit {printed} {new} {new'} names c leads) =
+        commits (goes names auto w s printed new new' c never kept leads.0 leads.1)
 
     -- the run from a state is the run after its row
     row_goes : (number : ℕ) (w : Window) (s : State) → Stands number w s
@@ -321,8 +333,10 @@ module _ (rules : Rules) (keeps : TableKeeps rules.table) (same_keeps : SameKeep
 
     -- what a row shows, and then n rows more, where n rows more from each member are answered
     forth_of : (n : ℕ) (w : Window) (s : State) (b : RowOutcome AutomatonLeaf) → NeverFaults (window_run rules.table w s) → Row_goes w s b
-        → ((number : ℕ) (v : Window) (t : State) → Stands number v t → (m : ℕ) × Answers (run_at number t n) (window_run rules.table v t m) (run_at number t n).end)
-        → (m : ℕ) × Answers (seen_of (outcome_step rules.table states b) (run_from (automaton_step rules.table states) n)) (window_run rules.table w s m)
+        → ((number : ℕ) (v : Window) (t : State) → Stands number v t
+        → (m : ℕ) × Answers (run_at number t n) (window_run rules.table v t m) (run_at number t n).end)
+        → (m : ℕ) × Answers (seen_of (outcome_step rules.table states b) (run_from (automaton_step rules.table states) n))
+        (window_run rules.table w s m)
         (seen_of (outcome_step rules.table states b) (run_from (automaton_step rules.table states) n)).end
     forth_of n w s b never (commits {out} {new} (along {leaf} beside)) next = beside.forth n
     forth_of n w s b never (commits {out} {new} (ahead {number} {arguments} member at items kept)) next =
@@ -330,12 +344,14 @@ module _ (rules : Rules) (keeps : TableKeeps rules.table) (same_keeps : SameKeep
         let m = next number member t (record { at = at; forms = kept.forms; never = never_left rules.table w member s t out kept never }) in
         let k = kept.back m.0 in (
           k.0,
-          answer_of_answer (after_printing out (run_at number t n)) (after_printing out (window_run rules.table member t m.0)) (window_run rules.table w s k.0)
+          answer_of_answer (after_printing out (run_at number t n)) (after_printing out (window_run rules.table member t m.0))
+              (window_run rules.table w s k.0)
               (Answers-after out (run_at number t n) (window_run rules.table member t m.0) (run_at number t n).end m.1) k.1,
         )
 
     -- what n rows show, the window's run comes to answer
-    forth : (n number : ℕ) (w : Window) (s : State) → Stands number w s → (m : ℕ) × Answers (run_at number s n) (window_run rules.table w s m) (run_at number s n).end
+    forth : (n number : ℕ) (w : Window) (s : State) → Stands number w s
+        → (m : ℕ) × Answers (run_at number s n) (window_run rules.table w s m) (run_at number s n).end
     forth zero number w s stands = (0, ([], refl))
     forth (suc n) number w s stands =
         let r = row_goes number w s stands in

@@ -12,7 +12,8 @@ use Rattle.pc_window.specs.Steps.{FillsTo, Cuts, UnwindsTo, Tidies, Rebases}
 use Rattle.pc_window.proofs.FirstJumps.{filled_one, unwinding_one}
 use Rattle.pc_automaton.specs.declared.automaton.AutomatonLeaf.{AutomatonLeaf}
 use Rattle.pc_automaton.specs.Automaton.{AutomatonState}
-use Rattle.pc_pattern.specs.Searches.{Rules, RowFor, Settles, BringsOn, bare_leaf, IsMember, IsNoMember, Looks, looks_new, looks_known, looks_bare, looks_out, looks_end, looks_trap}
+use Rattle.pc_pattern.specs.Searches.{Rules, RowFor, Settles, BringsOn, bare_leaf, IsMember, IsNoMember, Looks, looks_new, looks_known, looks_bare}
+use Rattle.pc_pattern.specs.Searches.{looks_out, looks_end, looks_trap}
 use Rattle.pc_pattern.specs.Searches.{Search, begins, takes, looks, IsClosed, IsReached, IsPattern, HasNoPattern}
 
 -- ---- one after the other
@@ -34,7 +35,8 @@ module _ (rules : Rules) where
       p.cuts ∙ sym (subst (λ (u : Window). Cuts rules.table u b) (sym same) q.cuts)
 
   known_or_new : (members : List Window) (a b : Window) → a ≡ b → IsNoMember rules members a → IsMember rules members b → ⊥
-  known_or_new members a b same new known = new known.0 known.1 known.3 known.2 (subst (λ (u : Window). rules.Same known.3 u known.1) (sym same) known.4)
+  known_or_new members a b same new known =
+      new known.0 known.1 known.3 known.2 (subst (λ (u : Window). rules.Same known.3 u known.1) (sym same) known.4)
 
   bare_or_not : (a b : Window) (leaf : AutomatonLeaf) → a ≡ b → bare_leaf (whole a.front) ≡ None → bare_leaf (whole b.front) ≡ Some leaf → ⊥
   bare_or_not a b leaf same items bare = let e : None ≡ Some leaf = sym items ∙ ap (λ (u : Window). bare_leaf (whole u.front)) same ∙ bare in cc
@@ -71,7 +73,8 @@ module _ (rules : Rules) where
   first_same a b xs ys e = (cc, cc)
 
   pub search_one : {region steps number number' : ℕ} {members others : List Window} {lefts lefts' : List Left}
-      → Search rules region steps members number lefts → Search rules region steps others number' lefts' → SameSearch members others number number' lefts lefts'
+      → Search rules region steps members number lefts → Search rules region steps others number' lefts'
+      → SameSearch members others number number' lefts lefts'
   search_one {region} (begins {opened} {first} p q) (begins {opened = opened'} {first = first'} p' q') =
       let same : opened ≡ opened' = p ∙ sym p' in
       record {
@@ -93,7 +96,8 @@ module _ (rules : Rules) where
       let h = search_one s s' in
       let parts = first_same left left' lefts lefts' h.leaves in
       record {
-        windows = looks_one adds (subst (λ (l : Left). Looks rules members l more') (sym parts.0) (subst (λ (ws : List Window). Looks rules ws left' more') (sym h.windows) adds'));
+        windows = looks_one adds (subst (λ (l : Left). Looks rules members l more') (sym parts.0)
+            (subst (λ (ws : List Window). Looks rules ws left' more') (sym h.windows) adds'));
         taken = h.taken;
         leaves = parts.1;
       }
@@ -119,8 +123,10 @@ record Before (rules : Rules) (region steps : ℕ) (members : List Window) : Typ
   search : Search rules region steps earlier number lefts
   fewer : length earlier ≤ length members
 
-before_of : {rules : Rules} {region : ℕ} (n : ℕ) (earlier members : List Window) → Before rules region n earlier → length earlier ≤ length members → Before rules region n members
-before_of n earlier members b le = record { earlier = b.earlier; number = b.number; lefts = b.lefts; search = b.search; fewer = omega (arith, le, b.fewer) }
+before_of : {rules : Rules} {region : ℕ} (n : ℕ) (earlier members : List Window) → Before rules region n earlier → length earlier ≤ length members
+    → Before rules region n members
+before_of n earlier members b le =
+    record { earlier = b.earlier; number = b.number; lefts = b.lefts; search = b.search; fewer = omega (arith, le, b.fewer) }
 
 decide_less : (n m : ℕ) → (n ≤ m) ⊎ (suc m ≤ n)
 decide_less n m = grind arith

@@ -33,7 +33,10 @@ region_keeps zero region e =
     let same : one ≡ region = (cc) in
     subst (RegionKeeps echoing_table) same
     (record {
-      there = (record { reads = tt; writes = omega arith; array = tt }, omega arith, (record { reads = (omega arith, tt); writes = tt; array = tt }, omega arith), tt);
+      there = (
+        record { reads = tt; writes = omega arith; array = tt },
+        (omega arith, (record { reads = (omega arith, tt); writes = tt; array = tt }, omega arith), tt),
+      );
       few = omega arith;
       rising = λ k lt. absurd (let h : suc (k + 1) ≤ 0 = lt in omega arith);
       inside_there = omega arith;

@@ -1,6 +1,7 @@
 -- The row that the code makes of a cut row is the row of a state: its leaves lead on, and each place that writes a name has one
 -- of its own.
-use Rattle.std.proofs.Common.{◌≡◌, ℕ, zero, suc, ◌+◌, ◌≤◌, ◌<◌, List, [], ◌∷◌, ◌++◌, length, append_assoc, map, ◌⊎◌, inl, inr, refl, sym, ◌∙◌, ap, subst, arith}
+use Rattle.std.proofs.Common.{◌≡◌, ℕ, zero, suc, ◌+◌, ◌≤◌, ◌<◌, List, [], ◌∷◌, ◌++◌, length, append_assoc, map, ◌⊎◌, inl, inr, refl, sym, ◌∙◌, ap}
+use Rattle.std.proofs.Common.{subst, arith}
 use Rattle.std.specs.Prelude.{Bool, true, false, not, ◌&&◌, ◌||◌, if◌then◌else◌, nat_eq, Option, Some, None, slice_get}
 use Rattle.std.specs.List.{AllByRecursion, IsDistinct, filter_map, cons_option}
 use Rattle.std.proofs.lemmas.Bool.{eqb-true, eq-eqb}
@@ -70,12 +71,14 @@ left_scoped known table w (Exit region tag homes) h = by_loop (is_inside table w
 left_scoped known table w Stop_exit h = tt
 left_scoped known table w (Trap_exit kind line) h = tt
 
-row_scoped : (known : ℕ → Bool) (table : Table) (w : Window) (front : Front) → Scoped known (whole front) → LeavesScoped known (front_row (left_of table w) front)
+row_scoped : (known : ℕ → Bool) (table : Table) (w : Window) (front : Front) → Scoped known (whole front)
+    → LeavesScoped known (front_row (left_of table w) front)
 row_scoped known table w (Issued t o x rest) h = row_scoped (and_dest known x) table w rest h.2
 row_scoped known table w (Split t o on p q) h = (row_scoped known table w p h.1, row_scoped known table w q h.2)
 row_scoped known table w (Unfinished tree) h = left_scoped known table w tree h
 
-pub cut_scoped : (known : ℕ → Bool) (table : Table) (w : Window) (front : Front) → Scoped known (whole front) → LeavesScoped known (cut_row table w front)
+pub cut_scoped : (known : ℕ → Bool) (table : Table) (w : Window) (front : Front) → Scoped known (whole front)
+    → LeavesScoped known (cut_row table w front)
 cut_scoped known table w (Issued t o x rest) h = row_scoped known table w (Issued t o x rest) h
 cut_scoped known table w (Split t o on p q) h = row_scoped known table w (Split t o on p q) h
 cut_scoped known table w (Unfinished (Pending t o x rest)) h = left_scoped known table w (Pending t o x rest) h
@@ -122,7 +125,9 @@ told_more known pairs written next x y r h = by (nat_eq x y) refl h
     both true c e k = absurd (cc)
 
     by : (b : Bool) → nat_eq x y ≡ b → (b || known y) ≡ true
-        → (if b then nat_eq next (if b then next else renamed_name written y) else (not (nat_eq next (if b then next else renamed_name written y)) && corresponds pairs y (if b then next else renamed_name written y))) ≡ true
+        → (if b then nat_eq next (if b then next else renamed_name written y) else
+        (not (nat_eq next (if b then next else renamed_name written y)) && corresponds pairs y
+        (if b then next else renamed_name written y))) ≡ true
     by true e k = eq-eqb next next refl
     by false e k =
         let there = r.told y k in
@@ -136,7 +141,8 @@ renames_below : (known : ℕ → Bool) (pairs written : List Pair) (next : ℕ) 
     → Renames (λ x. writes d x || known x) (defined pairs d d') (defined written d d') (suc next)
 renames_below known pairs written next None None e r = record { told = r.told; below = below_more next (others pairs) r.below }
 renames_below known pairs written next (Some x) (Some n) (inl e) r =
-    subst (λ (m : ℕ). Renames (λ y. nat_eq x y || known y) (record { one = x; other = m } ∷ pairs) (record { one = x; other = m } ∷ written) (suc next)) (same next n e.2)
+    subst (λ (m : ℕ). Renames (λ y. nat_eq x y || known y) (record { one = x; other = m } ∷ pairs) (record { one = x; other = m } ∷ written)
+    (suc next)) (same next n e.2)
     (record { told = λ y h. told_more known pairs written next x y r h; below = (omega arith, below_more next (others pairs) r.below) })
   where
     same : (a b : ℕ) → Some b ≡ Some a → a ≡ b
@@ -147,7 +153,8 @@ renames_below known pairs written next (Some x) None (inr e) r = absurd (let k :
 renames_below known pairs written next None (Some n) (inl e) r = absurd (let k : None ≡ Some e.0 = e.1 in cc)
 renames_below known pairs written next None (Some n) (inr e) r = absurd (let k : Some n ≡ None = e.1 in cc)
 
-later_below : (known : ℕ → Bool) (pairs written : List Pair) (next later : ℕ) → next ≤ later → Renames known pairs written next → Renames known pairs written later
+later_below : (known : ℕ → Bool) (pairs written : List Pair) (next later : ℕ) → next ≤ later → Renames known pairs written next
+    → Renames known pairs written later
 later_below known pairs written next later le r = record {
   told = r.told;
   below = all_imply (λ y. y < next) (λ y. y < later) (others pairs) (λ y k. omega (arith, le, k)) r.below;
@@ -171,7 +178,8 @@ others_of_themselves : (xs : List ℕ) → others (themselves xs) ≡ xs
 others_of_themselves [] = refl
 others_of_themselves (x ∷ xs) = ap (λ (l : List ℕ). x ∷ l) (others_of_themselves xs)
 
-pub renames_parameters : (known : ℕ → Bool) (ps : List ℕ) (next : ℕ) → ((x : ℕ) → known x ≡ true → is_in x ps ≡ true) → AllByRecursion (λ y. y < next) ps
+pub renames_parameters : (known : ℕ → Bool) (ps : List ℕ) (next : ℕ) → ((x : ℕ) → known x ≡ true → is_in x ps ≡ true)
+    → AllByRecursion (λ y. y < next) ps
     → Renames known (themselves ps) [] next
 renames_parameters known ps next listed below = record {
   told = λ x h. itself_there ps x (listed x h);
@@ -201,11 +209,14 @@ module _ (known : ℕ → Bool) (pairs written : List Pair) (next : ℕ) (r : Re
   arguments_alike [] h = tt
   arguments_alike (x ∷ ps) h = (r.told x h.0, arguments_alike ps h.1)
 
-  bare_alike : (tree : Tree) (leaf : AutomatonLeaf) → ((x : ℕ) → uses tree x ≡ true → known x ≡ true) → bare_leaf tree ≡ Some leaf → LeavesAlike pairs leaf (renamed_leaf written leaf)
+  bare_alike : (tree : Tree) (leaf : AutomatonLeaf) → ((x : ℕ) → uses tree x ≡ true → known x ≡ true) → bare_leaf tree ≡ Some leaf
+      → LeavesAlike pairs leaf (renamed_leaf written leaf)
   bare_alike (Exit region tag homes) leaf f e =
-      subst (λ (l : AutomatonLeaf). LeavesAlike pairs l (renamed_leaf written l)) (same_leaf (Out region homes) leaf e) (refl, homes_alike homes (known_homes known homes f))
+      subst (λ (l : AutomatonLeaf). LeavesAlike pairs l (renamed_leaf written l)) (same_leaf (Out region homes) leaf e)
+      (refl, homes_alike homes (known_homes known homes f))
   bare_alike Stop_exit leaf f e = subst (λ (l : AutomatonLeaf). LeavesAlike pairs l (renamed_leaf written l)) (same_leaf Stop leaf e) tt
-  bare_alike (Trap_exit kind line) leaf f e = subst (λ (l : AutomatonLeaf). LeavesAlike pairs l (renamed_leaf written l)) (same_leaf (Trap kind line) leaf e) (refl, refl)
+  bare_alike (Trap_exit kind line) leaf f e =
+      subst (λ (l : AutomatonLeaf). LeavesAlike pairs l (renamed_leaf written l)) (same_leaf (Trap kind line) leaf e) (refl, refl)
   bare_alike (Pending t o x rest) leaf f e = absurd (cc)
   bare_alike (Undecided t o on p q) leaf f e = absurd (cc)
 
@@ -224,7 +235,8 @@ module _ (known : ℕ → Bool) (pairs written : List Pair) (next : ℕ) (r : Re
     window_leads waiting w h None e places =
         to_member (brought_on w) (brings_on table limits w) e (places (length waiting) (brought_on w) (last_there waiting (brought_on w)))
         (arguments_alike (parameters_of (whole (brought_on w).front))
-        (all_imply (λ x. uses (whole (brought_on w).front) x ≡ true) (λ x. known x ≡ true) (parameters_of (whole (brought_on w).front)) (brought_known w h)
+        (all_imply (λ x. uses (whole (brought_on w).front) x ≡ true) (λ x. known x ≡ true) (parameters_of (whole (brought_on w).front))
+        (brought_known w h)
         (parameters_used (whole (brought_on w).front))))
     window_leads waiting w h (Some leaf) e places =
         to_bare (brought_on w) leaf (brings_on table limits w) e (bare_alike (whole (brought_on w).front) leaf (brought_known w h) e)
@@ -239,7 +251,8 @@ module _ (known : ℕ → Bool) (pairs written : List Pair) (next : ℕ) (r : Re
 
 -- ---- rows
 
-places_first : (final : List Window) (taken : ℕ) (xs ys : List Window) → ((i : ℕ) (v : Window) → slice_get (xs ++ ys) i ≡ Some v → slice_get final (taken + i) ≡ Some v)
+places_first : (final : List Window) (taken : ℕ) (xs ys : List Window)
+    → ((i : ℕ) (v : Window) → slice_get (xs ++ ys) i ≡ Some v → slice_get final (taken + i) ≡ Some v)
     → (i : ℕ) (v : Window) → slice_get xs i ≡ Some v → slice_get final (taken + i) ≡ Some v
 places_first final taken xs ys f i v at = f i v (there xs i at)
   where
@@ -259,7 +272,8 @@ led_next taken written next waiting (Either on one other) =
 led_next taken written next waiting (At_leaf left) = omega arith
 
 -- the row leads on among the members, wherever these stand at their places in the end
-pub row_leads : (table : Table) (limits : Limits) (final : List Window) (taken : ℕ) (known : ℕ → Bool) (pairs written : List Pair) (next : ℕ) (waiting : List Window) (row : Row Left)
+pub row_leads : (table : Table) (limits : Limits) (final : List Window) (taken : ℕ) (known : ℕ → Bool) (pairs written : List Pair) (next : ℕ)
+    (waiting : List Window) (row : Row Left)
     → Renames known pairs written next → LeavesScoped known row
     → ((i : ℕ) (v : Window) → slice_get (waiting ++ all_added (leaves_of row)) i ≡ Some v → slice_get final (taken + i) ≡ Some v)
     → RowsNamed (Leads (packed table limits) final) pairs row (led taken written next waiting row).row
@@ -271,15 +285,18 @@ row_leads table limits final taken known pairs written next waiting (Then item r
 row_leads table limits final taken known pairs written next waiting (Either on one other) r h places =
     let a = led taken written next waiting one in
     let all : waiting ++ all_added (leaves_of one ++ leaves_of other) ≡ (waiting ++ all_added (leaves_of one)) ++ all_added (leaves_of other) =
-    ap (λ (l : List Window). waiting ++ l) (added_both (leaves_of one) (leaves_of other)) ∙ sym (append_assoc waiting (all_added (leaves_of one)) (all_added (leaves_of other))) in
-    let both : (i : ℕ) (v : Window) → slice_get ((waiting ++ all_added (leaves_of one)) ++ all_added (leaves_of other)) i ≡ Some v → slice_get final (taken + i) ≡ Some v =
+    ap (λ (l : List Window). waiting ++ l) (added_both (leaves_of one) (leaves_of other))
+    ∙ sym (append_assoc waiting (all_added (leaves_of one)) (all_added (leaves_of other))) in
+    let both : (i : ℕ) (v : Window) → slice_get ((waiting ++ all_added (leaves_of one)) ++ all_added (leaves_of other)) i ≡ Some v
+    → slice_get final (taken + i) ≡ Some v =
     λ i v at. places i v (ap (λ (l : List Window). slice_get l i) all ∙ at) in
     named_test
     (row_leads table limits final taken known pairs written next waiting one r h.0
     (places_first final taken (waiting ++ all_added (leaves_of one)) (all_added (leaves_of other)) both))
     (row_leads table limits final taken known pairs written a.next a.waiting other
     (later_below known pairs written next a.next (led_next taken written next waiting one) r) h.1
-    (λ i v at. both i v (ap (λ (l : List Window). slice_get (l ++ all_added (leaves_of other)) i) (sym (row_waits taken written next waiting one)) ∙ at)))
+    (λ i v at. both i v (ap (λ (l : List Window). slice_get (l ++ all_added (leaves_of other)) i) (sym (row_waits taken written next waiting one))
+    ∙ at)))
 row_leads table limits final taken known pairs written next waiting (At_leaf left) r h places =
     named_leaf (left_leads known pairs written next r table limits final taken waiting left h
     (λ i v at. places i v (ap (λ (l : List Window). slice_get (waiting ++ l) i) (nothing_more (added left)) ∙ at)))
@@ -302,7 +319,8 @@ apart_head x m ys lt h = all_imply (λ y. m ≤ y) (λ y. nat_eq x y ≡ false) 
     differ : (x y : ℕ) → x < y → nat_eq x y ≡ false
     differ x y lt = grind arith
 
-pub distinct_apart : (m : ℕ) (xs ys : List ℕ) → AllByRecursion (λ x. x < m) xs → AllByRecursion (λ y. m ≤ y) ys → IsDistinct nat_eq xs → IsDistinct nat_eq ys → IsDistinct nat_eq (xs ++ ys)
+pub distinct_apart : (m : ℕ) (xs ys : List ℕ) → AllByRecursion (λ x. x < m) xs → AllByRecursion (λ y. m ≤ y) ys → IsDistinct nat_eq xs
+    → IsDistinct nat_eq ys → IsDistinct nat_eq (xs ++ ys)
 unfolding IsDistinct
 distinct_apart m [] ys h k p q = q
 distinct_apart m (x ∷ xs) ys h k p q = (all_both (λ y. nat_eq x y ≡ false) xs ys p.0 (apart_head x m ys h.0 k), distinct_apart m xs ys h.1 k p.1 q)
@@ -317,18 +335,21 @@ single next = record { inside = ((omega arith, omega arith), tt); once = (tt, tt
 
 fresh_wider : (from from' to to' : ℕ) (xs : List ℕ) → from' ≤ from → to ≤ to' → Fresh from to xs → Fresh from' to' xs
 fresh_wider from from' to to' xs lower upper f = record {
-  inside = all_imply (λ x. (from ≤ x) × (x < to)) (λ x. (from' ≤ x) × (x < to')) xs (λ x h. ((let a = h.0 in omega (arith, a, lower)), (let b = h.1 in omega (arith, b, upper)))) f.inside;
+  inside = all_imply (λ x. (from ≤ x) × (x < to)) (λ x. (from' ≤ x) × (x < to')) xs
+      (λ x h. ((let a = h.0 in omega (arith, a, lower)), (let b = h.1 in omega (arith, b, upper)))) f.inside;
   once = f.once;
 }
 
 fresh_both : (from mid to : ℕ) (xs ys : List ℕ) → from ≤ mid → mid ≤ to → Fresh from mid xs → Fresh mid to ys → Fresh from to (xs ++ ys)
 fresh_both from mid to xs ys lower upper f g = record {
-  inside = all_both (λ x. (from ≤ x) × (x < to)) xs ys (fresh_wider from from mid to xs (omega arith) upper f).inside (fresh_wider mid from to to ys lower (omega arith) g).inside;
+  inside = all_both (λ x. (from ≤ x) × (x < to)) xs ys (fresh_wider from from mid to xs (omega arith) upper f).inside
+      (fresh_wider mid from to to ys lower (omega arith) g).inside;
   once = distinct_apart mid xs ys (all_imply (λ x. (from ≤ x) × (x < mid)) (λ x. x < mid) xs (λ x h. h.1) f.inside)
       (all_imply (λ x. (mid ≤ x) × (x < to)) (λ y. mid ≤ y) ys (λ x h. h.0) g.inside) f.once g.once;
 }
 
-fresh_one : (next to : ℕ) (d : Option ℕ) (xs : List ℕ) → ((d ≡ Some next) ⊎ (d ≡ None)) → suc next ≤ to → Fresh (suc next) to xs → Fresh next to (cons_option d xs)
+fresh_one : (next to : ℕ) (d : Option ℕ) (xs : List ℕ) → ((d ≡ Some next) ⊎ (d ≡ None)) → suc next ≤ to → Fresh (suc next) to xs
+    → Fresh next to (cons_option d xs)
 fresh_one next to (Some x) xs (inl e) le f =
     subst (λ (n : ℕ). Fresh next to (n ∷ xs)) (same next x (sym e)) (fresh_both next (suc next) to (next ∷ []) xs (omega arith) le (single next) f)
   where
@@ -346,12 +367,14 @@ pub row_fresh : (taken : ℕ) (written : List Pair) (next : ℕ) (waiting : List
 row_fresh taken written next waiting (Then item rest) =
     let names = defined written (dest_of item) (dest_of (with_dest next item)) in
     let below = led taken names (suc next) waiting rest in
-    fresh_one next below.next (dest_of (with_dest next item)) (names_written below.row) (dest_next next item) (led_next taken names (suc next) waiting rest)
+    fresh_one next below.next (dest_of (with_dest next item)) (names_written below.row) (dest_next next item)
+    (led_next taken names (suc next) waiting rest)
     (row_fresh taken names (suc next) waiting rest)
 row_fresh taken written next waiting (Either on one other) =
     let a = led taken written next waiting one in
     let b = led taken written a.next a.waiting other in
     subst (λ (l : List ℕ). Fresh next b.next l) (sym (filter_map-append dest_of (items_of a.row) (items_of b.row)))
-    (fresh_both next a.next b.next (names_written a.row) (names_written b.row) (led_next taken written next waiting one) (led_next taken written a.next a.waiting other)
+    (fresh_both next a.next b.next (names_written a.row) (names_written b.row) (led_next taken written next waiting one)
+    (led_next taken written a.next a.waiting other)
     (row_fresh taken written next waiting one) (row_fresh taken written a.next a.waiting other))
 row_fresh taken written next waiting (At_leaf left) = fresh_none next next

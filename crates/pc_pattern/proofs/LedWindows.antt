@@ -28,11 +28,13 @@ use Rattle.pc_pattern.specs.models.Leading.{brought_on, led_as, led_window, led_
 -- the names of a proper window are listed
 pub names_there : (w : StoredWindow) (n : ℕ) → IsProper (window_in w) → n ≡ length w.names.forms → TreeBelow n (tree_in w.tree)
 names_there w n proper is =
-    subst (λ (m : ℕ). TreeBelow m (tree_in w.tree)) (sym is) (subst (λ (t : Tree). TreeBelow (length w.names.forms) t) (whole_in w.tree) proper.names_below)
+    subst (λ (m : ℕ). TreeBelow m (tree_in w.tree)) (sym is)
+    (subst (λ (t : Tree). TreeBelow (length w.names.forms) t) (whole_in w.tree) proper.names_below)
 
 -- a window in which something is left to do becomes the member behind all that were taken or wait
 pub led_to : (taken : ℕ) (names : List Pair) (waiting : List StoredWindow) (w : StoredWindow) (state : ℕ) (arguments : List Operand)
-    → None ≡ renamed_bare names (bare_leaf (tree_in w.tree)) → state ≡ taken + length waiting → arguments ≡ arguments_for names (parameters_of (tree_in w.tree))
+    → None ≡ renamed_bare names (bare_leaf (tree_in w.tree)) → state ≡ taken + length waiting
+    → arguments ≡ arguments_for names (parameters_of (tree_in w.tree))
     → To state arguments ≡ (led_window taken names (map window_in waiting) (window_in w)).leaf
 led_to taken names waiting w state arguments none at are =
     let number : state ≡ taken + length (map window_in waiting) = at ∙ ap (λ (n : ℕ). taken + n) (sym (length-map waiting window_in)) in
@@ -48,18 +50,22 @@ pub ruleset windows = (names_there, led_to)
 -- ---- rows
 
 -- more windows wait the further a row is led
-as_grows : (taken : ℕ) (names : List Pair) (waiting : List Window) (w : Window) (bare : Option AutomatonLeaf) → length waiting ≤ length (led_as taken names waiting w bare).waiting
+as_grows : (taken : ℕ) (names : List Pair) (waiting : List Window) (w : Window) (bare : Option AutomatonLeaf)
+    → length waiting ≤ length (led_as taken names waiting w bare).waiting
 as_grows taken names waiting w None = omega (arith, length-append waiting (w ∷ []))
 as_grows taken names waiting w (Some leaf) = omega arith
 
-left_grows : (taken : ℕ) (names : List Pair) (waiting : List Window) (left : Left) → length waiting ≤ length (led_left taken names waiting left).waiting
+left_grows : (taken : ℕ) (names : List Pair) (waiting : List Window) (left : Left)
+    → length waiting ≤ length (led_left taken names waiting left).waiting
 left_grows taken names waiting (Rest w) = as_grows taken names waiting (brought_on w) (renamed_bare names (bare_leaf (whole (brought_on w).front)))
 left_grows taken names waiting (Gone region homes) = omega arith
 left_grows taken names waiting Finished = omega arith
 left_grows taken names waiting (Trapped_at kind line) = omega arith
 
-led_grows : (taken : ℕ) (names : List Pair) (next : ℕ) (waiting : List Window) (row : Row Left) → length waiting ≤ length (led taken names next waiting row).waiting
-led_grows taken names next waiting (Then item rest) = led_grows taken (defined names (dest_of item) (dest_of (with_dest next item))) (suc next) waiting rest
+led_grows : (taken : ℕ) (names : List Pair) (next : ℕ) (waiting : List Window) (row : Row Left)
+    → length waiting ≤ length (led taken names next waiting row).waiting
+led_grows taken names next waiting (Then item rest) =
+    led_grows taken (defined names (dest_of item) (dest_of (with_dest next item))) (suc next) waiting rest
 led_grows taken names next waiting (Either on one other) =
     let a = led taken names next waiting one in
     let b = led_grows taken names next waiting one in
@@ -86,6 +92,7 @@ pub refused_at : (rows taken : ℕ) (names : List Pair) (next : ℕ) (waiting : 
     → result ≡ Err error → row ≡ Either on one other → Refuses rows (taken + length (led taken names next waiting one).waiting) error
     → IfErr result (λ e. Refuses rows (taken + length (led taken names next waiting row).waiting) e)
 refused_at rows taken names next waiting row on one other result error is at h =
-    subst (λ (r : Result (RowTree AutomatonLeaf) SearchError). IfErr r (λ e. Refuses rows (taken + length (led taken names next waiting row).waiting) e)) (sym is)
+    subst (λ (r : Result (RowTree AutomatonLeaf) SearchError). IfErr r
+    (λ e. Refuses rows (taken + length (led taken names next waiting row).waiting) e)) (sym is)
     (subst (λ (r : Row Left). Refuses rows (taken + length (led taken names next waiting r).waiting) error) (sym at)
     (refused_yes rows taken names next waiting on one other error h))

@@ -35,7 +35,8 @@ use Rattle.pc_automaton.specs.RunsAsRegion.{RunsAlike}
 use Rattle.pc_pattern.specs.Pairs.{Pair}
 use Rattle.pc_pattern.specs.NamedRow.{RowsNamed, named_item, named_test, named_leaf}
 use Rattle.pc_pattern.specs.Searches.{Rules, Settles, bare_leaf, Looks, looks_new, looks_known, looks_bare, looks_out, looks_end, looks_trap}
-use Rattle.pc_pattern.specs.Searches.{Search, begins, takes, looks, IsClosed, Leads, to_same, to_member, to_bare, to_region, to_end, to_trap, StateFor, Automates}
+use Rattle.pc_pattern.specs.Searches.{Search, begins, takes, looks, IsClosed, Leads, to_same, to_member, to_bare, to_region, to_end, to_trap}
+use Rattle.pc_pattern.specs.Searches.{StateFor, Automates}
 use Rattle.pc_pattern.proofs.Keeping.{SameKeeps, settles_keep, brings_on_keeps, never_kept}
 use Rattle.pc_pattern.proofs.Closing.{state_agrees}
 
@@ -48,7 +49,8 @@ one_more P members v h p = all_both P members (v ∷ []) h (p, tt)
 
 pub EachLeft-leaves : (P : Window → Type 0) (row : Row Left) → EachLeft P row → AllByRecursion (LeftIs P) (leaves_of row)
 EachLeft-leaves P (Then item rest) h = EachLeft-leaves P rest h
-EachLeft-leaves P (Either on on_yes on_no) h = all_both (LeftIs P) (leaves_of on_yes) (leaves_of on_no) (EachLeft-leaves P on_yes h.0) (EachLeft-leaves P on_no h.1)
+EachLeft-leaves P (Either on on_yes on_no) h =
+    all_both (LeftIs P) (leaves_of on_yes) (leaves_of on_no) (EachLeft-leaves P on_yes h.0) (EachLeft-leaves P on_no h.1)
 EachLeft-leaves P (At_leaf leaf) h = (h, tt)
 
 -- ---- rows that match
@@ -101,7 +103,8 @@ module _ (rules : Rules) (keeps : TableKeeps rules.table) (room : Positive rules
   abbrev Rooted : Window → Type 0
   Rooted w = IsRooted w.front
 
-  rooted_more : {members more : List Window} {left : Left} → Looks rules members left more → AllByRecursion Rooted members → AllByRecursion Rooted more
+  rooted_more : {members more : List Window} {left : Left} → Looks rules members left more → AllByRecursion Rooted members
+      → AllByRecursion Rooted more
   rooted_more {members} (looks_new {brought} brings items new) h =
       one_more Rooted members brought h (tidies_roots brings.settles.unwound brought brings.settles.tidies)
   rooted_more (looks_known brings items known) h = h
@@ -111,13 +114,16 @@ module _ (rules : Rules) (keeps : TableKeeps rules.table) (room : Positive rules
   rooted_more looks_trap h = h
 
   -- the front of each member has its first item or test
-  pub members_rooted : {steps number : ℕ} {members : List Window} {lefts : List Left} → Search rules region steps members number lefts → AllByRecursion Rooted members
+  pub members_rooted : {steps number : ℕ} {members : List Window} {lefts : List Left} → Search rules region steps members number lefts
+      → AllByRecursion Rooted members
   members_rooted (begins {first} opens settles) = (tidies_roots settles.unwound first settles.tidies, tt)
   members_rooted (takes search at row) = members_rooted search
   members_rooted (looks search adds) = rooted_more adds (members_rooted search)
 
-  proper_more : {members more : List Window} {left : Left} → Looks rules members left more → LeftIs IsProper left → AllByRecursion IsProper members → AllByRecursion IsProper more
-  proper_more {members} (looks_new {rest} {brought} brings items new) p h = one_more IsProper members brought h (brings_on_keeps rules keeps rest brought brings p).0
+  proper_more : {members more : List Window} {left : Left} → Looks rules members left more → LeftIs IsProper left → AllByRecursion IsProper members
+      → AllByRecursion IsProper more
+  proper_more {members} (looks_new {rest} {brought} brings items new) p h =
+      one_more IsProper members brought h (brings_on_keeps rules keeps rest brought brings p).0
   proper_more (looks_known brings items known) p h = h
   proper_more (looks_bare brings bare) p h = h
   proper_more looks_out p h = h
@@ -165,7 +171,8 @@ module _ (rules : Rules) (keeps : TableKeeps rules.table) (room : Positive rules
   begins_more looks_end h = h
   begins_more looks_trap h = h
 
-  pub begins_with : {steps number : ℕ} {members : List Window} {lefts : List Left} → Search rules region steps members number lefts → BeginsWith members
+  pub begins_with : {steps number : ℕ} {members : List Window} {lefts : List Left} → Search rules region steps members number lefts
+      → BeginsWith members
   begins_with (begins {opened} {first} opens settles) =
       record { opened = opened; first = first; others = []; opens = opens; settles = settles; at = refl; others_go_on = tt }
   begins_with (takes search at row) = begins_with search
@@ -223,11 +230,13 @@ module _ (rules : Rules) (keeps : TableKeeps rules.table) (room : Positive rules
 
   -- each state but the first has a row with an item or a test
   no_empty_state : (members : List Window) (states : List AutomatonState) → IsClosed rules region members → Automates rules members states
-      → (number : ℕ) (w : Window) → slice_get members (suc number) ≡ Some w → (state : AutomatonState) × (slice_get states (suc number) ≡ Some state) × HasItems state.row
+      → (number : ℕ) (w : Window) → slice_get members (suc number) ≡ Some w
+      → (state : AutomatonState) × (slice_get states (suc number) ≡ Some state) × HasItems state.row
   no_empty_state members states closed auto number w at =
       let b = begins_with closed.1 in
       let e = auto.each (suc number) w at in
-      let goes_on : GoesOn w = all_at GoesOn b.others number w b.others_go_on (sym (ap (λ (ws : List Window). slice_get ws (suc number)) b.at) ∙ at) in
+      let goes_on : GoesOn w = all_at GoesOn b.others number w b.others_go_on
+      (sym (ap (λ (ws : List Window). slice_get ws (suc number)) b.at) ∙ at) in
       let front = rooted_front w.front (all_at Rooted members (suc number) w (members_rooted closed.1) at) goes_on in
       let row = e.2.row_for in
       (e.0, e.1, matched_items e.2.matches (cuts_front rules.table row.filled e.2.cut row.cuts (fills_front w row.filled row.fills front)))
@@ -268,13 +277,15 @@ leads_more : {rules : Rules} {members : List Window} {names : List Pair} {left :
     → Leads rules members names left leaf → Leads rules (members ++ more) names left leaf
 leads_more {members} more (to_same {number} brought member pairs brings items at alike params arguments) =
     to_same brought member pairs brings items (slice_get_more members more number member at) alike params arguments
-leads_more {members} more (to_member {number} brought brings items at arguments) = to_member brought brings items (slice_get_more members more number brought at) arguments
+leads_more {members} more (to_member {number} brought brings items at arguments) =
+    to_member brought brings items (slice_get_more members more number brought at) arguments
 leads_more more (to_bare brought leaf brings bare alike) = to_bare brought leaf brings bare alike
 leads_more more (to_region alike) = to_region alike
 leads_more more to_end = to_end
 leads_more more to_trap = to_trap
 
-pub match_more : {L M : Type 0} {R S : List Pair → L → M → Type 0} {names : List Pair} {row : Row L} {other : Row M} → ((ns : List Pair) (l : L) (m : M) → R ns l m → S ns l m)
+pub match_more : {L M : Type 0} {R S : List Pair → L → M → Type 0} {names : List Pair} {row : Row L} {other : Row M}
+    → ((ns : List Pair) (l : L) (m : M) → R ns l m → S ns l m)
     → RowsNamed R names row other → RowsNamed S names row other
 match_more f (named_item name h) = named_item name (match_more f h)
 match_more f (named_test h k) = named_test (match_more f h) (match_more f k)
@@ -286,7 +297,8 @@ pub rows_more : (rules : Rules) (members more : List Window) {names : List Pair}
 rows_more rules members more h = match_more (λ ns l m k. leads_more more k) h
 
 -- the state of a member is its state too where there are more members
-pub state_more : (rules : Rules) (members more : List Window) (w : Window) (state : AutomatonState) → StateFor rules members w state → StateFor rules (members ++ more) w state
+pub state_more : (rules : Rules) (members more : List Window) (w : Window) (state : AutomatonState) → StateFor rules members w state
+    → StateFor rules (members ++ more) w state
 state_more rules members more w state h = record {
   parameters = h.parameters;
   cut = h.cut;

@@ -29,7 +29,8 @@ in_both (y ∷ xs) ys x h = by (nat_eq x y) (is_in x xs) (is_in x ys) (is_in x (
     by true b c d h f = refl
     by false b c d h f = f h
 
-in_either : (xs ys : List ℕ) (x : ℕ) (p q : Bool) → (p ≡ true → is_in x xs ≡ true) → (q ≡ true → is_in x ys ≡ true) → (p || q) ≡ true → is_in x (xs ++ ys) ≡ true
+in_either : (xs ys : List ℕ) (x : ℕ) (p q : Bool) → (p ≡ true → is_in x xs ≡ true) → (q ≡ true → is_in x ys ≡ true) → (p || q) ≡ true
+    → is_in x (xs ++ ys) ≡ true
 in_either xs ys x p q f g h = elim (or_is p q h) [
   | inl k ↦ in_both xs ys x (or_first (is_in x xs) (is_in x ys) (f k))
   | inr k ↦ in_both xs ys x (or_second (is_in x xs) (is_in x ys) (g k))
@@ -51,7 +52,8 @@ item_in_it x (More d) h = absurd (cc)
 home_in_it : (x : ℕ) (homes : List Home) → homes_use homes x ≡ true → is_in x (names_in_homes homes) ≡ true
 home_in_it x [] h = absurd (cc)
 home_in_it x (home ∷ homes) h =
-    in_either (name_in home.value) (names_in_homes homes) x (reads_name home.value x) (homes_use homes x) (name_in_it x home.value) (home_in_it x homes) h
+    in_either (name_in home.value) (names_in_homes homes) x (reads_name home.value x) (homes_use homes x) (name_in_it x home.value)
+    (home_in_it x homes) h
 
 in_without : (d : Option ℕ) (xs : List ℕ) (x : ℕ) → writes d x ≡ false → is_in x xs ≡ true → is_in x (without_name d xs) ≡ true
 in_without d [] x w h = h
@@ -67,7 +69,8 @@ in_without d (y ∷ xs) x w h =
 
 free_listed : (x : ℕ) (tree : Tree) → uses tree x ≡ true → is_in x (free_uses tree) ≡ true
 free_listed x (Pending tag origin item rest) h =
-    in_either (names_read item) (without_name (dest_of item) (free_uses rest)) x (reads item x) (not (writes (dest_of item) x) && uses rest x) (item_in_it x item)
+    in_either (names_read item) (without_name (dest_of item) (free_uses rest)) x (reads item x) (not (writes (dest_of item) x) && uses rest x)
+    (item_in_it x item)
     (λ k. (let p = and_true (not (writes (dest_of item) x)) (uses rest x) k in
     in_without (dest_of item) (free_uses rest) x (not_true (writes (dest_of item) x) p.0) (free_listed x rest p.1))) h
 free_listed x (Undecided tag origin on one other) h =
@@ -113,7 +116,8 @@ without_all P d (x ∷ xs) h = by (writes d x) (without_all P d xs h.1)
     by false k = (h.0, k)
 
 -- and what is left is not written
-without_written : (P : ℕ → Type 0) (d : Option ℕ) (xs : List ℕ) → AllByRecursion P xs → AllByRecursion (λ x. (writes d x ≡ false) × P x) (without_name d xs)
+without_written : (P : ℕ → Type 0) (d : Option ℕ) (xs : List ℕ) → AllByRecursion P xs
+    → AllByRecursion (λ x. (writes d x ≡ false) × P x) (without_name d xs)
 without_written P d [] h = tt
 without_written P d (x ∷ xs) h = by (writes d x) refl (without_written P d xs h.1)
   where
@@ -132,8 +136,10 @@ name_read (Lit value) = tt
 
 two_read : (l r : Operand) → AllByRecursion (λ x. (reads_name l x || reads_name r x) ≡ true) (name_in l ++ name_in r)
 two_read l r = all_both (λ x. (reads_name l x || reads_name r x) ≡ true) (name_in l) (name_in r)
-    (all_imply (λ x. reads_name l x ≡ true) (λ x. (reads_name l x || reads_name r x) ≡ true) (name_in l) (λ x h. or_first (reads_name l x) (reads_name r x) h) (name_read l))
-    (all_imply (λ x. reads_name r x ≡ true) (λ x. (reads_name l x || reads_name r x) ≡ true) (name_in r) (λ x h. or_second (reads_name l x) (reads_name r x) h) (name_read r))
+    (all_imply (λ x. reads_name l x ≡ true) (λ x. (reads_name l x || reads_name r x) ≡ true) (name_in l)
+    (λ x h. or_first (reads_name l x) (reads_name r x) h) (name_read l))
+    (all_imply (λ x. reads_name r x ≡ true) (λ x. (reads_name l x || reads_name r x) ≡ true) (name_in r)
+    (λ x h. or_second (reads_name l x) (reads_name r x) h) (name_read r))
 
 item_read : (item : Item) → AllByRecursion (λ x. reads item x ≡ true) (names_read item)
 item_read (Bin op d l r) = two_read l r
@@ -148,8 +154,10 @@ homes_read : (homes : List Home) → AllByRecursion (λ x. homes_use homes x ≡
 homes_read [] = tt
 homes_read (home ∷ homes) =
     all_both (λ x. homes_use (home ∷ homes) x ≡ true) (name_in home.value) (names_in_homes homes)
-    (all_imply (λ x. reads_name home.value x ≡ true) (λ x. homes_use (home ∷ homes) x ≡ true) (name_in home.value) (λ x h. or_first (reads_name home.value x) (homes_use homes x) h) (name_read home.value))
-    (all_imply (λ x. homes_use homes x ≡ true) (λ x. homes_use (home ∷ homes) x ≡ true) (names_in_homes homes) (λ x h. or_second (reads_name home.value x) (homes_use homes x) h) (homes_read homes))
+    (all_imply (λ x. reads_name home.value x ≡ true) (λ x. homes_use (home ∷ homes) x ≡ true) (name_in home.value)
+    (λ x h. or_first (reads_name home.value x) (homes_use homes x) h) (name_read home.value))
+    (all_imply (λ x. homes_use homes x ≡ true) (λ x. homes_use (home ∷ homes) x ≡ true) (names_in_homes homes)
+    (λ x h. or_second (reads_name home.value x) (homes_use homes x) h) (homes_read homes))
 
 above_used : (a w b : Bool) → w ≡ false → b ≡ true → (a || (not w && b)) ≡ true
 above_used true w b e h = refl
@@ -161,8 +169,10 @@ free_used (Pending tag origin item rest) =
     all_both (λ x. uses (Pending tag origin item rest) x ≡ true) (names_read item) (without_name (dest_of item) (free_uses rest))
     (all_imply (λ x. reads item x ≡ true) (λ x. uses (Pending tag origin item rest) x ≡ true) (names_read item)
     (λ x h. or_first (reads item x) (not (writes (dest_of item) x) && uses rest x) h) (item_read item))
-    (all_imply (λ x. (writes (dest_of item) x ≡ false) × (uses rest x ≡ true)) (λ x. uses (Pending tag origin item rest) x ≡ true) (without_name (dest_of item) (free_uses rest))
-    (λ x h. above_used (reads item x) (writes (dest_of item) x) (uses rest x) h.0 h.1) (without_written (λ x. uses rest x ≡ true) (dest_of item) (free_uses rest) (free_used rest)))
+    (all_imply (λ x. (writes (dest_of item) x ≡ false) × (uses rest x ≡ true)) (λ x. uses (Pending tag origin item rest) x ≡ true)
+    (without_name (dest_of item) (free_uses rest))
+    (λ x h. above_used (reads item x) (writes (dest_of item) x) (uses rest x) h.0 h.1)
+    (without_written (λ x. uses rest x ≡ true) (dest_of item) (free_uses rest) (free_used rest)))
 free_used (Undecided tag origin on one other) =
     all_both (λ x. uses (Undecided tag origin on one other) x ≡ true) (name_in on) (free_uses one ++ free_uses other)
     (all_imply (λ x. reads_name on x ≡ true) (λ x. uses (Undecided tag origin on one other) x ≡ true) (name_in on)
@@ -192,7 +202,8 @@ taken_out x (y ∷ xs) = by (nat_eq x y) refl (taken_out x xs)
     by true e k = k
     by false e k = (e, k)
 
-keep_or_not : (b : Bool) (y : ℕ) (rest : List ℕ) → AllByRecursion (λ x. nat_eq y x ≡ false) rest → IsDistinct nat_eq rest → IsDistinct nat_eq (if b then rest else (y ∷ rest))
+keep_or_not : (b : Bool) (y : ℕ) (rest : List ℕ) → AllByRecursion (λ x. nat_eq y x ≡ false) rest → IsDistinct nat_eq rest
+    → IsDistinct nat_eq (if b then rest else (y ∷ rest))
 unfolding IsDistinct
 keep_or_not true y rest p q = q
 keep_or_not false y rest p q = (p, q)
@@ -200,7 +211,8 @@ keep_or_not false y rest p q = (p, q)
 without_distinct : (d : Option ℕ) (xs : List ℕ) → IsDistinct nat_eq xs → IsDistinct nat_eq (without_name d xs)
 unfolding IsDistinct
 without_distinct d [] h = tt
-without_distinct d (y ∷ xs) h = keep_or_not (writes d y) y (without_name d xs) (without_all (λ x. nat_eq y x ≡ false) d xs h.0) (without_distinct d xs h.1)
+without_distinct d (y ∷ xs) h =
+    keep_or_not (writes d y) y (without_name d xs) (without_all (λ x. nat_eq y x ≡ false) d xs h.0) (without_distinct d xs h.1)
 
 first_distinct : (xs : List ℕ) → IsDistinct nat_eq (first_uses xs)
 unfolding IsDistinct

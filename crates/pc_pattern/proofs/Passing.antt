@@ -42,7 +42,8 @@ agree_after : (lengths : List ℕ) (tag origin : ℕ) (item : Item) (rest : Tree
 agree_after lengths tag origin item rest s t a =
     let alike = item_alike tag origin item rest s t a in
     record {
-      name = λ x p. pick_same (writes (dest_of item) x) (value_of lengths s item) (value_of lengths t item) (s.names x) (t.names x) (Alike-value lengths s item t item alike)
+      name = λ x p. pick_same (writes (dest_of item) x) (value_of lengths s item) (value_of lengths t item) (s.names x) (t.names x)
+          (Alike-value lengths s item t item alike)
           (λ w. a.name x (needed_above (reads item x) (writes (dest_of item) x) (uses rest x) w p));
       rest = Alike-after lengths s item t item alike;
     }
@@ -52,7 +53,8 @@ run_agrees : (table : Table) (tree : Tree) (s t : State) → AgreeOn tree s t �
 run_agrees table (Pending tag origin item rest) s t a zero = refl
 run_agrees table (Pending tag origin item rest) s t a (suc n) =
     let alike = item_alike tag origin item rest s t a in
-    let next = run_agrees table rest (state_after table.arrays s (item ∷ [])) (state_after table.arrays t (item ∷ [])) (agree_after table.arrays tag origin item rest s t a) n in
+    let next = run_agrees table rest (state_after table.arrays s (item ∷ [])) (state_after table.arrays t (item ∷ []))
+    (agree_after table.arrays tag origin item rest s t a) n in
     led table n item rest s (fault_of table.arrays s (item ∷ []))
     ∙ (λ i. seen_first (Alike-fault table.arrays s item t item alike i) (Alike-prints s item t item alike i) (next i))
     ∙ sym (led table n item rest t (fault_of table.arrays t (item ∷ [])))
@@ -87,17 +89,20 @@ forms_agree table w s t a h = (
 
 -- ---- what is passed
 
-one_passed : (b b' c : Bool) (u v w : ℤ) → (if b then b' else (not b' && c)) ≡ true → (b ≡ true → u ≡ v) → (c ≡ true → u ≡ w) → u ≡ (if b' then v else w)
+one_passed : (b b' c : Bool) (u v w : ℤ) → (if b then b' else (not b' && c)) ≡ true → (b ≡ true → u ≡ v) → (c ≡ true → u ≡ w)
+    → u ≡ (if b' then v else w)
 one_passed true true c u v w h p q = p refl
 one_passed true false c u v w h p q = absurd (cc)
 one_passed false true c u v w h p q = absurd (cc)
 one_passed false false c u v w h p q = q h
 
 -- each parameter has the value of the name that corresponds to it
-passed_corresponds : (names : ℕ → ℤ) (pairs : List Pair) (x y : ℕ) → corresponds pairs x y ≡ true → names x ≡ passed names (others pairs) (operands_for (ones pairs)) y
+passed_corresponds : (names : ℕ → ℤ) (pairs : List Pair) (x y : ℕ) → corresponds pairs x y ≡ true
+    → names x ≡ passed names (others pairs) (operands_for (ones pairs)) y
 passed_corresponds names [] x y h = absurd (cc)
 passed_corresponds names (pair ∷ pairs) x y h =
-    one_passed (nat_eq pair.one x) (nat_eq pair.other y) (corresponds pairs x y) (names x) (names pair.one) (passed names (others pairs) (operands_for (ones pairs)) y) h
+    one_passed (nat_eq pair.one x) (nat_eq pair.other y) (corresponds pairs x y) (names x) (names pair.one)
+    (passed names (others pairs) (operands_for (ones pairs)) y) h
     (λ same. ap (λ (z : ℕ). names z) (sym (eqb-true pair.one x same)))
     (λ k. passed_corresponds names pairs x y k)
 
@@ -112,7 +117,8 @@ passed_itself names (y ∷ xs) x h = by (nat_eq x y) (nat_eq y x) refl refl h (p
     clash : (b : Bool) → b ≡ true → b ≡ false → ⊥
     clash b p q = cc
 
-    by : (b c : Bool) → nat_eq x y ≡ b → nat_eq y x ≡ c → (b || is_in x xs) ≡ true → (is_in x xs ≡ true → names x ≡ passed names xs (operands_for xs) x)
+    by : (b c : Bool) → nat_eq x y ≡ b → nat_eq y x ≡ c → (b || is_in x xs) ≡ true
+        → (is_in x xs ≡ true → names x ≡ passed names xs (operands_for xs) x)
         → names x ≡ (if c then names y else passed names xs (operands_for xs) x)
     by b true e e' k next = ap (λ (z : ℕ). names z) (sym (eqb-true y x e'))
     by true false e e' k next = absurd (clash (nat_eq y x) (eq-eqb y x (sym (eqb-true x y e))) e')
@@ -126,16 +132,19 @@ passed_agrees tree s = record { name = λ x u. passed_itself s.names (parameters
 pub passed_runs : (table : Table) (w : Window) (s : State) (n : ℕ)
     → window_run table w s n ≡ window_run table w (passed_state s (parameters_of (whole w.front)) (operands_for (parameters_of (whole w.front)))) n
 passed_runs table w s n =
-    run_agrees table (whole w.front) s (passed_state s (parameters_of (whole w.front)) (operands_for (parameters_of (whole w.front)))) (passed_agrees (whole w.front) s) n
+    run_agrees table (whole w.front) s (passed_state s (parameters_of (whole w.front)) (operands_for (parameters_of (whole w.front))))
+    (passed_agrees (whole w.front) s) n
 
 pub passed_forms : (table : Table) (w : Window) (s : State) → FormsHold table w s
     → FormsHold table w (passed_state s (parameters_of (whole w.front)) (operands_for (parameters_of (whole w.front))))
 passed_forms table w s h =
-    forms_agree table w s (passed_state s (parameters_of (whole w.front)) (operands_for (parameters_of (whole w.front)))) (passed_agrees (whole w.front) s) h
+    forms_agree table w s (passed_state s (parameters_of (whole w.front)) (operands_for (parameters_of (whole w.front))))
+    (passed_agrees (whole w.front) s) h
 
 -- ---- the same from states that correspond
 
-passed_same : (names : List Pair) (s t : State) → Correspond names s t → (parameters : List ℕ) (one other : List Operand) → ArgumentsAlike names one other
+passed_same : (names : List Pair) (s t : State) → Correspond names s t → (parameters : List ℕ) (one other : List Operand)
+    → ArgumentsAlike names one other
     → (x : ℕ) → passed s.names parameters one x ≡ passed t.names parameters other x
 passed_same names s t c [] [] [] h x = refl
 passed_same names s t c [] (a ∷ one) (b ∷ other) h x = refl
@@ -144,13 +153,15 @@ passed_same names s t c (parameter ∷ parameters) (a ∷ one) (b ∷ other) h x
     by (nat_eq parameter x) (operands_alike names s t a b c h.0) (passed_same names s t c parameters one other h.1 x)
   where
     by : (q : Bool) → operand_value s.names a ≡ operand_value t.names b → passed s.names parameters one x ≡ passed t.names parameters other x
-        → (if q then operand_value s.names a else passed s.names parameters one x) ≡ (if q then operand_value t.names b else passed t.names parameters other x)
+        → (if q then operand_value s.names a else passed s.names parameters one x) ≡
+        (if q then operand_value t.names b else passed t.names parameters other x)
     by true h k = h
     by false h k = k
 passed_same names s t c parameters [] (b ∷ other) h x = absurd h
 passed_same names s t c parameters (a ∷ one) [] h x = absurd h
 
-pub states_same : (names : List Pair) (s t : State) → Correspond names s t → (parameters : List ℕ) (one other : List Operand) → ArgumentsAlike names one other
+pub states_same : (names : List Pair) (s t : State) → Correspond names s t → (parameters : List ℕ) (one other : List Operand)
+    → ArgumentsAlike names one other
     → passed_state s parameters one ≡ passed_state t parameters other
 states_same names s t c parameters one other h =
     λ i. record { names = λ x. passed_same names s t c parameters one other h x i; cells = c.same_cells i; input = c.same_input i }

@@ -5,7 +5,8 @@ use Rattle.pc_table.specs.Table.{Table}
 use Rattle.pc_window.specs.Kept.{HasItems}
 use Rattle.pc_automaton.specs.Automaton.{AutomatonState}
 use Rattle.pc_pattern.specs.Pattern.{packed, RowFits}
-use Rattle.pc_pattern.specs.Laws.{PatternsRunAsTheRegion, PatternsHaveNoEmptyStates, PatternsFit, PatternsAreAutomata, SearchesHaveOneAnswer, SearchesAreOne}
+use Rattle.pc_pattern.specs.Laws.{PatternsRunAsTheRegion, PatternsHaveNoEmptyStates, PatternsFit, PatternsAreAutomata, SearchesHaveOneAnswer}
+use Rattle.pc_pattern.specs.Laws.{SearchesAreOne}
 use Rattle.pc_pattern.proofs.Keeping.{SameKeeps}
 use Rattle.pc_pattern.proofs.Members.{closed_runs, no_empty_states}
 use Rattle.pc_pattern.proofs.FirstRows.{first_untested}

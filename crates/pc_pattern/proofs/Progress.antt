@@ -1,5 +1,6 @@
 -- How far a search for packed code has come: which members were taken and have their states, and which wait.
-use Rattle.std.proofs.Common.{◌≡◌, ℕ, zero, suc, ◌+◌, ◌*◌, ◌≤◌, ◌<◌, ◌^◌, List, [], ◌∷◌, ◌++◌, length, length-append, append-nil, append_assoc, refl, sym, ◌∙◌, ap, subst, arith}
+use Rattle.std.proofs.Common.{◌≡◌, ℕ, zero, suc, ◌+◌, ◌*◌, ◌≤◌, ◌<◌, ◌^◌, List, [], ◌∷◌, ◌++◌, length, length-append, append-nil, append_assoc}
+use Rattle.std.proofs.Common.{refl, sym, ◌∙◌, ap, subst, arith}
 use Rattle.std.specs.Prelude.{Bool, true, false, if◌then◌else◌, nat_eq, Option, Some, None, slice_get}
 use Rattle.std.specs.List.{AllByRecursion, IsDistinct}
 use Rattle.pc_word.specs.declared.item.Limits.{Limits}
@@ -55,7 +56,8 @@ behind_whole n (Split t o on p q) h = (behind_whole n p (omega (arith, h)), behi
 behind_whole n (Unfinished tree) h = h
 
 -- tidying makes no tree larger
-kept_size : (b : Bool) (tag origin : ℕ) (item : Item) (rest : Tree) → tree_size (if b then Pending tag origin item rest else rest) ≤ suc (tree_size rest)
+kept_size : (b : Bool) (tag origin : ℕ) (item : Item) (rest : Tree)
+    → tree_size (if b then Pending tag origin item rest else rest) ≤ suc (tree_size rest)
 kept_size true tag origin item rest = omega arith
 kept_size false tag origin item rest = omega arith
 
@@ -69,7 +71,8 @@ above_size tag origin (Read d) rest = omega arith
 above_size tag origin (More d) rest = kept_size (uses rest d) tag origin (More d) rest
 
 tidied_size : (tree : Tree) → tree_size (tidied tree) ≤ tree_size tree
-tidied_size (Pending tag origin item rest) = let one = above_size tag origin item (tidied rest) in let other = tidied_size rest in omega (arith, one, other)
+tidied_size (Pending tag origin item rest) =
+    let one = above_size tag origin item (tidied rest) in let other = tidied_size rest in omega (arith, one, other)
 tidied_size (Undecided tag origin on one other) = let a = tidied_size one in let b = tidied_size other in omega (arith, a, b)
 tidied_size (Exit region tag homes) = omega arith
 tidied_size Stop_exit = omega arith
@@ -90,7 +93,8 @@ added_small : (n : ℕ) (w : Window) (o : Option AutomatonLeaf) → IsSmall n (b
 added_small n w None h = (h, tt)
 added_small n w (Some leaf) h = tt
 
-all_small : (n : ℕ) (lefts : List Left) → AllByRecursion (LeftIs IsProper) lefts → AllByRecursion (LeftIs (IsSmall n)) lefts → AllByRecursion (IsSmall n) (all_added lefts)
+all_small : (n : ℕ) (lefts : List Left) → AllByRecursion (LeftIs IsProper) lefts → AllByRecursion (LeftIs (IsSmall n)) lefts
+    → AllByRecursion (IsSmall n) (all_added lefts)
 all_small n [] p h = tt
 all_small n (Rest w ∷ lefts) p h =
     all_both (IsSmall n) (added_as (brought_on w) (bare_leaf (whole (brought_on w).front))) (all_added lefts)
@@ -117,12 +121,14 @@ jump_next known w v jump =
 
 filled_next : (known : ℕ → Bool) (w v : Window) → Filled known w v → w.next ≤ v.next
 filled_next known w v (Full u none) = omega arith
-filled_next known w v (Goes_on a b c jump first filled) = let one = jump_next known a b jump in let other = filled_next known b c filled in omega (arith, one, other)
+filled_next known w v (Goes_on a b c jump first filled) =
+    let one = jump_next known a b jump in let other = filled_next known b c filled in omega (arith, one, other)
 
 -- ---- the state of a member
 
 -- the state that the code makes of a member is its state among all members that stand at their places in the end
-made_state : (table : Table) (limits : Limits) (final : List Window) (taken : ℕ) (w : Window) (waiting : List Window) (state : AutomatonState) (later : List Window)
+made_state : (table : Table) (limits : Limits) (final : List Window) (taken : ℕ) (w : Window) (waiting : List Window) (state : AutomatonState)
+    (later : List Window)
     → IsProper w → (m : Made table taken w waiting state later)
     → ((i : ℕ) (v : Window) → slice_get (waiting ++ all_added (leaves_of m.cut)) i ≡ Some v → slice_get final (taken + i) ≡ Some v)
     → StateFor (packed table limits) final w state
@@ -134,19 +140,24 @@ made_state table limits final taken w waiting state later proper m places =
     subst (λ (r : Row Left). LeavesScoped known r) (sym m.cuts) (cut_scoped known table m.filled m.filled.front filled.scoped) in
     let below_w : AllByRecursion (λ x. x < w.next) ps = parameters-below w.next (whole w.front) proper.names_below in
     let grows = filled_next known w m.filled m.fills in
-    let below : AllByRecursion (λ x. x < m.filled.next) ps = all_imply (λ x. x < w.next) (λ x. x < m.filled.next) ps (λ x lt. omega (arith, lt, grows)) below_w in
+    let below : AllByRecursion (λ x. x < m.filled.next) ps = all_imply (λ x. x < w.next) (λ x. x < m.filled.next) ps
+    (λ x lt. omega (arith, lt, grows)) below_w in
     let row = (led taken [] m.filled.next waiting m.cut).row in
     let fresh = row_fresh taken [] m.filled.next waiting m.cut in
     let once : IsDistinct nat_eq (ps ++ names_written row) =
-    distinct_apart m.filled.next ps (names_written row) below (all_imply (λ x. (m.filled.next ≤ x) × (x < (led taken [] m.filled.next waiting m.cut).next)) (λ x. m.filled.next ≤ x) (names_written row) (λ x h. h.0) fresh.inside)
+    distinct_apart m.filled.next ps (names_written row) below
+    (all_imply (λ x. (m.filled.next ≤ x) × (x < (led taken [] m.filled.next waiting m.cut).next)) (λ x. m.filled.next ≤ x) (names_written row)
+    (λ x h. h.0) fresh.inside)
     (parameters_distinct (whole w.front)) fresh.once in
     record {
       parameters = m.parameters;
       cut = m.cut;
       row_for = record { filled = m.filled; fills = m.fills; cuts = m.cuts };
       matches = subst (λ (r : Row AutomatonLeaf). RowsNamed (Leads (packed table limits) final) (themselves ps) m.cut r) (sym m.row)
-          (row_leads table limits final taken known (themselves ps) [] m.filled.next waiting m.cut (renames_parameters known ps m.filled.next (parameters_listed (whole w.front)) below) scoped places);
-      once = subst (λ (s : AutomatonState). IsDistinct nat_eq (s.parameters ++ names_written s.row)) (λ i. record { parameters = sym m.parameters i; row = sym m.row i }) once;
+          (row_leads table limits final taken known (themselves ps) [] m.filled.next waiting m.cut
+          (renames_parameters known ps m.filled.next (parameters_listed (whole w.front)) below) scoped places);
+      once = subst (λ (s : AutomatonState). IsDistinct nat_eq (s.parameters ++ names_written s.row))
+          (λ i. record { parameters = sym m.parameters i; row = sym m.row i }) once;
     }
 
 -- ---- how far it has come
@@ -170,7 +181,8 @@ pub record Searching (table : Table) (limits : Limits) (region rows : ℕ) (stat
   pub few : length states + length waiting ≤ rows
   pub small : AllByRecursion (IsSmall (most_names (length states))) waiting
 
-made_many : (table : Table) (limits : Limits) (members ws : List Window) (states : List AutomatonState) → EachMade table limits members ws states → length ws ≡ length states
+made_many : (table : Table) (limits : Limits) (members ws : List Window) (states : List AutomatonState) → EachMade table limits members ws states
+    → length ws ≡ length states
 made_many table limits members [] [] h = refl
 made_many table limits members (w ∷ ws) (state ∷ states) h = ap (λ (n : ℕ). suc n) (made_many table limits members ws states h.1)
 made_many table limits members [] (state ∷ states) h = absurd h
@@ -179,21 +191,25 @@ made_many table limits members (w ∷ ws) [] h = absurd h
 made_more : (table : Table) (limits : Limits) (members more ws : List Window) (states : List AutomatonState) → EachMade table limits members ws states
     → EachMade table limits (members ++ more) ws states
 made_more table limits members more [] [] h = tt
-made_more table limits members more (w ∷ ws) (state ∷ states) h = (state_more (packed table limits) members more w state h.0, made_more table limits members more ws states h.1)
+made_more table limits members more (w ∷ ws) (state ∷ states) h =
+    (state_more (packed table limits) members more w state h.0, made_more table limits members more ws states h.1)
 made_more table limits members more [] (state ∷ states) h = absurd h
 made_more table limits members more (w ∷ ws) [] h = absurd h
 
 made_last : (table : Table) (limits : Limits) (members ws : List Window) (states : List AutomatonState) (w : Window) (state : AutomatonState)
-    → EachMade table limits members ws states → StateFor (packed table limits) members w state → EachMade table limits members (ws ++ (w ∷ [])) (states ++ (state ∷ []))
+    → EachMade table limits members ws states → StateFor (packed table limits) members w state
+    → EachMade table limits members (ws ++ (w ∷ [])) (states ++ (state ∷ []))
 made_last table limits members [] [] w state h k = (k, tt)
 made_last table limits members (v ∷ ws) (s ∷ states) w state h k = (h.0, made_last table limits members ws states w state h.1 k)
 made_last table limits members [] (s ∷ states) w state h k = absurd h
 made_last table limits members (v ∷ ws) [] w state h k = absurd h
 
 made_at : (table : Table) (limits : Limits) (members ws : List Window) (states : List AutomatonState) → EachMade table limits members ws states
-    → (number : ℕ) (w : Window) → slice_get ws number ≡ Some w → (state : AutomatonState) × (slice_get states number ≡ Some state) × StateFor (packed table limits) members w state
+    → (number : ℕ) (w : Window) → slice_get ws number ≡ Some w
+    → (state : AutomatonState) × (slice_get states number ≡ Some state) × StateFor (packed table limits) members w state
 made_at table limits members [] states h number w at = absurd (cc)
-made_at table limits members (v ∷ ws) (s ∷ states) h zero w at = (s, refl, subst (λ (u : Window). StateFor (packed table limits) members u s) (same v w at) h.0)
+made_at table limits members (v ∷ ws) (s ∷ states) h zero w at =
+    (s, refl, subst (λ (u : Window). StateFor (packed table limits) members u s) (same v w at) h.0)
   where
     same : (a b : Window) → Some a ≡ Some b → a ≡ b
     same a b e = cc
@@ -203,11 +219,14 @@ made_at table limits members (v ∷ ws) [] h number w at = absurd h
 -- behind some elements a list goes on
 behind : {X : Type 0} (xs ys : List X) (i : ℕ) (y : X) → slice_get ys i ≡ Some y → slice_get (xs ++ ys) (length xs + i) ≡ Some y
 behind [] ys i y at = ap (λ (n : ℕ). slice_get ys n) (let e : 0 + i ≡ i = omega arith in e) ∙ at
-behind (x ∷ xs) ys i y at = ap (λ (n : ℕ). slice_get (x ∷ (xs ++ ys)) n) (let e : length (x ∷ xs) + i ≡ suc (length xs + i) = omega arith in e) ∙ behind xs ys i y at
+behind (x ∷ xs) ys i y at = ap (λ (n : ℕ). slice_get (x ∷ (xs ++ ys)) n) (let e : length (x ∷ xs) + i ≡ suc (length xs + i) = omega arith in e)
+    ∙ behind xs ys i y at
 
 -- a search begins with the region's window
-pub begins_searching : (table : Table) (limits : Limits) (region rows : ℕ) (first : Window) → 1 ≤ rows → Tidies (opened_window table limits region) first
-    → first.next ≤ first_new + most_region_nodes → tree_size (whole first.front) ≤ most_region_nodes → Searching table limits region rows [] (first ∷ [])
+pub begins_searching : (table : Table) (limits : Limits) (region rows : ℕ) (first : Window) → 1 ≤ rows
+    → Tidies (opened_window table limits region) first
+    → first.next ≤ first_new + most_region_nodes → tree_size (whole first.front) ≤ most_region_nodes
+    → Searching table limits region rows [] (first ∷ [])
 begins_searching table limits region rows first some tidies names size = record {
   steps = 0;
   took = [];
@@ -217,7 +236,8 @@ begins_searching table limits region rows first some tidies names size = record 
   small = (record { names = omega (arith, names); size = size }, tt);
 }
 
-module _ (table : Table) (keeps : TableKeeps table) (limits : Limits) (room : Positive limits) (region rows : ℕ) (states : List AutomatonState) (w : Window) (rest : List Window)
+module _ (table : Table) (keeps : TableKeeps table) (limits : Limits) (room : Positive limits) (region rows : ℕ) (states : List AutomatonState)
+    (w : Window) (rest : List Window)
     (s : Searching table limits region rows states (w ∷ rest)) where
   -- the window that waits first is proper and small, and has the search's limits
   pub next_proper : IsProper w
@@ -233,18 +253,21 @@ module _ (table : Table) (keeps : TableKeeps table) (limits : Limits) (room : Po
   many = made_many table limits (s.took ++ (w ∷ rest)) s.took states s.made
 
   next_at : slice_get (s.took ++ (w ∷ rest)) (length states) ≡ Some w
-  next_at = ap (λ (n : ℕ). slice_get (s.took ++ (w ∷ rest)) n) (let e = many in let z : length states ≡ length s.took + 0 = omega (arith, e) in z) ∙ behind s.took (w ∷ rest) 0 w refl
+  next_at = ap (λ (n : ℕ). slice_get (s.took ++ (w ∷ rest)) n) (let e = many in let z : length states ≡ length s.took + 0 = omega (arith, e) in z)
+      ∙ behind s.took (w ∷ rest) 0 w refl
 
   -- its row is taken, and all leaves are looked at
   module _ (filled : Window) (cut : Row Left) (row_for : RowFor (packed table limits) w cut) where
     goes_on : (steps : ℕ) × Search (packed table limits) region steps ((s.took ++ (w ∷ rest)) ++ all_added (leaves_of cut)) (suc (length states)) []
-    goes_on = looks_all table limits region (suc s.steps) (suc (length states)) (s.took ++ (w ∷ rest)) (leaves_of cut) (takes s.search next_at row_for)
+    goes_on = looks_all table limits region (suc s.steps) (suc (length states)) (s.took ++ (w ∷ rest)) (leaves_of cut)
+        (takes s.search next_at row_for)
 
   regrouped : (ys : List Window) → (s.took ++ (w ∷ rest)) ++ ys ≡ (s.took ++ (w ∷ [])) ++ (rest ++ ys)
   regrouped ys = append_assoc s.took (w ∷ rest) ys ∙ sym (append_assoc s.took (w ∷ []) (rest ++ ys))
 
   -- once it has its state, the search is a member further
-  pub searching_on : (state : AutomatonState) (later : List Window) → Made table (suc (length states)) w rest state later → suc (length states) + length later ≤ rows
+  pub searching_on : (state : AutomatonState) (later : List Window) → Made table (suc (length states)) w rest state later
+      → suc (length states) + length later ≤ rows
       → Searching table limits region rows (states ++ (state ∷ [])) later
   searching_on state later m few =
       let row_for : RowFor (packed table limits) w m.cut = record { filled = m.filled; fills = m.fills; cuts = m.cuts } in
@@ -258,7 +281,9 @@ module _ (table : Table) (keeps : TableKeeps table) (limits : Limits) (room : Po
       let places : (i : ℕ) (v : Window) → slice_get (rest ++ more) i ≡ Some v → slice_get final (suc (length states) + i) ≡ Some v =
       λ i v at.
       ap (λ (l : List Window). slice_get l (suc (length states) + i)) (regrouped more)
-      ∙ ap (λ (n : ℕ). slice_get ((s.took ++ (w ∷ [])) ++ (rest ++ more)) n) (let e = length-append s.took (w ∷ []) in let k = many in let z : suc (length states) + i ≡ length (s.took ++ (w ∷ [])) + i = omega (arith, e, k) in z)
+      ∙ ap (λ (n : ℕ). slice_get ((s.took ++ (w ∷ [])) ++ (rest ++ more)) n)
+      (let e = length-append s.took (w ∷ []) in let k = many in let z : suc (length states) + i ≡ length (s.took ++ (w ∷ [])) + i = omega
+      (arith, e, k) in z)
       ∙ behind (s.took ++ (w ∷ [])) (rest ++ more) i v at in
       let made : EachMade table limits final (s.took ++ (w ∷ [])) (states ++ (state ∷ [])) =
       made_last table limits final s.took states w state (made_more table limits (s.took ++ (w ∷ rest)) more s.took states s.made)
@@ -267,7 +292,8 @@ module _ (table : Table) (keeps : TableKeeps table) (limits : Limits) (room : Po
       let small = next_small in
       let names = small.names in
       let grown = m.grown in
-      let behind_leaves = filling_bounded (uses (whole w.front)) w m.filled m.fills most_region_nodes (behind_whole most_region_nodes w.front small.size) in
+      let behind_leaves = filling_bounded (uses (whole w.front)) w m.filled m.fills most_region_nodes
+      (behind_whole most_region_nodes w.front small.size) in
       let parts = cuts_from table m.filled most_region_nodes m.cut m.cuts behind_leaves in
       let n = most_names (length (states ++ (state ∷ []))) in
       let enough : most_names (length states) + most_in_front ≤ n = omega (arith, one_more) in
@@ -283,11 +309,13 @@ module _ (table : Table) (keeps : TableKeeps table) (limits : Limits) (room : Po
         made = subst (λ (l : List Window). EachMade table limits l (s.took ++ (w ∷ [])) (states ++ (state ∷ []))) same made;
         few = omega (arith, few, one_more);
         small = subst (λ (l : List Window). AllByRecursion (IsSmall n) l) (sym waits)
-            (all_both (IsSmall n) rest more (small_more (most_names (length states)) n (omega (arith, enough)) rest s.small.1) (all_small n (leaves_of m.cut) left_proper left_small));
+            (all_both (IsSmall n) rest more (small_more (most_names (length states)) n (omega (arith, enough)) rest s.small.1)
+            (all_small n (leaves_of m.cut) left_proper left_small));
       }
 
   -- and where more members than there may be would wait, there is no pattern
-  pub too_far : (reached : ℕ) → Exceeds table (suc (length states)) rows w rest reached → (reached ≡ suc rows) × HasNoPattern (packed table limits) region rows
+  pub too_far : (reached : ℕ) → Exceeds table (suc (length states)) rows w rest reached
+      → (reached ≡ suc rows) × HasNoPattern (packed table limits) region rows
   too_far reached e =
       let row_for : RowFor (packed table limits) w e.cut = record { filled = e.filled; fills = e.fills; cuts = e.cuts } in
       let more = all_added (leaves_of e.cut) in
@@ -299,7 +327,8 @@ module _ (table : Table) (keeps : TableKeeps table) (limits : Limits) (room : Po
       let took_many = many in
       let few = s.few in (
         e.is,
-        looks_too_far table limits region rows (suc s.steps) (suc (length states)) (s.took ++ (w ∷ rest)) (leaves_of e.cut) (takes s.search next_at row_for)
+        looks_too_far table limits region rows (suc s.steps) (suc (length states)) (s.took ++ (w ∷ rest)) (leaves_of e.cut)
+            (takes s.search next_at row_for)
             (omega (arith, some, took_many, few)) (omega (arith, waits, some, all, behind_it, took_many, many_more)),
       )
 

@@ -27,7 +27,8 @@ use Rattle.pc_window.specs.Names.{uses}
 use Rattle.pc_automaton.specs.Automaton.{AutomatonState}
 use Rattle.pc_pattern.specs.Pairs.{Pair}
 use Rattle.pc_pattern.specs.NamedRow.{RowsNamed, named_item, named_test, named_leaf}
-use Rattle.pc_pattern.specs.Searches.{Rules, Settles, BringsOn, Looks, looks_new, looks_known, looks_bare, looks_out, looks_end, looks_trap, Search, begins, takes, looks, IsClosed, StateFor, Automates}
+use Rattle.pc_pattern.specs.Searches.{Rules, Settles, BringsOn, Looks, looks_new, looks_known, looks_bare, looks_out, looks_end, looks_trap, Search}
+use Rattle.pc_pattern.specs.Searches.{begins, takes, looks, IsClosed, StateFor, Automates}
 use Rattle.pc_pattern.specs.Pattern.{RowFits}
 use Rattle.pc_pattern.proofs.Members.{EachLeft-leaves, members_proper, state_of}
 
@@ -57,7 +58,8 @@ SameEffects [] [] = Unit {0}
 SameEffects (xs ∷ one) (ys ∷ other) = (count_by is_effect ys ≡ count_by is_effect xs) × SameEffects one other
 SameEffects _ _ = ⊥
 
-effects_both : (one other one' other' : List (List Item)) → SameEffects one other → SameEffects one' other' → SameEffects (one ++ one') (other ++ other')
+effects_both : (one other one' other' : List (List Item)) → SameEffects one other → SameEffects one' other'
+    → SameEffects (one ++ one') (other ++ other')
 effects_both [] [] one' other' h k = k
 effects_both (xs ∷ one) (ys ∷ other) one' other' h k = (h.0, effects_both one other one' other' h.1 k)
 effects_both [] (ys ∷ other) one' other' h k = absurd h
@@ -87,22 +89,27 @@ record SameCounts {L M : Type 0} (row : Row L) (other : Row M) : Type 0 where
   memory : count_by is_memory (items_of other) ≡ count_by is_memory (items_of row)
   effects : SameEffects (paths_of row) (paths_of other)
 
-named_counts : {L M : Type 0} {R : List Pair → L → M → Type 0} {names : List Pair} {row : Row L} {other : Row M} → RowsNamed R names row other → SameCounts row other
+named_counts : {L M : Type 0} {R : List Pair → L → M → Type 0} {names : List Pair} {row : Row L} {other : Row M} → RowsNamed R names row other
+    → SameCounts row other
 named_counts (named_item {item} {rest} {other} name h) =
     let k = named_counts h in
     record {
       items = ap (λ (n : ℕ). suc n) k.items;
       tests = k.tests;
-      memory = count_more is_memory (with_dest name item) (items_of other) ∙ (λ i. cond (same_memory name item i) 1 0 + k.memory i) ∙ sym (count_more is_memory item (items_of rest));
+      memory = count_more is_memory (with_dest name item) (items_of other) ∙ (λ i. cond (same_memory name item i) 1 0 + k.memory i)
+          ∙ sym (count_more is_memory item (items_of rest));
       effects = effects_below item (with_dest name item) (same_effect name item) (paths_of rest) (paths_of other) k.effects;
     }
 named_counts (named_test {on} {on_yes} {on_no} {other_yes} {other_no} h g) =
     let k = named_counts h in
     let m = named_counts g in
     record {
-      items = length-append (items_of other_yes) (items_of other_no) ∙ (λ i. k.items i + m.items i) ∙ sym (length-append (items_of on_yes) (items_of on_no));
-      tests = ap (λ (n : ℕ). suc n) (length-append (tests_of other_yes) (tests_of other_no) ∙ (λ i. k.tests i + m.tests i) ∙ sym (length-append (tests_of on_yes) (tests_of on_no)));
-      memory = count_both is_memory (items_of other_yes) (items_of other_no) ∙ (λ i. k.memory i + m.memory i) ∙ sym (count_both is_memory (items_of on_yes) (items_of on_no));
+      items = length-append (items_of other_yes) (items_of other_no) ∙ (λ i. k.items i + m.items i)
+          ∙ sym (length-append (items_of on_yes) (items_of on_no));
+      tests = ap (λ (n : ℕ). suc n) (length-append (tests_of other_yes) (tests_of other_no) ∙ (λ i. k.tests i + m.tests i)
+          ∙ sym (length-append (tests_of on_yes) (tests_of on_no)));
+      memory = count_both is_memory (items_of other_yes) (items_of other_no) ∙ (λ i. k.memory i + m.memory i)
+          ∙ sym (count_both is_memory (items_of on_yes) (items_of on_no));
       effects = effects_both (paths_of on_yes) (paths_of other_yes) (paths_of on_no) (paths_of other_no) k.effects m.effects;
     }
 named_counts (named_leaf h) = record { items = refl; tests = refl; memory = refl; effects = (refl, tt) }
@@ -177,7 +184,8 @@ module _ (rules : Rules) (region : ℕ) where
   abbrev pub Limited : Window → Type 0
   Limited w = w.limits ≡ rules.limits
 
-  limited_more : {members more : List Window} {left : Left} → Looks rules members left more → LeftIs Limited left → AllByRecursion Limited members → AllByRecursion Limited more
+  limited_more : {members more : List Window} {left : Left} → Looks rules members left more → LeftIs Limited left → AllByRecursion Limited members
+      → AllByRecursion Limited more
   limited_more {members} (looks_new {rest} {brought} brings items new) p h =
       all_both Limited members (brought ∷ []) h (brings_limits rules rest brought brings ∙ p, tt)
   limited_more (looks_known brings items known) p h = h
@@ -189,17 +197,20 @@ module _ (rules : Rules) (region : ℕ) where
   -- each member has the limits of the search
   pub members_limited : {steps number : ℕ} {members : List Window} {lefts : List Left} → Search rules region steps members number lefts
       → AllByRecursion Limited members × AllByRecursion (LeftIs Limited) lefts
-  members_limited (begins {opened} {first} opens settles) = ((settles_limits rules opened first settles ∙ ap (λ (u : Window). u.limits) opens, tt), tt)
+  members_limited (begins {opened} {first} opens settles) =
+      ((settles_limits rules opened first settles ∙ ap (λ (u : Window). u.limits) opens, tt), tt)
   members_limited (takes {number} {members} {w} {row} search at row_for) =
       let h = members_limited search in
-      let same : row_for.filled.limits ≡ rules.limits = filling_limits (uses (whole w.front)) w row_for.filled row_for.fills ∙ all_at Limited members number w h.0 at in
+      let same : row_for.filled.limits ≡ rules.limits = filling_limits (uses (whole w.front)) w row_for.filled row_for.fills
+      ∙ all_at Limited members number w h.0 at in
       let n = most_behind row_for.filled.front in
       let parts = cuts_from rules.table row_for.filled n.0 row row_for.cuts n.1 in
       (h.0, EachLeft-leaves Limited row (each_left (LeftFrom row_for.filled n.0) Limited (λ v k. k.limits ∙ same) row parts))
   members_limited (looks search adds) = let h = members_limited search in (limited_more adds h.1.0 h.0, h.1.1)
 
   -- the row of each state is within the limits
-  pub states_fit : TableKeeps rules.table → Positive rules.limits → (members : List Window) (states : List AutomatonState) → IsClosed rules region members
+  pub states_fit : TableKeeps rules.table → Positive rules.limits → (members : List Window) (states : List AutomatonState)
+      → IsClosed rules region members
       → Automates rules members states → (number : ℕ) (state : AutomatonState) → slice_get states number ≡ Some state → RowFits rules.limits state.row
   states_fit keeps room members states closed auto number state at =
       let m = state_of rules keeps room region members states auto number state at in

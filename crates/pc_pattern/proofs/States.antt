@@ -28,11 +28,17 @@ use Rattle.pc_pattern.proofs.LedWindows.{names_there}
 pub fillable_of : (w : StoredWindow) → IsSettled w → tree_size (tree_in w.tree) ≤ most_region_nodes → length w.names.forms < 2 ^ 30 → IsFillable w
 fillable_of w settled size names =
     let variables = settled.variables in
-    record { size = omega (arith, size); nodes = in_nodes_behind w.tree settled.nodes; names = omega (arith, names); variables = omega (arith, variables) }
+    record {
+      size = omega (arith, size);
+      nodes = in_nodes_behind w.tree settled.nodes;
+      names = omega (arith, names);
+      variables = omega (arith, variables);
+    }
 
 -- a window's state, by its parts
 pub made_of : (table : Table) (taken : ℕ) (w filled : StoredWindow) (waiting later : List Window) (cut : Row Left) (state : AutomatonState) (next : ℕ)
-    → state.parameters ≡ parameters_of (tree_in w.tree) → FillsTo (window_in w) (window_in filled) → FilledFrom w filled → IsProper (window_in filled) → AreLimits w.limits
+    → state.parameters ≡ parameters_of (tree_in w.tree) → FillsTo (window_in w) (window_in filled) → FilledFrom w filled
+    → IsProper (window_in filled) → AreLimits w.limits
     → Cuts table (window_in filled) cut → next ≡ length filled.names.forms → state.row ≡ (led taken [] next waiting cut).row
     → later ≡ (led taken [] next waiting cut).waiting → Made table taken (window_in w) waiting state later
 made_of table taken w filled waiting later cut state next parameters fills from proper limits cuts first row waits =

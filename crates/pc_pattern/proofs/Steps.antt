@@ -1,5 +1,6 @@
 -- The steps of a search for packed code, as the code takes them.
-use Rattle.std.proofs.Common.{◌≡◌, ℕ, zero, suc, ◌+◌, ◌≤◌, ◌<◌, List, [], ◌∷◌, ◌++◌, length, length-append, append-nil, append_assoc, ◌⊎◌, inl, inr, refl, sym, ◌∙◌, ap, subst, arith}
+use Rattle.std.proofs.Common.{◌≡◌, ℕ, zero, suc, ◌+◌, ◌≤◌, ◌<◌, List, [], ◌∷◌, ◌++◌, length, length-append, append-nil, append_assoc, ◌⊎◌, inl, inr}
+use Rattle.std.proofs.Common.{refl, sym, ◌∙◌, ap, subst, arith}
 use Rattle.std.specs.Prelude.{Option, Some, None}
 use Rattle.pc_word.specs.declared.item.Limits.{Limits}
 use Rattle.pc_word.specs.Row.{Row, Then, Either, At_leaf, leaves_of}
@@ -18,7 +19,8 @@ use Rattle.pc_window.specs.Steps.{window_of, with_tree, grafted_of, UnwindsTo, T
 use Rattle.pc_window.proofs.CutRows.{whole_front_of}
 use Rattle.pc_automaton.specs.declared.automaton.AutomatonLeaf.{AutomatonLeaf}
 use Rattle.pc_pattern.specs.Pairs.{Pair, defined}
-use Rattle.pc_pattern.specs.Searches.{Settles, BringsOn, bare_leaf, Looks, looks_new, looks_bare, looks_out, looks_end, looks_trap, Search, begins, looks, HasNoPattern}
+use Rattle.pc_pattern.specs.Searches.{Settles, BringsOn, bare_leaf, Looks, looks_new, looks_bare, looks_out, looks_end, looks_trap, Search, begins}
+use Rattle.pc_pattern.specs.Searches.{looks, HasNoPattern}
 use Rattle.pc_pattern.specs.Pattern.{packed}
 use Rattle.pc_pattern.specs.models.Renaming.{renamed_bare, renamed_leaf}
 use Rattle.pc_pattern.specs.models.Leading.{brought_on, led_as, led_left, led}
@@ -94,7 +96,8 @@ as_waits : (taken : ℕ) (names : List Pair) (waiting : List Window) (w : Window
 as_waits taken names waiting w None = refl
 as_waits taken names waiting w (Some leaf) = sym (append-nil waiting)
 
-left_waits : (taken : ℕ) (names : List Pair) (waiting : List Window) (left : Left) → (led_left taken names waiting left).waiting ≡ waiting ++ added left
+left_waits : (taken : ℕ) (names : List Pair) (waiting : List Window) (left : Left)
+    → (led_left taken names waiting left).waiting ≡ waiting ++ added left
 left_waits taken names waiting (Rest w) = as_waits taken names waiting (brought_on w) (bare_leaf (whole (brought_on w).front))
 left_waits taken names waiting (Gone region homes) = sym (append-nil waiting)
 left_waits taken names waiting Finished = sym (append-nil waiting)
@@ -103,7 +106,8 @@ left_waits taken names waiting (Trapped_at kind line) = sym (append-nil waiting)
 -- a row adds what its leaves add, in preorder
 pub row_waits : (taken : ℕ) (names : List Pair) (next : ℕ) (waiting : List Window) (row : Row Left)
     → (led taken names next waiting row).waiting ≡ waiting ++ all_added (leaves_of row)
-row_waits taken names next waiting (Then item rest) = row_waits taken (defined names (dest_of item) (dest_of (with_dest next item))) (suc next) waiting rest
+row_waits taken names next waiting (Then item rest) =
+    row_waits taken (defined names (dest_of item) (dest_of (with_dest next item))) (suc next) waiting rest
 row_waits taken names next waiting (Either on one other) =
     let a = led taken names next waiting one in
     row_waits taken names a.next a.waiting other
@@ -124,23 +128,30 @@ module _ (table : Table) (limits : Limits) (region : ℕ) where
 
   looks_added : (members : List Window) (left : Left) → Looks (packed table limits) members left (members ++ added left)
   looks_added members (Rest w) = looks_as members w (bare_leaf (whole (brought_on w).front)) refl
-  looks_added members (Gone to homes) = subst (λ (l : List Window). Looks (packed table limits) members (Gone to homes) l) (sym (append-nil members)) looks_out
+  looks_added members (Gone to homes) =
+      subst (λ (l : List Window). Looks (packed table limits) members (Gone to homes) l) (sym (append-nil members)) looks_out
   looks_added members Finished = subst (λ (l : List Window). Looks (packed table limits) members Finished l) (sym (append-nil members)) looks_end
-  looks_added members (Trapped_at kind line) = subst (λ (l : List Window). Looks (packed table limits) members (Trapped_at kind line) l) (sym (append-nil members)) looks_trap
+  looks_added members (Trapped_at kind line) =
+      subst (λ (l : List Window). Looks (packed table limits) members (Trapped_at kind line) l) (sym (append-nil members)) looks_trap
 
   -- a search looks at all leaves that are left
   pub looks_all : (steps number : ℕ) (members : List Window) (lefts : List Left) → Search (packed table limits) region steps members number lefts
       → (more : ℕ) × Search (packed table limits) region more (members ++ all_added lefts) number []
-  looks_all steps number members [] s = (steps, subst (λ (l : List Window). Search (packed table limits) region steps l number []) (sym (append-nil members)) s)
+  looks_all steps number members [] s =
+      (steps, subst (λ (l : List Window). Search (packed table limits) region steps l number []) (sym (append-nil members)) s)
   looks_all steps number members (left ∷ lefts) s =
-      let k = looks_all (suc steps) number (members ++ added left) lefts (looks s (looks_added members left)) in
-      (k.0, subst (λ (l : List Window). Search (packed table limits) region k.0 l number []) (append_assoc members (added left) (all_added lefts)) k.1)
+      let k = looks_all (suc steps) number (members ++ added left) lefts (looks s (looks_added members left)) in (
+        k.0,
+        subst (λ (l : List Window). Search (packed table limits) region k.0 l number [])
+            (append_assoc members (added left) (all_added lefts)) k.1,
+      )
 
   few_or_more : (n m : ℕ) → (n ≤ m) ⊎ (m < n)
   few_or_more n m = grind arith
 
   -- where they add more than so many, it comes to have one more than so many
-  pub looks_too_far : (rows steps number : ℕ) (members : List Window) (lefts : List Left) → Search (packed table limits) region steps members number lefts
+  pub looks_too_far : (rows steps number : ℕ) (members : List Window) (lefts : List Left)
+      → Search (packed table limits) region steps members number lefts
       → length members ≤ rows → rows < length (members ++ all_added lefts) → HasNoPattern (packed table limits) region rows
   looks_too_far rows steps number members [] s few many =
       absurd (let e = ap (λ (l : List Window). length l) (append-nil members) in omega (arith, e, few, many))
@@ -151,5 +162,9 @@ module _ (table : Table) (limits : Limits) (region : ℕ) where
       elim (few_or_more (length (members ++ added left)) rows) [
         | inl still ↦ looks_too_far rows (suc steps) number (members ++ added left) lefts next still
             (subst (λ (l : List Window). rows < length l) (sym (append_assoc members (added left) (all_added lefts))) many)
-        | inr over ↦ record { members = members ++ added left; reached = (suc steps, number, lefts, next); many = omega (arith, few, one, grows, over) }
+        | inr over ↦ record {
+          members = members ++ added left;
+          reached = (suc steps, number, lefts, next);
+          many = omega (arith, few, one, grows, over);
+        }
       ]

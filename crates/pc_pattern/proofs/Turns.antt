@@ -34,7 +34,8 @@ one_behind xs ys w is none = is ∙ ap (λ (l : List StoredWindow). l ++ w ∷ [
 pub all_of_one : (P : StoredWindow → Type 0) (xs : List StoredWindow) (w : StoredWindow) → xs ≡ w ∷ [] → P w → AllByRecursion P xs
 all_of_one P xs w is h = subst (λ (l : List StoredWindow). AllByRecursion P l) (sym is) (h, tt)
 
-pub all_of_rest : (P : StoredWindow → Type 0) (old rest : List StoredWindow) (w : StoredWindow) → old ≡ w ∷ rest → AllByRecursion P old → AllByRecursion P rest
+pub all_of_rest : (P : StoredWindow → Type 0) (old rest : List StoredWindow) (w : StoredWindow) → old ≡ w ∷ rest → AllByRecursion P old
+    → AllByRecursion P rest
 all_of_rest P old rest w is h = (subst (λ (l : List StoredWindow). AllByRecursion P l) is h).1
 
 pub none_waits : (xs : List StoredWindow) → (0 < length xs → ⊥) → xs ≡ []
@@ -53,7 +54,8 @@ begun table limits region rows first waiting states alone none some tidies size 
     (subst (λ (t : Tree). tree_size t ≤ most_region_nodes) (sym (whole_in first.tree)) size)))
 
 module _ (table : Table) (keeps : TableKeeps table) (limits : Limits) (ranges : AreLimits limits) (region rows : ℕ) (states : List StoredState)
-    (old rest : List StoredWindow) (w : StoredWindow) (is : old ≡ w ∷ rest) (s : Searching table limits region rows (states_in states) (map window_in old)) where
+    (old rest : List StoredWindow) (w : StoredWindow) (is : old ≡ w ∷ rest)
+    (s : Searching table limits region rows (states_in states) (map window_in old)) where
   here : Searching table limits region rows (states_in states) (window_in w ∷ map window_in rest)
   here = subst (λ (l : List StoredWindow). Searching table limits region rows (states_in states) (map window_in l)) is s
 
@@ -62,7 +64,8 @@ module _ (table : Table) (keeps : TableKeeps table) (limits : Limits) (ranges : 
 
   pub turn_limits : AreLimits w.limits
   turn_limits =
-      let same : w.limits ≡ limits = next_limits table keeps limits (room_of limits ranges) region rows (states_in states) (window_in w) (map window_in rest) here in
+      let same : w.limits ≡ limits = next_limits table keeps limits (room_of limits ranges) region rows (states_in states) (window_in w)
+      (map window_in rest) here in
       subst AreLimits (sym same) ranges
 
   pub turn_size : tree_size (tree_in w.tree) ≤ most_region_nodes
@@ -75,7 +78,8 @@ module _ (table : Table) (keeps : TableKeeps table) (limits : Limits) (ranges : 
     taken_is : taken ≡ suc (length (states_in states))
     taken_is = let same = length-map states state_in in omega (arith, many, same)
 
-    unmade_unpacked : (error : SearchError) → IsUnmade table taken rows (window_in w) (map window_in rest) error → IsUnpacked table limits region rows error
+    unmade_unpacked : (error : SearchError) → IsUnmade table taken rows (window_in w) (map window_in rest) error
+        → IsUnpacked table limits region rows error
     unmade_unpacked Memory h = tt
     unmade_unpacked (NoPattern reached) h =
         too_far table keeps limits (room_of limits ranges) region rows (states_in states) (window_in w) (map window_in rest) here reached
@@ -88,7 +92,8 @@ module _ (table : Table) (keeps : TableKeeps table) (limits : Limits) (ranges : 
         subst (λ (r : Result (List StoredState) SearchError). IfErr r (λ e. IsUnpacked table limits region rows e)) (sym at) (unmade_unpacked error h)
 
     -- the search goes on with one state more
-    pub turn_on : (state : StoredState) (later : List StoredWindow) (states' : List AutomatonState) → states' ≡ states_in states ++ state_in state ∷ []
+    pub turn_on : (state : StoredState) (later : List StoredWindow) (states' : List AutomatonState)
+        → states' ≡ states_in states ++ state_in state ∷ []
         → Made table taken (window_in w) (map window_in rest) (state_in state) (map window_in later)
         → (taken + length rest ≤ rows → taken + length later ≤ rows) → Searching table limits region rows states' (map window_in later)
     turn_on state later states' more made room =
@@ -99,8 +104,10 @@ module _ (table : Table) (keeps : TableKeeps table) (limits : Limits) (ranges : 
         let within : taken + length rest ≤ rows = omega (arith, few, rest_many, t) in
         let still = room within in
         subst (λ (l : List AutomatonState). Searching table limits region rows l (map window_in later)) (sym more)
-        (searching_on table keeps limits (room_of limits ranges) region rows (states_in states) (window_in w) (map window_in rest) here (state_in state) (map window_in later)
-        (subst (λ (n : ℕ). Made table n (window_in w) (map window_in rest) (state_in state) (map window_in later)) t made) (omega (arith, still, later_many, t)))
+        (searching_on table keeps limits (room_of limits ranges) region rows (states_in states) (window_in w) (map window_in rest) here
+        (state_in state) (map window_in later)
+        (subst (λ (n : ℕ). Made table n (window_in w) (map window_in rest) (state_in state) (map window_in later)) t made)
+        (omega (arith, still, later_many, t)))
 
 -- where no window waits, there is a pattern
 pub turned : (table : Table) (limits : Limits) (region rows : ℕ) (states : List StoredState) (waiting : List StoredWindow) → waiting ≡ []

@@ -46,12 +46,14 @@ first_new : (known : ℕ → Bool) (d : Option ℕ) (xs : List ℕ) → AllByRec
 first_new known (Some d) xs h = h.0
 first_new known None xs h = tt
 
-rest_new : (known : ℕ → Bool) (d : Option ℕ) (xs : List ℕ) → AllByRecursion (λ x. known x ≡ false) (cons_option d xs) → IsDistinct nat_eq (cons_option d xs)
+rest_new : (known : ℕ → Bool) (d : Option ℕ) (xs : List ℕ) → AllByRecursion (λ x. known x ≡ false) (cons_option d xs)
+    → IsDistinct nat_eq (cons_option d xs)
     → AllByRecursion (λ x. (writes d x || known x) ≡ false) xs
 unfolding IsDistinct
 rest_new known (Some d) xs h k = both xs k.0 h.1
   where
-    both : (xs : List ℕ) → AllByRecursion (λ x. nat_eq d x ≡ false) xs → AllByRecursion (λ x. known x ≡ false) xs → AllByRecursion (λ x. (nat_eq d x || known x) ≡ false) xs
+    both : (xs : List ℕ) → AllByRecursion (λ x. nat_eq d x ≡ false) xs → AllByRecursion (λ x. known x ≡ false) xs
+        → AllByRecursion (λ x. (nat_eq d x || known x) ≡ false) xs
     both [] p q = tt
     both (x ∷ xs) p q = (or_made_false (nat_eq d x) (known x) p.0 q.0, both xs p.1 q.1)
 rest_new known None xs h k = h
@@ -62,7 +64,8 @@ rest_distinct (Some d) xs h = h.1
 rest_distinct None xs h = h
 
 -- where each place that writes a name has one of its own, no path writes one twice
-pub each_once : (known : ℕ → Bool) (row : Row AutomatonLeaf) → AllByRecursion (λ x. known x ≡ false) (names_written row) → IsDistinct nat_eq (names_written row)
+pub each_once : (known : ℕ → Bool) (row : Row AutomatonLeaf) → AllByRecursion (λ x. known x ≡ false) (names_written row)
+    → IsDistinct nat_eq (names_written row)
     → WritesOnce known row
 each_once known (Then item rest) h k = (
   first_new known (dest_of item) (names_written rest) h,
@@ -70,9 +73,12 @@ each_once known (Then item rest) h k = (
 )
 each_once known (Either on on_yes on_no) h k =
     let e = filter_map-append dest_of (items_of on_yes) (items_of on_no) in
-    let new : AllByRecursion (λ x. known x ≡ false) (names_written on_yes ++ names_written on_no) = subst (λ (l : List ℕ). AllByRecursion (λ x. known x ≡ false) l) e h in
+    let new : AllByRecursion (λ x. known x ≡ false) (names_written on_yes ++ names_written on_no) = subst
+    (λ (l : List ℕ). AllByRecursion (λ x. known x ≡ false) l) e h in
     let once : IsDistinct nat_eq (names_written on_yes ++ names_written on_no) = subst (λ (l : List ℕ). IsDistinct nat_eq l) e k in (
-      each_once known on_yes (all_front (λ x. known x ≡ false) (names_written on_yes) (names_written on_no) new) (distinct_front (names_written on_yes) (names_written on_no) once),
-      each_once known on_no (all_back (λ x. known x ≡ false) (names_written on_yes) (names_written on_no) new) (distinct_back (names_written on_yes) (names_written on_no) once),
+      each_once known on_yes (all_front (λ x. known x ≡ false) (names_written on_yes) (names_written on_no) new)
+          (distinct_front (names_written on_yes) (names_written on_no) once),
+      each_once known on_no (all_back (λ x. known x ≡ false) (names_written on_yes) (names_written on_no) new)
+          (distinct_back (names_written on_yes) (names_written on_no) once),
     )
 each_once known (At_leaf leaf) h k = tt

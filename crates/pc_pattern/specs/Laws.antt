@@ -19,7 +19,8 @@ PatternsRunAsTheRegion = (table : Table) → TableKeeps table → (limits : Limi
 
 -- and each but the first has an item or a test
 abbrev pub PatternsHaveNoEmptyStates : Type 0
-PatternsHaveNoEmptyStates = (table : Table) → TableKeeps table → (limits : Limits) → Positive limits → (region rows : ℕ) (states : List AutomatonState)
+PatternsHaveNoEmptyStates = (table : Table) → TableKeeps table → (limits : Limits) → Positive limits
+    → (region rows : ℕ) (states : List AutomatonState)
     → IsPattern (packed table limits) region rows states → NoneIsEmpty states
 
 -- and the row of each keeps the limits and the machine's rule for prints and reads

@@ -56,7 +56,8 @@ ArgumentsAlike names _ _ = ⊥
 -- the same variables in the same order, with operands that are alike
 abbrev pub HomesAlike : List Pair → List Home → List Home → Type 0
 HomesAlike names [] [] = Unit {0}
-HomesAlike names (home ∷ homes) (other ∷ others) = (home.variable ≡ other.variable) × OperandsAlike names home.value other.value × HomesAlike names homes others
+HomesAlike names (home ∷ homes) (other ∷ others) =
+    (home.variable ≡ other.variable) × OperandsAlike names home.value other.value × HomesAlike names homes others
 HomesAlike names _ _ = ⊥
 
 -- in two states all is the same, but for names, which have the values of those that they correspond to

@@ -58,11 +58,13 @@ bare_leaf (Trap_exit kind line) = Some (Trap kind line)
 
 -- some member is the same as a window
 abbrev pub IsMember : Rules → List Window → Window → Type 0
-IsMember rules members w = (number : ℕ) × (member : Window) × (slice_get members number ≡ Some member) × (pairs : List Pair) × rules.Same pairs w member
+IsMember rules members w = (number : ℕ) × (member : Window) × (slice_get members number ≡ Some member) × (pairs : List Pair)
+    × rules.Same pairs w member
 
 -- no member is the same as a window
 abbrev pub IsNoMember : Rules → List Window → Window → Type 0
-IsNoMember rules members w = (number : ℕ) (member : Window) (pairs : List Pair) → slice_get members number ≡ Some member → rules.Same pairs w member → ⊥
+IsNoMember rules members w = (number : ℕ) (member : Window) (pairs : List Pair) → slice_get members number ≡ Some member → rules.Same pairs w member
+    → ⊥
 
 -- a leaf adds the window that is left there, brought on, where something is left to do in it and no member is the same
 pub data Looks (rules : Rules) (members : List Window) : Left → List Window → Type 0 where
@@ -109,7 +111,8 @@ pub data Leads (rules : Rules) (members : List Window) : List Pair → Left → 
   to_member : {names : List Pair} {rest : Window} {number : ℕ} {arguments : List Operand} (brought : Window)
       → BringsOn rules rest brought → bare_leaf (whole brought.front) ≡ None
       → slice_get members number ≡ Some brought
-      → ArgumentsAlike names (operands_for (parameters_of (whole brought.front))) arguments → Leads rules members names (Rest rest) (To number arguments)
+      → ArgumentsAlike names (operands_for (parameters_of (whole brought.front))) arguments
+      → Leads rules members names (Rest rest) (To number arguments)
   to_bare : {names : List Pair} {rest : Window} {other : AutomatonLeaf} (brought : Window) (leaf : AutomatonLeaf)
       → BringsOn rules rest brought → bare_leaf (whole brought.front) ≡ Some leaf → LeavesAlike names leaf other
       → Leads rules members names (Rest rest) other

@@ -8,7 +8,7 @@ ghost use Rattle.pc_window.specs.StoredWindow.{tree_in, window_in, InNodes};
 ghost use Rattle.pc_automaton.specs.StoredRow.{row_in, left_in, LeftInNodes, EachLeaf};
 ghost use Rattle.pc_pattern.specs.Searches.{bare_leaf};
 ghost use Rattle.pc_pattern.specs.models.Renaming.{pairs_in, renamed_bare};
-ghost use Rattle.pc_pattern.specs.models.Leading.{brought_on, led_window, led_left, led, Refuses, IsSettled};
+ghost use Rattle.pc_pattern.specs.models.Leading.{brought_on, window_led, left_led, row_led, IsWithinRows, Refuses, IsSettled};
 
 use crate::error::SearchError;
 use crate::renaming::{Renaming, arguments_for, renamed_homes, with_dest, written_by};
@@ -54,8 +54,8 @@ fn wait(window: Window, waiting: &mut VecDeque<Window>, counts: Counts) -> Resul
     requires rows { counts.rows ≤ 512 }
     ensures number { IfOk result (λ number. number ≡ counts.taken + length waiting.old.items) }
     ensures waits { OnOk result (waiting.new.items ≡ waiting.old.items ++ window ∷ []) }
-    ensures room { OnOk result (counts.taken + length waiting.new.items ≤ counts.rows) }
-    ensures refused { IfErr result (λ error. Refuses counts.rows (counts.taken + suc (length waiting.old.items)) error) }
+    ensures room { OnOk result (IsWithinRows counts waiting.new.items) }
+    ensures refused { IfErr result (Refuses counts.rows (counts.taken + suc (length waiting.old.items))) }
 {
     let before = waiting.len();
     if before >= (counts.rows - counts.taken) as usize {
@@ -109,11 +109,11 @@ fn led_window(
     requires settled { IsSettled window }
     requires taken { counts.taken ≤ counts.rows }
     requires rows { counts.rows ≤ 512 }
-    ensures leaf { IfOk result (λ leaf. leaf ≡ (led_window counts.taken (pairs_in names.now) (map window_in waiting.old.items) (window_in window)).leaf) }
-    ensures waits { OnOk result (map window_in waiting.new.items ≡ (led_window counts.taken (pairs_in names.now) (map window_in waiting.old.items) (window_in window)).waiting) }
+    ensures leaf { IfOk result (λ leaf. leaf ≡ (window_led counts names.now waiting.old.items window).leaf) }
+    ensures waits { OnOk result (map window_in waiting.new.items ≡ (window_led counts names.now waiting.old.items window).waiting) }
     ensures settled { OnOk result (AllByRecursion IsSettled waiting.old.items → AllByRecursion IsSettled waiting.new.items) }
-    ensures room { OnOk result (counts.taken + length waiting.old.items ≤ counts.rows → counts.taken + length waiting.new.items ≤ counts.rows) }
-    ensures refused { IfErr result (λ error. Refuses counts.rows (counts.taken + length (led_window counts.taken (pairs_in names.now) (map window_in waiting.old.items) (window_in window)).waiting) error) }
+    ensures room { OnOk result (IsWithinRows counts waiting.old.items → IsWithinRows counts waiting.new.items) }
+    ensures refused { IfErr result (Refuses counts.rows (counts.taken + length (window_led counts names.now waiting.old.items window).waiting)) }
 {
     match bare_leaf(alloc, names, &window.tree)? {
         Some(leaf) => Ok(leaf),
@@ -138,11 +138,11 @@ fn led_left(
     requires nodes { LeftInNodes left }
     requires taken { counts.taken ≤ counts.rows }
     requires rows { counts.rows ≤ 512 }
-    ensures leaf { IfOk result (λ leaf. leaf ≡ (led_left counts.taken (pairs_in names.now) (map window_in waiting.old.items) (left_in left)).leaf) }
-    ensures waits { OnOk result (map window_in waiting.new.items ≡ (led_left counts.taken (pairs_in names.now) (map window_in waiting.old.items) (left_in left)).waiting) }
+    ensures leaf { IfOk result (λ leaf. leaf ≡ (left_led counts names.now waiting.old.items left).leaf) }
+    ensures waits { OnOk result (map window_in waiting.new.items ≡ (left_led counts names.now waiting.old.items left).waiting) }
     ensures settled { OnOk result (AllByRecursion IsSettled waiting.old.items → AllByRecursion IsSettled waiting.new.items) }
-    ensures room { OnOk result (counts.taken + length waiting.old.items ≤ counts.rows → counts.taken + length waiting.new.items ≤ counts.rows) }
-    ensures refused { IfErr result (λ error. Refuses counts.rows (counts.taken + length (led_left counts.taken (pairs_in names.now) (map window_in waiting.old.items) (left_in left)).waiting) error) }
+    ensures room { OnOk result (IsWithinRows counts waiting.old.items → IsWithinRows counts waiting.new.items) }
+    ensures refused { IfErr result (Refuses counts.rows (counts.taken + length (left_led counts names.now waiting.old.items left).waiting)) }
 {
     match left {
         Left::Rest { window } => {
@@ -199,13 +199,13 @@ pub(crate) fn led(
     requires fits { next.old + length (items_of (row_in left_in row)) < 2 ^ 32 }
     requires taken { counts.taken ≤ counts.rows }
     requires rows { counts.rows ≤ 512 }
-    ensures row { IfOk result (λ later. row_in (λ leaf. leaf) later ≡ (led counts.taken (pairs_in names.now) next.old (map window_in waiting.old.items) (row_in left_in row)).row) }
-    ensures next { OnOk result (next.new ≡ (led counts.taken (pairs_in names.now) next.old (map window_in waiting.old.items) (row_in left_in row)).next) }
+    ensures row { IfOk result (λ later. row_in (λ leaf. leaf) later ≡ (row_led counts names.now next.old waiting.old.items row).row) }
+    ensures next { OnOk result (next.new ≡ (row_led counts names.now next.old waiting.old.items row).next) }
     ensures counted { OnOk result (next.new ≡ next.old + length (items_of (row_in left_in row))) }
-    ensures waits { OnOk result (map window_in waiting.new.items ≡ (led counts.taken (pairs_in names.now) next.old (map window_in waiting.old.items) (row_in left_in row)).waiting) }
+    ensures waits { OnOk result (map window_in waiting.new.items ≡ (row_led counts names.now next.old waiting.old.items row).waiting) }
     ensures settled { OnOk result (AllByRecursion IsSettled waiting.old.items → AllByRecursion IsSettled waiting.new.items) }
-    ensures room { OnOk result (counts.taken + length waiting.old.items ≤ counts.rows → counts.taken + length waiting.new.items ≤ counts.rows) }
-    ensures refused { IfErr result (λ error. Refuses counts.rows (counts.taken + length (led counts.taken (pairs_in names.now) next.old (map window_in waiting.old.items) (row_in left_in row)).waiting) error) }
+    ensures room { OnOk result (IsWithinRows counts waiting.old.items → IsWithinRows counts waiting.new.items) }
+    ensures refused { IfErr result (Refuses counts.rows (counts.taken + length (row_led counts names.now next.old waiting.old.items row).waiting)) }
 {
     match row {
         RowTree::Step { item, next: below } => {

@@ -12,7 +12,7 @@ ghost use Rattle.pc_window.specs.StoredWindow.{tree_in, window_in};
 ghost use Rattle.pc_automaton.specs.Automaton.{state_in, states_in};
 ghost use Rattle.pc_pattern.specs.Searches.{IsPattern};
 ghost use Rattle.pc_pattern.specs.Pattern.{packed, IsPacked, IsUnpacked};
-ghost use Rattle.pc_pattern.specs.models.Leading.{IsSettled, Made, IsUnmade};
+ghost use Rattle.pc_pattern.specs.models.Leading.{IsWithinRows, IsSettled, IsMade, IsNotMade};
 
 use crate::error::SearchError;
 use crate::leading::{Counts, led, put_behind};
@@ -128,10 +128,10 @@ fn state(
     requires names { length window.names.forms < 2 ^ 30 }
     requires taken { counts.taken ≤ counts.rows }
     requires rows { counts.rows ≤ 512 }
-    ensures made { IfOk result (λ state. Made (table_of table.now) counts.taken (window_in window) (map window_in waiting.old.items) (state_in state) (map window_in waiting.new.items)) }
+    ensures made { IfOk result (λ state. IsMade table.now counts window waiting.old.items state waiting.new.items) }
     ensures settled { OnOk result (AllByRecursion IsSettled waiting.old.items → AllByRecursion IsSettled waiting.new.items) }
-    ensures room { OnOk result (counts.taken + length waiting.old.items ≤ counts.rows → counts.taken + length waiting.new.items ≤ counts.rows) }
-    ensures unmade { IfErr result (λ error. IsUnmade (table_of table.now) counts.taken counts.rows (window_in window) (map window_in waiting.old.items) error) }
+    ensures room { OnOk result (IsWithinRows counts waiting.old.items → IsWithinRows counts waiting.new.items) }
+    ensures unmade { IfErr result (λ error. IsNotMade table.now counts window waiting.old.items error) }
 {
     let parameters = parameters_of(alloc, &window.tree, window.names.forms.len())?;
     let filled = fill(alloc, window)?;

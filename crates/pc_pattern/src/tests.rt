@@ -73,7 +73,8 @@ fn turn(alloc: Global) -> Result<RegionTree, AllocError>
 
 /// The loop as a table of one region.
 fn echoing(alloc: Global) -> Result<RegionTable, AllocError>
-    ensures { IfOk result (λ table. table_of table ≡ echoing_table) }
+    ensures table { IfOk result (λ table. table_of table ≡ echoing_table) }
+    ensures some { IfOk result (λ table. 0 < length table.regions) }
 {
     let mut regions = RegionList::new(alloc);
     regions.push(Region {

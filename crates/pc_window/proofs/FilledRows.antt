@@ -16,7 +16,8 @@ use Rattle.pc_word.specs.Row.{Row, RowOutcome, Faults, Commits, commit_of, row_s
 use Rattle.pc_table.specs.RegionRun.{lead_on}
 use Rattle.pc_window.specs.Tree.{Front, Issued, Split, Unfinished, whole}
 use Rattle.pc_window.specs.WindowRun.{Window, enter, window_step, tree_run, window_run, seen_first, seen_side, front_run}
-use Rattle.pc_window.specs.Kept.{Left, Rest, Gone, Finished, Trapped_at, left_run, NeverFaults, KeepsPace, GainsUnit, LeftKept, TakenKept, RowKeeps, IsBare, IsRooted, FilledIn, OutKept, OutCut, LeftCut, TakenCut}
+use Rattle.pc_window.specs.Kept.{Left, Rest, Gone, Finished, Trapped_at, left_run, NeverFaults, KeepsPace, GainsUnit, LeftKept, TakenKept, RowKeeps}
+use Rattle.pc_window.specs.Kept.{IsBare, IsRooted, FilledIn, OutKept, OutCut, LeftCut, TakenCut}
 use Rattle.pc_window.specs.Steps.{FillsTo, Cuts, IsProper}
 use Rattle.pc_window.proofs.Units.{led, entered, first_answers, side_answers, front_grows}
 use Rattle.pc_window.proofs.Filling.{fills_keep}

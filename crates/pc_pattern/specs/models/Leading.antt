@@ -1,10 +1,11 @@
 -- The row of a state, made from a cut row: with new names, and with leaves that lead on; and the windows that come to wait.
-use Rattle.std.specs.Prelude.{◌≡◌, ℕ, suc, ◌+◌, ◌<◌, ◌≤◌, ◌^◌, true, List, [], ◌∷◌, ◌++◌, length, Option, Some, None}
+use Rattle.std.specs.Prelude.{◌≡◌, ℕ, suc, ◌+◌, ◌<◌, ◌≤◌, ◌^◌, true, List, [], ◌∷◌, ◌++◌, length, map, Option, Some, None}
 use Rattle.std.specs.List.{AllByRecursion}
 use Rattle.pc_word.specs.MachineLimits.{most_ops, most_tests}
 use Rattle.pc_word.specs.Items.{dest_of}
 use Rattle.pc_word.specs.Row.{Row, Then, Either, At_leaf}
-use Rattle.pc_table.specs.Table.{Table}
+use Rattle.pc_table.specs.declared.table.RegionTable.{RegionTable}
+use Rattle.pc_table.specs.Table.{Table, table_of}
 use Rattle.pc_window.specs.declared.window.Window.{Window as StoredWindow}
 use Rattle.pc_window.specs.Tree.{whole}
 use Rattle.pc_window.specs.Names.{parameters_of}
@@ -14,15 +15,21 @@ use Rattle.pc_window.specs.Tidying.{tidied}
 use Rattle.pc_window.specs.WindowRun.{Window, supply_of}
 use Rattle.pc_window.specs.Kept.{Left, Rest, Gone, Finished, Trapped_at}
 use Rattle.pc_window.specs.Steps.{window_of, with_tree, FillsTo, Cuts}
-use Rattle.pc_window.specs.StoredWindow.{InNodes}
+use Rattle.pc_window.specs.StoredWindow.{window_in, InNodes}
 use Rattle.pc_automaton.specs.declared.automaton.AutomatonLeaf.{AutomatonLeaf}
 use Rattle.pc_automaton.specs.declared.automaton.AutomatonLeaf.TheVariants.{To, Out, Stop, Trap}
-use Rattle.pc_automaton.specs.Automaton.{AutomatonState}
+use Rattle.pc_automaton.specs.declared.automaton.AutomatonState.{AutomatonState as StoredState}
+use Rattle.pc_automaton.specs.declared.left.Left.{Left as StoredLeft}
+use Rattle.pc_automaton.specs.declared.row_tree.RowTree.{RowTree}
+use Rattle.pc_automaton.specs.Automaton.{AutomatonState, state_in}
+use Rattle.pc_automaton.specs.StoredRow.{row_in, left_in}
+use Rattle.pc_pattern.specs.declared.leading.Counts.{Counts}
+use Rattle.pc_pattern.specs.declared.renaming.Renaming.{Renaming}
 use Rattle.pc_pattern.specs.declared.error.SearchError.{SearchError}
 use Rattle.pc_pattern.specs.declared.error.SearchError.TheVariants.{Memory, NoPattern}
 use Rattle.pc_pattern.specs.Pairs.{Pair, defined}
 use Rattle.pc_pattern.specs.Searches.{bare_leaf}
-use Rattle.pc_pattern.specs.models.Renaming.{renamed_homes, renamed_bare, arguments_for}
+use Rattle.pc_pattern.specs.models.Renaming.{pairs_in, renamed_homes, renamed_bare, arguments_for}
 
 -- a window rebased and tidied
 abbrev pub brought_on : Window → Window
@@ -74,6 +81,21 @@ led taken names next waiting (At_leaf left) =
     let made = led_left taken names waiting left in
     record { row = At_leaf made.leaf; next = next; waiting = made.waiting }
 
+-- ---- the same of what lies in memory, where so many members were taken
+
+abbrev pub window_led : Counts → Renaming → List StoredWindow → StoredWindow → LedLeaf
+window_led counts names waiting w = led_window counts.taken (pairs_in names) (map window_in waiting) (window_in w)
+
+abbrev pub left_led : Counts → Renaming → List StoredWindow → StoredLeft → LedLeaf
+left_led counts names waiting left = led_left counts.taken (pairs_in names) (map window_in waiting) (left_in left)
+
+abbrev pub row_led : Counts → Renaming → ℕ → List StoredWindow → RowTree StoredLeft → Led
+row_led counts names next waiting row = led counts.taken (pairs_in names) next (map window_in waiting) (row_in left_in row)
+
+-- members are left that may come to wait, once so many wait
+abbrev pub IsWithinRows : Counts → List StoredWindow → Type 0
+IsWithinRows counts waiting = counts.taken + length waiting ≤ counts.rows
+
 -- ---- more members than there may be
 
 -- there are more members than so many
@@ -118,3 +140,12 @@ pub record Exceeds (table : Table) (taken rows : ℕ) (w : Window) (waiting : Li
 abbrev pub IsUnmade : Table → ℕ → ℕ → Window → List Window → SearchError → Type 0
 IsUnmade table taken rows w waiting Memory = Unit {0}
 IsUnmade table taken rows w waiting (NoPattern reached) = Exceeds table taken rows w waiting reached
+
+-- ---- the same of what lies in memory
+
+abbrev pub IsMade : RegionTable → Counts → StoredWindow → List StoredWindow → StoredState → List StoredWindow → Type 0
+IsMade table counts w waiting state later =
+    Made (table_of table) counts.taken (window_in w) (map window_in waiting) (state_in state) (map window_in later)
+
+abbrev pub IsNotMade : RegionTable → Counts → StoredWindow → List StoredWindow → SearchError → Type 0
+IsNotMade table counts w waiting error = IsUnmade (table_of table) counts.taken counts.rows (window_in w) (map window_in waiting) error

@@ -12,4 +12,5 @@ use Rattle.pc_pattern.proofs.leading.+led.Goals as goal
 pub returns-in_err-yes-in-Test-clause-refused : goal.returns-in_err-yes-in-Test-clause-refused
 returns-in_err-yes-in-Test-clause-refused t c =
     let is : c.from_residual-in_err-yes-in-Test.result ≡ Err c.in_err-yes-in-Test.field-0.0 = search rules in
-    refused_at _ _ (pairs_in c.args.names.now) c.args.next.now (map window_in c.args.waiting.now.items) _ _ _ _ _ _ is (ap (λ (row : RowTree Left). row_in left_in row) c.in-Test.is) (rw c.into_inner.ensures at c.in_err-yes-in-Test.ensures.refused)
+    refused_at _ _ (pairs_in c.args.names.now) c.args.next.now (map window_in c.args.waiting.now.items) _ _ _ _ _ _ is
+    (ap (λ (row : RowTree Left). row_in left_in row) c.in-Test.is) (rw c.into_inner.ensures at c.in_err-yes-in-Test.ensures.refused)

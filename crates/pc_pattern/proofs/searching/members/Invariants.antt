@@ -10,7 +10,8 @@ use Rattle.pc_pattern.proofs.searching.members.Given as goal
 -- the members that were taken have their states, and the others wait
 abbrev pub invariant-loop-window : goal.invariant-loop-window
 invariant-loop-window l =
-    Searching (table_of l.table) l.fn.limits l.region l.rows (states_in l.states) (map window_in l.waiting.items) × AllByRecursion IsSettled l.waiting.items
+    Searching (table_of l.table) l.fn.limits l.region l.rows (states_in l.states) (map window_in l.waiting.items)
+    × AllByRecursion IsSettled l.waiting.items
 
 -- there may be so many more
 abbrev pub decreases-loop-window : goal.decreases-loop-window
