@@ -1,4 +1,6 @@
-use crate::{CommandError, CompileCommand, SourceName, compile_command, simulate_command, view_command};
+use crate::{
+    CommandError, CompileCommand, SourceName, compile_command, simulate_command, view_command,
+};
 use pc_word::{Extent, Limits};
 use std::alloc::{AllocError, Global};
 use std::test::Fail;

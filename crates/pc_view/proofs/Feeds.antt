@@ -1,7 +1,7 @@
 -- No line of a listing has a line feed in it.
-use Rattle.std.proofs.Common.{◌≡◌, ℕ, zero, suc, ◌+◌, ◌/◌, ◌%◌, ◌==◌, Bool, true, false, cond, List, [], ◌∷◌}
-use Rattle.std.proofs.Common.{◌++◌, length, map, Some, None, refl, sym, ◌∙◌, ap, arith, codes}
-use Rattle.std.specs.Prelude.{ℤ, pos, negsuc, nat_eq, slice_get, unwrap_or}
+use Rattle.std.proofs.Common.{◌≡◌, ℕ, zero, suc, ◌/◌, ◌%◌, ◌==◌, Bool, true, false, cond, List, [], ◌∷◌}
+use Rattle.std.proofs.Common.{◌++◌, length, map, refl, ◌∙◌, arith, codes}
+use Rattle.std.specs.Prelude.{ℤ, pos, negsuc}
 use Rattle.std.proofs.lemmas.Bool.Decides.{nat_tests}
 use Rattle.std.specs.List.{AllByRecursion, count_by}
 use Rattle.std.specs.Fmt.{decimal, digits, digits_onto, digit_glyph, signed_decimal}
@@ -130,7 +130,7 @@ unfed_leaf Ends = refl
 unfed_leaf (Traps kind line) =
     unfed_both (codes "trap: ") (trap_text kind ++ (codes " at line " ++ decimal line)) refl
     (unfed_both (trap_text kind) (codes " at line " ++ decimal line) (unfed_trap kind)
-        (unfed_both (codes " at line ") (decimal line) refl (unfed_decimal line)))
+    (unfed_both (codes " at line ") (decimal line) refl (unfed_decimal line)))
 
 -- ---- lines
 
@@ -142,9 +142,9 @@ unfed_tree first below (Either on on_yes on_no) p q = (
   all_both Unfed (tree_lines (below ++ codes "yes ") (below ++ codes "|   ") on_yes)
       (tree_lines (below ++ codes "no  ") (below ++ codes "    ") on_no)
       (unfed_tree (below ++ codes "yes ") (below ++ codes "|   ") on_yes (unfed_both below (codes "yes ") q refl)
-          (unfed_both below (codes "|   ") q refl))
+      (unfed_both below (codes "|   ") q refl))
       (unfed_tree (below ++ codes "no  ") (below ++ codes "    ") on_no (unfed_both below (codes "no  ") q refl)
-          (unfed_both below (codes "    ") q refl)),
+      (unfed_both below (codes "    ") q refl)),
 )
 unfed_tree first below (At_leaf leaf) p q = (unfed_both first (leaf_words leaf) p (unfed_leaf leaf), tt)
 
@@ -180,7 +180,7 @@ unfolding limit_words
 unfed_limit_words limits =
     let end = codes " loads and stores" in
     numbered (codes "limits of a row: ") limits.ops
-        (codes " items, " ++ (decimal limits.tests ++ (codes " tests, " ++ (decimal limits.mem ++ end)))) refl
+    (codes " items, " ++ (decimal limits.tests ++ (codes " tests, " ++ (decimal limits.mem ++ end)))) refl
     (numbered (codes " items, ") limits.tests (codes " tests, " ++ (decimal limits.mem ++ end)) refl
     (numbered (codes " tests, ") limits.mem end refl refl))
 
@@ -233,7 +233,7 @@ unfed_choice (suc (suc (suc (suc (suc (suc (suc (suc more)))))))) = refl
 unfed_note : (note : Note) → Unfed (note_words note)
 unfed_note note =
     numbered (codes "loop ") note.line
-        (codes ": " ++ (choice_text note.choice ++ (codes " " ++ (decimal note.number ++ (codes " of " ++ decimal note.limit))))) refl
+    (codes ": " ++ (choice_text note.choice ++ (codes " " ++ (decimal note.number ++ (codes " of " ++ decimal note.limit))))) refl
     (unfed_both (codes ": ") (choice_text note.choice ++ (codes " " ++ (decimal note.number ++ (codes " of " ++ decimal note.limit)))) refl
     (unfed_both (choice_text note.choice) (codes " " ++ (decimal note.number ++ (codes " of " ++ decimal note.limit))) (unfed_choice note.choice)
     (numbered (codes " ") note.number (codes " of " ++ decimal note.limit) refl

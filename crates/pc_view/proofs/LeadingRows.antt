@@ -1,10 +1,10 @@
 -- How the lists of the rows that lead to each row grow.
-use Rattle.std.proofs.Common.{◌≡◌, ◌≢◌, ℕ, zero, suc, ◌+◌, ◌-◌, ◌<◌, ◌==◌, ◌||◌, Bool, true, false, cond, List}
-use Rattle.std.proofs.Common.{[], ◌∷◌, ◌++◌, length, map, take, Option, Some, None, refl, sym, ◌∙◌, ap, subst, arith, length-append}
+use Rattle.std.proofs.Common.{◌≡◌, ◌≢◌, ℕ, zero, suc, ◌+◌, ◌-◌, ◌<◌, ◌||◌, Bool, true, false, cond, List}
+use Rattle.std.proofs.Common.{[], ◌∷◌, ◌++◌, length, Option, Some, None, refl, sym, ◌∙◌, ap, subst, arith, length-append}
 use Rattle.std.proofs.Common.{append-nil, get_or}
 use Rattle.std.specs.Prelude.{nat_eq, slice_get, slice_set, Result, Ok, Err, OnOk}
 use Rattle.std.specs.Option.{option_map}
-use Rattle.std.specs.List.{AllByRecursion, list_any}
+use Rattle.std.specs.List.{AllByRecursion}
 use Rattle.std.proofs.lemmas.Bool.Decides.{nat_tests}
 use Rattle.std.proofs.lemmas.Option.{slice_get-get_or}
 use Rattle.std.proofs.lemmas.List.Folds.{list_any-append}
@@ -97,11 +97,11 @@ next_at b n m e = ap (λ (k : ℕ). cond b (k ∷ []) []) e
 
 rows_leading_to-behind : (target number : ℕ) (rows : List CodeRow) (row : CodeRow)
     → rows_leading_to target number (rows ++ row ∷ []) ≡ rows_leading_to target number rows ++ cond (leads_to target row)
-        ((number + length rows) ∷ []) []
+    ((number + length rows) ∷ []) []
 rows_leading_to-behind target number [] row = next_at (leads_to target row) number (number + 0) (omega arith)
 rows_leading_to-behind target number (first ∷ rows) row =
     by (leads_to target first) _ _ _
-        (rows_leading_to-behind target (suc number) rows row ∙ ap (λ (l : List ℕ). rows_leading_to target (suc number) rows ++ l)
+    (rows_leading_to-behind target (suc number) rows row ∙ ap (λ (l : List ℕ). rows_leading_to target (suc number) rows ++ l)
     (next_at (leads_to target row) (suc number + length rows) (number + suc (length rows)) (omega arith)))
   where
     by : (b : Bool) (x y z : List ℕ) → x ≡ y ++ z → cond b (number ∷ x) x ≡ cond b (number ∷ y) y ++ z

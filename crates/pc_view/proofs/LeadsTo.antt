@@ -1,7 +1,7 @@
 -- The rows that are listed as leading to a row are those that have a leaf to it, each once.
 use Rattle.std.proofs.Common.{◌≡◌, ℕ, zero, suc, ◌+◌, ◌<◌, ◌≤◌, ◌||◌, Bool, true, false, cond, List, [], ◌∷◌}
-use Rattle.std.proofs.Common.{length, Option, Some, None, refl, sym, ◌∙◌, ap, subst, arith, inl, inr}
-use Rattle.std.specs.Prelude.{nat_eq, slice_get, Contains, ◌⊎◌, ◌↔◌}
+use Rattle.std.proofs.Common.{Some, refl, sym, ◌∙◌, subst, arith, inl, inr}
+use Rattle.std.specs.Prelude.{nat_eq, slice_get, Contains, ◌⊎◌}
 use Rattle.std.specs.List.{AllByRecursion, list_any}
 use Rattle.std.proofs.lemmas.Bool.Decides.{nat_tests}
 use Rattle.pc_word.proofs.Lists.{all_imply}
@@ -107,7 +107,7 @@ leads_listed target first zero (top ∷ rest) row e leaf =
     finds_leaf target (leaves_of top) (subst (λ (r : CodeRow). HasLeafTo r target) (sym (some_same top row e)) leaf) in
     let number : first ≡ first + 0 = omega arith in
     rw leads (subst (λ n. Contains (first ∷ rows_leading_to target (suc first) rest) n) number
-        (contains_here first (rows_leading_to target (suc first) rest)))
+    (contains_here first (rows_leading_to target (suc first) rest)))
 leads_listed target first (suc place) (top ∷ rest) row e leaf =
     let number : suc first + place ≡ first + suc place = omega arith in
     listed_later target first (first + suc place) top rest

@@ -1,5 +1,5 @@
 -- The lines of a listing, one by one and how many.
-use Rattle.std.proofs.Common.{◌≡◌, ℕ, suc, ◌+◌, List, [], ◌∷◌, ◌++◌, length, map, refl, sym, ◌∙◌, ap, arith, codes}
+use Rattle.std.proofs.Common.{◌≡◌, ℕ, suc, ◌+◌, List, [], ◌∷◌, ◌++◌, length, map, refl, arith, codes}
 use Rattle.std.proofs.Common.{length-append}
 use Rattle.std.specs.List.{sum_by}
 use Rattle.std.proofs.lemmas.List.{length-map}
@@ -8,7 +8,6 @@ use Rattle.pc_word.specs.Row.{Then, Either, At_leaf, items_of, tests_of, leaves_
 use Rattle.pc_machine.specs.MachineCode.{CodeRow, RowCode}
 use Rattle.pc_object.specs.ObjectText.{CodeWithNotes}
 use Rattle.pc_report.specs.Report.{note_words}
-use Rattle.pc_view.specs.Words.{operator_words, item_words, test_words, leaf_words}
 use Rattle.pc_view.specs.Tree.{tree_lines}
 use Rattle.pc_view.specs.Listing.{row_lines, rows_lines, listing_lines}
 use Rattle.pc_view.specs.Laws.{words_of, EndWith, part_count, line_count}
@@ -34,7 +33,7 @@ length-tree_lines first below (Then item rest) = omega (arith, length-tree_lines
 length-tree_lines first below (Either on on_yes on_no) =
     two (tree_lines (below ++ codes "yes ") (below ++ codes "|   ") on_yes) (tree_lines (below ++ codes "no  ") (below ++ codes "    ") on_no)
     (length-tree_lines (below ++ codes "yes ") (below ++ codes "|   ") on_yes)
-        (length-tree_lines (below ++ codes "no  ") (below ++ codes "    ") on_no)
+    (length-tree_lines (below ++ codes "no  ") (below ++ codes "    ") on_no)
   where
     two : (a b : List (List ℕ)) → length a ≡ part_count on_yes → length b ≡ part_count on_no
         → suc (length (a ++ b)) ≡ part_count (Either on on_yes on_no)

@@ -1,12 +1,12 @@
 -- What an object that loads has: rows with few items and tests, which lead to rows that are there.
-use Rattle.std.proofs.Common.{◌≡◌, ℕ, ◌≤◌, List, length, All, sym, subst, arith}
+use Rattle.std.proofs.Common.{ℕ, List, length, subst, arith}
 use Rattle.std.proofs.lemmas.List.{length-map}
 use Rattle.std.proofs.lemmas.List.Elements.{All-from_recursion}
 use Rattle.std.specs.List.{AllByRecursion}
 use Rattle.pc_word.specs.declared.item.Limits.{Limits}
 use Rattle.pc_word.specs.Ranges.{AreLimits}
 use Rattle.pc_word.specs.Row.{leaves_of}
-use Rattle.pc_word.proofs.Lists.{all_front, all_back, all_of_map, all_imply}
+use Rattle.pc_word.proofs.Lists.{all_of_map, all_imply}
 use Rattle.pc_machine.specs.declared.tree.Tree.{Tree}
 use Rattle.pc_machine.specs.MachineCode.{CodeRow, row_of, rows_of}
 use Rattle.pc_machine.specs.WellFormed.{IsLeaf, IsRow}

@@ -2,7 +2,7 @@
 use Rattle.std.specs.Prelude.{ℕ, suc, List, [], ◌∷◌, ◌++◌, codes, slice_get, unwrap_or}
 use Rattle.std.specs.Fmt.{decimal}
 use Rattle.pc_word.specs.declared.item.OpCode.{OpCode}
-use Rattle.pc_word.specs.declared.item.OpCode.TheVariants.{Add, Sub, Mul, Div, Rem, Shl, Shr, And, Or, Xor, Less, LessEq, Equal, Unequal, Below}
+use Rattle.pc_word.specs.declared.item.OpCode.TheVariants.{Shl, Shr, Or, Less, LessEq}
 use Rattle.pc_word.specs.Row.{Then, Either, At_leaf}
 use Rattle.pc_machine.specs.MachineCode.{Leads_to, Ends, Traps, CodeRow}
 use Rattle.pc_object.specs.declared.object.Note.{Note}

@@ -85,7 +85,8 @@ row 1: 0 of 4 items, 0 of 3 tests, 0 of 1 loads and stores; from rows: 0\n\
 const TREE_GRAPH: &str = "\
 digraph rows {\n\
 \x20   node [shape=record];\n\
-\x20   0 [label=\"{row 0|if r1|{{yes|if r2|{{yes|a0[r2] = -1|<pyy> goto row 1}|{no|<pyn> stop}}}|{no|r3 = r3 \\< 10|if r4|{{yes|<pny> goto row 0}|{no|<pnn> trap: out of bounds at line 12}}}}}\"];\n\
+\x20   0 [label=\"{row 0|if r1|{{yes|if r2|{{yes|a0[r2] = -1|<pyy> goto row 1}|{no|<pyn> stop}}}|{no|r3 = r3 \\< 10|if r4|{{yes|\
+<pny> goto row 0}|{no|<pnn> trap: out of bounds at line 12}}}}}\"];\n\
 \x20   0:pyy -> 1;\n\
 \x20   0:pny -> 0;\n\
 \x20   1 [label=\"{row 1|<p> goto row 0}\"];\n\
@@ -160,9 +161,12 @@ loop 9: plain, bytes 107 of 97\n";
 const KINDS_GRAPH: &str = "\
 digraph rows {\n\
 \x20   node [shape=record];\n\
-\x20   0 [label=\"{row 0|r0 = r1 + -7|r1 = r2 - -6|r2 = r3 * -5|r3 = r4 / -4|r4 = r5 % -3|r5 = r6 \\<\\< -2|r6 = r7 \\>\\> -1|r7 = r8 & 0|r8 = r9 \\| 1|r9 = r10 ^ 2|r10 = r11 \\< 3|r11 = r12 \\<= 4|r12 = r13 == 5|r13 = r14 != 6|r14 = r15 below 7|r15 = r127|r16 = a1[r0]|a0[3] = r2|print(-2147483648)|<p> goto row 1}\"];\n\
+\x20   0 [label=\"{row 0|r0 = r1 + -7|r1 = r2 - -6|r2 = r3 * -5|r3 = r4 / -4|r4 = r5 % -3|r5 = r6 \\<\\< -2|r6 = r7 \\>\\> -1|\
+r7 = r8 & 0|r8 = r9 \\| 1|r9 = r10 ^ 2|r10 = r11 \\< 3|r11 = r12 \\<= 4|r12 = r13 == 5|r13 = r14 != 6|r14 = r15 below 7|\
+r15 = r127|r16 = a1[r0]|a0[3] = r2|print(-2147483648)|<p> goto row 1}\"];\n\
 \x20   0:p -> 1;\n\
-\x20   1 [label=\"{row 1|r0 = read()|if r9|{{yes|<py> trap: divide by zero at line 1}|{no|<pn> trap: end of input at line 4294967295}}}\"];\n\
+\x20   1 [label=\"{row 1|r0 = read()|if r9|{{yes|<py> trap: divide by zero at line 1}|{no|\
+<pn> trap: end of input at line 4294967295}}}\"];\n\
 \x20   2 [label=\"{row 2|r127 = more()|<p> stop}\"];\n\
 \x20   note0 [shape=box, style=filled, fillcolor=palegreen, label=\"loop 2: pipelined, rows 100 of 90\"];\n\
 \x20   note1 [shape=box, style=filled, fillcolor=khaki, label=\"loop 3: packed, rows 101 of 91\"];\n\

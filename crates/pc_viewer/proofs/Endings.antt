@@ -1,7 +1,7 @@
 -- How the viewer ends, put together from what its steps leave.
 use Rattle.std.proofs.Common.{◌≡◌, ℕ, ◌+◌, ◌<◌, ◌≤◌, ◌⊎◌, inl, inr, List, [], length, take, Option, Some, None, refl}
-use Rattle.std.proofs.Common.{sym, ◌∙◌, ap, subst, arith, length-take, zero-le}
-use Rattle.std.specs.Prelude.{IsSome, IfSome, Ok, Err, min}
+use Rattle.std.proofs.Common.{sym, ◌∙◌, ap, subst, arith, length-take}
+use Rattle.std.specs.Prelude.{IsSome, Err, min}
 use Rattle.std.specs.Borrow.{Bor}
 use Rattle.std.specs.FinMap.{get}
 use Rattle.std.specs.Option.{option_map}
@@ -11,7 +11,6 @@ use Rattle.pc_word.specs.Count.{Rose}
 use Rattle.pc_word.specs.Exact.{IsRefusal}
 use Rattle.pc_word.specs.MachineLimits.{most_object}
 use Rattle.pc_object.specs.Cause.{object_cause}
-use Rattle.pc_object.specs.ObjectText.{CodeWithNotes}
 use Rattle.pc_object.specs.Reading.{object_reading}
 use Rattle.pc_object.specs.declared.refusal.ObjectError.{ObjectError}
 use Rattle.pc_object.specs.declared.refusal.ObjectError.TheVariants as error
@@ -21,7 +20,7 @@ use Rattle.pc_command.specs.Requests.{ViewRequest, view_command_of}
 use Rattle.pc_command.proofs.PlainWords.{no_words-command}
 use Rattle.pc_report.specs.declared.fault.ObjectFault.{ObjectFault}
 use Rattle.pc_report.specs.declared.fault.ObjectFault.TheVariants as object
-use Rattle.pc_viewer.specs.Objects.{HasObjectFault, Long_object, Unread_object, HasText, Holds, HoldsText, told_of_object}
+use Rattle.pc_viewer.specs.Objects.{HasObjectFault, Long_object, Unread_object, HasText, HoldsText, told_of_object}
 use Rattle.pc_viewer.specs.Outside.{SendsFront, Streamed, Surroundings}
 use Rattle.pc_viewer.specs.Told.{Told}
 use Rattle.pc_viewer.specs.Viewer.{ViewerEnds, Viewed, Misused, Unread, Refused, Broke, Lacking, ViewerLacks, Early, Sending, ViewerPromise}

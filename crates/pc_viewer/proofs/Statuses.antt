@@ -55,7 +55,7 @@ module _ (old new : Surroundings) (request : ViewRequest) (text : List ℕ) (fil
   loaded_text : (object : CodeWithNotes) → Holds old.shelf.held request.object object → IsTextOf text object
   loaded_text object h =
       let here : get file.files request.object ≡ Some (object_text object) = subst
-          (λ (o : Option Files). HasText o request.object (object_text object)) file.held h.text in
+      (λ (o : Option Files). HasText o request.object (object_text object)) file.held h.text in
       record { loads = h.loads; text = some_same text (object_text object) (sym file.here ∙ here) }
 
   -- so it is the object of that text

@@ -1,6 +1,6 @@
 -- Objects that load, the files that hold them, and why bytes are refused, as a user is told it. What is said of a file is said where
 -- the shelf tells what it holds, and where it does not, nothing is.
-use Rattle.std.specs.Prelude.{◌≡◌, ℕ, ◌<◌, ◌≤◌, List, length, Option, Some, None, IfSome, Ok, Err}
+use Rattle.std.specs.Prelude.{◌≡◌, ℕ, ◌<◌, ◌≤◌, List, length, Option, Some, None, IfSome, Err}
 use Rattle.std.specs.FinMap.{get}
 use Rattle.pc_word.specs.MachineLimits.{most_object}
 use Rattle.pc_object.specs.ObjectText.{CodeWithNotes, IsObject, object_text}

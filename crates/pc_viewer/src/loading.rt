@@ -47,11 +47,7 @@ fn text_of(alloc: Global, dot: bool, object: &Object) -> Result<Vec<u8>, AllocEr
 }
 
 /// The object of a file.
-fn load<'a, H: Shelf>(
-    alloc: Global,
-    name: &'a str,
-    shelf: &mut H,
-) -> Result<Object, ViewFault<'a>>
+fn load<'a, H: Shelf>(alloc: Global, name: &'a str, shelf: &mut H) -> Result<Object, ViewFault<'a>>
     ensures object { MatchResult result (λ object. Holds (H.state shelf.old).held name.entry.now (object_of object))
         (λ fault. StopsAt name.entry.now (H.state shelf.old) (H.state shelf.new) fault) }
     ensures shelf { ReadKeeps (H.state shelf.old) (H.state shelf.new) }

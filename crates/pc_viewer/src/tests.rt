@@ -76,9 +76,7 @@ fn answers(alloc: Global, wanted: &Call) -> Result<bool, Fail> {
     let mut out = MemorySink::new(alloc, ROOM, only(alloc, write)?)?;
     let mut err = MemorySink::new(alloc, ROOM, only(alloc, tell)?)?;
     let status = view(alloc, words.as_slice(), &mut shelf, &mut out, &mut err);
-    Ok(status == code
-        && out.taken() == out_text.as_bytes()
-        && err.taken() == err_text.as_bytes())
+    Ok(status == code && out.taken() == out_text.as_bytes() && err.taken() == err_text.as_bytes())
 }
 
 #[test]

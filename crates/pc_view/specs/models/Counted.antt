@@ -1,5 +1,5 @@
 -- What a row has, as the code counts it.
-use Rattle.std.specs.Prelude.{ℕ, ◌≤◌, length}
+use Rattle.std.specs.Prelude.{◌≤◌, length}
 use Rattle.std.specs.List.{count_by}
 use Rattle.pc_word.specs.Items.{is_memory}
 use Rattle.pc_word.specs.Row.{items_of, tests_of}

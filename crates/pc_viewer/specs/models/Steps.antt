@@ -15,7 +15,7 @@ use Rattle.pc_viewer.specs.Objects.{HasObjectFault, Holds, HoldsText}
 use Rattle.pc_viewer.specs.Outside.{Streamed}
 use Rattle.pc_viewer.specs.Viewer.{view_text}
 use Rattle.pc_viewer.specs.declared.fault.ViewFault.{ViewFault}
-use Rattle.pc_viewer.specs.declared.fault.ViewFault.TheVariants.{NoMemory, Usage, ReadObject, Object, WriteOutput}
+use Rattle.pc_viewer.specs.declared.fault.ViewFault.TheVariants.{NoMemory, ReadObject, Object, WriteOutput}
 
 -- why there is no text
 pub data StopsAt (name : List ℕ) (old new : Shelved) : (fault : ViewFault) → Type 0 where

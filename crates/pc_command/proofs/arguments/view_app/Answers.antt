@@ -1,5 +1,5 @@
 -- The arguments are added in their order.
-use Rattle.std.proofs.Common.{◌∙◌, ap, codes}
+use Rattle.std.proofs.Common.{codes}
 use Rattle.pc_command.specs.Arguments.{view_app}
 use Rattle.pc_command.proofs.Programs.{added, nameless}
 use Rattle.pc_command.proofs.arguments.view_app.Goals as goal

@@ -1,13 +1,13 @@
-use Rattle.std.proofs.Common.{◌≡◌, ◌∙◌, ◌+◌, ◌||◌, false, ℕ, suc, ◌<◌, List, length, ap, subst, sym, arith}
+use Rattle.std.proofs.Common.{◌≡◌, ◌∙◌, ◌+◌, ℕ, suc, ◌<◌, length, ap, subst, sym, arith}
 use Rattle.std.specs.List.{AllByRecursion}
 use Rattle.std.specs.Option.{option_map}
-use Rattle.std.specs.Prelude.{nat_eq, slice_get, slice_set}
+use Rattle.std.specs.Prelude.{slice_get}
 use Rattle.pc_word.proofs.Lists.{all_back}
 use Rattle.pc_word.specs.Row.{At_leaf, Either, leaves_of}
 use Rattle.pc_machine.specs.MachineCode.{CodeRow, Leads_to, row_of}
 use Rattle.pc_machine.specs.WellFormed.{IsLeaf}
 use Rattle.pc_view.specs.Leading.{leads_to}
-use Rattle.pc_view.specs.models.Lists.{noted, noted_where}
+use Rattle.pc_view.specs.models.Lists.{noted_where}
 use Rattle.pc_view.specs.models.Rows.{row_size}
 use Rattle.pc_view.proofs.LeadingRows.{leads_to-Either, noted_at, noted_where-both, ok_map}
 use Rattle.pc_view.proofs.leading.+note_leaves.Goals as goal
@@ -41,7 +41,7 @@ returns-in_ok-note_leaves-in-Test t c =
     ok_map c.note_leaves-in-Test-2.result (λ second target.
     second target
     ∙ ap (λ t. option_map (noted_where (leads_to target (row_of t)) c.args.number)
-        (slice_get c.note_leaves-in-Test.new.lists target)) c.deref-in-Test-2.ensures
+    (slice_get c.note_leaves-in-Test.new.lists target)) c.deref-in-Test-2.ensures
     ∙ ap (option_map (noted_where (leads_to target other) c.args.number)) (first target)
     ∙ noted_where-both (leads_to target one) (leads_to target other) c.args.number (slice_get c.args.lists.now target)
     ∙ ap (λ b. option_map (noted_where b c.args.number) (slice_get c.args.lists.now target))
@@ -51,8 +51,8 @@ pub returns-in-Goto : goal.returns-in-Goto
 returns-in-Goto t c =
     let is : row_of c.args.row.now ≡ At_leaf (Leads_to c.in-Goto.row) = ap row_of c.in-Goto.is in
     let there : c.in-Goto.row < length c.args.lists.now =
-        (subst (λ (row : CodeRow). AllByRecursion (IsLeaf (length c.args.lists.now)) (leaves_of row)) is c.requires).0 in
+    (subst (λ (row : CodeRow). AllByRecursion (IsLeaf (length c.args.lists.now)) (leaves_of row)) is c.requires).0 in
     ok_map c.note.result (λ new target.
     noted_at c.args.lists.now c.in-Goto.row c.args.number target _ c.note.new.list there new
     ∙ ap (λ (row : CodeRow). option_map (noted_where (leads_to target row) c.args.number) (slice_get c.args.lists.now target))
-        (sym is)) c.note.ensures
+    (sym is)) c.note.ensures

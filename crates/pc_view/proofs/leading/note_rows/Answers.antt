@@ -1,4 +1,4 @@
-use Rattle.std.proofs.Common.{◌≡◌, ◌∙◌, ◌++◌, ◌∷◌, [], ◌<◌, List, ℕ, length, map, take, get_or, ◌+◌, ap, arith}
+use Rattle.std.proofs.Common.{◌≡◌, ◌∙◌, ◌++◌, ◌∷◌, [], ◌<◌, List, ℕ, length, take, get_or, ◌+◌, ap, arith}
 use Rattle.std.proofs.Common.{subst, sym}
 use Rattle.std.proofs.lemmas.List.{length-map, length-take, map-append, take_more}
 use Rattle.pc_machine.specs.declared.tree.Tree.{Tree}
@@ -24,5 +24,5 @@ loop-number-preserved c =
     subst (λ (rows : List CodeRow). AreLists (length c.args.rows.now) rows c.note_leaves.new.lists)
     (rows_more c.args.rows.now i c.index-rows-number.result h c.index-rows-number.is)
     (lists-next (length c.args.rows.now) i (rows_of (take i c.args.rows.now))
-        (row_of c.index-rows-number.result) c.loop-number.lists c.note_leaves.new.lists
+    (row_of c.index-rows-number.result) c.loop-number.lists c.note_leaves.new.lists
     c.loop-number.invariant (length-so_far c.args.rows.now i h) c.note_leaves.auto.lists c.in_ok-note_leaves.ensures)

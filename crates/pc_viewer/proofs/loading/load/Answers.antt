@@ -1,5 +1,5 @@
 -- Why the bytes are no object.
-use Rattle.std.proofs.Common.{◌≡◌, List, ℕ, subst, sym}
+use Rattle.std.proofs.Common.{List, ℕ, subst, sym}
 use Rattle.pc_word.specs.Exact.{IsRefusal}
 use Rattle.pc_object.specs.Cause.{object_cause}
 use Rattle.pc_object.specs.Reading.{object_reading}
