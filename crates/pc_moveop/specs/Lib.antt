@@ -1,0 +1,4 @@
+pub mod NodeTree
+pub mod Climbing
+pub mod Refusing
+pub mod models
