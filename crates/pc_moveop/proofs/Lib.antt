@@ -1,1 +1,4 @@
 pub mod Touching
+pub mod Climbs
+pub mod Refused
+pub mod Renamed

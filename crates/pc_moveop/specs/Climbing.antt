@@ -7,14 +7,13 @@ use Rattle.pc_word.specs.declared.item.Operand.TheVariants.{Name, Lit}
 use Rattle.pc_word.specs.Items.{dest_of, operands_of, is_effect}
 use Rattle.pc_word.specs.Commit.{writes}
 use Rattle.pc_linear.specs.Form.{Form}
-use Rattle.pc_window.specs.Conflict.{touch_of, NoDependence, NoStoreDependence}
+use Rattle.pc_window.specs.Conflict.{Touch, touch_of, NoDependence, NoStoreDependence}
 use Rattle.pc_moveop.specs.NodeTree.{NodeTree, Item_node, Test_node, Leads_to, Leads_out, node_size, leaf_count}
 
--- what is passed: an item of the node above, an item before it in its own node, or a test before it there
+-- what is passed: an item, which is finished where it is one of the node above and else stands in the same node; or a test there
 pub data Passed : Type 0 where
-  Finished_item : (origin : ℕ) → (item : Item) → Passed
-  Item_before : (origin : ℕ) → (item : Item) → Passed
-  Test_before : Passed
+  Passed_item : (finished : Bool) → (origin : ℕ) → (item : Item) → Passed
+  Passed_test : Passed
 
 -- an item, and all that it passes, from above
 pub record Mover : Type 0 where
@@ -31,17 +30,17 @@ passing what None = None
 -- the item at a preorder place of a node, and what it passes there
 abbrev pub mover_in : ℕ → NodeTree → Option Mover
 mover_in place (Item_node tag origin item rest) =
-    if nat_eq place 0 then Some (record { tag = tag; origin = origin; item = item; way = [] }) else passing (Item_before origin item) (mover_in (place - 1) rest)
+    if nat_eq place 0 then Some (record { tag = tag; origin = origin; item = item; way = [] }) else passing (Passed_item false origin item) (mover_in (place - 1) rest)
 mover_in place (Test_node tag origin on on_yes on_no) =
     if nat_eq place 0 then None
-    else if nat_lt (place - 1) (node_size on_yes) then passing Test_before (mover_in (place - 1) on_yes)
-    else passing Test_before (mover_in (place - 1 - node_size on_yes) on_no)
+    else if nat_lt (place - 1) (node_size on_yes) then passing Passed_test (mover_in (place - 1) on_yes)
+    else passing Passed_test (mover_in (place - 1 - node_size on_yes) on_no)
 mover_in place (Leads_to below) = None
 mover_in place (Leads_out out) = None
 
 -- the item at a place of the node that a leaf leads to, and what it passes on its way to the end of the path above that leaf
 abbrev pub mover_at : (leaf place : ℕ) → NodeTree → Option Mover
-mover_at leaf place (Item_node tag origin item rest) = passing (Finished_item origin item) (mover_at leaf place rest)
+mover_at leaf place (Item_node tag origin item rest) = passing (Passed_item true origin item) (mover_at leaf place rest)
 mover_at leaf place (Test_node tag origin on on_yes on_no) =
     if nat_lt leaf (leaf_count on_yes) then mover_at leaf place on_yes else mover_at (leaf - leaf_count on_yes) place on_no
 mover_at leaf place (Leads_to below) = if nat_eq leaf 0 then mover_in place below else None
@@ -51,15 +50,8 @@ mover_at leaf place (Leads_out out) = None
 
 -- whether a name is defined by what is passed
 abbrev pub defines : ℕ → Passed → Bool
-defines name (Finished_item origin item) = writes (dest_of item) name
-defines name (Item_before origin item) = writes (dest_of item) name
-defines name Test_before = false
-
--- whether an operand is
-abbrev pub defines_operand : Option Operand → Passed → Bool
-defines_operand (Some (Name name)) what = defines name what
-defines_operand (Some (Lit value)) what = false
-defines_operand None what = false
+defines name (Passed_item finished origin item) = writes (dest_of item) name
+defines name Passed_test = false
 
 -- the first operand that is defined by what is passed
 abbrev pub first_defined : List Operand → List Passed → Option ℕ
@@ -67,32 +59,29 @@ first_defined [] way = None
 first_defined (Name name ∷ operands) way = if list_any (defines name) way then Some name else first_defined operands way
 first_defined (Lit value ∷ operands) way = first_defined operands way
 
--- an item may pass another as far as loads and stores go: a store may stand behind a load of the node above
-abbrev pub MayPass : (ℕ → Form) → Item → Passed → Type 0
-MayPass forms x (Finished_item origin item) = NoStoreDependence forms (touch_of item) (touch_of x)
-MayPass forms x (Item_before origin item) = NoDependence forms (touch_of item) (touch_of x)
-MayPass forms x Test_before = Unit {0}
+-- as far as loads and stores go, an item may come to stand before another; or right behind it, where that one is finished
+abbrev pub MayPass : (ℕ → Form) → (finished : Bool) → Option Touch → Option Touch → Type 0
+MayPass forms true above touch = NoStoreDependence forms above touch
+MayPass forms false above touch = NoDependence forms above touch
 
 -- the origin of the first load or store that an item may not pass, if there is one
 pub data FirstConflict (forms : ℕ → Form) (x : Item) : List Passed → Option ℕ → Type 0 where
   No_conflict : FirstConflict forms x [] None
-  Passes : (what : Passed) (way : List Passed) (found : Option ℕ) → MayPass forms x what → FirstConflict forms x way found → FirstConflict forms x (what ∷ way) found
-  Conflicts_above : (origin : ℕ) (item : Item) (way : List Passed) → (NoStoreDependence forms (touch_of item) (touch_of x) → ⊥)
-      → FirstConflict forms x (Finished_item origin item ∷ way) (Some origin)
-  Conflicts_before : (origin : ℕ) (item : Item) (way : List Passed) → (NoDependence forms (touch_of item) (touch_of x) → ⊥)
-      → FirstConflict forms x (Item_before origin item ∷ way) (Some origin)
+  Passes_test : (way : List Passed) (found : Option ℕ) → FirstConflict forms x way found → FirstConflict forms x (Passed_test ∷ way) found
+  Passes_item : (finished : Bool) (origin : ℕ) (item : Item) (way : List Passed) (found : Option ℕ) → MayPass forms finished (touch_of item) (touch_of x)
+      → FirstConflict forms x way found → FirstConflict forms x (Passed_item finished origin item ∷ way) found
+  Conflicts : (finished : Bool) (origin : ℕ) (item : Item) (way : List Passed) → (MayPass forms finished (touch_of item) (touch_of x) → ⊥)
+      → FirstConflict forms x (Passed_item finished origin item ∷ way) (Some origin)
 
 -- whether a test is passed
 abbrev pub is_test : Passed → Bool
-is_test (Finished_item origin item) = false
-is_test (Item_before origin item) = false
-is_test Test_before = true
+is_test (Passed_item finished origin item) = false
+is_test Passed_test = true
 
 -- whether a print, read or more is
 abbrev pub has_effect : Passed → Bool
-has_effect (Finished_item origin item) = is_effect item
-has_effect (Item_before origin item) = is_effect item
-has_effect Test_before = false
+has_effect (Passed_item finished origin item) = is_effect item
+has_effect Passed_test = false
 
 -- whether a test stands before an item
 abbrev pub crosses_test : Mover → Bool

@@ -32,13 +32,15 @@ abbrev pub out_of_order : Option ℕ → Option MoveError
 out_of_order (Some origin) = Some (MemoryOrder origin)
 out_of_order None = None
 
+-- the first refusal: an operand that is defined on the way, a conflict there, a test that is no way for the item, another effect
+abbrev pub first_refusal : (depends conflict : Option ℕ) → (crosses effect : Bool) → Item → Option MoveError
+first_refusal depends conflict crosses effect item =
+    refused_first (depends_on depends) (refused_first (out_of_order conflict)
+    (refused_first (if crosses && not (is_quiet item) then Some EffectAboveTest else None) (if effect && is_effect item then Some EffectOrder else None)))
+
 -- why an item may not rise, where this is its first conflict
 abbrev pub refusal_of_way : Mover → (conflict : Option ℕ) → Option MoveError
-refusal_of_way m conflict =
-    refused_first (depends_on (first_defined (operands_of m.item) m.way))
-    (refused_first (out_of_order conflict)
-    (refused_first (if crosses_test m && not (is_quiet m.item) then Some EffectAboveTest else None)
-    (if is_effect m.item && list_any has_effect m.way then Some EffectOrder else None)))
+refusal_of_way m conflict = first_refusal (first_defined (operands_of m.item) m.way) conflict (crosses_test m) (list_any has_effect m.way) m.item
 
 -- what a front has no room for, an item
 abbrev pub no_room_for : Limits → Item → Front → Option MoveError

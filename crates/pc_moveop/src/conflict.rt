@@ -4,7 +4,8 @@ ghost use Rattle.pc_window.specs.Hold.{operand_form};
 ghost use Rattle.pc_window.specs.Conflict.{touch_of};
 ghost use Rattle.pc_window.specs.StoredWindow.{forms_in};
 ghost use Rattle.pc_linear.specs.Equality.{NeverEqual};
-ghost use Rattle.pc_moveop.specs.models.Touches.{touched, touch_in, MayTouch};
+ghost use Rattle.pc_moveop.specs.Climbing.{MayPass};
+ghost use Rattle.pc_moveop.specs.models.Touches.{touched, touch_in};
 
 use pc_window::NameTable;
 use pc_word::{Item, Operand};
@@ -53,7 +54,7 @@ fn never_equal(names: &NameTable, one: Operand, other: Operand) -> bool
 /// right behind it.
 #[tactic(auto, using(crate::proofs::Touching::touching))]
 fn may_touch(names: &NameTable, first: Touch, second: Touch, finished: bool) -> bool
-    ensures { (result ≡ true) ↔ MayTouch (forms_in names.now.forms) finished (Some (touch_in first)) (Some (touch_in second)) }
+    ensures { (result ≡ true) ↔ MayPass (forms_in names.now.forms) finished (Some (touch_in first)) (Some (touch_in second)) }
 {
     if first.array != second.array {
         return true;
@@ -73,7 +74,7 @@ fn may_touch(names: &NameTable, first: Touch, second: Touch, finished: bool) -> 
 /// Whether an item may come to stand before another; or, where that one is finished, right behind
 /// it.
 pub(crate) fn may_pass(names: &NameTable, above: Item, item: Item, finished: bool) -> bool
-    ensures { (result ≡ true) ↔ MayTouch (forms_in names.now.forms) finished (touch_of above) (touch_of item) }
+    ensures { (result ≡ true) ↔ MayPass (forms_in names.now.forms) finished (touch_of above) (touch_of item) }
 {
     match touch_of(above) {
         None => true,
