@@ -6,6 +6,8 @@ mod conflict;
 mod error;
 mod items;
 mod landing;
+mod moving;
+mod naming;
 mod nodes;
 mod refusing;
 mod renaming;

@@ -1,10 +1,15 @@
 -- An item on its way up as it lies in memory, and what it met.
-use Rattle.std.specs.Prelude.{ℕ, ◌≡◌, Bool, true, false, if◌then◌else◌, List, [], ◌∷◌, Option, Some, None, slice_get}
+use Rattle.std.specs.Prelude.{ℕ, ◌≡◌, Bool, true, false, if◌then◌else◌, List, [], ◌∷◌, Option, Some, None, slice_get, length}
 use Rattle.std.specs.List.{list_any}
+use Rattle.pc_word.specs.declared.item.Item.{Item}
 use Rattle.pc_word.specs.declared.item.Operand.{Operand}
 use Rattle.pc_word.specs.declared.item.Operand.TheVariants.{Name, Lit}
 use Rattle.pc_word.specs.Items.{operands_of}
 use Rattle.pc_linear.specs.Form.{Form}
+use Rattle.pc_window.specs.declared.names.NameTable.{NameTable}
+use Rattle.pc_window.specs.Filled.{given_supply}
+use Rattle.pc_window.specs.StoredWindow.{supply_in}
+use Rattle.pc_moveop.specs.Moving.{moved_item, moved_name}
 use Rattle.pc_moveop.specs.Climbing.{Passed, Mover, defines, FirstConflict, has_effect, crosses_test}
 use Rattle.pc_moveop.specs.declared.climbing.Climb.{Climb}
 
@@ -45,3 +50,8 @@ abbrev pub first_marked : Bool → Bool → List Operand → Option ℕ
 first_marked first second [] = None
 first_marked first second (Name name ∷ operands) = if first then Some name else second_marked second operands
 first_marked first second (Lit value ∷ operands) = second_marked second operands
+
+-- an item as it comes, and the names with what is new
+pub record IsNamed (before after : NameTable) (m : Mover) (it : Item) : Type 0 where
+  pub item : it ≡ moved_item (length before.forms) m
+  pub names : supply_in after ≡ given_supply (supply_in before) (moved_name (length before.forms) m) (Some (moved_item (length before.forms) m))
