@@ -2,3 +2,4 @@ pub mod Touching
 pub mod Climbs
 pub mod Refused
 pub mod Renamed
+pub mod Paths
