@@ -3,3 +3,5 @@ pub mod Climbs
 pub mod Refused
 pub mod Renamed
 pub mod Paths
+pub mod Brought
+pub mod Legal

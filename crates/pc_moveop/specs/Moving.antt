@@ -17,22 +17,26 @@ use Rattle.pc_moveop.specs.declared.error.MoveError.{MoveError}
 use Rattle.pc_moveop.specs.declared.error.MoveError.TheVariants.{NotThere, Depends, MemoryOrder, EffectAboveTest, EffectOrder, Full, Memory}
 use Rattle.pc_moveop.specs.NodeTree.{NodeTree, nodes_in, node_at, with_node}
 use Rattle.pc_moveop.specs.Climbing.{Mover, mover_at, crosses_test}
-use Rattle.pc_moveop.specs.Taking.{landed}
+use Rattle.pc_moveop.specs.Taking.{Coming, landed}
 use Rattle.pc_moveop.specs.Refusing.{mover_of}
 
 -- the item as it comes: with the next name where a test stands before it
 abbrev pub moved_item : ℕ → Mover → Item
 moved_item next m = if crosses_test m then with_dest next m.item else m.item
 
+-- the same with its tag and origin
+abbrev pub coming_of : ℕ → Mover → Coming
+coming_of next m = record { tag = m.tag; origin = m.origin; item = moved_item next m }
+
 -- the name that is new, if one is
 abbrev pub moved_name : ℕ → Mover → Option ℕ
 moved_name next m = if crosses_test m then dest_of (with_dest next m.item) else None
 
 -- the node that a path leads to becomes another, and nothing else of the tree changes
-pub record NodeChanges (w v : StoredWindow) (path : List ℕ) (change : NodeTree → NodeTree) : Type 0 where
+pub record NodeChanges (before after : NodeTree) (path : List ℕ) (change : NodeTree → NodeTree) : Type 0 where
   pub node : NodeTree
-  pub at : node_at path (nodes_in w.tree) ≡ Some node
-  pub tree : nodes_in v.tree ≡ with_node path (change node) (nodes_in w.tree)
+  pub at : node_at path before ≡ Some node
+  pub tree : after ≡ with_node path (change node) before
 
 -- limits and loop stay
 pub record SameBounds (w v : StoredWindow) : Type 0 where
@@ -43,8 +47,13 @@ pub record SameBounds (w v : StoredWindow) : Type 0 where
 pub record HasMoved (w v : StoredWindow) (parent : List ℕ) (leaf place : ℕ) : Type 0 where
   pub mover : Mover
   pub is_mover : mover_of w parent leaf place ≡ Some mover
-  pub changes : NodeChanges w v parent (landed (record { tag = mover.tag; origin = mover.origin; item = moved_item (length w.names.forms) mover }) leaf place)
+  pub changes : NodeChanges (nodes_in w.tree) (nodes_in v.tree) parent (landed (coming_of (length w.names.forms) mover) leaf place)
   pub names : supply_in v.names ≡ given_supply (supply_in w.names) (moved_name (length w.names.forms) mover) (Some (moved_item (length w.names.forms) mover))
+  pub bounds : SameBounds w v
+
+-- the tree stays too
+pub record TreeKept (w v : StoredWindow) : Type 0 where
+  pub tree : v.tree ≡ w.tree
   pub bounds : SameBounds w v
 
 -- a window that is left by a move that fails: as it was, where the move is refused; and of want of memory its tree, limits and
@@ -56,7 +65,7 @@ Fails IsReason w v (MemoryOrder origin) = (v ≡ w) × IsReason (Some (MemoryOrd
 Fails IsReason w v EffectAboveTest = (v ≡ w) × IsReason (Some EffectAboveTest)
 Fails IsReason w v EffectOrder = (v ≡ w) × IsReason (Some EffectOrder)
 Fails IsReason w v (Full kind) = (v ≡ w) × IsReason (Some (Full kind))
-Fails IsReason w v Memory = (v.tree ≡ w.tree) × SameBounds w v
+Fails IsReason w v Memory = TreeKept w v
 
 -- from each state in which forms hold and the walk is no fault, the walk is the same, and forms hold
 abbrev pub WalkKept : (w v : StoredWindow) → Type 0

@@ -1,13 +1,15 @@
 //! Moving an item into the node above its own.
-ghost use Rattle.std.specs.Prelude.{◌≡◌, ◌<◌, ◌≤◌, ◌+◌, ◌^◌, ℕ, Some, None, length, IfOk, OnOk, IfErr};
+ghost use Rattle.std.specs.Prelude.{◌≡◌, ◌<◌, ◌≤◌, ◌+◌, ◌^◌, ℕ, Some, length, IfOk, IsSome, OnOk, OnErr};
 ghost use Rattle.pc_linear.specs.Form.{Form};
 ghost use Rattle.pc_window.specs.Tree.{tree_size};
-ghost use Rattle.pc_window.specs.Filled.{given_supply};
-ghost use Rattle.pc_window.specs.StoredWindow.{tree_in, forms_in, supply_in};
+ghost use Rattle.pc_window.specs.StoredWindow.{tree_in, forms_in};
+ghost use Rattle.pc_moveop.specs.NodeTree.{nodes_in, node_at};
 ghost use Rattle.pc_moveop.specs.Climbing.{Mover};
-ghost use Rattle.pc_moveop.specs.Refusing.{IsWhyNot};
-ghost use Rattle.pc_moveop.specs.Moving.{moved_item, moved_name, HasMoved, Fails};
+ghost use Rattle.pc_moveop.specs.Taking.{landed};
+ghost use Rattle.pc_moveop.specs.Refusing.{mover_of, IsWhyNot};
+ghost use Rattle.pc_moveop.specs.Moving.{NodeChanges, TreeKept, HasMoved};
 ghost use Rattle.pc_moveop.specs.models.Climbs.{Finds, IsNamed};
+ghost use Rattle.pc_moveop.specs.models.Landing.{coming_in};
 
 use crate::climbing::Climb;
 use crate::error::MoveError;
@@ -49,4 +51,53 @@ fn named(names: &mut NameTable, climb: Climb) -> Result<Item, AllocError>
         return Ok(climb.item);
     }
     give_name(names, climb.item)
+}
+
+/// An item comes into the node that a path leads to, from a place of the node behind a leaf there.
+#[tactic(auto, using(crate::proofs::Brought::bringing))]
+fn bring(
+    tree: &mut WindowTree,
+    parent: &[u16],
+    leaf: u32,
+    place: u32,
+    coming: Coming,
+    spare: Box<WindowTree>,
+)
+    requires small { tree_size (tree_in tree.old) < 2 ^ 31 }
+    requires there { IsSome (node_at parent.now (nodes_in tree.old)) }
+    ensures { NodeChanges (nodes_in tree.old) (nodes_in tree.new) parent.now (landed (coming_in coming) leaf place) }
+{
+    let mut node = swap_node(tree, parent, WindowTree::Stop);
+    land(&mut node, leaf, place, coming, spare);
+    swap_node(tree, parent, node);
+}
+
+/// What may move moves. On `Err` the tree is as before.
+#[tactic(auto, using(crate::proofs::Brought::bringing))]
+fn carry(
+    alloc: Global,
+    window: &mut Window,
+    parent: &[u16],
+    leaf: u32,
+    place: u32,
+    climb: Climb,
+) -> Result<(), AllocError>
+    requires small { tree_size (tree_in window.old.tree) < 2 ^ 31 }
+    requires names { length window.old.names.forms < 2 ^ 31 }
+    requires variables { window.old.names.next_variable < 2 ^ 31 }
+    requires found { Finds (forms_in window.old.names.forms) (mover_of window.old parent.now leaf place) (Some climb) }
+    ensures moved { OnOk result (HasMoved window.old window.new parent.now leaf place) }
+    ensures kept { OnErr result (TreeKept window.old window.new) }
+    ensures count { OnOk result (length window.new.names.forms ≤ length window.old.names.forms + 1) }
+    ensures variables { OnOk result (window.new.names.next_variable ≤ window.old.names.next_variable + 1) }
+{
+    let spare = spare_box(alloc)?;
+    let item = named(&mut window.names, climb)?;
+    let coming = Coming {
+        tag: climb.tag,
+        origin: climb.origin,
+        item,
+    };
+    bring(&mut window.tree, parent, leaf, place, coming, spare);
+    Ok(())
 }
