@@ -5,3 +5,6 @@ pub mod Renamed
 pub mod Paths
 pub mod Brought
 pub mod Legal
+pub mod Known
+pub mod Rising
+pub mod Comes
