@@ -13,7 +13,7 @@ use Rattle.pc_window.specs.Names.{IsKnown, IsNew, ReadsKnown, and_dest, Scoped, 
 use Rattle.pc_window.specs.Conflict.{MayFollow}
 use Rattle.pc_window.specs.Jump.{combined, NewForm, Without, GivesForm, Rises, EntersFront, Lands, Lands_renamed, Behind_item, On_yes, On_no}
 use Rattle.pc_window.specs.Opening.{Supply, with_name, changed}
-use Rattle.pc_window.specs.Filled.{given_supply}
+use Rattle.pc_window.specs.Filled.{given_supply, TwinsAlike}
 use Rattle.pc_window.specs.Rename.{with_dest}
 use Rattle.pc_window.proofs.Readiness.{Alike, alike, dest_named, not_written_named}
 use Rattle.pc_moveop.specs.NodeTree.{NodeTree, Item_node, Test_node, Leads_to, Leads_out, tree_of, node_front, leaf_count}
@@ -24,6 +24,11 @@ use Rattle.pc_moveop.proofs.Legal.{ClearItem, ClearWay, clear_alike}
 use Rattle.pc_moveop.proofs.Known.{new_apart, IsKnownMover, known_at}
 use Rattle.pc_moveop.proofs.Rising.{leaf_front, RisesKept, rises_kept, RisesNamed, rises_named}
 use Rattle.pc_moveop.proofs.Paths.{whole_front}
+
+-- it enters, and what becomes one has one tag and origin
+pub record Enters (known : ℕ → Bool) (forms forms' : ℕ → Form) (new : Option ℕ) (comes : Option Item) (from to : Front) : Type 0 where
+  pub enters : EntersFront known forms forms' new comes from to
+  pub twins : TwinsAlike enters
 
 follows : (forms : ℕ → Form) (x y : Item) → ClearItem forms x true y → MayFollow forms y x
 follows forms x y h = record { no_store_dependence = h.order; one_effect = h.one_effect }
@@ -38,7 +43,7 @@ module _ (forms : ℕ → Form) (base : ℕ → Bool) where
   abbrev pub EntersKept : (ℕ → Bool) → NodeTree → (Coming → NodeTree) → Option Mover → Type 0
   EntersKept known from to None = Unit {0}
   EntersKept known from to (Some m) = ClearWay forms m.item m.way → crosses_test m ≡ false → ReadsKnown base m.item → IsNew base (dest_of m.item) → Scoped known (tree_of from)
-      → EntersFront base forms forms None (Some m.item) (node_front from) (node_front (to (own m))) × IsNew known (dest_of m.item)
+      → Enters base forms forms None (Some m.item) (node_front from) (node_front (to (own m))) × IsNew known (dest_of m.item)
 
   kept_behind : (known : ℕ → Bool) (t o : ℕ) (y : Item) (rest : NodeTree) (to : Coming → NodeTree) (found : Option Mover) → EntersKept (and_dest known y) rest to found
       → EntersKept known (Item_node t o y rest) (λ c. Item_node t o y (to c)) (passing (Passed_item true o y) found)
@@ -46,7 +51,7 @@ module _ (forms : ℕ → Form) (base : ℕ → Bool) where
   kept_behind known t o y rest to (Some m) h = λ clear crosses reads isnew scoped. (
     let k = h clear.1 crosses reads isnew scoped.2 in
     let new = new_apart known y (dest_of m.item) k.1 in
-    (Behind_item t o y (Some m.item) (node_front rest) (node_front (to (own m))) (follows forms m.item y clear.0, new.1) tt k.0, new.0)
+    (record { enters = Behind_item t o y (Some m.item) (node_front rest) (node_front (to (own m))) (follows forms m.item y clear.0, new.1) tt k.0.enters; twins = k.0.twins }, new.0)
   )
 
   kept_yes : (known : ℕ → Bool) (t o : ℕ) (on : Operand) (p q : NodeTree) (to : Coming → NodeTree) (found : Option Mover) → EntersKept known p to found
@@ -54,7 +59,7 @@ module _ (forms : ℕ → Form) (base : ℕ → Bool) where
   kept_yes known t o on p q to None h = tt
   kept_yes known t o on p q to (Some m) h = λ clear crosses reads isnew scoped. (
     let k = h clear crosses reads isnew scoped.1 in
-    (On_yes t o on (Some m.item) (node_front p) (node_front q) (node_front (to (own m))) tt k.0, k.1)
+    (record { enters = On_yes t o on (Some m.item) (node_front p) (node_front q) (node_front (to (own m))) tt k.0.enters; twins = k.0.twins }, k.1)
   )
 
   kept_no : (known : ℕ → Bool) (t o : ℕ) (on : Operand) (p q : NodeTree) (to : Coming → NodeTree) (found : Option Mover) → EntersKept known q to found
@@ -62,7 +67,7 @@ module _ (forms : ℕ → Form) (base : ℕ → Bool) where
   kept_no known t o on p q to None h = tt
   kept_no known t o on p q to (Some m) h = λ clear crosses reads isnew scoped. (
     let k = h clear crosses reads isnew scoped.2 in
-    (On_no t o on (Some m.item) (node_front p) (node_front q) (node_front (to (own m))) tt k.0, k.1)
+    (record { enters = On_no t o on (Some m.item) (node_front p) (node_front q) (node_front (to (own m))) tt k.0.enters; twins = k.0.twins }, k.1)
   )
 
   kept_found : (known : ℕ → Bool) (place : ℕ) (below : NodeTree) (found : Option Mover) → RisesKept forms known (tree_of below) (λ d. tree_of (node_without d place below)) found
@@ -71,9 +76,9 @@ module _ (forms : ℕ → Form) (base : ℕ → Bool) where
   kept_found known place below (Some m) h = λ clear crosses reads isnew scoped. (
     let k = h clear crosses scoped in
     (
-      subst (λ (f : Front). EntersFront base forms forms None (Some m.item) (Unfinished (tree_of below)) (Issued m.tag m.origin m.item f))
+      subst (λ (f : Front). Enters base forms forms None (Some m.item) (Unfinished (tree_of below)) (Issued m.tag m.origin m.item f))
           (sym (leaf_front (node_without (dest_of m.item) place below)))
-          (Lands m.tag m.origin m.item (tree_of below) (tree_of (node_without (dest_of m.item) place below)) reads isnew refl refl k.0),
+          (record { enters = Lands m.tag m.origin m.item (tree_of below) (tree_of (node_without (dest_of m.item) place below)) reads isnew refl refl k.0; twins = tt }),
       k.1,
     )
   )
@@ -108,7 +113,7 @@ module _ (forms forms' : ℕ → Form) (base : ℕ → Bool) (n : ℕ) where
   EntersNamed from to None = Unit {0}
   EntersNamed from to (Some m) = ClearWay forms m.item m.way → crosses_test m ≡ true → ReadsKnown base (with_dest n m.item) → IsNew base (dest_of (with_dest n m.item)) → Unwritten n (tree_of from)
       → GivesForm forms forms' (with_dest n m.item) (dest_of (with_dest n m.item))
-      → EntersFront base forms forms' (dest_of (with_dest n m.item)) (Some (with_dest n m.item)) (node_front from) (node_front (to (renamed_as n m)))
+      → Enters base forms forms' (dest_of (with_dest n m.item)) (Some (with_dest n m.item)) (node_front from) (node_front (to (renamed_as n m)))
 
   named_behind : (t o : ℕ) (y : Item) (rest : NodeTree) (to : Coming → NodeTree) (found : Option Mover) → EntersNamed rest to found
       → EntersNamed (Item_node t o y rest) (λ c. Item_node t o y (to c)) (passing (Passed_item true o y) found)
@@ -116,31 +121,37 @@ module _ (forms forms' : ℕ → Form) (base : ℕ → Bool) (n : ℕ) where
   named_behind t o y rest to (Some m) h = λ clear crosses reads isnew free gives.
       let z = with_dest n m.item in
       let apart : IsNew (writes (dest_of y)) (dest_of z) = dest_named n m.item (IsNew (writes (dest_of y))) free.0 tt in
-      Behind_item t o y (Some z) (node_front rest) (node_front (to (renamed_as n m)))
-      (follows forms z y (clear_alike forms m.item z (alike n m.item) (Passed_item true o y ∷ []) (clear.0, tt)).0, apart) apart (h clear.1 crosses reads isnew free.1 gives)
+      let k = h clear.1 crosses reads isnew free.1 gives in
+      let may = follows forms z y (clear_alike forms m.item z (alike n m.item) (Passed_item true o y ∷ []) (clear.0, tt)).0 in
+      record { enters = Behind_item t o y (Some z) (node_front rest) (node_front (to (renamed_as n m))) (may, apart) apart k.enters; twins = k.twins }
 
   named_yes : (t o : ℕ) (on : Operand) (p q : NodeTree) (to : Coming → NodeTree) (found : Option Mover) → EntersNamed p to found
       → EntersNamed (Test_node t o on p q) (λ c. Test_node t o on (to c) q) found
   named_yes t o on p q to None h = tt
   named_yes t o on p q to (Some m) h = λ clear crosses reads isnew free gives.
-      On_yes t o on (Some (with_dest n m.item)) (node_front p) (node_front q) (node_front (to (renamed_as n m)))
-      (subst (λ (u : Tree). NotWritten (dest_of (with_dest n m.item)) u) (sym (whole_front q)) (not_written_named n m.item (tree_of q) free.1)) (h clear crosses reads isnew free.0 gives)
+      let k = h clear crosses reads isnew free.0 gives in
+      let apart = subst (λ (u : Tree). NotWritten (dest_of (with_dest n m.item)) u) (sym (whole_front q)) (not_written_named n m.item (tree_of q) free.1) in
+      record { enters = On_yes t o on (Some (with_dest n m.item)) (node_front p) (node_front q) (node_front (to (renamed_as n m))) apart k.enters; twins = k.twins }
 
   named_no : (t o : ℕ) (on : Operand) (p q : NodeTree) (to : Coming → NodeTree) (found : Option Mover) → EntersNamed q to found
       → EntersNamed (Test_node t o on p q) (λ c. Test_node t o on p (to c)) found
   named_no t o on p q to None h = tt
   named_no t o on p q to (Some m) h = λ clear crosses reads isnew free gives.
-      On_no t o on (Some (with_dest n m.item)) (node_front p) (node_front q) (node_front (to (renamed_as n m)))
-      (subst (λ (u : Tree). NotWritten (dest_of (with_dest n m.item)) u) (sym (whole_front p)) (not_written_named n m.item (tree_of p) free.0)) (h clear crosses reads isnew free.1 gives)
+      let k = h clear crosses reads isnew free.1 gives in
+      let apart = subst (λ (u : Tree). NotWritten (dest_of (with_dest n m.item)) u) (sym (whole_front p)) (not_written_named n m.item (tree_of p) free.0) in
+      record { enters = On_no t o on (Some (with_dest n m.item)) (node_front p) (node_front q) (node_front (to (renamed_as n m))) apart k.enters; twins = k.twins }
 
   named_found : (place : ℕ) (below : NodeTree) (found : Option Mover) → RisesNamed forms n (tree_of below) (λ d. tree_of (node_without d place below)) found
       → EntersNamed (Leads_to below) (λ c. Item_node c.tag c.origin c.item (leaf_to (node_without (dest_of c.item) place below))) found
   named_found place below None h = tt
   named_found place below (Some m) h = λ clear crosses reads isnew free gives.
       let z = with_dest n m.item in
-      subst (λ (f : Front). EntersFront base forms forms' (dest_of z) (Some z) (Unfinished (tree_of below)) (Issued m.tag m.origin z f)) (sym (leaf_front (node_without (dest_of z) place below)))
-      (Lands_renamed m.tag m.origin n m.item (tree_of below) (tree_of (node_without (dest_of z) place below)) reads isnew refl gives
-      (subst (λ (b : Bool). Rises forms m.tag m.origin m.item z b (tree_of below) (tree_of (node_without (dest_of z) place below))) crosses (h clear free)))
+      subst (λ (f : Front). Enters base forms forms' (dest_of z) (Some z) (Unfinished (tree_of below)) (Issued m.tag m.origin z f)) (sym (leaf_front (node_without (dest_of z) place below)))
+      (record {
+        enters = Lands_renamed m.tag m.origin n m.item (tree_of below) (tree_of (node_without (dest_of z) place below)) reads isnew refl gives
+            (subst (λ (b : Bool). Rises forms m.tag m.origin m.item z b (tree_of below) (tree_of (node_without (dest_of z) place below))) crosses (h clear free));
+        twins = tt;
+      })
 
   pub enters_named : (leaf place : ℕ) (t : NodeTree) → EntersNamed t (λ c. landed c leaf place t) (mover_at leaf place t)
   enters_named leaf place (Item_node t o y rest) = named_behind t o y rest (λ c. landed c leaf place rest) (mover_at leaf place rest) (enters_named leaf place rest)
@@ -180,7 +191,7 @@ gives_named names without x =
 -- what may move enters the node above, where names are known and the next name and form variable are new
 pub enters : (names : Supply) (known : ℕ → Bool) (leaf place : ℕ) (t : NodeTree) (m : Mover) → mover_at leaf place t ≡ Some m → ClearWay names.forms m.item m.way → Scoped known (tree_of t)
     → known names.next ≡ false → Unwritten names.next (tree_of t) → ((y : ℕ) → Without names.next_variable (names.forms y))
-    → EntersFront known names.forms (given_supply names (moved_name names.next m) (Some (moved_item names.next m))).forms (moved_name names.next m) (Some (moved_item names.next m))
+    → Enters known names.forms (given_supply names (moved_name names.next m) (Some (moved_item names.next m))).forms (moved_name names.next m) (Some (moved_item names.next m))
     (node_front t) (node_front (landed (coming_of names.next m) leaf place t))
 enters names known leaf place t m found clear scoped unknown free without = by_test (crosses_test m) refl
   where
@@ -191,7 +202,7 @@ enters names known leaf place t m found clear scoped unknown free without = by_t
     facts = (subst (IsKnownMover forms known (tree_of t)) found (known_at forms known leaf place t)) clear scoped
 
     by_test : (b : Bool) → crosses_test m ≡ b
-        → EntersFront known forms (given_supply names (if b then dest_of (with_dest names.next m.item) else None) (Some (if b then with_dest names.next m.item else m.item))).forms
+        → Enters known forms (given_supply names (if b then dest_of (with_dest names.next m.item) else None) (Some (if b then with_dest names.next m.item else m.item))).forms
         (if b then dest_of (with_dest names.next m.item) else None) (Some (if b then with_dest names.next m.item else m.item))
         (node_front t) (node_front (landed (record { tag = m.tag; origin = m.origin; item = if b then with_dest names.next m.item else m.item }) leaf place t))
     by_test true e =

@@ -8,3 +8,5 @@ pub mod Legal
 pub mod Known
 pub mod Rising
 pub mod Comes
+pub mod Fronts
+pub mod Moved
