@@ -1,19 +1,11 @@
 -- A node that is taken, changed and put back.
-use Rattle.std.proofs.Common.{◌≡◌, ℕ, suc, ◌+◌, ◌≤◌, ◌<◌, List, length, Option, Some, None, refl, sym, ◌∙◌, ap, subst, arith}
+use Rattle.std.proofs.Common.{◌≡◌, ℕ, ◌<◌, List, Option, Some, refl, sym, ◌∙◌, ap, subst, arith}
 use Rattle.std.specs.Prelude.{IsSome}
-use Rattle.pc_word.specs.declared.item.Item.{Item}
-use Rattle.pc_linear.specs.Form.{Form}
 use Rattle.pc_window.specs.declared.tree.WindowTree.{WindowTree}
-use Rattle.pc_window.specs.declared.window.Window.{Window as StoredWindow}
-use Rattle.pc_window.specs.Tree.{Tree, Stop_exit, tree_size}
-use Rattle.pc_window.specs.StoredWindow.{tree_in, forms_in}
+use Rattle.pc_window.specs.Tree.{Stop_exit, tree_size}
+use Rattle.pc_window.specs.StoredWindow.{tree_in}
 use Rattle.pc_moveop.specs.NodeTree.{NodeTree, Leads_out, nodes_in, tree_of, node_at, with_node}
-use Rattle.pc_moveop.specs.Climbing.{Mover}
-use Rattle.pc_moveop.specs.Taking.{Coming, landed}
-use Rattle.pc_moveop.specs.Refusing.{mover_behind, mover_of}
-use Rattle.pc_moveop.specs.Moving.{NodeChanges, SameBounds, HasMoved}
-use Rattle.pc_moveop.specs.models.Climbs.{Finds, IsNamed}
-use Rattle.pc_moveop.specs.declared.climbing.Climb.{Climb}
+use Rattle.pc_moveop.specs.Moving.{NodeChanges}
 use Rattle.pc_moveop.proofs.Paths.{tree_same, put_again, node_put, node_size_at, put_grows}
 
 same_size : (t : WindowTree) → tree_size (tree_of (nodes_in t)) ≡ tree_size (tree_in t)

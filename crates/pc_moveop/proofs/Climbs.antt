@@ -1,15 +1,14 @@
 -- What is told of an item on its way up.
 use Rattle.std.proofs.Common.{◌≡◌, ◌↔◌, ℕ, Bool, true, false, List, [], ◌∷◌, Option, Some, None, refl, sym, ◌∙◌, ap, subst}
 use Rattle.std.specs.Prelude.{◌||◌, slice_get}
-use Rattle.std.specs.List.{list_any}
 use Rattle.pc_word.specs.declared.item.Item.{Item}
 use Rattle.pc_word.specs.declared.item.Operand.{Operand}
 use Rattle.pc_word.specs.declared.item.Operand.TheVariants.{Name, Lit}
 use Rattle.pc_word.specs.Items.{operands_of, is_effect}
 use Rattle.pc_linear.specs.Form.{Form}
 use Rattle.pc_window.specs.Conflict.{touch_of}
-use Rattle.pc_moveop.specs.Climbing.{Passed, Passed_item, Passed_test, Mover, passing, MayPass, FirstConflict, No_conflict, Passes_test, Passes_item, Conflicts, has_effect}
-use Rattle.pc_moveop.specs.models.Climbs.{defines_operand, IsClimb, AreFound, Finds}
+use Rattle.pc_moveop.specs.Climbing.{Passed, Passed_item, Passed_test, Mover, passing, MayPass, FirstConflict, No_conflict, Passes_test, Passes_item, Conflicts}
+use Rattle.pc_moveop.specs.models.Climbs.{defines_operand, Finds}
 use Rattle.pc_moveop.specs.declared.climbing.Climb.{Climb}
 
 -- it has passed nothing

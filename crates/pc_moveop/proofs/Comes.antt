@@ -1,6 +1,6 @@
 -- An item that may move enters the node above.
-use Rattle.std.proofs.Common.{◌≡◌, ℕ, ◌+◌, Bool, true, false, List, [], ◌∷◌, Option, Some, None, refl, sym, ◌∙◌, ap, subst}
-use Rattle.std.specs.Prelude.{◌-◌, ◌||◌, if◌then◌else◌, nat_eq, nat_lt}
+use Rattle.std.proofs.Common.{◌≡◌, ℕ, Bool, true, false, List, [], ◌∷◌, Option, Some, None, refl, sym, subst}
+use Rattle.std.specs.Prelude.{◌-◌, if◌then◌else◌, nat_eq, nat_lt}
 use Rattle.std.specs.List.{AllByRecursion}
 use Rattle.pc_word.specs.declared.item.Item.{Item}
 use Rattle.pc_word.specs.declared.item.Operand.{Operand}
@@ -8,16 +8,16 @@ use Rattle.pc_word.specs.Items.{dest_of}
 use Rattle.pc_word.specs.Commit.{writes}
 use Rattle.pc_linear.specs.Form.{Form}
 use Rattle.pc_linear.specs.Combine.{variable_form}
-use Rattle.pc_window.specs.Tree.{Tree, Pending, Undecided, Front, Issued, Split, Unfinished, whole}
+use Rattle.pc_window.specs.Tree.{Tree, Front, Issued, Unfinished}
 use Rattle.pc_window.specs.Names.{IsKnown, IsNew, ReadsKnown, and_dest, Scoped, Unwritten, NotWritten}
 use Rattle.pc_window.specs.Conflict.{MayFollow}
 use Rattle.pc_window.specs.Jump.{combined, NewForm, Without, GivesForm, Rises, EntersFront, Lands, Lands_renamed, Behind_item, On_yes, On_no}
 use Rattle.pc_window.specs.Opening.{Supply, with_name, changed}
 use Rattle.pc_window.specs.Filled.{given_supply, TwinsAlike}
 use Rattle.pc_window.specs.Rename.{with_dest}
-use Rattle.pc_window.proofs.Readiness.{Alike, alike, dest_named, not_written_named}
+use Rattle.pc_window.proofs.Readiness.{alike, dest_named, not_written_named}
 use Rattle.pc_moveop.specs.NodeTree.{NodeTree, Item_node, Test_node, Leads_to, Leads_out, tree_of, node_front, leaf_count}
-use Rattle.pc_moveop.specs.Climbing.{Passed, Passed_item, Passed_test, Mover, passing, mover_in, mover_at, crosses_test}
+use Rattle.pc_moveop.specs.Climbing.{Passed_item, Mover, passing, mover_in, mover_at, crosses_test}
 use Rattle.pc_moveop.specs.Taking.{Coming, node_without, leaf_to, landed}
 use Rattle.pc_moveop.specs.Moving.{moved_item, moved_name, coming_of}
 use Rattle.pc_moveop.proofs.Legal.{ClearItem, ClearWay, clear_alike}

@@ -11,7 +11,7 @@ use Rattle.pc_linear.specs.Form.{Form}
 use Rattle.pc_window.specs.Conflict.{Touch, touch_of}
 use Rattle.pc_window.specs.Jump.{is_quiet}
 use Rattle.pc_window.proofs.Readiness.{Alike}
-use Rattle.pc_moveop.specs.Climbing.{Passed, Passed_item, Passed_test, Mover, defines, first_defined, MayPass, FirstConflict, No_conflict, Passes_test, Passes_item, Conflicts, is_test, has_effect}
+use Rattle.pc_moveop.specs.Climbing.{Passed, Passed_item, Passed_test, defines, first_defined, MayPass, FirstConflict, No_conflict, Passes_test, Passes_item, Conflicts, is_test, has_effect}
 use Rattle.pc_moveop.specs.Refusing.{refused_first, depends_on, out_of_order, first_refusal}
 use Rattle.pc_moveop.specs.declared.error.MoveError.{MoveError}
 use Rattle.pc_moveop.specs.declared.error.MoveError.TheVariants.{EffectAboveTest, EffectOrder}

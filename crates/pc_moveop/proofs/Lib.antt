@@ -10,3 +10,4 @@ pub mod Rising
 pub mod Comes
 pub mod Fronts
 pub mod Moved
+pub mod Windows

@@ -1,5 +1,5 @@
 -- A change of one node, by which something enters it, moves the whole window.
-use Rattle.std.proofs.Common.{◌≡◌, ℕ, suc, ◌+◌, ◌≤◌, ◌<◌, Bool, true, false, List, [], ◌∷◌, Option, Some, None, refl, sym, ◌∙◌, ap, subst, arith}
+use Rattle.std.proofs.Common.{◌≡◌, ℕ, suc, ◌≤◌, Bool, true, false, List, [], ◌∷◌, Option, Some, None, refl, sym, ◌∙◌, ap, subst, arith}
 use Rattle.std.specs.Prelude.{◌-◌, ◌||◌, if◌then◌else◌, nat_eq, nat_lt}
 use Rattle.std.proofs.lemmas.Bool.{eqb-true}
 use Rattle.pc_word.specs.declared.item.Item.{Item}
@@ -7,24 +7,22 @@ use Rattle.pc_word.specs.declared.item.Limits.{Limits}
 use Rattle.pc_word.specs.declared.item.Operand.{Operand}
 use Rattle.pc_word.specs.Items.{dest_of}
 use Rattle.pc_word.specs.Commit.{writes}
-use Rattle.pc_word.specs.State.{State}
 use Rattle.pc_linear.specs.Form.{Form}
-use Rattle.pc_window.specs.Tree.{Tree, Pending, Undecided, Front, whole, tree_size}
+use Rattle.pc_window.specs.Tree.{Tree, Pending, Undecided, Front, whole}
 use Rattle.pc_window.specs.Names.{IsNew, and_dest, Scoped, Unwritten, NotWritten, uses}
 use Rattle.pc_window.specs.Opening.{Supply, TreeBelow, FormsBelow, with_name}
-use Rattle.pc_window.specs.Walk.{IsWhole, walk}
-use Rattle.pc_window.specs.Hold.{TreeHolds}
-use Rattle.pc_window.specs.WindowRun.{Window, supply_of}
+use Rattle.pc_window.specs.WindowRun.{Window}
 use Rattle.pc_window.specs.Filled.{Jump, given_supply, IsNext, HasSpace, IsWindow, WithinLimits, Independent, item_count, memory_count, test_count}
 use Rattle.pc_window.specs.Jump.{combined}
 use Rattle.pc_window.specs.Move.{Moves, Into_node, Below, On_yes_side, On_no_side}
-use Rattle.pc_window.specs.Steps.{IsProper, Positive}
+use Rattle.pc_window.specs.Steps.{IsProper}
 use Rattle.pc_window.proofs.Fronts.{SameKnownForms, independent_entered, within_entered}
 use Rattle.pc_window.proofs.Moving.{moves_keep, scoped_moved}
 use Rattle.pc_window.proofs.Parameters.{parameters_known, scoped_parameters, independent_parameters}
 use Rattle.pc_window.proofs.Proper.{StaysNew, jump_below, given_next, proper_fresh}
 use Rattle.pc_window.proofs.Soundness.{TreeBelow-later}
 use Rattle.pc_moveop.specs.NodeTree.{NodeTree, Item_node, Test_node, Leads_to, Leads_out, tree_of, node_front, leaf_count, child_at, led_on, node_at, child_changed, with_node}
+use Rattle.pc_moveop.specs.Moving.{KeepsWalk}
 use Rattle.pc_moveop.proofs.Comes.{Enters}
 use Rattle.pc_moveop.proofs.Fronts.{front_changed, same_counts, same_independent}
 use Rattle.pc_moveop.proofs.Paths.{whole_front}
@@ -184,7 +182,7 @@ RoomAt (leaf ∷ path) limits comes front = Unit {0}
 
 -- from each state in which forms hold and the walk is no fault, a move keeps the walk, and forms hold
 pub walk_kept : (forms forms' : ℕ → Form) (new : Option ℕ) (from to : Tree) → Moves forms forms' new (uses from) from to → IsNew (uses from) new → Scoped (uses from) from
-    → (lengths : List ℕ) (s : State) → TreeHolds forms lengths from s → IsWhole (walk lengths from s) → (walk lengths to s ≡ walk lengths from s) × TreeHolds forms' lengths to s
+    → KeepsWalk forms from forms' to
 walk_kept forms forms' new from to moves isnew scoped lengths s holds whole_walk =
     let kept = moves_keep forms forms' new (uses from) from to moves isnew scoped in
     let k = kept.1 lengths holds.0 s holds.1 whole_walk in

@@ -1,9 +1,9 @@
 -- Nodes at the ends of paths, and nodes in their places.
-use Rattle.std.proofs.Common.{◌≡◌, ℕ, suc, ◌+◌, ◌≤◌, ◌<◌, Bool, true, false, List, [], ◌∷◌, Option, Some, None, refl, sym, ◌∙◌, ap, subst, arith}
+use Rattle.std.proofs.Common.{◌≡◌, ℕ, suc, ◌+◌, ◌≤◌, true, false, List, [], ◌∷◌, Option, Some, None, refl, sym, ap, subst, arith}
 use Rattle.std.specs.Prelude.{◌-◌, if◌then◌else◌, nat_eq, nat_lt}
 use Rattle.pc_window.specs.declared.tree.WindowTree.{WindowTree}
 use Rattle.pc_window.specs.declared.tree.WindowTree.TheVariants as stored
-use Rattle.pc_window.specs.Tree.{Tree, Pending, Undecided, Front, Issued, Split, Unfinished, whole, tree_size}
+use Rattle.pc_window.specs.Tree.{Pending, Undecided, Issued, Split, Unfinished, whole, tree_size}
 use Rattle.pc_window.specs.StoredWindow.{tree_in, front_in}
 use Rattle.pc_moveop.specs.NodeTree.{NodeTree, Item_node, Test_node, Leads_to, Leads_out, nodes_in, tree_of, node_front, leaf_count, child_at, led_on, node_at, child_changed, with_node}
 

@@ -1,5 +1,5 @@
 -- Why an item may not move, by what is told of it.
-use Rattle.std.proofs.Common.{◌≡◌, ℕ, Bool, true, false, List, [], ◌∷◌, Option, Some, None, refl, sym, ◌∙◌, ap}
+use Rattle.std.proofs.Common.{◌≡◌, ℕ, Bool, List, [], ◌∷◌, Option, Some, None, refl, ◌∙◌, ap}
 use Rattle.std.specs.Prelude.{slice_get}
 use Rattle.std.specs.List.{list_any}
 use Rattle.pc_word.specs.declared.item.Item.{Item}
@@ -7,7 +7,6 @@ use Rattle.pc_word.specs.declared.item.Item.TheVariants.{Bin, Copy, Load, Store,
 use Rattle.pc_word.specs.declared.item.Operand.{Operand}
 use Rattle.pc_word.specs.declared.item.Operand.TheVariants.{Name, Lit}
 use Rattle.pc_word.specs.Items.{operands_of}
-use Rattle.pc_linear.specs.Form.{Form}
 use Rattle.pc_window.specs.declared.window.Window.{Window as StoredWindow}
 use Rattle.pc_window.specs.StoredWindow.{forms_in}
 use Rattle.pc_moveop.specs.NodeTree.{nodes_in, node_front}

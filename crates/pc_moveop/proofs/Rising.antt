@@ -1,22 +1,22 @@
 -- An item that is found rises out of its node.
-use Rattle.std.proofs.Common.{◌≡◌, ℕ, ◌+◌, Bool, true, false, List, [], ◌∷◌, Option, Some, None, refl, sym, ◌∙◌, ap, subst}
-use Rattle.std.specs.Prelude.{◌-◌, ◌||◌, if◌then◌else◌, nat_eq, nat_lt}
+use Rattle.std.proofs.Common.{◌≡◌, ℕ, Bool, true, false, [], Option, Some, None, refl, ◌∙◌, ap, subst}
+use Rattle.std.specs.Prelude.{◌-◌, if◌then◌else◌, nat_eq, nat_lt}
 use Rattle.pc_word.specs.declared.item.Item.{Item}
 use Rattle.pc_word.specs.declared.item.Operand.{Operand}
 use Rattle.pc_word.specs.Items.{dest_of}
 use Rattle.pc_word.specs.Commit.{writes}
 use Rattle.pc_linear.specs.Form.{Form}
-use Rattle.pc_window.specs.Tree.{Tree, Pending, Undecided, Front, Issued, Split, Unfinished}
+use Rattle.pc_window.specs.Tree.{Tree, Pending, Undecided, Unfinished}
 use Rattle.pc_window.specs.Names.{IsNew, and_dest, Scoped, Unwritten}
 use Rattle.pc_window.specs.Conflict.{NoConflict}
 use Rattle.pc_window.specs.Jump.{Rises, Root, Past_item, Past_yes, Past_no}
 use Rattle.pc_window.specs.Rename.{map_operands, mapped, renamed, with_dest}
 use Rattle.pc_window.proofs.Readiness.{alike, dest_named, clear_alike as conflict_alike, not_written_named}
 use Rattle.pc_moveop.specs.NodeTree.{NodeTree, Item_node, Test_node, Leads_to, Leads_out, tree_of, node_front, node_size}
-use Rattle.pc_moveop.specs.Climbing.{Passed, Passed_item, Passed_test, Mover, passing, mover_in, crosses_test}
+use Rattle.pc_moveop.specs.Climbing.{Passed_item, Passed_test, Mover, passing, mover_in, crosses_test}
 use Rattle.pc_moveop.specs.Taking.{nodes_mapped, node_without, leaf_to}
 use Rattle.pc_moveop.proofs.Legal.{ClearItem, ClearWay}
-use Rattle.pc_moveop.proofs.Known.{new_apart, not_written_below, known_in}
+use Rattle.pc_moveop.proofs.Known.{new_apart, not_written_below}
 
 -- ---- renaming and leaves
 

@@ -1,6 +1,5 @@
 -- The window once an item has moved.
-use Rattle.std.specs.Prelude.{ℕ, ◌≡◌, Bool, if◌then◌else◌, List, length, Option, Some, None}
-use Rattle.std.specs.Option.{IsSome}
+use Rattle.std.specs.Prelude.{ℕ, ◌≡◌, if◌then◌else◌, List, length, Option, Some, None}
 use Rattle.pc_word.specs.declared.item.Item.{Item}
 use Rattle.pc_word.specs.State.{State}
 use Rattle.pc_word.specs.Items.{dest_of}
@@ -9,14 +8,13 @@ use Rattle.pc_window.specs.Tree.{Tree}
 use Rattle.pc_window.specs.Walk.{IsWhole, walk}
 use Rattle.pc_window.specs.Hold.{TreeHolds}
 use Rattle.pc_window.specs.Rename.{with_dest}
-use Rattle.pc_window.specs.Opening.{Supply}
 use Rattle.pc_window.specs.Filled.{given_supply}
 use Rattle.pc_window.specs.declared.window.Window.{Window as StoredWindow}
 use Rattle.pc_window.specs.StoredWindow.{tree_in, forms_in, supply_in}
 use Rattle.pc_moveop.specs.declared.error.MoveError.{MoveError}
 use Rattle.pc_moveop.specs.declared.error.MoveError.TheVariants.{NotThere, Depends, MemoryOrder, EffectAboveTest, EffectOrder, Full, Memory}
 use Rattle.pc_moveop.specs.NodeTree.{NodeTree, nodes_in, node_at, with_node}
-use Rattle.pc_moveop.specs.Climbing.{Mover, mover_at, crosses_test}
+use Rattle.pc_moveop.specs.Climbing.{Mover, crosses_test}
 use Rattle.pc_moveop.specs.Taking.{Coming, landed}
 use Rattle.pc_moveop.specs.Refusing.{mover_of}
 
@@ -67,7 +65,11 @@ Fails IsReason w v EffectOrder = (v ≡ w) × IsReason (Some EffectOrder)
 Fails IsReason w v (Full kind) = (v ≡ w) × IsReason (Some (Full kind))
 Fails IsReason w v Memory = TreeKept w v
 
--- from each state in which forms hold and the walk is no fault, the walk is the same, and forms hold
+-- from each state in which forms hold and the walk is no fault, another tree has the same walk, and its forms hold
+abbrev pub KeepsWalk : (ℕ → Form) → Tree → (ℕ → Form) → Tree → Type 0
+KeepsWalk forms from forms' to = (lengths : List ℕ) (s : State) → TreeHolds forms lengths from s → IsWhole (walk lengths from s)
+    → (walk lengths to s ≡ walk lengths from s) × TreeHolds forms' lengths to s
+
+-- so does a window in place of another
 abbrev pub WalkKept : (w v : StoredWindow) → Type 0
-WalkKept w v = (lengths : List ℕ) (s : State) → TreeHolds (forms_in w.names.forms) lengths (tree_in w.tree) s → IsWhole (walk lengths (tree_in w.tree) s)
-    → (walk lengths (tree_in v.tree) s ≡ walk lengths (tree_in w.tree) s) × TreeHolds (forms_in v.names.forms) lengths (tree_in v.tree) s
+WalkKept w v = KeepsWalk (forms_in w.names.forms) (tree_in w.tree) (forms_in v.names.forms) (tree_in v.tree)

@@ -1,21 +1,19 @@
 -- Why an item may not move.
-use Rattle.std.specs.Prelude.{ℕ, ◌≡◌, Bool, true, false, not, ◌&&◌, if◌then◌else◌, nat_lt, List, [], ◌∷◌, Option, Some, None}
+use Rattle.std.specs.Prelude.{ℕ, ◌≡◌, Bool, not, ◌&&◌, if◌then◌else◌, nat_lt, List, [], ◌∷◌, Option, Some, None}
 use Rattle.std.specs.List.{list_any}
 use Rattle.pc_word.specs.declared.item.Item.{Item}
 use Rattle.pc_word.specs.declared.item.Limits.{Limits}
 use Rattle.pc_word.specs.Items.{operands_of, is_effect, is_memory}
-use Rattle.pc_linear.specs.Form.{Form}
 use Rattle.pc_window.specs.Tree.{Front}
-use Rattle.pc_window.specs.Filled.{item_count, memory_count, test_count}
+use Rattle.pc_window.specs.Filled.{item_count, memory_count}
 use Rattle.pc_window.specs.Jump.{is_quiet}
 use Rattle.pc_window.specs.declared.window.Window.{Window as StoredWindow}
 use Rattle.pc_window.specs.StoredWindow.{forms_in}
-use Rattle.pc_moveop.specs.declared.error.RoomKind.{RoomKind}
-use Rattle.pc_moveop.specs.declared.error.RoomKind.TheVariants.{Ops, Tests, Mem}
+use Rattle.pc_moveop.specs.declared.error.RoomKind.TheVariants.{Ops, Mem}
 use Rattle.pc_moveop.specs.declared.error.MoveError.{MoveError}
 use Rattle.pc_moveop.specs.declared.error.MoveError.TheVariants.{NotThere, Depends, MemoryOrder, EffectAboveTest, EffectOrder, Full}
 use Rattle.pc_moveop.specs.NodeTree.{NodeTree, nodes_in, node_at, node_front}
-use Rattle.pc_moveop.specs.Climbing.{Passed, Mover, mover_at, first_defined, FirstConflict, has_effect, crosses_test}
+use Rattle.pc_moveop.specs.Climbing.{Mover, mover_at, first_defined, FirstConflict, has_effect, crosses_test}
 
 -- the first of two refusals
 abbrev pub refused_first : Option MoveError → Option MoveError → Option MoveError

@@ -14,3 +14,4 @@ mod renaming;
 mod taking;
 
 pub use error::{MoveError, RoomKind};
+pub use moving::{move_op, why_not};

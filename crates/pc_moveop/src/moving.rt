@@ -1,13 +1,14 @@
 //! Moving an item into the node above its own.
-ghost use Rattle.std.specs.Prelude.{◌≡◌, ◌<◌, ◌≤◌, ◌+◌, ◌^◌, ℕ, Some, length, IfOk, IsSome, OnOk, OnErr};
+ghost use Rattle.std.specs.Prelude.{◌≡◌, ◌<◌, ◌≤◌, ◌+◌, ◌^◌, ℕ, Some, None, length, IfOk, IfErr, IsSome, OnOk, OnErr};
 ghost use Rattle.pc_linear.specs.Form.{Form};
 ghost use Rattle.pc_window.specs.Tree.{tree_size};
-ghost use Rattle.pc_window.specs.StoredWindow.{tree_in, forms_in};
+ghost use Rattle.pc_window.specs.Steps.{IsProper};
+ghost use Rattle.pc_window.specs.StoredWindow.{tree_in, forms_in, window_in};
 ghost use Rattle.pc_moveop.specs.NodeTree.{nodes_in, node_at};
 ghost use Rattle.pc_moveop.specs.Climbing.{Mover};
 ghost use Rattle.pc_moveop.specs.Taking.{landed};
 ghost use Rattle.pc_moveop.specs.Refusing.{mover_of, IsWhyNot};
-ghost use Rattle.pc_moveop.specs.Moving.{NodeChanges, TreeKept, HasMoved};
+ghost use Rattle.pc_moveop.specs.Moving.{NodeChanges, TreeKept, HasMoved, Fails, WalkKept};
 ghost use Rattle.pc_moveop.specs.models.Climbs.{Finds, IsNamed};
 ghost use Rattle.pc_moveop.specs.models.Landing.{coming_in};
 
@@ -99,5 +100,35 @@ fn carry(
         item,
     };
     bring(&mut window.tree, parent, leaf, place, coming, spare);
+    Ok(())
+}
+
+/// Moves an item to the end of a path of the node above its own.
+///
+/// `parent` is the path of leaves that leads from the front to the node above; the front's own path
+/// is empty. `leaf` is a leaf of that node that leads to the item's node, and `place` the item's
+/// place there; leaves, and items and tests together, are counted in preorder, from 0. Where a test
+/// stands before the item it gets a new name, and what reads it below reads the new one.
+pub fn move_op(
+    alloc: Global,
+    window: &mut Window,
+    parent: &[u16],
+    leaf: u16,
+    place: u16,
+) -> Result<(), MoveError>
+    requires proper { IsProper (window_in window.old) }
+    requires small { tree_size (tree_in window.old.tree) < 2 ^ 31 }
+    requires names { length window.old.names.forms < 2 ^ 31 }
+    requires variables { window.old.names.next_variable < 2 ^ 31 }
+    ensures legal { OnOk result (IsWhyNot window.old parent.now leaf place None) }
+    ensures fails { IfErr result (λ why. Fails (IsWhyNot window.old parent.now leaf place) window.old window.new why) }
+    ensures moved { OnOk result (HasMoved window.old window.new parent.now leaf place) }
+    ensures proper { OnOk result (IsProper (window_in window.new)) }
+    ensures keeps { OnOk result (WalkKept window.old window.new) }
+    ensures count { OnOk result (length window.new.names.forms ≤ length window.old.names.forms + 1) }
+    ensures variables { OnOk result (window.new.names.next_variable ≤ window.old.names.next_variable + 1) }
+{
+    let climb = legal_mover(window, parent, leaf as u32, place as u32)?;
+    carry(alloc, window, parent, leaf as u32, place as u32, climb)?;
     Ok(())
 }

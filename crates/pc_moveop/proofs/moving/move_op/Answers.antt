@@ -1,0 +1,10 @@
+use Rattle.pc_moveop.proofs.Windows.{moved}
+use Rattle.pc_moveop.proofs.moving.move_op.Goals as goal
+
+pub returns-clause-proper : goal.returns-clause-proper
+returns-clause-proper c =
+    (moved c.args.window.now c.carry.new.window c.args.parent.now c.args.leaf c.args.place c.in_ok-carry.ensures.moved c.in_ok-climb.ensures.legal c.requires.proper).proper
+
+pub returns-clause-keeps : goal.returns-clause-keeps
+returns-clause-keeps c =
+    (moved c.args.window.now c.carry.new.window c.args.parent.now c.args.leaf c.args.place c.in_ok-carry.ensures.moved c.in_ok-climb.ensures.legal c.requires.proper).walk
