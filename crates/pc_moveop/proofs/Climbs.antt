@@ -7,8 +7,8 @@ use Rattle.pc_word.specs.declared.item.Operand.TheVariants.{Name, Lit}
 use Rattle.pc_word.specs.Items.{operands_of, is_effect}
 use Rattle.pc_linear.specs.Form.{Form}
 use Rattle.pc_window.specs.Conflict.{touch_of}
-use Rattle.pc_moveop.specs.Climbing.{Passed, Passed_item, Passed_test, Mover, passing, MayPass, FirstConflict, No_conflict, Passes_test, Passes_item, Conflicts}
-use Rattle.pc_moveop.specs.models.Climbs.{defines_operand, Finds}
+use Rattle.pc_moveop.specs.Climbing.{defines_operand, Passed, Passed_item, Passed_test, Mover, passing, MayPass, FirstConflict, No_conflict, Passes_test, Passes_item, Conflicts}
+use Rattle.pc_moveop.specs.models.Climbs.{Finds}
 use Rattle.pc_moveop.specs.declared.climbing.Climb.{Climb}
 
 -- it has passed nothing

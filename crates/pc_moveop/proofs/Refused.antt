@@ -10,11 +10,11 @@ use Rattle.pc_word.specs.Items.{operands_of}
 use Rattle.pc_window.specs.declared.window.Window.{Window as StoredWindow}
 use Rattle.pc_window.specs.StoredWindow.{forms_in}
 use Rattle.pc_moveop.specs.NodeTree.{nodes_in, node_front}
-use Rattle.pc_moveop.specs.Climbing.{Passed, Mover, first_defined, has_effect, crosses_test}
+use Rattle.pc_moveop.specs.Climbing.{defines_operand, Passed, Mover, first_defined, has_effect, crosses_test}
 use Rattle.pc_moveop.specs.Refusing.{refused_first, first_refusal, no_room_at, RefusesFound}
 use Rattle.pc_moveop.specs.declared.error.MoveError.{MoveError}
 use Rattle.pc_moveop.specs.declared.error.MoveError.TheVariants.{NotThere}
-use Rattle.pc_moveop.specs.models.Climbs.{defines_operand, Finds, first_marked, second_marked}
+use Rattle.pc_moveop.specs.models.Climbs.{Finds, first_marked, second_marked}
 use Rattle.pc_moveop.specs.declared.climbing.Climb.{Climb}
 
 -- one operand after another

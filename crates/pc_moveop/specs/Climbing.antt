@@ -53,6 +53,12 @@ abbrev pub defines : ℕ → Passed → Bool
 defines name (Passed_item finished origin item) = writes (dest_of item) name
 defines name Passed_test = false
 
+-- whether an operand is a name that is defined by what is passed
+abbrev pub defines_operand : Option Operand → Passed → Bool
+defines_operand (Some (Name name)) what = defines name what
+defines_operand (Some (Lit value)) what = false
+defines_operand None what = false
+
 -- the first operand that is defined by what is passed
 abbrev pub first_defined : List Operand → List Passed → Option ℕ
 first_defined [] way = None

@@ -5,8 +5,8 @@ ghost use Rattle.pc_linear.specs.Form.{Form};
 ghost use Rattle.pc_window.specs.Tree.{tree_size};
 ghost use Rattle.pc_window.specs.StoredWindow.{tree_in, forms_in};
 ghost use Rattle.pc_moveop.specs.NodeTree.{nodes_in};
-ghost use Rattle.pc_moveop.specs.Climbing.{Passed, Passed_item, Passed_test, Mover, passing, mover_in, mover_at, FirstConflict};
-ghost use Rattle.pc_moveop.specs.models.Climbs.{defines_operand, Finds, first_marked};
+ghost use Rattle.pc_moveop.specs.Climbing.{Passed, Passed_item, Passed_test, Mover, passing, mover_in, mover_at, defines_operand, FirstConflict};
+ghost use Rattle.pc_moveop.specs.models.Climbs.{Finds, first_marked};
 
 use crate::conflict::may_pass;
 use crate::items::{dest_of, first_operand, is_effect, second_operand};
@@ -46,7 +46,7 @@ fn start(tag: u32, origin: u32, item: Item) -> Climb
 }
 
 /// Whether an item defines an operand, or it was defined before.
-fn defines(above: Item, operand: Option<Operand>, before: bool) -> bool
+pub fn defines(above: Item, operand: Option<Operand>, before: bool) -> bool
     ensures { (finished : Bool) (origin : ℕ) → result ≡ (defines_operand operand (Passed_item finished origin above) || before) }
 {
     match operand {

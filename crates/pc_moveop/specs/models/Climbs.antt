@@ -1,5 +1,5 @@
 -- An item on its way up as it lies in memory, and what it met.
-use Rattle.std.specs.Prelude.{ℕ, ◌≡◌, Bool, false, if◌then◌else◌, List, [], ◌∷◌, Option, Some, None, slice_get, length}
+use Rattle.std.specs.Prelude.{ℕ, ◌≡◌, Bool, if◌then◌else◌, List, [], ◌∷◌, Option, Some, None, slice_get, length}
 use Rattle.std.specs.List.{list_any}
 use Rattle.pc_word.specs.declared.item.Item.{Item}
 use Rattle.pc_word.specs.declared.item.Operand.{Operand}
@@ -10,14 +10,8 @@ use Rattle.pc_window.specs.declared.names.NameTable.{NameTable}
 use Rattle.pc_window.specs.Filled.{given_supply}
 use Rattle.pc_window.specs.StoredWindow.{supply_in}
 use Rattle.pc_moveop.specs.Moving.{moved_item, moved_name}
-use Rattle.pc_moveop.specs.Climbing.{Passed, Mover, defines, FirstConflict, has_effect, crosses_test}
+use Rattle.pc_moveop.specs.Climbing.{Mover, defines_operand, FirstConflict, has_effect, crosses_test}
 use Rattle.pc_moveop.specs.declared.climbing.Climb.{Climb}
-
--- whether an operand is a name that is defined by what is passed
-abbrev pub defines_operand : Option Operand → Passed → Bool
-defines_operand (Some (Name name)) what = defines name what
-defines_operand (Some (Lit value)) what = false
-defines_operand None what = false
 
 -- what is told of an item is so
 pub record IsClimb (forms : ℕ → Form) (m : Mover) (c : Climb) : Type 0 where
