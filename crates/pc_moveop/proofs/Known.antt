@@ -27,7 +27,7 @@ new_apart known y (Some e) h = let k = neither (writes (dest_of y) e) (known e) 
     neither true b e = absurd (cc)
 
 -- what is known and not defined by an item is known above it
-known_above : (known : ℕ → Bool) (y : Item) (os : List Operand) → AllByRecursion (IsKnown (and_dest known y)) os → AllByRecursion (NotDefined y) os → AllByRecursion (IsKnown known) os
+pub known_above : (known : ℕ → Bool) (y : Item) (os : List Operand) → AllByRecursion (IsKnown (and_dest known y)) os → AllByRecursion (NotDefined y) os → AllByRecursion (IsKnown known) os
 known_above known y [] h n = tt
 known_above known y (Lit v ∷ os) h n = (tt, known_above known y os h.1 n.1)
 known_above known y (Name x ∷ os) h n = (sym (ap (λ (b : Bool). b || known x) n.0) ∙ h.0, known_above known y os h.1 n.1)

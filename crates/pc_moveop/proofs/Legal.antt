@@ -38,7 +38,7 @@ ClearWay forms x way = AllByRecursion (Clear forms x) way
 
 -- ---- it is clear where nothing is refused
 
-first_item : (finished : Bool) (origin : ℕ) (y : Item) (way : List Passed) (os : List Operand) → first_defined os (Passed_item finished origin y ∷ way) ≡ None
+pub first_item : (finished : Bool) (origin : ℕ) (y : Item) (way : List Passed) (os : List Operand) → first_defined os (Passed_item finished origin y ∷ way) ≡ None
     → AllByRecursion (NotDefined y) os × (first_defined os way ≡ None)
 first_item finished origin y way [] e = (tt, refl)
 first_item finished origin y way (Lit v ∷ os) e = let h = first_item finished origin y way os e in ((tt, h.0), h.1)
@@ -87,7 +87,7 @@ pub both_none : (a b : Option MoveError) → refused_first a b ≡ None → (a �
 both_none None b e = (refl, e)
 both_none (Some why) b e = absurd (cc)
 
-no_name : (d : Option ℕ) → depends_on d ≡ None → d ≡ None
+pub no_name : (d : Option ℕ) → depends_on d ≡ None → d ≡ None
 no_name None e = refl
 no_name (Some x) e = absurd (cc)
 

@@ -1,0 +1,3 @@
+pub mod TestClimbs
+pub mod Divided
+pub mod Entering

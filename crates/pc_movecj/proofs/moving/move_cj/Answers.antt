@@ -1,0 +1,8 @@
+use Rattle.pc_movecj.proofs.Entering.{moved}
+use Rattle.pc_movecj.proofs.moving.move_cj.Goals as goal
+
+pub returns-clause-proper : goal.returns-clause-proper
+returns-clause-proper c = (moved c.args.window.now c.carry.new.window c.args.parent.now c.args.leaf c.in_ok-carry.ensures.moved c.in_ok-climb.ensures.legal c.requires.proper).proper
+
+pub returns-clause-keeps : goal.returns-clause-keeps
+returns-clause-keeps c = (moved c.args.window.now c.carry.new.window c.args.parent.now c.args.leaf c.in_ok-carry.ensures.moved c.in_ok-climb.ensures.legal c.requires.proper).walk
