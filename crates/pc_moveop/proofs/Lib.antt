@@ -11,3 +11,4 @@ pub mod Comes
 pub mod Fronts
 pub mod Moved
 pub mod Windows
+pub mod Shapes

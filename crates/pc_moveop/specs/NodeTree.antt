@@ -81,3 +81,19 @@ child_changed leaf f (Leads_out out) = Leads_out out
 abbrev pub with_node : List ℕ → NodeTree → NodeTree → NodeTree
 with_node [] node tree = node
 with_node (leaf ∷ path) node tree = child_changed leaf (with_node path node) tree
+
+-- ---- no node is empty
+
+-- a tree begins with an item or test
+abbrev pub HasRoot : NodeTree → Type 0
+HasRoot (Item_node tag origin item rest) = Unit {0}
+HasRoot (Test_node tag origin on on_yes on_no) = Unit {0}
+HasRoot (Leads_to below) = ⊥
+HasRoot (Leads_out out) = ⊥
+
+-- behind the first node each node has an item or test
+abbrev pub NoEmptyNode : NodeTree → Type 0
+NoEmptyNode (Item_node tag origin item rest) = NoEmptyNode rest
+NoEmptyNode (Test_node tag origin on on_yes on_no) = NoEmptyNode on_yes × NoEmptyNode on_no
+NoEmptyNode (Leads_to below) = HasRoot below × NoEmptyNode below
+NoEmptyNode (Leads_out out) = Unit {0}

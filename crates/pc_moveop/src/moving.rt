@@ -4,7 +4,7 @@ ghost use Rattle.pc_linear.specs.Form.{Form};
 ghost use Rattle.pc_window.specs.Tree.{tree_size};
 ghost use Rattle.pc_window.specs.Steps.{IsProper};
 ghost use Rattle.pc_window.specs.StoredWindow.{tree_in, forms_in, window_in};
-ghost use Rattle.pc_moveop.specs.NodeTree.{nodes_in, node_at};
+ghost use Rattle.pc_moveop.specs.NodeTree.{nodes_in, node_at, NoEmptyNode};
 ghost use Rattle.pc_moveop.specs.Climbing.{Mover};
 ghost use Rattle.pc_moveop.specs.Taking.{landed};
 ghost use Rattle.pc_moveop.specs.Refusing.{mover_of, IsWhyNot};
@@ -125,6 +125,8 @@ pub fn move_op(
     ensures moved { OnOk result (HasMoved window.old window.new parent.now leaf place) }
     ensures proper { OnOk result (IsProper (window_in window.new)) }
     ensures keeps { OnOk result (WalkKept window.old window.new) }
+    ensures size { OnOk result (tree_size (tree_in window.new.tree) ≡ tree_size (tree_in window.old.tree)) }
+    ensures nodes { OnOk result (NoEmptyNode (nodes_in window.old.tree) → NoEmptyNode (nodes_in window.new.tree)) }
     ensures count { OnOk result (length window.new.names.forms ≤ length window.old.names.forms + 1) }
     ensures variables { OnOk result (window.new.names.next_variable ≤ window.old.names.next_variable + 1) }
 {
