@@ -12,3 +12,4 @@ pub mod Fronts
 pub mod Moved
 pub mod Windows
 pub mod Shapes
+pub mod GuardedStoreKept

@@ -12,6 +12,8 @@ mod nodes;
 mod refusing;
 mod renaming;
 mod taking;
+#[cfg(test)]
+mod tests;
 
 pub use climbing::{Climb, climb_in, defines};
 pub use error::{MoveError, RoomKind};
