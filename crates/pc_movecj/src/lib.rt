@@ -4,6 +4,8 @@
 mod climbing;
 mod dividing;
 mod moving;
+#[cfg(test)]
+mod tests;
 
 pub use moving::{move_cj, why_not};
 

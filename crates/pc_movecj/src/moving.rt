@@ -1,10 +1,10 @@
 //! Moving the first test of a node into the node above.
-ghost use Rattle.std.specs.Prelude.{◌≡◌, ◌<◌, ◌≤◌, ◌^◌, Some, None, IfOk, IfErr, IsSome, OnOk, OnErr, Option};
+ghost use Rattle.std.specs.Prelude.{◌≡◌, ◌<◌, ◌≤◌, ◌+◌, ◌^◌, suc, Some, None, IfOk, IfErr, IsSome, OnOk, OnErr, Option};
 ghost use Rattle.pc_window.specs.Tree.{tree_size};
 ghost use Rattle.pc_window.specs.Filled.{test_count};
 ghost use Rattle.pc_window.specs.Steps.{IsProper};
 ghost use Rattle.pc_window.specs.StoredWindow.{tree_in, window_in};
-ghost use Rattle.pc_moveop.specs.NodeTree.{nodes_in, node_at, node_front};
+ghost use Rattle.pc_moveop.specs.NodeTree.{nodes_in, node_at, node_front, NoEmptyNode};
 ghost use Rattle.pc_moveop.specs.Moving.{NodeChanges, TreeKept, Fails, WalkKept};
 ghost use Rattle.pc_movecj.specs.Dividing.{MovingTest, divided};
 ghost use Rattle.pc_movecj.specs.MovingTest.{no_room_for_test, test_of, refusal_of_test, IsWhyNotTest, TestHasMoved};
@@ -170,6 +170,8 @@ pub fn move_cj(
     ensures moved { OnOk result (TestHasMoved window.old window.new parent.now leaf) }
     ensures proper { OnOk result (IsProper (window_in window.new)) }
     ensures keeps { OnOk result (WalkKept window.old window.new) }
+    ensures size { OnOk result (tree_size (tree_in window.new.tree) ≤ suc (tree_size (tree_in window.old.tree) + tree_size (tree_in window.old.tree))) }
+    ensures nodes { OnOk result (NoEmptyNode (nodes_in window.old.tree) → NoEmptyNode (nodes_in window.new.tree)) }
 {
     let climb = legal_test(window, parent, leaf as u32)?;
     carry(alloc, window, parent, leaf as u32, climb)?;

@@ -29,7 +29,7 @@ mapped_size f (Test_node t o on p q) = λ i. suc (mapped_size f p i + mapped_siz
 mapped_size f (Leads_to below) = mapped_size f below
 mapped_size f (Leads_out out) = tree_mapped_size f out
 
-leaf_size : (t : NodeTree) → tree_size (tree_of (leaf_to t)) ≡ tree_size (tree_of t)
+pub leaf_size : (t : NodeTree) → tree_size (tree_of (leaf_to t)) ≡ tree_size (tree_of t)
 leaf_size (Item_node t o x rest) = refl
 leaf_size (Test_node t o on p q) = refl
 leaf_size (Leads_to below) = refl
