@@ -20,5 +20,5 @@ pub use error::{MoveError, RoomKind};
 pub use items::dest_of;
 pub use moving::{move_op, why_not};
 pub use naming::give_name;
-pub use nodes::{leaf_count, node_at, swap_node};
+pub use nodes::{leaf_count, node_at, node_size, swap_node};
 pub use taking::{leaf_to, leaf_without};

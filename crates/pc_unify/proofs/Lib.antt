@@ -1,3 +1,4 @@
 pub mod Marked
 pub mod Tidied
 pub mod DeadStepKept
+pub mod Deleted
