@@ -1,5 +1,5 @@
 //! Deleting one item.
-ghost use Rattle.std.specs.Prelude.{◌≡◌, ◌<◌, ◌^◌, ◌||◌, ◌+◌, Some, None, List, OnOk, IfErr, if◌then◌else◌};
+ghost use Rattle.std.specs.Prelude.{◌≡◌, ◌<◌, ◌^◌, ◌||◌, ◌+◌, Some, None, List, OnOk, OnErr, IfErr, if◌then◌else◌};
 ghost use Rattle.pc_word.specs.Items.{dest_of};
 ghost use Rattle.pc_word.specs.Commit.{writes};
 ghost use Rattle.pc_table.specs.TableKeeps.{reads, reads_name};
@@ -256,5 +256,29 @@ fn delete_at(tree: &mut WindowTree, path: &[u16], place: u32)
     match path.split_first() {
         None => drop_item(tree, place),
         Some((leaf, rest)) => delete_below(tree, *leaf as u32, rest, place),
+    }
+}
+
+/// Deletes a Bin, Load or More whose name is used nowhere below. It takes no memory.
+///
+/// `node` is the path of leaves that leads from the front to the item's node; the front's own path
+/// is empty. `place` is the item's place there, counted in preorder, from 0. A node that is left
+/// without items and tests is skipped; only the front may be left so.
+pub fn delete(window: &mut Window, node: &[u16], place: u16) -> Result<(), MoveError>
+    requires proper { IsProper (window_in window.old) }
+    requires small { tree_size (tree_in window.old.tree) < 2 ^ 31 }
+    ensures legal { OnOk result (IsWhyNotDelete window.old node.now place None) }
+    ensures refused { IfErr result (λ why. IsWhyNotDelete window.old node.now place (Some why)) }
+    ensures unchanged { OnErr result (window.new ≡ window.old) }
+    ensures deleted { OnOk result (IsDeleted window.old window.new node.now place) }
+    ensures proper { OnOk result (IsProper (window_in window.new)) }
+    ensures keeps { OnOk result (WalkKept window.old window.new) }
+{
+    match why_not_delete(window, node, place) {
+        Some(why) => Err(why),
+        None => {
+            delete_at(&mut window.tree, node, place as u32);
+            Ok(())
+        }
     }
 }

@@ -7,5 +7,5 @@ mod marks;
 mod tests;
 mod tidying;
 
-pub use deleting::why_not_delete;
+pub use deleting::{delete, why_not_delete};
 pub use tidying::tidy;
