@@ -1,4 +1,4 @@
-//! Deleting what is not used: tidying a window.
+//! Deleting what is not used: one item, or all in a window, which tidies it.
 #![tactic(auto)]
 
 mod deleting;
