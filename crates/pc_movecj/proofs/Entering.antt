@@ -42,9 +42,9 @@ known_past : (known : ℕ → Bool) (t o : ℕ) (y : Item) (rest : Tree) (finish
     → IsKnownTest known (Pending t o y rest) (passing_test (Passed_item finished o y) found)
 known_past known t o y rest finished None h = tt
 known_past known t o y rest finished (Some m) h = λ undefined scoped. (
-  let d = first_item finished o y m.way (m.on ∷ []) undefined in
-  (known_above known y (m.on ∷ []) (h d.1 scoped.2, tt) d.0).0
-)
+    let d = first_item finished o y m.way (m.on ∷ []) undefined in
+    (known_above known y (m.on ∷ []) (h d.1 scoped.2, tt) d.0).0
+    )
 
 known_in : (known : ℕ → Bool) (t : NodeTree) → IsKnownTest known (tree_of t) (first_test t)
 known_in known (Item_node t o y rest) = known_past known t o y (tree_of rest) false (first_test rest) (known_in (and_dest known y) rest)
@@ -68,7 +68,7 @@ known_at known leaf (Test_node t o on p q) =
       | false ↦ known_no known t o on (tree_of p) (tree_of q) (test_at (leaf - leaf_count p) q) (known_at known (leaf - leaf_count p) q)
     ]
 known_at known leaf (Leads_to below) =
-    elim (nat_eq leaf 0) as (λ b. IsKnownTest known (tree_of below) (if b then first_test below else None)) [ | true ↦ known_in known below | false ↦ tt ]
+    elim (nat_eq leaf 0) as (λ b. IsKnownTest known (tree_of below) (if b then first_test below else None)) [ true ↦ known_in known below | false ↦ tt ]
 known_at known leaf (Leads_out out) = tt
 
 -- ---- it enters
@@ -100,25 +100,25 @@ module _ (forms : ℕ → Form) (base : ℕ → Bool) where
       → EntersTest (Item_node t o y rest) (λ tag origin on. Item_node t o y (to tag origin on)) (passing_test (Passed_item true o y) found)
   enters_behind t o y rest to None h = tt
   enters_behind t o y rest to (Some m) h = λ known. (
-    let k = h known in
-    record { enters = Behind_item t o y None (node_front rest) (node_front (to m.tag m.origin m.on)) tt tt k.enters; twins = k.twins }
-  )
+      let k = h known in
+      record { enters = Behind_item t o y None (node_front rest) (node_front (to m.tag m.origin m.on)) tt tt k.enters; twins = k.twins }
+      )
 
   enters_yes : (t o : ℕ) (other : Operand) (p q : NodeTree) (to : Placed) (found : Option MovingTest) → EntersTest p to found
       → EntersTest (Test_node t o other p q) (λ tag origin on. Test_node t o other (to tag origin on) q) found
   enters_yes t o other p q to None h = tt
   enters_yes t o other p q to (Some m) h = λ known. (
-    let k = h known in
-    record { enters = On_yes t o other None (node_front p) (node_front q) (node_front (to m.tag m.origin m.on)) tt k.enters; twins = k.twins }
-  )
+      let k = h known in
+      record { enters = On_yes t o other None (node_front p) (node_front q) (node_front (to m.tag m.origin m.on)) tt k.enters; twins = k.twins }
+      )
 
   enters_no : (t o : ℕ) (other : Operand) (p q : NodeTree) (to : Placed) (found : Option MovingTest) → EntersTest q to found
       → EntersTest (Test_node t o other p q) (λ tag origin on. Test_node t o other p (to tag origin on)) found
   enters_no t o other p q to None h = tt
   enters_no t o other p q to (Some m) h = λ known. (
-    let k = h known in
-    record { enters = On_no t o other None (node_front p) (node_front q) (node_front (to m.tag m.origin m.on)) tt k.enters; twins = k.twins }
-  )
+      let k = h known in
+      record { enters = On_no t o other None (node_front p) (node_front q) (node_front (to m.tag m.origin m.on)) tt k.enters; twins = k.twins }
+      )
 
   enters_here : (below : NodeTree) (found : Option MovingTest) → Divides below found
       → EntersTest (Leads_to below) (λ tag origin on. Test_node tag origin on (leaf_to (yes_part below)) (leaf_to (no_part below))) found
@@ -132,15 +132,15 @@ module _ (forms : ℕ → Form) (base : ℕ → Bool) where
   enters leaf (Item_node t o y rest) = enters_behind t o y rest (λ tag origin on. divided tag origin on leaf rest) (test_at leaf rest) (enters leaf rest)
   enters leaf (Test_node t o other p q) =
       elim (nat_lt leaf (leaf_count p)) as (λ b. EntersTest (Test_node t o other p q)
-          (λ tag origin on. if b then Test_node t o other (divided tag origin on leaf p) q else Test_node t o other p (divided tag origin on (leaf - leaf_count p) q))
-          (if b then test_at leaf p else test_at (leaf - leaf_count p) q)) [
+      (λ tag origin on. if b then Test_node t o other (divided tag origin on leaf p) q else Test_node t o other p (divided tag origin on (leaf - leaf_count p) q))
+      (if b then test_at leaf p else test_at (leaf - leaf_count p) q)) [
         | true ↦ enters_yes t o other p q (λ tag origin on. divided tag origin on leaf p) (test_at leaf p) (enters leaf p)
         | false ↦ enters_no t o other p q (λ tag origin on. divided tag origin on (leaf - leaf_count p) q) (test_at (leaf - leaf_count p) q) (enters (leaf - leaf_count p) q)
       ]
   enters leaf (Leads_to below) =
       elim (nat_eq leaf 0) as (λ b. EntersTest (Leads_to below)
-          (λ tag origin on. if b then Test_node tag origin on (leaf_to (yes_part below)) (leaf_to (no_part below)) else Leads_to below)
-          (if b then first_test below else None)) [
+      (λ tag origin on. if b then Test_node tag origin on (leaf_to (yes_part below)) (leaf_to (no_part below)) else Leads_to below)
+      (if b then first_test below else None)) [
         | true ↦ enters_here below (first_test below) (divides_in below)
         | false ↦ tt
       ]
@@ -168,4 +168,4 @@ moved w v parent leaf h why proper =
     stored_moves w v parent (divided m.tag m.origin m.on leaf) None None h.changes (ap supply_in h.names) h.bounds proper tt
     (room_for_test parent w.limits (node_front (nodes_in w.tree)) nothing.1)
     (λ known s. (subst (EntersTest (forms_in w.names.forms) known n (λ tag origin on. divided tag origin on leaf n)) found (enters (forms_in w.names.forms) known leaf n))
-        ((subst (IsKnownTest known (tree_of n)) found (known_at known leaf n)) undefined s.scoped))
+    ((subst (IsKnownTest known (tree_of n)) found (known_at known leaf n)) undefined s.scoped))

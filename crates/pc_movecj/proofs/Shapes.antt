@@ -1,15 +1,15 @@
 -- A test that moves leaves no empty node, and makes a window at most about twice as great.
-use Rattle.std.proofs.Common.{◌≡◌, ℕ, suc, ◌+◌, ◌≤◌, Bool, true, false, List, [], ◌∷◌, Option, Some, None, refl, sym, ◌∙◌, ap, subst, arith}
+use Rattle.std.proofs.Common.{◌≡◌, ℕ, suc, ◌+◌, ◌≤◌, true, false, List, [], ◌∷◌, Option, Some, None, sym, ◌∙◌, ap, subst, arith}
 use Rattle.std.specs.Prelude.{◌-◌, if◌then◌else◌, nat_eq, nat_lt}
 use Rattle.pc_word.specs.declared.item.Item.{Item}
 use Rattle.pc_word.specs.declared.item.Operand.{Operand}
 use Rattle.pc_window.specs.declared.window.Window.{Window as StoredWindow}
 use Rattle.pc_window.specs.StoredWindow.{tree_in}
-use Rattle.pc_window.specs.Tree.{Tree, tree_size}
+use Rattle.pc_window.specs.Tree.{tree_size}
 use Rattle.pc_moveop.specs.NodeTree.{NodeTree, Item_node, Test_node, Leads_to, Leads_out, nodes_in, tree_of, leaf_count, child_at, led_on, node_at, child_changed, with_node, HasRoot, NoEmptyNode}
 use Rattle.pc_moveop.specs.Taking.{leaf_to}
 use Rattle.pc_moveop.proofs.Paths.{tree_same}
-use Rattle.pc_moveop.proofs.Shapes.{KeepsNodes, leaf_nodes, leaf_size, changed_nodes}
+use Rattle.pc_moveop.proofs.Shapes.{leaf_nodes, leaf_size, changed_nodes}
 use Rattle.pc_movecj.specs.Dividing.{yes_part, no_part, divided}
 use Rattle.pc_movecj.specs.MovingTest.{TestHasMoved}
 
@@ -32,7 +32,7 @@ module _ (tag origin : ℕ) (on : Operand) where
   divided_nodes leaf (Item_node t o x rest) h = divided_nodes leaf rest h
   divided_nodes leaf (Test_node t o other p q) h =
       elim (nat_lt leaf (leaf_count p)) as (λ b. NoEmptyNode (if b then Test_node t o other (divided tag origin on leaf p) q
-          else Test_node t o other p (divided tag origin on (leaf - leaf_count p) q))) [
+      else Test_node t o other p (divided tag origin on (leaf - leaf_count p) q))) [
         | true ↦ (divided_nodes leaf p h.0, h.1)
         | false ↦ (h.0, divided_nodes (leaf - leaf_count p) q h.1)
       ]
@@ -46,7 +46,7 @@ module _ (tag origin : ℕ) (on : Operand) where
   divided_root : (leaf : ℕ) (t : NodeTree) → HasRoot t → HasRoot (divided tag origin on leaf t)
   divided_root leaf (Item_node t o x rest) h = tt
   divided_root leaf (Test_node t o other p q) h = elim (nat_lt leaf (leaf_count p)) as (λ b. HasRoot (if b then Test_node t o other (divided tag origin on leaf p) q
-      else Test_node t o other p (divided tag origin on (leaf - leaf_count p) q))) [ | true ↦ tt | false ↦ tt ]
+      else Test_node t o other p (divided tag origin on (leaf - leaf_count p) q))) [ true ↦ tt | false ↦ tt ]
   divided_root leaf (Leads_to below) h = absurd h
   divided_root leaf (Leads_out out) h = absurd h
 
@@ -90,7 +90,7 @@ divided_size : (tag origin : ℕ) (on : Operand) (leaf : ℕ) (t : NodeTree) →
 divided_size tag origin on leaf (Item_node t o x rest) = item_double t o x rest (divided tag origin on leaf rest) (divided_size tag origin on leaf rest)
 divided_size tag origin on leaf (Test_node t o other p q) =
     elim (nat_lt leaf (leaf_count p)) as (λ b. IsDouble (Test_node t o other p q) (if b then Test_node t o other (divided tag origin on leaf p) q
-        else Test_node t o other p (divided tag origin on (leaf - leaf_count p) q))) [
+    else Test_node t o other p (divided tag origin on (leaf - leaf_count p) q))) [
       | true ↦ yes_double t o other p (divided tag origin on leaf p) q (divided_size tag origin on leaf p)
       | false ↦ no_double t o other p q (divided tag origin on (leaf - leaf_count p) q) (divided_size tag origin on (leaf - leaf_count p) q)
     ]
@@ -106,7 +106,7 @@ child_double : (leaf : ℕ) (f : NodeTree → NodeTree) (next : NodeTree → Opt
 child_double leaf f next n double (Item_node t o x rest) at = item_double t o x rest (child_changed leaf f rest) (child_double leaf f next n double rest at)
 child_double leaf f next n double (Test_node t o on p q) at =
     elim (nat_lt leaf (leaf_count p)) as (λ b. led_on (if b then child_at leaf p else child_at (leaf - leaf_count p) q) next ≡ Some n
-        → IsDouble (Test_node t o on p q) (if b then Test_node t o on (child_changed leaf f p) q else Test_node t o on p (child_changed (leaf - leaf_count p) f q))) [
+    → IsDouble (Test_node t o on p q) (if b then Test_node t o on (child_changed leaf f p) q else Test_node t o on p (child_changed (leaf - leaf_count p) f q))) [
       | true ↦ λ e. yes_double t o on p (child_changed leaf f p) q (child_double leaf f next n double p e)
       | false ↦ λ e. no_double t o on p q (child_changed (leaf - leaf_count p) f q) (child_double (leaf - leaf_count p) f next n double q e)
     ] at

@@ -89,6 +89,9 @@ is_there w parent leaf c found = by_node (node_at parent (nodes_in w.tree)) foun
     by_node None f = absurd (f.is)
 
 pub ruleset climbs = (passed)
+
 pub ruleset searches = (started, none_passed, none_found)
+
 pub ruleset refusing = (depends, no_name, literal, nothing_found)
+
 pub ruleset carrying = (is_there)

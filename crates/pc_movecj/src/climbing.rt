@@ -44,7 +44,10 @@ fn first_test(tree: &WindowTree) -> Option<TestClimb>
             Some(climb) => Some(past_item(climb, *item)),
         },
         WindowTree::Test {
-            tag, origin, on, ..
+            tag,
+            origin,
+            on,
+            ..
         } => Some(TestClimb {
             tag: *tag,
             origin: *origin,

@@ -8,5 +8,3 @@ mod moving;
 mod tests;
 
 pub use moving::{move_cj, why_not};
-
-

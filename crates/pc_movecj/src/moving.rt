@@ -106,12 +106,7 @@ pub fn why_not(window: &Window, parent: &[u16], leaf: u16) -> Option<MoveError>
 }
 
 /// All that a move needs, before anything is changed.
-fn prepared(
-    alloc: Global,
-    window: &Window,
-    parent: &[u16],
-    leaf: u32,
-) -> Result<Spare, AllocError>
+fn prepared(alloc: Global, window: &Window, parent: &[u16], leaf: u32) -> Result<Spare, AllocError>
     requires small { tree_size (tree_in window.now.tree) < 2 ^ 31 }
     requires there { IsSome (node_at parent.now (nodes_in window.now.tree)) }
     ensures { IfOk result (λ spare. nodes_in spare.items.value ≡ items_behind leaf (node_at parent.now (nodes_in window.now.tree))) }

@@ -5,8 +5,8 @@ ghost use Rattle.pc_window.specs.StoredWindow.{window_in, IsJustOpened};
 ghost use Rattle.pc_moveop.specs.models.GuardedStore.{guarded_store_table};
 
 use super::*;
+use pc_moveop::MoveError;
 use pc_table::{Region, RegionList, RegionTable, RegionTree, VarList};
-use pc_moveop::{MoveError};
 use pc_window::{Window, WindowError, WindowTree};
 use pc_word::{Item, LengthList, Limits, LoopList, Operand};
 use std::alloc::{AllocError, Global};

@@ -85,5 +85,7 @@ pub none_found : (forms : ℕ → Form) → Finds forms None None
 none_found forms = record { is = tt }
 
 pub ruleset climbs = (started, tested, passed)
+
 pub ruleset conflicting = (passes, conflicts)
+
 pub ruleset searches = (none_passed, none_found)

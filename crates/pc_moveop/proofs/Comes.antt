@@ -49,54 +49,53 @@ module _ (forms : ℕ → Form) (base : ℕ → Bool) where
       → EntersKept known (Item_node t o y rest) (λ c. Item_node t o y (to c)) (passing (Passed_item true o y) found)
   kept_behind known t o y rest to None h = tt
   kept_behind known t o y rest to (Some m) h = λ clear crosses reads isnew scoped. (
-    let k = h clear.1 crosses reads isnew scoped.2 in
-    let new = new_apart known y (dest_of m.item) k.1 in
-    (record { enters = Behind_item t o y (Some m.item) (node_front rest) (node_front (to (own m))) (follows forms m.item y clear.0, new.1) tt k.0.enters; twins = k.0.twins }, new.0)
-  )
+      let k = h clear.1 crosses reads isnew scoped.2 in
+      let new = new_apart known y (dest_of m.item) k.1 in
+      (record { enters = Behind_item t o y (Some m.item) (node_front rest) (node_front (to (own m))) (follows forms m.item y clear.0, new.1) tt k.0.enters; twins = k.0.twins }, new.0)
+      )
 
   kept_yes : (known : ℕ → Bool) (t o : ℕ) (on : Operand) (p q : NodeTree) (to : Coming → NodeTree) (found : Option Mover) → EntersKept known p to found
       → EntersKept known (Test_node t o on p q) (λ c. Test_node t o on (to c) q) found
   kept_yes known t o on p q to None h = tt
   kept_yes known t o on p q to (Some m) h = λ clear crosses reads isnew scoped. (
-    let k = h clear crosses reads isnew scoped.1 in
-    (record { enters = On_yes t o on (Some m.item) (node_front p) (node_front q) (node_front (to (own m))) tt k.0.enters; twins = k.0.twins }, k.1)
-  )
+      let k = h clear crosses reads isnew scoped.1 in
+      (record { enters = On_yes t o on (Some m.item) (node_front p) (node_front q) (node_front (to (own m))) tt k.0.enters; twins = k.0.twins }, k.1)
+      )
 
   kept_no : (known : ℕ → Bool) (t o : ℕ) (on : Operand) (p q : NodeTree) (to : Coming → NodeTree) (found : Option Mover) → EntersKept known q to found
       → EntersKept known (Test_node t o on p q) (λ c. Test_node t o on p (to c)) found
   kept_no known t o on p q to None h = tt
   kept_no known t o on p q to (Some m) h = λ clear crosses reads isnew scoped. (
-    let k = h clear crosses reads isnew scoped.2 in
-    (record { enters = On_no t o on (Some m.item) (node_front p) (node_front q) (node_front (to (own m))) tt k.0.enters; twins = k.0.twins }, k.1)
-  )
+      let k = h clear crosses reads isnew scoped.2 in
+      (record { enters = On_no t o on (Some m.item) (node_front p) (node_front q) (node_front (to (own m))) tt k.0.enters; twins = k.0.twins }, k.1)
+      )
 
   kept_found : (known : ℕ → Bool) (place : ℕ) (below : NodeTree) (found : Option Mover) → RisesKept forms known (tree_of below) (λ d. tree_of (node_without d place below)) found
       → EntersKept known (Leads_to below) (λ c. Item_node c.tag c.origin c.item (leaf_to (node_without (dest_of c.item) place below))) found
   kept_found known place below None h = tt
   kept_found known place below (Some m) h = λ clear crosses reads isnew scoped. (
-    let k = h clear crosses scoped in
-    (
-      subst (λ (f : Front). Enters base forms forms None (Some m.item) (Unfinished (tree_of below)) (Issued m.tag m.origin m.item f))
-          (sym (leaf_front (node_without (dest_of m.item) place below)))
-          (record { enters = Lands m.tag m.origin m.item (tree_of below) (tree_of (node_without (dest_of m.item) place below)) reads isnew refl refl k.0; twins = tt }),
-      k.1,
-    )
-  )
+      let k = h clear crosses scoped in (
+        subst (λ (f : Front). Enters base forms forms None (Some m.item) (Unfinished (tree_of below)) (Issued m.tag m.origin m.item f))
+            (sym (leaf_front (node_without (dest_of m.item) place below)))
+            (record { enters = Lands m.tag m.origin m.item (tree_of below) (tree_of (node_without (dest_of m.item) place below)) reads isnew refl refl k.0; twins = tt }),
+        k.1,
+      )
+      )
 
   pub enters_kept : (known : ℕ → Bool) (leaf place : ℕ) (t : NodeTree) → EntersKept known t (λ c. landed c leaf place t) (mover_at leaf place t)
   enters_kept known leaf place (Item_node t o y rest) =
       kept_behind known t o y rest (λ c. landed c leaf place rest) (mover_at leaf place rest) (enters_kept (and_dest known y) leaf place rest)
   enters_kept known leaf place (Test_node t o on p q) =
       elim (nat_lt leaf (leaf_count p)) as (λ b. EntersKept known (Test_node t o on p q)
-          (λ c. if b then Test_node t o on (landed c leaf place p) q else Test_node t o on p (landed c (leaf - leaf_count p) place q))
-          (if b then mover_at leaf place p else mover_at (leaf - leaf_count p) place q)) [
+      (λ c. if b then Test_node t o on (landed c leaf place p) q else Test_node t o on p (landed c (leaf - leaf_count p) place q))
+      (if b then mover_at leaf place p else mover_at (leaf - leaf_count p) place q)) [
         | true ↦ kept_yes known t o on p q (λ c. landed c leaf place p) (mover_at leaf place p) (enters_kept known leaf place p)
         | false ↦ kept_no known t o on p q (λ c. landed c (leaf - leaf_count p) place q) (mover_at (leaf - leaf_count p) place q) (enters_kept known (leaf - leaf_count p) place q)
       ]
   enters_kept known leaf place (Leads_to below) =
       elim (nat_eq leaf 0) as (λ b. EntersKept known (Leads_to below)
-          (λ c. if b then Item_node c.tag c.origin c.item (leaf_to (node_without (dest_of c.item) place below)) else Leads_to below)
-          (if b then mover_in place below else None)) [
+      (λ c. if b then Item_node c.tag c.origin c.item (leaf_to (node_without (dest_of c.item) place below)) else Leads_to below)
+      (if b then mover_in place below else None)) [
         | true ↦ kept_found known place below (mover_in place below) (rises_kept forms known place below)
         | false ↦ tt
       ]
@@ -157,15 +156,15 @@ module _ (forms forms' : ℕ → Form) (base : ℕ → Bool) (n : ℕ) where
   enters_named leaf place (Item_node t o y rest) = named_behind t o y rest (λ c. landed c leaf place rest) (mover_at leaf place rest) (enters_named leaf place rest)
   enters_named leaf place (Test_node t o on p q) =
       elim (nat_lt leaf (leaf_count p)) as (λ b. EntersNamed (Test_node t o on p q)
-          (λ c. if b then Test_node t o on (landed c leaf place p) q else Test_node t o on p (landed c (leaf - leaf_count p) place q))
-          (if b then mover_at leaf place p else mover_at (leaf - leaf_count p) place q)) [
+      (λ c. if b then Test_node t o on (landed c leaf place p) q else Test_node t o on p (landed c (leaf - leaf_count p) place q))
+      (if b then mover_at leaf place p else mover_at (leaf - leaf_count p) place q)) [
         | true ↦ named_yes t o on p q (λ c. landed c leaf place p) (mover_at leaf place p) (enters_named leaf place p)
         | false ↦ named_no t o on p q (λ c. landed c (leaf - leaf_count p) place q) (mover_at (leaf - leaf_count p) place q) (enters_named (leaf - leaf_count p) place q)
       ]
   enters_named leaf place (Leads_to below) =
       elim (nat_eq leaf 0) as (λ b. EntersNamed (Leads_to below)
-          (λ c. if b then Item_node c.tag c.origin c.item (leaf_to (node_without (dest_of c.item) place below)) else Leads_to below)
-          (if b then mover_in place below else None)) [
+      (λ c. if b then Item_node c.tag c.origin c.item (leaf_to (node_without (dest_of c.item) place below)) else Leads_to below)
+      (if b then mover_in place below else None)) [
         | true ↦ named_found place below (mover_in place below) (rises_named forms n place below)
         | false ↦ tt
       ]

@@ -58,7 +58,7 @@ pub front_changed : (leaf : ℕ) (f : NodeTree → NodeTree) (t : NodeTree) → 
 front_changed leaf f (Item_node t o x rest) = Same_item t o x _ _ (front_changed leaf f rest)
 front_changed leaf f (Test_node t o on p q) =
     elim (nat_lt leaf (leaf_count p)) as (λ b. SameItems (Split t o on (node_front p) (node_front q))
-        (node_front (if b then Test_node t o on (child_changed leaf f p) q else Test_node t o on p (child_changed (leaf - leaf_count p) f q)))) [
+    (node_front (if b then Test_node t o on (child_changed leaf f p) q else Test_node t o on p (child_changed (leaf - leaf_count p) f q)))) [
       | true ↦ Same_test t o on _ _ _ _ (front_changed leaf f p) (same_front q)
       | false ↦ Same_test t o on _ _ _ _ (same_front p) (front_changed (leaf - leaf_count p) f q)
     ]

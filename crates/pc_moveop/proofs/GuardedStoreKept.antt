@@ -1,5 +1,5 @@
 -- What the table of the tests keeps.
-use Rattle.std.proofs.Common.{◌≡◌, ℕ, zero, suc, ◌+◌, ◌≤◌, ◌<◌, ◌^◌, [], Bool, true, false, Some, None, length, refl, sym, ◌∙◌, subst, arith}
+use Rattle.std.proofs.Common.{◌≡◌, ℕ, zero, suc, ◌+◌, ◌≤◌, ◌<◌, ◌^◌, [], true, false, Some, None, length, refl, sym, ◌∙◌, subst, arith}
 use Rattle.std.specs.Prelude.{nat_eq, slice_get}
 use Rattle.std.specs.List.{list_any}
 use Rattle.pc_table.specs.RegionRun.{arrive}
@@ -70,4 +70,5 @@ pub opened_variables : (w : StoredWindow) → IsJustOpened w → w.names.next_va
 opened_variables w h = let a = h.variables in omega arith
 
 pub ruleset guarded_store = (guarded_store_keeps)
+
 pub ruleset opened_windows = (opened_size, opened_names, opened_variables)

@@ -71,9 +71,9 @@ module _ (forms : ℕ → Form) where
       → IsKnownMover known (Pending t o y rest) (passing (Passed_item finished o y) found)
   past_item known t o y rest finished None h = tt
   past_item known t o y rest finished (Some m) h = λ clear scoped. (
-    let k = h clear.1 scoped.2 in
-    (known_above known y (operands_of m.item) k.0 clear.0.reads, (new_apart known y (dest_of m.item) k.1).0)
-  )
+      let k = h clear.1 scoped.2 in
+      (known_above known y (operands_of m.item) k.0 clear.0.reads, (new_apart known y (dest_of m.item) k.1).0)
+      )
 
   past_yes : (known : ℕ → Bool) (t o : ℕ) (on : Operand) (p q : Tree) (found : Option Mover) → IsKnownMover known p found
       → IsKnownMover known (Undecided t o on p q) (passing Passed_test found)
@@ -88,19 +88,19 @@ module _ (forms : ℕ → Form) where
   pub known_in : (known : ℕ → Bool) (place : ℕ) (t : NodeTree) → IsKnownMover known (tree_of t) (mover_in place t)
   known_in known place (Item_node t o y rest) =
       elim (nat_eq place 0) as (λ b. IsKnownMover known (Pending t o y (tree_of rest))
-          (if b then Some (record { tag = t; origin = o; item = y; way = [] }) else passing (Passed_item false o y) (mover_in (place - 1) rest))) [
+      (if b then Some (record { tag = t; origin = o; item = y; way = [] }) else passing (Passed_item false o y) (mover_in (place - 1) rest))) [
         | true ↦ λ clear scoped. (scoped.0, scoped.1)
         | false ↦ past_item known t o y (tree_of rest) false (mover_in (place - 1) rest) (known_in (and_dest known y) (place - 1) rest)
       ]
   known_in known place (Test_node t o on p q) =
       elim (nat_eq place 0) as (λ b. IsKnownMover known (Undecided t o on (tree_of p) (tree_of q))
-          (if b then None else (if nat_lt (place - 1) (node_size p) then passing Passed_test (mover_in (place - 1) p) else passing Passed_test (mover_in (place - 1 - node_size p) q)))) [
+      (if b then None else (if nat_lt (place - 1) (node_size p) then passing Passed_test (mover_in (place - 1) p) else passing Passed_test (mover_in (place - 1 - node_size p) q)))) [
         | true ↦ tt
         | false ↦ (elim (nat_lt (place - 1) (node_size p)) as (λ b. IsKnownMover known (Undecided t o on (tree_of p) (tree_of q))
             (if b then passing Passed_test (mover_in (place - 1) p) else passing Passed_test (mover_in (place - 1 - node_size p) q))) [
-            | true ↦ past_yes known t o on (tree_of p) (tree_of q) (mover_in (place - 1) p) (known_in known (place - 1) p)
-            | false ↦ past_no known t o on (tree_of p) (tree_of q) (mover_in (place - 1 - node_size p) q) (known_in known (place - 1 - node_size p) q)
-          ])
+              | true ↦ past_yes known t o on (tree_of p) (tree_of q) (mover_in (place - 1) p) (known_in known (place - 1) p)
+              | false ↦ past_no known t o on (tree_of p) (tree_of q) (mover_in (place - 1 - node_size p) q) (known_in known (place - 1 - node_size p) q)
+            ])
       ]
   known_in known place (Leads_to below) = tt
   known_in known place (Leads_out out) = tt

@@ -113,8 +113,11 @@ way_not_refused forms x way conflict first e =
 pub clear_alike : (forms : ℕ → Form) (x z : Item) → Alike x z → (way : List Passed) → ClearWay forms x way → ClearWay forms z way
 clear_alike forms x z a [] h = tt
 clear_alike forms x z a (Passed_test ∷ way) h = (a.quiet ∙ h.0, clear_alike forms x z a way h.1)
-clear_alike forms x z a (Passed_item finished origin y ∷ way) h = (record {
-  reads = subst (λ (os : List Operand). AllByRecursion (NotDefined y) os) (sym a.operands) h.0.reads;
-  order = subst (λ (t : Option Touch). MayPass forms finished (touch_of y) t) (sym a.touch) h.0.order;
-  one_effect = ap (λ (b : Bool). is_effect y && b) a.effect ∙ h.0.one_effect;
-}, clear_alike forms x z a way h.1)
+clear_alike forms x z a (Passed_item finished origin y ∷ way) h = (
+  record {
+    reads = subst (λ (os : List Operand). AllByRecursion (NotDefined y) os) (sym a.operands) h.0.reads;
+    order = subst (λ (t : Option Touch). MayPass forms finished (touch_of y) t) (sym a.touch) h.0.order;
+    one_effect = ap (λ (b : Bool). is_effect y && b) a.effect ∙ h.0.one_effect;
+  },
+  clear_alike forms x z a way h.1,
+)

@@ -117,13 +117,13 @@ module _ (names after : Supply) (new : Option ℕ) (next : IsNext names.next new
       goes_item known t o y rest (child_changed leaf f rest) h (λ s. child_goes leaf f next_node n goes rest (and_dest known y) at s)
   child_goes leaf f next_node n goes (Test_node t o on p q) known at h =
       elim (nat_lt leaf (leaf_count p)) as (λ b. led_on (if b then child_at leaf p else child_at (leaf - leaf_count p) q) next_node ≡ Some n
-          → Goes names after new known (Test_node t o on p q) (if b then Test_node t o on (child_changed leaf f p) q else Test_node t o on p (child_changed (leaf - leaf_count p) f q))) [
+      → Goes names after new known (Test_node t o on p q) (if b then Test_node t o on (child_changed leaf f p) q else Test_node t o on p (child_changed (leaf - leaf_count p) f q))) [
         | true ↦ λ e. goes_yes known t o on p q (child_changed leaf f p) h (λ s. child_goes leaf f next_node n goes p known e s)
         | false ↦ λ e. goes_no known t o on p q (child_changed (leaf - leaf_count p) f q) h (λ s. child_goes (leaf - leaf_count p) f next_node n goes q known e s)
       ] at
   child_goes leaf f next_node n goes (Leads_to below) known at h =
       elim (nat_eq leaf 0) as (λ b. led_on (if b then Some below else None) next_node ≡ Some n
-          → Goes names after new known (Leads_to below) (if b then Leads_to (f below) else Leads_to below)) [
+      → Goes names after new known (Leads_to below) (if b then Leads_to (f below) else Leads_to below)) [
         | true ↦ λ e. (let k = goes below known e (record { scoped = h.scoped; unknown = h.unknown; free = h.free; below = h.below }) in record { moves = k.moves; below = k.below; forms_below = k.forms_below })
         | false ↦ λ e. absurd (cc)
       ] at

@@ -40,7 +40,7 @@ count_kept leaf f (Test_node tag origin on p q) =
       | true ↦ ap (λ (n : ℕ). n + leaf_count q) (count_kept leaf f p)
       | false ↦ ap (λ (n : ℕ). leaf_count p + n) (count_kept (leaf - leaf_count p) f q)
     ]
-count_kept leaf f (Leads_to below) = elim (nat_eq leaf 0) as (λ b. leaf_count (if b then Leads_to (f below) else Leads_to below) ≡ 1) [ | true ↦ refl | false ↦ refl ]
+count_kept leaf f (Leads_to below) = elim (nat_eq leaf 0) as (λ b. leaf_count (if b then Leads_to (f below) else Leads_to below) ≡ 1) [ true ↦ refl | false ↦ refl ]
 count_kept leaf f (Leads_out out) = refl
 
 -- one change after another
@@ -48,8 +48,8 @@ child_again : (leaf : ℕ) (f g h : NodeTree → NodeTree) → ((n : NodeTree) �
 child_again leaf f g h same (Item_node tag origin x rest) = ap (Item_node tag origin x) (child_again leaf f g h same rest)
 child_again leaf f g h same (Test_node tag origin on p q) =
     elim (nat_lt leaf (leaf_count p)) as (λ b. nat_lt leaf (leaf_count p) ≡ b
-        → child_changed leaf g (if b then Test_node tag origin on (child_changed leaf f p) q else Test_node tag origin on p (child_changed (leaf - leaf_count p) f q))
-        ≡ (if b then Test_node tag origin on (child_changed leaf h p) q else Test_node tag origin on p (child_changed (leaf - leaf_count p) h q))) [
+    → child_changed leaf g (if b then Test_node tag origin on (child_changed leaf f p) q else Test_node tag origin on p (child_changed (leaf - leaf_count p) f q))
+    ≡ (if b then Test_node tag origin on (child_changed leaf h p) q else Test_node tag origin on p (child_changed (leaf - leaf_count p) h q))) [
       | true ↦ λ e. rw (count_kept leaf f p, e) (ap (λ (n : NodeTree). Test_node tag origin on n q) (child_again leaf f g h same p))
       | false ↦ λ e. rw e (ap (Test_node tag origin on p) (child_again (leaf - leaf_count p) f g h same q))
     ] refl
@@ -66,7 +66,7 @@ child_put : (leaf : ℕ) (f : NodeTree → NodeTree) (next : NodeTree → Option
 child_put leaf f next n a puts (Item_node tag origin x rest) at = child_put leaf f next n a puts rest at
 child_put leaf f next n a puts (Test_node tag origin on p q) at =
     elim (nat_lt leaf (leaf_count p)) as (λ b. nat_lt leaf (leaf_count p) ≡ b → led_on (if b then child_at leaf p else child_at (leaf - leaf_count p) q) next ≡ Some n
-        → led_on (child_at leaf (if b then Test_node tag origin on (child_changed leaf f p) q else Test_node tag origin on p (child_changed (leaf - leaf_count p) f q))) next ≡ Some a) [
+    → led_on (child_at leaf (if b then Test_node tag origin on (child_changed leaf f p) q else Test_node tag origin on p (child_changed (leaf - leaf_count p) f q))) next ≡ Some a) [
       | true ↦ λ e h. rw (count_kept leaf f p, e) (child_put leaf f next n a puts p h)
       | false ↦ λ e h. rw e (child_put (leaf - leaf_count p) f next n a puts q h)
     ] refl at
@@ -99,7 +99,7 @@ child_grows : (leaf m : ℕ) (f : NodeTree → NodeTree) → ((c : NodeTree) →
 child_grows leaf m f grows (Item_node tag origin x rest) = let h = child_grows leaf m f grows rest in omega arith
 child_grows leaf m f grows (Test_node tag origin on p q) =
     elim (nat_lt leaf (leaf_count p)) as (λ b. tree_size (tree_of (if b then Test_node tag origin on (child_changed leaf f p) q else Test_node tag origin on p (child_changed (leaf - leaf_count p) f q)))
-        ≤ suc (tree_size (tree_of p) + tree_size (tree_of q)) + m) [
+    ≤ suc (tree_size (tree_of p) + tree_size (tree_of q)) + m) [
       | true ↦ (let h = child_grows leaf m f grows p in omega arith)
       | false ↦ (let h = child_grows (leaf - leaf_count p) m f grows q in omega arith)
     ]

@@ -47,10 +47,10 @@ module _ (forms : ℕ → Form) where
       → RisesKept known (Pending t o y rest) (λ d. Pending t o y (left d)) (passing (Passed_item false o y) found)
   kept_past_item known t o y rest left None h = tt
   kept_past_item known t o y rest left (Some m) h = λ clear crosses scoped. (
-    let k = h clear.1 crosses scoped.2 in
-    let new = new_apart known y (dest_of m.item) k.1 in
-    (Past_item t o y false rest (left (dest_of m.item)) (clear_item forms m.item y clear.0) new.1 k.0, new.0)
-  )
+      let k = h clear.1 crosses scoped.2 in
+      let new = new_apart known y (dest_of m.item) k.1 in
+      (Past_item t o y false rest (left (dest_of m.item)) (clear_item forms m.item y clear.0) new.1 k.0, new.0)
+      )
 
   kept_past_test : (known : ℕ → Bool) (from : Tree) (left : Option ℕ → Tree) (found : Option Mover) → RisesKept known from left (passing Passed_test found)
   kept_past_test known from left None = tt
@@ -59,22 +59,24 @@ module _ (forms : ℕ → Form) where
   pub rises_kept : (known : ℕ → Bool) (place : ℕ) (t : NodeTree) → RisesKept known (tree_of t) (λ d. tree_of (node_without d place t)) (mover_in place t)
   rises_kept known place (Item_node t o y rest) =
       elim (nat_eq place 0) as (λ b. RisesKept known (Pending t o y (tree_of rest))
-          (λ d. tree_of (if b then nodes_mapped (renamed (dest_of y) d) rest else Item_node t o y (node_without d (place - 1) rest)))
-          (if b then Some (record { tag = t; origin = o; item = y; way = [] }) else passing (Passed_item false o y) (mover_in (place - 1) rest))) [
+      (λ d. tree_of (if b then nodes_mapped (renamed (dest_of y) d) rest else Item_node t o y (node_without d (place - 1) rest)))
+      (if b then Some (record { tag = t; origin = o; item = y; way = [] }) else passing (Passed_item false o y) (mover_in (place - 1) rest))) [
         | true ↦ λ clear crosses scoped. (
-            subst (λ (u : Tree). Rises forms t o y y false (Pending t o y (tree_of rest)) u) (tree_mapped (renamed (dest_of y) (dest_of y)) rest)
-              (Root (tree_of rest) (not_written_below y (tree_of rest) known scoped.2)), scoped.1)
+          subst (λ (u : Tree). Rises forms t o y y false (Pending t o y (tree_of rest)) u) (tree_mapped (renamed (dest_of y) (dest_of y)) rest)
+              (Root (tree_of rest) (not_written_below y (tree_of rest) known scoped.2)),
+          scoped.1,
+        )
         | false ↦ kept_past_item known t o y (tree_of rest) (λ d. tree_of (node_without d (place - 1) rest)) (mover_in (place - 1) rest) (rises_kept (and_dest known y) (place - 1) rest)
       ]
   rises_kept known place (Test_node t o on p q) =
       elim (nat_eq place 0) as (λ b. RisesKept known (Undecided t o on (tree_of p) (tree_of q)) (λ d. tree_of (node_without d place (Test_node t o on p q)))
-          (if b then None else (if nat_lt (place - 1) (node_size p) then passing Passed_test (mover_in (place - 1) p) else passing Passed_test (mover_in (place - 1 - node_size p) q)))) [
+      (if b then None else (if nat_lt (place - 1) (node_size p) then passing Passed_test (mover_in (place - 1) p) else passing Passed_test (mover_in (place - 1 - node_size p) q)))) [
         | true ↦ tt
         | false ↦ (elim (nat_lt (place - 1) (node_size p)) as (λ b. RisesKept known (Undecided t o on (tree_of p) (tree_of q)) (λ d. tree_of (node_without d place (Test_node t o on p q)))
             (if b then passing Passed_test (mover_in (place - 1) p) else passing Passed_test (mover_in (place - 1 - node_size p) q))) [
-            | true ↦ kept_past_test known (Undecided t o on (tree_of p) (tree_of q)) (λ d. tree_of (node_without d place (Test_node t o on p q))) (mover_in (place - 1) p)
-            | false ↦ kept_past_test known (Undecided t o on (tree_of p) (tree_of q)) (λ d. tree_of (node_without d place (Test_node t o on p q))) (mover_in (place - 1 - node_size p) q)
-          ])
+              | true ↦ kept_past_test known (Undecided t o on (tree_of p) (tree_of q)) (λ d. tree_of (node_without d place (Test_node t o on p q))) (mover_in (place - 1) p)
+              | false ↦ kept_past_test known (Undecided t o on (tree_of p) (tree_of q)) (λ d. tree_of (node_without d place (Test_node t o on p q))) (mover_in (place - 1 - node_size p) q)
+            ])
       ]
   rises_kept known place (Leads_to below) = tt
   rises_kept known place (Leads_out out) = tt
@@ -110,8 +112,8 @@ module _ (forms : ℕ → Form) (n : ℕ) where
   pub rises_named : (place : ℕ) (t : NodeTree) → RisesNamed (tree_of t) (λ d. tree_of (node_without d place t)) (mover_in place t)
   rises_named place (Item_node t o y rest) =
       elim (nat_eq place 0) as (λ b. RisesNamed (Pending t o y (tree_of rest))
-          (λ d. tree_of (if b then nodes_mapped (renamed (dest_of y) d) rest else Item_node t o y (node_without d (place - 1) rest)))
-          (if b then Some (record { tag = t; origin = o; item = y; way = [] }) else passing (Passed_item false o y) (mover_in (place - 1) rest))) [
+      (λ d. tree_of (if b then nodes_mapped (renamed (dest_of y) d) rest else Item_node t o y (node_without d (place - 1) rest)))
+      (if b then Some (record { tag = t; origin = o; item = y; way = [] }) else passing (Passed_item false o y) (mover_in (place - 1) rest))) [
         | true ↦ λ clear free.
             subst (λ (u : Tree). Rises forms t o y (with_dest n y) false (Pending t o y (tree_of rest)) u) (tree_mapped (renamed (dest_of y) (dest_of (with_dest n y))) rest)
             (Root (tree_of rest) (not_written_named n y (tree_of rest) free.1))
@@ -119,15 +121,15 @@ module _ (forms : ℕ → Form) (n : ℕ) where
       ]
   rises_named place (Test_node t o on p q) =
       elim (nat_eq place 0) as (λ b. RisesNamed (Undecided t o on (tree_of p) (tree_of q))
-          (λ d. tree_of (if b then Test_node t o on p q else (if nat_lt (place - 1) (node_size p) then Test_node t o on (node_without d (place - 1) p) q else Test_node t o on p (node_without d (place - 1 - node_size p) q))))
-          (if b then None else (if nat_lt (place - 1) (node_size p) then passing Passed_test (mover_in (place - 1) p) else passing Passed_test (mover_in (place - 1 - node_size p) q)))) [
+      (λ d. tree_of (if b then Test_node t o on p q else (if nat_lt (place - 1) (node_size p) then Test_node t o on (node_without d (place - 1) p) q else Test_node t o on p (node_without d (place - 1 - node_size p) q))))
+      (if b then None else (if nat_lt (place - 1) (node_size p) then passing Passed_test (mover_in (place - 1) p) else passing Passed_test (mover_in (place - 1 - node_size p) q)))) [
         | true ↦ tt
         | false ↦ (elim (nat_lt (place - 1) (node_size p)) as (λ b. RisesNamed (Undecided t o on (tree_of p) (tree_of q))
             (λ d. tree_of (if b then Test_node t o on (node_without d (place - 1) p) q else Test_node t o on p (node_without d (place - 1 - node_size p) q)))
             (if b then passing Passed_test (mover_in (place - 1) p) else passing Passed_test (mover_in (place - 1 - node_size p) q))) [
-            | true ↦ named_past_yes t o on (tree_of p) (tree_of q) (λ d. tree_of (node_without d (place - 1) p)) (mover_in (place - 1) p) (rises_named (place - 1) p)
-            | false ↦ named_past_no t o on (tree_of p) (tree_of q) (λ d. tree_of (node_without d (place - 1 - node_size p) q)) (mover_in (place - 1 - node_size p) q) (rises_named (place - 1 - node_size p) q)
-          ])
+              | true ↦ named_past_yes t o on (tree_of p) (tree_of q) (λ d. tree_of (node_without d (place - 1) p)) (mover_in (place - 1) p) (rises_named (place - 1) p)
+              | false ↦ named_past_no t o on (tree_of p) (tree_of q) (λ d. tree_of (node_without d (place - 1 - node_size p) q)) (mover_in (place - 1 - node_size p) q) (rises_named (place - 1 - node_size p) q)
+            ])
       ]
   rises_named place (Leads_to below) = tt
   rises_named place (Leads_out out) = tt

@@ -48,25 +48,25 @@ less_passing left left' n n' what (Some m) f h = λ d. f d (h d)
 less_in : (place : ℕ) (t : NodeTree) → OneLess (λ d. node_without d place t) (tree_size (tree_of t)) (mover_in place t)
 less_in place (Item_node t o y rest) =
     elim (nat_eq place 0) as (λ b. OneLess (λ d. if b then nodes_mapped (renamed (dest_of y) d) rest else Item_node t o y (node_without d (place - 1) rest)) (suc (tree_size (tree_of rest)))
-        (if b then Some (record { tag = t; origin = o; item = y; way = [] }) else passing (Passed_item false o y) (mover_in (place - 1) rest))) [
+    (if b then Some (record { tag = t; origin = o; item = y; way = [] }) else passing (Passed_item false o y) (mover_in (place - 1) rest))) [
       | true ↦ λ d. ap suc (mapped_size (renamed (dest_of y) d) rest)
       | false ↦ less_passing (λ d. node_without d (place - 1) rest) (λ d. Item_node t o y (node_without d (place - 1) rest)) (tree_size (tree_of rest)) (suc (tree_size (tree_of rest)))
           (Passed_item false o y) (mover_in (place - 1) rest) (λ d e. ap suc e) (less_in (place - 1) rest)
     ]
 less_in place (Test_node t o on p q) =
     elim (nat_eq place 0) as (λ b. OneLess
-        (λ d. if b then Test_node t o on p q else (if nat_lt (place - 1) (node_size p) then Test_node t o on (node_without d (place - 1) p) q else Test_node t o on p (node_without d (place - 1 - node_size p) q)))
-        (suc (tree_size (tree_of p) + tree_size (tree_of q)))
-        (if b then None else (if nat_lt (place - 1) (node_size p) then passing Passed_test (mover_in (place - 1) p) else passing Passed_test (mover_in (place - 1 - node_size p) q)))) [
+    (λ d. if b then Test_node t o on p q else (if nat_lt (place - 1) (node_size p) then Test_node t o on (node_without d (place - 1) p) q else Test_node t o on p (node_without d (place - 1 - node_size p) q)))
+    (suc (tree_size (tree_of p) + tree_size (tree_of q)))
+    (if b then None else (if nat_lt (place - 1) (node_size p) then passing Passed_test (mover_in (place - 1) p) else passing Passed_test (mover_in (place - 1 - node_size p) q)))) [
       | true ↦ tt
       | false ↦ (elim (nat_lt (place - 1) (node_size p)) as (λ b. OneLess
           (λ d. if b then Test_node t o on (node_without d (place - 1) p) q else Test_node t o on p (node_without d (place - 1 - node_size p) q)) (suc (tree_size (tree_of p) + tree_size (tree_of q)))
           (if b then passing Passed_test (mover_in (place - 1) p) else passing Passed_test (mover_in (place - 1 - node_size p) q))) [
-          | true ↦ less_passing (λ d. node_without d (place - 1) p) (λ d. Test_node t o on (node_without d (place - 1) p) q) (tree_size (tree_of p)) (suc (tree_size (tree_of p) + tree_size (tree_of q)))
-              Passed_test (mover_in (place - 1) p) (λ d e. omega (arith, e)) (less_in (place - 1) p)
-          | false ↦ less_passing (λ d. node_without d (place - 1 - node_size p) q) (λ d. Test_node t o on p (node_without d (place - 1 - node_size p) q)) (tree_size (tree_of q))
-              (suc (tree_size (tree_of p) + tree_size (tree_of q))) Passed_test (mover_in (place - 1 - node_size p) q) (λ d e. omega (arith, e)) (less_in (place - 1 - node_size p) q)
-        ])
+            | true ↦ less_passing (λ d. node_without d (place - 1) p) (λ d. Test_node t o on (node_without d (place - 1) p) q) (tree_size (tree_of p)) (suc (tree_size (tree_of p) + tree_size (tree_of q)))
+                Passed_test (mover_in (place - 1) p) (λ d e. omega (arith, e)) (less_in (place - 1) p)
+            | false ↦ less_passing (λ d. node_without d (place - 1 - node_size p) q) (λ d. Test_node t o on p (node_without d (place - 1 - node_size p) q)) (tree_size (tree_of q))
+                (suc (tree_size (tree_of p) + tree_size (tree_of q))) Passed_test (mover_in (place - 1 - node_size p) q) (λ d e. omega (arith, e)) (less_in (place - 1 - node_size p) q)
+          ])
     ]
 less_in place (Leads_to below) = tt
 less_in place (Leads_out out) = tt
@@ -97,7 +97,7 @@ many_at leaf place (Item_node t o y rest) =
     (mover_at leaf place rest) (λ c e. ap suc e) (many_at leaf place rest)
 many_at leaf place (Test_node t o on p q) =
     elim (nat_lt leaf (leaf_count p)) as (λ b. AsMany (λ c. if b then Test_node t o on (landed c leaf place p) q else Test_node t o on p (landed c (leaf - leaf_count p) place q))
-        (suc (tree_size (tree_of p) + tree_size (tree_of q))) (if b then mover_at leaf place p else mover_at (leaf - leaf_count p) place q)) [
+    (suc (tree_size (tree_of p) + tree_size (tree_of q))) (if b then mover_at leaf place p else mover_at (leaf - leaf_count p) place q)) [
       | true ↦ many_side (λ c. landed c leaf place p) (λ c. Test_node t o on (landed c leaf place p) q) (tree_size (tree_of p)) (suc (tree_size (tree_of p) + tree_size (tree_of q)))
           (mover_at leaf place p) (λ c e. omega (arith, e)) (many_at leaf place p)
       | false ↦ many_side (λ c. landed c (leaf - leaf_count p) place q) (λ c. Test_node t o on p (landed c (leaf - leaf_count p) place q)) (tree_size (tree_of q))
@@ -105,7 +105,7 @@ many_at leaf place (Test_node t o on p q) =
     ]
 many_at leaf place (Leads_to below) =
     elim (nat_eq leaf 0) as (λ b. AsMany (λ c. if b then Item_node c.tag c.origin c.item (leaf_to (node_without (dest_of c.item) place below)) else Leads_to below) (tree_size (tree_of below))
-        (if b then mover_in place below else None)) [
+    (if b then mover_in place below else None)) [
       | true ↦ many_here place below (mover_in place below) (less_in place below)
       | false ↦ tt
     ]
@@ -118,7 +118,7 @@ child_many : (leaf : ℕ) (f : NodeTree → NodeTree) (next : NodeTree → Optio
 child_many leaf f next n same (Item_node t o x rest) at = ap suc (child_many leaf f next n same rest at)
 child_many leaf f next n same (Test_node t o on p q) at =
     elim (nat_lt leaf (leaf_count p)) as (λ b. led_on (if b then child_at leaf p else child_at (leaf - leaf_count p) q) next ≡ Some n
-        → tree_size (tree_of (if b then Test_node t o on (child_changed leaf f p) q else Test_node t o on p (child_changed (leaf - leaf_count p) f q))) ≡ suc (tree_size (tree_of p) + tree_size (tree_of q))) [
+    → tree_size (tree_of (if b then Test_node t o on (child_changed leaf f p) q else Test_node t o on p (child_changed (leaf - leaf_count p) f q))) ≡ suc (tree_size (tree_of p) + tree_size (tree_of q))) [
       | true ↦ λ e. ap (λ (k : ℕ). suc (k + tree_size (tree_of q))) (child_many leaf f next n same p e)
       | false ↦ λ e. ap (λ (k : ℕ). suc (tree_size (tree_of p) + k)) (child_many (leaf - leaf_count p) f next n same q e)
     ] at
@@ -161,13 +161,13 @@ without_nodes d place (Item_node t o y rest) h =
     ]
 without_nodes d place (Test_node t o on p q) h =
     elim (nat_eq place 0) as (λ b. NoEmptyNode (if b then Test_node t o on p q else (if nat_lt (place - 1) (node_size p) then Test_node t o on (node_without d (place - 1) p) q
-        else Test_node t o on p (node_without d (place - 1 - node_size p) q)))) [
+    else Test_node t o on p (node_without d (place - 1 - node_size p) q)))) [
       | true ↦ h
       | false ↦ (elim (nat_lt (place - 1) (node_size p)) as (λ b. NoEmptyNode (if b then Test_node t o on (node_without d (place - 1) p) q
           else Test_node t o on p (node_without d (place - 1 - node_size p) q))) [
-          | true ↦ (without_nodes d (place - 1) p h.0, h.1)
-          | false ↦ (h.0, without_nodes d (place - 1 - node_size p) q h.1)
-        ])
+            | true ↦ (without_nodes d (place - 1) p h.0, h.1)
+            | false ↦ (h.0, without_nodes d (place - 1 - node_size p) q h.1)
+          ])
     ]
 without_nodes d place (Leads_to below) h = h
 without_nodes d place (Leads_out out) h = h
@@ -189,7 +189,7 @@ landed_nodes c leaf place (Leads_out out) h = h
 landed_root : (c : Coming) (leaf place : ℕ) (t : NodeTree) → HasRoot t → HasRoot (landed c leaf place t)
 landed_root c leaf place (Item_node t o y rest) h = tt
 landed_root c leaf place (Test_node t o on p q) h = elim (nat_lt leaf (leaf_count p)) as (λ b. HasRoot (if b then Test_node t o on (landed c leaf place p) q
-    else Test_node t o on p (landed c (leaf - leaf_count p) place q))) [ | true ↦ tt | false ↦ tt ]
+    else Test_node t o on p (landed c (leaf - leaf_count p) place q))) [ true ↦ tt | false ↦ tt ]
 landed_root c leaf place (Leads_to below) h = absurd h
 landed_root c leaf place (Leads_out out) h = absurd h
 
@@ -201,7 +201,7 @@ pub record KeepsNodes (n n' : NodeTree) : Type 0 where
 child_root : (leaf : ℕ) (f : NodeTree → NodeTree) (t : NodeTree) → HasRoot t → HasRoot (child_changed leaf f t)
 child_root leaf f (Item_node t o y rest) h = tt
 child_root leaf f (Test_node t o on p q) h = elim (nat_lt leaf (leaf_count p)) as (λ b. HasRoot (if b then Test_node t o on (child_changed leaf f p) q
-    else Test_node t o on p (child_changed (leaf - leaf_count p) f q))) [ | true ↦ tt | false ↦ tt ]
+    else Test_node t o on p (child_changed (leaf - leaf_count p) f q))) [ true ↦ tt | false ↦ tt ]
 child_root leaf f (Leads_to below) h = absurd h
 child_root leaf f (Leads_out out) h = absurd h
 
@@ -210,7 +210,7 @@ child_nodes : (leaf : ℕ) (f : NodeTree → NodeTree) (next : NodeTree → Opti
 child_nodes leaf f next n keeps (Item_node t o x rest) at h = child_nodes leaf f next n keeps rest at h
 child_nodes leaf f next n keeps (Test_node t o on p q) at h =
     elim (nat_lt leaf (leaf_count p)) as (λ b. led_on (if b then child_at leaf p else child_at (leaf - leaf_count p) q) next ≡ Some n
-        → NoEmptyNode (if b then Test_node t o on (child_changed leaf f p) q else Test_node t o on p (child_changed (leaf - leaf_count p) f q))) [
+    → NoEmptyNode (if b then Test_node t o on (child_changed leaf f p) q else Test_node t o on p (child_changed (leaf - leaf_count p) f q))) [
       | true ↦ λ e. (child_nodes leaf f next n keeps p e h.0, h.1)
       | false ↦ λ e. (h.0, child_nodes (leaf - leaf_count p) f next n keeps q e h.1)
     ] at

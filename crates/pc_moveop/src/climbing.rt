@@ -169,7 +169,10 @@ pub fn climb_at(names: &NameTable, tree: &WindowTree, leaf: u32, place: u32) -> 
 {
     match tree {
         WindowTree::Step {
-            origin, item, rest, ..
+            origin,
+            item,
+            rest,
+            ..
         } => match climb_at(names, rest, leaf, place) {
             None => None,
             Some(climb) => Some(past_item(climb, names, *origin, *item, true)),

@@ -102,7 +102,10 @@ pub fn with_dest(name: u32, item: Item) -> Item
 {
     match item {
         Item::Bin {
-            op, left, right, ..
+            op,
+            left,
+            right,
+            ..
         } => Item::Bin {
             op,
             dest: name,

@@ -22,13 +22,7 @@ pub(crate) struct Coming {
 
 /// An item comes to the end of the path above a leaf, from a place of the node behind it. `spare`
 /// is a box that the new tree keeps.
-fn land_here(
-    tree: &mut WindowTree,
-    leaf: u32,
-    place: u32,
-    coming: Coming,
-    spare: Box<WindowTree>,
-)
+fn land_here(tree: &mut WindowTree, leaf: u32, place: u32, coming: Coming, spare: Box<WindowTree>)
     requires small { tree_size (tree_in tree.old) < 2 ^ 31 }
     requires leads { leads_on tree.old ≡ true }
     ensures { nodes_in tree.new ≡ landed (coming_in coming) leaf place (nodes_in tree.old) }

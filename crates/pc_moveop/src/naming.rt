@@ -18,7 +18,10 @@ fn combined(names: &NameTable, item: Item) -> Option<LinForm>
 {
     match item {
         Item::Bin {
-            op, left, right, ..
+            op,
+            left,
+            right,
+            ..
         } => {
             let left = names.form(left);
             let right = names.form(right);

@@ -112,12 +112,7 @@ fn a_store_stays_below_its_test(rt: HostRuntime) -> Result<(), Fail> {
 }
 
 /// A tree of a few items and tests.
-fn step(
-    alloc: Global,
-    origin: u32,
-    item: Item,
-    rest: WindowTree,
-) -> Result<WindowTree, AllocError>
+fn step(alloc: Global, origin: u32, item: Item, rest: WindowTree) -> Result<WindowTree, AllocError>
     ensures { IfOk result (λ tree. tree_size (tree_in tree) ≡ suc (tree_size (tree_in rest))) }
 {
     let rest = Box::new(alloc, rest)?;
@@ -222,6 +217,11 @@ fn moves_are_refused(rt: HostRuntime) -> Result<(), Fail> {
     assert!(&rt; two_items(rt.alloc(), load, store)? == None);
     assert!(&rt; two_items(rt.alloc(), load, print)? == Some(MoveError::Depends { name: 0 }));
     assert!(&rt; two_items(rt.alloc(), print, print)? == Some(MoveError::EffectOrder));
-    assert!(&rt; two_sides(rt.alloc(), sum)? == Some(MoveError::Full { kind: RoomKind::Ops }));
+    assert!(&rt;
+        two_sides(rt.alloc(), sum)?
+            == Some(MoveError::Full {
+                kind: RoomKind::Ops
+            })
+    );
     Ok(())
 }

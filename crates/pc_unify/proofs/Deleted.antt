@@ -1,7 +1,5 @@
 -- What is deleted.
-use Rattle.std.proofs.Common.{◌≡◌, ℕ, zero, suc, ◌+◌, ◌<◌, Bool, true, false, List, [], ◌∷◌, length, drop, refl, sym, ◌∙◌, ap, arith}
-use Rattle.std.specs.Prelude.{◌||◌, slice_index_or}
-use Rattle.pc_table.specs.TableKeeps.{reads_name}
+use Rattle.std.proofs.Common.{◌≡◌, ℕ, List, drop, refl}
 use Rattle.pc_window.specs.declared.home.Home.{Home}
 use Rattle.pc_window.specs.Names.{homes_use}
 

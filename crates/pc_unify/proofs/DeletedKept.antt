@@ -1,16 +1,16 @@
 -- A deletion is a move that keeps a window proper, its walk and its forms.
-use Rattle.std.proofs.Common.{◌≡◌, ℕ, suc, ◌+◌, ◌≤◌, Bool, true, false, List, [], ◌∷◌, Option, Some, None, length, refl, sym, ◌∙◌, ap, subst, arith}
+use Rattle.std.proofs.Common.{◌≡◌, ℕ, ◌≤◌, Bool, true, false, List, [], ◌∷◌, Option, Some, None, length, refl, sym, ◌∙◌, ap, subst, arith}
 use Rattle.std.specs.Prelude.{◌-◌, if◌then◌else◌, nat_eq, nat_lt}
 use Rattle.pc_word.specs.declared.item.Item.{Item}
 use Rattle.pc_word.specs.declared.item.Item.TheVariants.{Bin, Copy, Load, Store, Print, Read, More}
 use Rattle.pc_word.specs.declared.item.Limits.{Limits}
 use Rattle.pc_word.specs.declared.item.Operand.{Operand}
-use Rattle.pc_word.specs.Items.{dest_of, is_memory}
+use Rattle.pc_word.specs.Items.{dest_of}
 use Rattle.pc_linear.specs.Form.{Form}
 use Rattle.pc_window.specs.declared.names.NameTable.{NameTable}
 use Rattle.pc_window.specs.declared.window.Window.{Window as StoredWindow}
 use Rattle.pc_window.specs.StoredWindow.{tree_in, forms_in, supply_in, window_in}
-use Rattle.pc_window.specs.Tree.{Tree, Pending, Undecided, Front, Issued, Split, Unfinished, whole}
+use Rattle.pc_window.specs.Tree.{Tree, Front, Issued, Split, Unfinished, whole}
 use Rattle.pc_window.specs.Names.{and_dest, Scoped, uses}
 use Rattle.pc_window.specs.Opening.{TreeBelow}
 use Rattle.pc_window.specs.WindowRun.{Window}
@@ -20,7 +20,6 @@ use Rattle.pc_window.specs.Move.{is_deletable, IsUnused, Moves, Deletes, Below, 
 use Rattle.pc_window.specs.Steps.{IsProper}
 use Rattle.pc_window.proofs.Moving.{scoped_moved}
 use Rattle.pc_window.proofs.Parameters.{scoped_parameters, independent_parameters}
-use Rattle.pc_moveop.specs.declared.error.MoveError.{MoveError}
 use Rattle.pc_moveop.specs.declared.error.MoveError.TheVariants.{Depends}
 use Rattle.pc_moveop.specs.NodeTree.{NodeTree, Item_node, Test_node, Leads_to, Leads_out, nodes_in, tree_of, node_front, node_size, leaf_count, child_at, led_on, node_at}
 use Rattle.pc_moveop.specs.Taking.{leaf_to}
@@ -30,7 +29,7 @@ use Rattle.pc_moveop.proofs.Moved.{node_window, walk_kept}
 use Rattle.pc_moveop.proofs.Paths.{tree_same, whole_front}
 use Rattle.pc_moveop.proofs.Rising.{leaf_front}
 use Rattle.pc_moveop.proofs.Windows.{Keeps, stored_window}
-use Rattle.pc_unify.specs.Deleting.{Standing, standing_at, used_below, refusal_of_item, refusal_of_standing, refusal_in_node, node_deleted, child_closed, item_deleted, IsDeleted}
+use Rattle.pc_unify.specs.Deleting.{standing_at, used_below, refusal_of_item, refusal_of_standing, refusal_in_node, node_deleted, child_closed, item_deleted, IsDeleted}
 
 leaf_tree : (t : NodeTree) → tree_of (leaf_to t) ≡ tree_of t
 leaf_tree (Item_node t o x rest) = refl
@@ -63,20 +62,20 @@ module _ (forms : ℕ → Form) where
   node_goes : (known : ℕ → Bool) (place : ℕ) (t : NodeTree) → refusal_of_standing (standing_at place t) ≡ None → Goes known t (node_deleted place t)
   node_goes known place (Item_node t o x rest) e =
       elim (nat_eq place 0) as (λ b. refusal_of_standing (if b then Some (record { item = x; rest = rest }) else standing_at (place - 1) rest) ≡ None
-          → Goes known (Item_node t o x rest) (if b then rest else Item_node t o x (node_deleted (place - 1) rest))) [
+      → Goes known (Item_node t o x rest) (if b then rest else Item_node t o x (node_deleted (place - 1) rest))) [
         | true ↦ λ h. (let k = can_go x (tree_of rest) h in Deletes known t o x (tree_of rest) k.0 k.1 refl refl)
         | false ↦ λ h. Below known t o x (tree_of rest) (tree_of (node_deleted (place - 1) rest)) tt (node_goes (and_dest known x) (place - 1) rest h)
       ] e
   node_goes known place (Test_node t o on p q) e =
       elim (nat_eq place 0) as (λ b. refusal_of_standing (if b then None else (if nat_lt (place - 1) (node_size p) then standing_at (place - 1) p else standing_at (place - 1 - node_size p) q)) ≡ None
-          → Goes known (Test_node t o on p q) (if b then Test_node t o on p q
-          else (if nat_lt (place - 1) (node_size p) then Test_node t o on (node_deleted (place - 1) p) q else Test_node t o on p (node_deleted (place - 1 - node_size p) q)))) [
+      → Goes known (Test_node t o on p q) (if b then Test_node t o on p q
+      else (if nat_lt (place - 1) (node_size p) then Test_node t o on (node_deleted (place - 1) p) q else Test_node t o on p (node_deleted (place - 1 - node_size p) q)))) [
         | true ↦ λ h. absurd (cc)
         | false ↦ (elim (nat_lt (place - 1) (node_size p)) as (λ b. refusal_of_standing (if b then standing_at (place - 1) p else standing_at (place - 1 - node_size p) q) ≡ None
             → Goes known (Test_node t o on p q) (if b then Test_node t o on (node_deleted (place - 1) p) q else Test_node t o on p (node_deleted (place - 1 - node_size p) q))) [
-            | true ↦ λ h. On_yes_side known t o on (tree_of p) (tree_of q) (tree_of (node_deleted (place - 1) p)) tt (node_goes known (place - 1) p h)
-            | false ↦ λ h. On_no_side known t o on (tree_of p) (tree_of q) (tree_of (node_deleted (place - 1 - node_size p) q)) tt (node_goes known (place - 1 - node_size p) q h)
-          ])
+              | true ↦ λ h. On_yes_side known t o on (tree_of p) (tree_of q) (tree_of (node_deleted (place - 1) p)) tt (node_goes known (place - 1) p h)
+              | false ↦ λ h. On_no_side known t o on (tree_of p) (tree_of q) (tree_of (node_deleted (place - 1 - node_size p) q)) tt (node_goes known (place - 1 - node_size p) q h)
+            ])
       ] e
   node_goes known place (Leads_to below) e = absurd (cc)
   node_goes known place (Leads_out out) e = absurd (cc)
@@ -86,7 +85,7 @@ module _ (forms : ℕ → Form) where
   child_goes leaf f next n goes (Item_node t o x rest) known at = Below known t o x (tree_of rest) (tree_of (child_closed leaf f rest)) tt (child_goes leaf f next n goes rest (and_dest known x) at)
   child_goes leaf f next n goes (Test_node t o on p q) known at =
       elim (nat_lt leaf (leaf_count p)) as (λ b. led_on (if b then child_at leaf p else child_at (leaf - leaf_count p) q) next ≡ Some n
-          → Goes known (Test_node t o on p q) (if b then Test_node t o on (child_closed leaf f p) q else Test_node t o on p (child_closed (leaf - leaf_count p) f q))) [
+      → Goes known (Test_node t o on p q) (if b then Test_node t o on (child_closed leaf f p) q else Test_node t o on p (child_closed (leaf - leaf_count p) f q))) [
         | true ↦ λ e. On_yes_side known t o on (tree_of p) (tree_of q) (tree_of (child_closed leaf f p)) tt (child_goes leaf f next n goes p known e)
         | false ↦ λ e. On_no_side known t o on (tree_of p) (tree_of q) (tree_of (child_closed (leaf - leaf_count p) f q)) tt (child_goes (leaf - leaf_count p) f next n goes q known e)
       ] at
@@ -107,15 +106,15 @@ module _ (forms : ℕ → Form) where
 
 node_below : (m place : ℕ) (t : NodeTree) → TreeBelow m (tree_of t) → TreeBelow m (tree_of (node_deleted place t))
 node_below m place (Item_node t o x rest) h =
-    elim (nat_eq place 0) as (λ b. TreeBelow m (tree_of (if b then rest else Item_node t o x (node_deleted (place - 1) rest)))) [ | true ↦ h.1 | false ↦ (h.0, node_below m (place - 1) rest h.1) ]
+    elim (nat_eq place 0) as (λ b. TreeBelow m (tree_of (if b then rest else Item_node t o x (node_deleted (place - 1) rest)))) [ true ↦ h.1 | false ↦ (h.0, node_below m (place - 1) rest h.1) ]
 node_below m place (Test_node t o on p q) h =
     elim (nat_eq place 0) as (λ b. TreeBelow m (tree_of (if b then Test_node t o on p q
-        else (if nat_lt (place - 1) (node_size p) then Test_node t o on (node_deleted (place - 1) p) q else Test_node t o on p (node_deleted (place - 1 - node_size p) q))))) [
+    else (if nat_lt (place - 1) (node_size p) then Test_node t o on (node_deleted (place - 1) p) q else Test_node t o on p (node_deleted (place - 1 - node_size p) q))))) [
       | true ↦ h
       | false ↦ (elim (nat_lt (place - 1) (node_size p)) as (λ b. TreeBelow m (tree_of (if b then Test_node t o on (node_deleted (place - 1) p) q else Test_node t o on p (node_deleted (place - 1 - node_size p) q)))) [
-          | true ↦ (h.0, node_below m (place - 1) p h.1, h.2)
-          | false ↦ (h.0, h.1, node_below m (place - 1 - node_size p) q h.2)
-        ])
+        | true ↦ (h.0, node_below m (place - 1) p h.1, h.2)
+        | false ↦ (h.0, h.1, node_below m (place - 1 - node_size p) q h.2)
+      ])
     ]
 node_below m place (Leads_to below) h = h
 node_below m place (Leads_out out) h = h
@@ -143,15 +142,15 @@ path_below m (leaf ∷ path) place t h = child_below m leaf (item_deleted path p
 
 all_deleted : (P : Item → Type 0) (place : ℕ) (t : NodeTree) → AllItems P (node_front t) → AllItems P (node_front (node_deleted place t))
 all_deleted P place (Item_node t o x rest) h =
-    elim (nat_eq place 0) as (λ b. AllItems P (node_front (if b then rest else Item_node t o x (node_deleted (place - 1) rest)))) [ | true ↦ h.1 | false ↦ (h.0, all_deleted P (place - 1) rest h.1) ]
+    elim (nat_eq place 0) as (λ b. AllItems P (node_front (if b then rest else Item_node t o x (node_deleted (place - 1) rest)))) [ true ↦ h.1 | false ↦ (h.0, all_deleted P (place - 1) rest h.1) ]
 all_deleted P place (Test_node t o on p q) h =
     elim (nat_eq place 0) as (λ b. AllItems P (node_front (if b then Test_node t o on p q
-        else (if nat_lt (place - 1) (node_size p) then Test_node t o on (node_deleted (place - 1) p) q else Test_node t o on p (node_deleted (place - 1 - node_size p) q))))) [
+    else (if nat_lt (place - 1) (node_size p) then Test_node t o on (node_deleted (place - 1) p) q else Test_node t o on p (node_deleted (place - 1 - node_size p) q))))) [
       | true ↦ h
       | false ↦ (elim (nat_lt (place - 1) (node_size p)) as (λ b. AllItems P (node_front (if b then Test_node t o on (node_deleted (place - 1) p) q else Test_node t o on p (node_deleted (place - 1 - node_size p) q)))) [
-          | true ↦ (all_deleted P (place - 1) p h.0, h.1)
-          | false ↦ (h.0, all_deleted P (place - 1 - node_size p) q h.1)
-        ])
+        | true ↦ (all_deleted P (place - 1) p h.0, h.1)
+        | false ↦ (h.0, all_deleted P (place - 1 - node_size p) q h.1)
+      ])
     ]
 all_deleted P place (Leads_to below) h = h
 all_deleted P place (Leads_out out) h = h
@@ -164,13 +163,13 @@ free_deleted forms known place (Item_node t o x rest) h =
     ]
 free_deleted forms known place (Test_node t o on p q) h =
     elim (nat_eq place 0) as (λ b. Independent forms known (node_front (if b then Test_node t o on p q
-        else (if nat_lt (place - 1) (node_size p) then Test_node t o on (node_deleted (place - 1) p) q else Test_node t o on p (node_deleted (place - 1 - node_size p) q))))) [
+    else (if nat_lt (place - 1) (node_size p) then Test_node t o on (node_deleted (place - 1) p) q else Test_node t o on p (node_deleted (place - 1 - node_size p) q))))) [
       | true ↦ h
       | false ↦ (elim (nat_lt (place - 1) (node_size p)) as (λ b. Independent forms known (node_front (if b then Test_node t o on (node_deleted (place - 1) p) q
           else Test_node t o on p (node_deleted (place - 1 - node_size p) q)))) [
-          | true ↦ (h.0, free_deleted forms known (place - 1) p h.1, h.2)
-          | false ↦ (h.0, h.1, free_deleted forms known (place - 1 - node_size p) q h.2)
-        ])
+            | true ↦ (h.0, free_deleted forms known (place - 1) p h.1, h.2)
+            | false ↦ (h.0, h.1, free_deleted forms known (place - 1 - node_size p) q h.2)
+          ])
     ]
 free_deleted forms known place (Leads_to below) h = h
 free_deleted forms known place (Leads_out out) h = h
@@ -203,13 +202,13 @@ no_more place (Item_node t o x rest) =
     ]
 no_more place (Test_node t o on p q) =
     elim (nat_eq place 0) as (λ b. NoMore (Split t o on (node_front p) (node_front q)) (node_front (if b then Test_node t o on p q
-        else (if nat_lt (place - 1) (node_size p) then Test_node t o on (node_deleted (place - 1) p) q else Test_node t o on p (node_deleted (place - 1 - node_size p) q))))) [
+    else (if nat_lt (place - 1) (node_size p) then Test_node t o on (node_deleted (place - 1) p) q else Test_node t o on p (node_deleted (place - 1 - node_size p) q))))) [
       | true ↦ as_many (Split t o on (node_front p) (node_front q))
       | false ↦ (elim (nat_lt (place - 1) (node_size p)) as (λ b. NoMore (Split t o on (node_front p) (node_front q)) (node_front (if b then Test_node t o on (node_deleted (place - 1) p) q
           else Test_node t o on p (node_deleted (place - 1 - node_size p) q)))) [
-          | true ↦ more_sides t o on (node_front p) (node_front q) (node_front (node_deleted (place - 1) p)) (node_front q) (no_more (place - 1) p) (as_many (node_front q))
-          | false ↦ more_sides t o on (node_front p) (node_front q) (node_front p) (node_front (node_deleted (place - 1 - node_size p) q)) (as_many (node_front p)) (no_more (place - 1 - node_size p) q)
-        ])
+            | true ↦ more_sides t o on (node_front p) (node_front q) (node_front (node_deleted (place - 1) p)) (node_front q) (no_more (place - 1) p) (as_many (node_front q))
+            | false ↦ more_sides t o on (node_front p) (node_front q) (node_front p) (node_front (node_deleted (place - 1 - node_size p) q)) (as_many (node_front p)) (no_more (place - 1 - node_size p) q)
+          ])
     ]
 no_more place (Leads_to below) = as_many (Unfinished (tree_of below))
 no_more place (Leads_out out) = as_many (Unfinished out)
@@ -224,7 +223,7 @@ front_closed : (leaf : ℕ) (f : NodeTree → NodeTree) (t : NodeTree) → SameI
 front_closed leaf f (Item_node t o x rest) = Same_item t o x _ _ (front_closed leaf f rest)
 front_closed leaf f (Test_node t o on p q) =
     elim (nat_lt leaf (leaf_count p)) as (λ b. SameItems (Split t o on (node_front p) (node_front q))
-        (node_front (if b then Test_node t o on (child_closed leaf f p) q else Test_node t o on p (child_closed (leaf - leaf_count p) f q)))) [
+    (node_front (if b then Test_node t o on (child_closed leaf f p) q else Test_node t o on p (child_closed (leaf - leaf_count p) f q)))) [
       | true ↦ Same_test t o on _ _ _ _ (front_closed leaf f p) (same_front q)
       | false ↦ Same_test t o on _ _ _ _ (same_front p) (front_closed (leaf - leaf_count p) f q)
     ]
@@ -242,9 +241,10 @@ front_kept forms known limits [] place t free within =
     let a = m.items in let b = m.memory in let c = m.tests in let d = within.items in let e = within.memory in let f = within.tests in
     (free_deleted forms known place t free, record { items = omega arith; memory = omega arith; tests = omega arith })
 front_kept forms known limits (leaf ∷ path) place t free within =
-    let same = front_closed leaf (item_deleted path place) t in
-    (same_independent known forms forms (λ x is. refl) (node_front t) (node_front (item_deleted (leaf ∷ path) place t)) same free,
-      same_counts limits (node_front t) (node_front (item_deleted (leaf ∷ path) place t)) same within)
+    let same = front_closed leaf (item_deleted path place) t in (
+      same_independent known forms forms (λ x is. refl) (node_front t) (node_front (item_deleted (leaf ∷ path) place t)) same free,
+      same_counts limits (node_front t) (node_front (item_deleted (leaf ∷ path) place t)) same within,
+    )
 
 -- ---- the window
 

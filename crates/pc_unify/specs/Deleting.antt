@@ -1,5 +1,5 @@
 -- An item that is deleted: why it may not be, and the window without it.
-use Rattle.std.specs.Prelude.{ℕ, ◌≡◌, ◌-◌, true, false, if◌then◌else◌, nat_eq, nat_lt, List, [], ◌∷◌, Option, Some, None}
+use Rattle.std.specs.Prelude.{ℕ, ◌≡◌, ◌-◌, if◌then◌else◌, nat_eq, nat_lt, List, [], ◌∷◌, Option, Some, None}
 use Rattle.pc_word.specs.declared.item.Item.{Item}
 use Rattle.pc_word.specs.declared.item.Item.TheVariants.{Bin, Copy, Load, Store, Print, Read, More}
 use Rattle.pc_window.specs.declared.window.Window.{Window as StoredWindow}
