@@ -1,9 +1,11 @@
-//! Deleting what is not used: tidying a window.
+//! Deleting what is not used: one item, or all in a window, which tidies it.
 #![tactic(auto)]
 
+mod deleting;
 mod marks;
 #[cfg(test)]
 mod tests;
 mod tidying;
 
+pub use deleting::{delete, why_not_delete};
 pub use tidying::tidy;

@@ -1,8 +1,11 @@
 ghost use Rattle.std.specs.Prelude.{◌≡◌, IfOk};
 ghost use Rattle.pc_table.specs.Table.{table_of, table_tree, Does};
+ghost use Rattle.pc_window.specs.Steps.{IsProper};
+ghost use Rattle.pc_window.specs.StoredWindow.{window_in, IsJustOpened};
 ghost use Rattle.pc_unify.specs.models.DeadStep.{dead_step_table};
 
 use super::*;
+use pc_moveop::MoveError;
 use pc_table::{Region, RegionList, RegionTable, RegionTree, VarList};
 use pc_window::{Window, WindowError, WindowTree};
 use pc_word::{Item, LengthList, Limits, LoopList, OpCode, Operand};
@@ -47,18 +50,52 @@ fn dead_step(alloc: Global) -> Result<RegionTable, AllocError>
     })
 }
 
-/// Its window, tidied.
+/// Its window.
 #[tactic(auto, using(crate::proofs::DeadStepKept::dead_step))]
-fn tidied(alloc: Global, table: &RegionTable) -> Result<Window, WindowError>
+fn opened(alloc: Global, table: &RegionTable) -> Result<Window, WindowError>
     requires { table_of table.now ≡ dead_step_table }
+    ensures proper { IfOk result (λ window. IsProper (window_in window)) }
+    ensures small { IfOk result (λ window. IsJustOpened window) }
 {
     let limits = Limits {
         ops: 4,
         tests: 1,
         mem: 1,
     };
-    let window = Window::of_region(alloc, table, 0, limits)?;
+    Window::of_region(alloc, table, 0, limits)
+}
+
+/// Its window, tidied.
+fn tidied(alloc: Global, table: &RegionTable) -> Result<Window, WindowError>
+    requires { table_of table.now ≡ dead_step_table }
+{
+    let window = opened(alloc, table)?;
     tidy(alloc, window)
+}
+
+/// Whether the sum alone is deleted, and the print is not.
+#[tactic(auto, using(pc_moveop::proofs::GuardedStoreKept::opened_windows))]
+fn deletes_the_sum(window: Window) -> bool
+    requires proper { IsProper (window_in window) }
+    requires small { IsJustOpened window }
+{
+    let mut window = window;
+    let print: [u16; 1] = [0];
+    if why_not_delete(&window, &print, 0) != Some(MoveError::NotThere) {
+        return false;
+    }
+    match delete(&mut window, &[], 0) {
+        Ok(_) => leads_to_print(&window.tree),
+        Err(_) => false,
+    }
+}
+
+/// Whether a tree is a leaf that leads to the print.
+fn leads_to_print(tree: &WindowTree) -> bool {
+    match tree {
+        WindowTree::Node { below } => begins_with_print(below),
+        _ => false,
+    }
 }
 
 /// Whether a tree begins with the print.
@@ -79,6 +116,17 @@ fn what_is_not_used_is_deleted(rt: HostRuntime) -> Result<(), Fail> {
     let table = dead_step(rt.alloc())?;
     let is_so = match tidied(rt.alloc(), &table) {
         Ok(window) => begins_with_print(&window.tree),
+        Err(_) => false,
+    };
+    assert!(&rt; is_so);
+    Ok(())
+}
+
+#[test]
+fn one_item_is_deleted(rt: HostRuntime) -> Result<(), Fail> {
+    let table = dead_step(rt.alloc())?;
+    let is_so = match opened(rt.alloc(), &table) {
+        Ok(window) => deletes_the_sum(window),
         Err(_) => false,
     };
     assert!(&rt; is_so);

@@ -1,0 +1,4 @@
+pub mod TestClimbs
+pub mod Divided
+pub mod Entering
+pub mod Shapes

@@ -1,0 +1,15 @@
+pub mod Touching
+pub mod Climbs
+pub mod Refused
+pub mod Renamed
+pub mod Paths
+pub mod Brought
+pub mod Legal
+pub mod Known
+pub mod Rising
+pub mod Comes
+pub mod Fronts
+pub mod Moved
+pub mod Windows
+pub mod Shapes
+pub mod GuardedStoreKept

@@ -1,0 +1,4 @@
+pub mod Touches
+pub mod Climbs
+pub mod Landing
+pub mod GuardedStore

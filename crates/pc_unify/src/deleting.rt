@@ -1,0 +1,284 @@
+//! Deleting one item.
+ghost use Rattle.std.specs.Prelude.{◌≡◌, ◌<◌, ◌^◌, ◌||◌, ◌+◌, Some, None, List, OnOk, OnErr, IfErr, if◌then◌else◌};
+ghost use Rattle.pc_word.specs.Items.{dest_of};
+ghost use Rattle.pc_word.specs.Commit.{writes};
+ghost use Rattle.pc_table.specs.TableKeeps.{reads, reads_name};
+ghost use Rattle.pc_window.specs.Tree.{tree_size};
+ghost use Rattle.pc_window.specs.Names.{uses, homes_use};
+ghost use Rattle.pc_window.specs.Steps.{IsProper};
+ghost use Rattle.pc_window.specs.StoredWindow.{tree_in, window_in};
+ghost use Rattle.pc_moveop.specs.NodeTree.{nodes_in, tree_of};
+ghost use Rattle.pc_moveop.specs.Moving.{WalkKept};
+ghost use Rattle.pc_moveop.specs.declared.error.MoveError.TheVariants.{Depends};
+ghost use Rattle.pc_unify.specs.Deleting.{refusal_of_item, closed, refusal_of_standing, standing_at, IsWhyNotDelete, node_deleted, child_closed, item_deleted, IsDeleted};
+
+use pc_moveop::{MoveError, leaf_count, leaf_to, node_at, node_size};
+use pc_window::{Home, Window, WindowTree};
+use pc_word::{Item, Operand};
+
+/// Whether an operand reads a name.
+fn reads_name(operand: Operand, name: u32) -> bool
+    ensures { result ≡ reads_name operand name }
+{
+    match operand {
+        Operand::Name(read) => read == name,
+        Operand::Lit(_) => false,
+    }
+}
+
+/// Whether one of two operands reads a name.
+fn either_reads(one: Operand, other: Operand, name: u32) -> bool
+    ensures { result ≡ (reads_name one name || reads_name other name) }
+{
+    if reads_name(one, name) {
+        return true;
+    }
+    reads_name(other, name)
+}
+
+/// Whether an item reads a name.
+fn reads(item: Item, name: u32) -> bool
+    ensures { result ≡ reads item name }
+{
+    match item {
+        Item::Bin { left, right, .. } => either_reads(left, right, name),
+        Item::Copy { from, .. } => reads_name(from, name),
+        Item::Load { index, .. } => reads_name(index, name),
+        Item::Store { index, value, .. } => either_reads(index, value, name),
+        Item::Print { value } => reads_name(value, name),
+        Item::Read { .. } => false,
+        Item::More { .. } => false,
+    }
+}
+
+/// Whether an item writes a name.
+fn writes(item: Item, name: u32) -> bool
+    ensures { result ≡ writes (dest_of item) name }
+{
+    match pc_moveop::dest_of(item) {
+        Some(dest) => dest == name,
+        None => false,
+    }
+}
+
+/// Whether homes read a name.
+#[tactic(auto, using(crate::proofs::Deleted::homes))]
+fn homes_use(homes: &[Home], name: u32) -> bool
+    ensures { result ≡ homes_use homes.now name }
+{
+    for at in 0..homes.len() {
+        if reads_name(homes[at].value, name) {
+            return true;
+        }
+    }
+    false
+}
+
+/// Whether a name is used in a tree, and not defined above.
+fn uses(tree: &WindowTree, name: u32) -> bool
+    ensures { result ≡ uses (tree_of (nodes_in tree.now)) name }
+{
+    match tree {
+        WindowTree::Step { item, rest, .. } => {
+            if reads(*item, name) {
+                return true;
+            }
+            if writes(*item, name) {
+                return false;
+            }
+            uses(rest, name)
+        }
+        WindowTree::Test { on, yes, no, .. } => {
+            if reads_name(*on, name) {
+                return true;
+            }
+            if uses(yes, name) {
+                return true;
+            }
+            uses(no, name)
+        }
+        WindowTree::Node { below } => uses(below, name),
+        WindowTree::Exit { homes, .. } => homes_use(homes.as_slice(), name),
+        WindowTree::Stop => false,
+        WindowTree::Trap { .. } => false,
+    }
+}
+
+/// Why a name may not go that is used below.
+fn used_below(name: u32, rest: &WindowTree) -> Option<MoveError>
+    ensures { result ≡ (if uses (tree_of (nodes_in rest.now)) name then Some (Depends name) else None) }
+{
+    if uses(rest, name) {
+        return Some(MoveError::Depends { name });
+    }
+    None
+}
+
+/// Why an item may not be deleted.
+fn refusal_of_item(item: Item, rest: &WindowTree) -> Option<MoveError>
+    ensures { result ≡ refusal_of_item item (tree_of (nodes_in rest.now)) }
+{
+    match item {
+        Item::Bin { dest, .. } => used_below(dest, rest),
+        Item::Copy { .. } => Some(MoveError::NotThere),
+        Item::Load { dest, .. } => used_below(dest, rest),
+        Item::Store { .. } => Some(MoveError::NotThere),
+        Item::Print { .. } => Some(MoveError::NotThere),
+        Item::Read { .. } => Some(MoveError::NotThere),
+        Item::More { dest } => used_below(dest, rest),
+    }
+}
+
+/// Why the item at a place of a node may not be deleted.
+fn refusal_at(tree: &WindowTree, place: u32) -> Option<MoveError>
+    requires { tree_size (tree_in tree.now) < 2 ^ 31 }
+    ensures { result ≡ refusal_of_standing (standing_at place (nodes_in tree.now)) }
+{
+    match tree {
+        WindowTree::Step { item, rest, .. } => {
+            if place == 0 {
+                return refusal_of_item(*item, rest);
+            }
+            refusal_at(rest, place - 1)
+        }
+        WindowTree::Test { yes, no, .. } => {
+            if place == 0 {
+                return Some(MoveError::NotThere);
+            }
+            let on_yes = node_size(yes);
+            if place - 1 < on_yes {
+                return refusal_at(yes, place - 1);
+            }
+            refusal_at(no, place - 1 - on_yes)
+        }
+        WindowTree::Node { .. } => Some(MoveError::NotThere),
+        WindowTree::Exit { .. } => Some(MoveError::NotThere),
+        WindowTree::Stop => Some(MoveError::NotThere),
+        WindowTree::Trap { .. } => Some(MoveError::NotThere),
+    }
+}
+
+/// Why an item may not be deleted, if it may not. See `delete`.
+pub fn why_not_delete(window: &Window, node: &[u16], place: u16) -> Option<MoveError>
+    requires { tree_size (tree_in window.now.tree) < 2 ^ 31 }
+    ensures { IsWhyNotDelete window.now node.now place result }
+{
+    match node_at(&window.tree, node) {
+        None => Some(MoveError::NotThere),
+        Some(tree) => refusal_at(tree, place as u32),
+    }
+}
+
+/// What stands below the item at the root.
+fn below_root(tree: WindowTree) -> WindowTree
+    ensures { nodes_in result ≡ node_deleted 0 (nodes_in tree) }
+{
+    match tree {
+        WindowTree::Step { rest, .. } => Box::into_inner(rest),
+        other => other,
+    }
+}
+
+/// Takes the item at a place of a node away.
+fn drop_item(tree: &mut WindowTree, place: u32)
+    requires { tree_size (tree_in tree.old) < 2 ^ 31 }
+    ensures { nodes_in tree.new ≡ node_deleted place (nodes_in tree.old) }
+{
+    if place == 0 {
+        let whole = std::mem::replace(tree, WindowTree::Stop);
+        *tree = below_root(whole);
+        return;
+    }
+    match tree {
+        WindowTree::Step { rest, .. } => drop_item(rest, place - 1),
+        WindowTree::Test { yes, no, .. } => {
+            let on_yes = node_size(yes);
+            if place - 1 < on_yes {
+                drop_item(yes, place - 1)
+            } else {
+                drop_item(no, place - 1 - on_yes)
+            }
+        }
+        WindowTree::Node { .. } => {}
+        WindowTree::Exit { .. } => {}
+        WindowTree::Stop => {}
+        WindowTree::Trap { .. } => {}
+    }
+}
+
+/// A leaf that leads to a node without items and tests leads on where that node does.
+fn closed(leaf: WindowTree) -> WindowTree
+    ensures { nodes_in result ≡ closed (nodes_in leaf) }
+{
+    match leaf {
+        WindowTree::Node { below } => leaf_to(below),
+        other => other,
+    }
+}
+
+/// The item at a place of the node behind a leaf and then a path goes.
+fn delete_below(tree: &mut WindowTree, leaf: u32, path: &[u16], place: u32)
+    requires { tree_size (tree_in tree.old) < 2 ^ 31 }
+    ensures { nodes_in tree.new ≡ child_closed leaf (item_deleted path.now place) (nodes_in tree.old) }
+{
+    match tree {
+        WindowTree::Step { rest, .. } => delete_below(rest, leaf, path, place),
+        WindowTree::Test { yes, no, .. } => {
+            let on_yes = leaf_count(yes);
+            if leaf < on_yes {
+                delete_below(yes, leaf, path, place)
+            } else {
+                delete_below(no, leaf - on_yes, path, place)
+            }
+        }
+        WindowTree::Node { below } => {
+            if leaf != 0 {
+                return;
+            }
+            match path.split_first() {
+                None => drop_item(below, place),
+                Some((next, rest)) => delete_below(below, *next as u32, rest, place),
+            }
+            let whole = std::mem::replace(tree, WindowTree::Stop);
+            *tree = closed(whole);
+        }
+        WindowTree::Exit { .. } => {}
+        WindowTree::Stop => {}
+        WindowTree::Trap { .. } => {}
+    }
+}
+
+/// The item at a place of the node that a path leads to goes.
+fn delete_at(tree: &mut WindowTree, path: &[u16], place: u32)
+    requires { tree_size (tree_in tree.old) < 2 ^ 31 }
+    ensures { nodes_in tree.new ≡ item_deleted path.now place (nodes_in tree.old) }
+{
+    match path.split_first() {
+        None => drop_item(tree, place),
+        Some((leaf, rest)) => delete_below(tree, *leaf as u32, rest, place),
+    }
+}
+
+/// Deletes a Bin, Load or More whose name is used nowhere below. It takes no memory.
+///
+/// `node` is the path of leaves that leads from the front to the item's node; the front's own path
+/// is empty. `place` is the item's place there, counted in preorder, from 0. A node that is left
+/// without items and tests is skipped; only the front may be left so.
+pub fn delete(window: &mut Window, node: &[u16], place: u16) -> Result<(), MoveError>
+    requires proper { IsProper (window_in window.old) }
+    requires small { tree_size (tree_in window.old.tree) < 2 ^ 31 }
+    ensures legal { OnOk result (IsWhyNotDelete window.old node.now place None) }
+    ensures refused { IfErr result (λ why. IsWhyNotDelete window.old node.now place (Some why)) }
+    ensures unchanged { OnErr result (window.new ≡ window.old) }
+    ensures deleted { OnOk result (IsDeleted window.old window.new node.now place) }
+    ensures proper { OnOk result (IsProper (window_in window.new)) }
+    ensures keeps { OnOk result (WalkKept window.old window.new) }
+{
+    match why_not_delete(window, node, place) {
+        Some(why) => Err(why),
+        None => {
+            delete_at(&mut window.tree, node, place as u32);
+            Ok(())
+        }
+    }
+}
