@@ -63,7 +63,8 @@ pub no_name : (w : StoredWindow) (parent : List ℕ) (m : Option MovingTest) (c 
 no_name w parent (Some m) c why defined found is = is ∙ none m.on (sym found.is.defined ∙ defined)
   where
     none : (o : Operand) → list_any (defines_operand (Some o)) m.way ≡ false
-        → no_room_for_test parent w.limits (node_front (nodes_in w.tree)) ≡ refused_first (depends_on (first_defined (o ∷ []) m.way)) (no_room_for_test parent w.limits (node_front (nodes_in w.tree)))
+        → no_room_for_test parent w.limits (node_front (nodes_in w.tree)) ≡ refused_first
+        (depends_on (first_defined (o ∷ []) m.way)) (no_room_for_test parent w.limits (node_front (nodes_in w.tree)))
     none (Name x) e = rw e refl
     none (Lit v) e = refl
 no_name w parent None c why defined found is = absurd (found.is)

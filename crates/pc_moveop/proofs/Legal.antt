@@ -69,8 +69,11 @@ is_not false e = absurd (cc)
 pub clear_way : (forms : ℕ → Form) (x : Item) (way : List Passed) (conflict : Option ℕ) → FirstConflict forms x way conflict → conflict ≡ None → first_defined (operands_of x) way ≡ None
     → (list_any is_test way && not (is_quiet x)) ≡ false → (list_any has_effect way && is_effect x) ≡ false → ClearWay forms x way
 clear_way forms x way conflict No_conflict none defined crosses effect = tt
-clear_way forms x way conflict (Passes_test rest found first) none defined crosses effect =
-    (is_not (is_quiet x) crosses, clear_way forms x rest found first none (sym (first_test rest (operands_of x)) ∙ defined) (ap (λ (b : Bool). list_any is_test rest && b) crosses ∙ and_false (list_any is_test rest)) effect)
+clear_way forms x way conflict (Passes_test rest found first) none defined crosses effect = (
+  is_not (is_quiet x) crosses,
+  clear_way forms x rest found first none (sym (first_test rest (operands_of x))
+      ∙ defined) (ap (λ (b : Bool). list_any is_test rest && b) crosses ∙ and_false (list_any is_test rest)) effect,
+)
   where
     and_false : (b : Bool) → (b && false) ≡ false
     and_false true = refl

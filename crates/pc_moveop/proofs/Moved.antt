@@ -233,7 +233,8 @@ module _ (names : Supply) (new : Option ℕ) (comes : Option Item) (limits : Lim
       } in
       let goes : Goes names after new known t t' = node_goes names after new next (given_next names new comes) path n n' t known at
       (λ known' s. enters_goes names new comes next proper.forms_below known' n n' s (enters known' s)) stands in
-      let scoped' : Scoped known (whole (node_front t')) = subst (Scoped known) (sym (whole_front t')) (scoped_moved names.forms after.forms new known (tree_of t) (tree_of t') goes.moves stands.scoped) in
+      let scoped' : Scoped known (whole (node_front t')) = subst (Scoped known) (sym (whole_front t'))
+      (scoped_moved names.forms after.forms new known (tree_of t) (tree_of t') goes.moves stands.scoped) in
       let front = front_kept path at proper.window room (same_forms names new comes known fresh.unknown)
       (λ e. enters known (subst (λ (u : NodeTree). StandsNew names known u) (here path e at) stands)) in
       record {

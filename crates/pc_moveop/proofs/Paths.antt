@@ -71,7 +71,8 @@ child_put leaf f next n a puts (Test_node tag origin on p q) at =
       | false ↦ λ e h. rw e (child_put (leaf - leaf_count p) f next n a puts q h)
     ] refl at
 child_put leaf f next n a puts (Leads_to below) at =
-    elim (nat_eq leaf 0) as (λ b. nat_eq leaf 0 ≡ b → led_on (if b then Some below else None) next ≡ Some n → led_on (child_at leaf (if b then Leads_to (f below) else Leads_to below)) next ≡ Some a) [
+    elim (nat_eq leaf 0) as (λ b. nat_eq leaf 0 ≡ b → led_on (if b then Some below else None) next ≡ Some n
+    → led_on (child_at leaf (if b then Leads_to (f below) else Leads_to below)) next ≡ Some a) [
       | true ↦ λ e h. rw e (puts below h)
       | false ↦ λ e h. absurd (cc)
     ] refl at
@@ -82,7 +83,8 @@ child_size : (leaf : ℕ) (next : NodeTree → Option NodeTree) (n : NodeTree) �
     → (t : NodeTree) → led_on (child_at leaf t) next ≡ Some n → tree_size (tree_of n) ≤ tree_size (tree_of t)
 child_size leaf next n fits (Item_node tag origin x rest) at = let h = child_size leaf next n fits rest at in omega arith
 child_size leaf next n fits (Test_node tag origin on p q) at =
-    elim (nat_lt leaf (leaf_count p)) as (λ b. led_on (if b then child_at leaf p else child_at (leaf - leaf_count p) q) next ≡ Some n → tree_size (tree_of n) ≤ suc (tree_size (tree_of p) + tree_size (tree_of q))) [
+    elim (nat_lt leaf (leaf_count p)) as (λ b. led_on (if b then child_at leaf p else child_at (leaf - leaf_count p) q) next ≡ Some n
+    → tree_size (tree_of n) ≤ suc (tree_size (tree_of p) + tree_size (tree_of q))) [
       | true ↦ λ h. (let k = child_size leaf next n fits p h in omega arith)
       | false ↦ λ h. (let k = child_size (leaf - leaf_count p) next n fits q h in omega arith)
     ] at

@@ -121,14 +121,16 @@ module _ (forms : ℕ → Form) (n : ℕ) where
       ]
   rises_named place (Test_node t o on p q) =
       elim (nat_eq place 0) as (λ b. RisesNamed (Undecided t o on (tree_of p) (tree_of q))
-      (λ d. tree_of (if b then Test_node t o on p q else (if nat_lt (place - 1) (node_size p) then Test_node t o on (node_without d (place - 1) p) q else Test_node t o on p (node_without d (place - 1 - node_size p) q))))
+      (λ d. tree_of (if b then Test_node t o on p q else
+      (if nat_lt (place - 1) (node_size p) then Test_node t o on (node_without d (place - 1) p) q else Test_node t o on p (node_without d (place - 1 - node_size p) q))))
       (if b then None else (if nat_lt (place - 1) (node_size p) then passing Passed_test (mover_in (place - 1) p) else passing Passed_test (mover_in (place - 1 - node_size p) q)))) [
         | true ↦ tt
         | false ↦ (elim (nat_lt (place - 1) (node_size p)) as (λ b. RisesNamed (Undecided t o on (tree_of p) (tree_of q))
             (λ d. tree_of (if b then Test_node t o on (node_without d (place - 1) p) q else Test_node t o on p (node_without d (place - 1 - node_size p) q)))
             (if b then passing Passed_test (mover_in (place - 1) p) else passing Passed_test (mover_in (place - 1 - node_size p) q))) [
               | true ↦ named_past_yes t o on (tree_of p) (tree_of q) (λ d. tree_of (node_without d (place - 1) p)) (mover_in (place - 1) p) (rises_named (place - 1) p)
-              | false ↦ named_past_no t o on (tree_of p) (tree_of q) (λ d. tree_of (node_without d (place - 1 - node_size p) q)) (mover_in (place - 1 - node_size p) q) (rises_named (place - 1 - node_size p) q)
+              | false ↦ named_past_no t o on (tree_of p) (tree_of q) (λ d. tree_of (node_without d (place - 1 - node_size p) q))
+                  (mover_in (place - 1 - node_size p) q) (rises_named (place - 1 - node_size p) q)
             ])
       ]
   rises_named place (Leads_to below) = tt

@@ -7,7 +7,8 @@ use Rattle.pc_window.specs.declared.window.Window.{Window as StoredWindow}
 use Rattle.pc_window.specs.StoredWindow.{tree_in}
 use Rattle.pc_window.specs.Tree.{Tree, Pending, Undecided, Exit, Stop_exit, Trap_exit, tree_size}
 use Rattle.pc_window.specs.Rename.{mapped, renamed}
-use Rattle.pc_moveop.specs.NodeTree.{NodeTree, Item_node, Test_node, Leads_to, Leads_out, nodes_in, tree_of, node_size, leaf_count, child_at, led_on, node_at, child_changed, with_node, HasRoot, NoEmptyNode}
+use Rattle.pc_moveop.specs.NodeTree.{NodeTree, Item_node, Test_node, Leads_to, Leads_out, nodes_in, tree_of, node_size}
+use Rattle.pc_moveop.specs.NodeTree.{leaf_count, child_at, led_on, node_at, child_changed, with_node, HasRoot, NoEmptyNode}
 use Rattle.pc_moveop.specs.Climbing.{Passed, Passed_item, Passed_test, Mover, passing, mover_in, mover_at}
 use Rattle.pc_moveop.specs.Taking.{nodes_mapped, node_without, leaf_to, Coming, landed}
 use Rattle.pc_moveop.specs.Refusing.{mover_behind}
@@ -60,9 +61,11 @@ less_in place (Test_node t o on p q) =
     (if b then None else (if nat_lt (place - 1) (node_size p) then passing Passed_test (mover_in (place - 1) p) else passing Passed_test (mover_in (place - 1 - node_size p) q)))) [
       | true ↦ tt
       | false ↦ (elim (nat_lt (place - 1) (node_size p)) as (λ b. OneLess
-          (λ d. if b then Test_node t o on (node_without d (place - 1) p) q else Test_node t o on p (node_without d (place - 1 - node_size p) q)) (suc (tree_size (tree_of p) + tree_size (tree_of q)))
+          (λ d. if b then Test_node t o on (node_without d (place - 1) p) q else Test_node t o on p (node_without d (place - 1 - node_size p) q))
+          (suc (tree_size (tree_of p) + tree_size (tree_of q)))
           (if b then passing Passed_test (mover_in (place - 1) p) else passing Passed_test (mover_in (place - 1 - node_size p) q))) [
-            | true ↦ less_passing (λ d. node_without d (place - 1) p) (λ d. Test_node t o on (node_without d (place - 1) p) q) (tree_size (tree_of p)) (suc (tree_size (tree_of p) + tree_size (tree_of q)))
+            | true ↦ less_passing (λ d. node_without d (place - 1) p) (λ d. Test_node t o on (node_without d (place - 1) p) q)
+                (tree_size (tree_of p)) (suc (tree_size (tree_of p) + tree_size (tree_of q)))
                 Passed_test (mover_in (place - 1) p) (λ d e. omega (arith, e)) (less_in (place - 1) p)
             | false ↦ less_passing (λ d. node_without d (place - 1 - node_size p) q) (λ d. Test_node t o on p (node_without d (place - 1 - node_size p) q)) (tree_size (tree_of q))
                 (suc (tree_size (tree_of p) + tree_size (tree_of q))) Passed_test (mover_in (place - 1 - node_size p) q) (λ d e. omega (arith, e)) (less_in (place - 1 - node_size p) q)
@@ -118,7 +121,8 @@ child_many : (leaf : ℕ) (f : NodeTree → NodeTree) (next : NodeTree → Optio
 child_many leaf f next n same (Item_node t o x rest) at = ap suc (child_many leaf f next n same rest at)
 child_many leaf f next n same (Test_node t o on p q) at =
     elim (nat_lt leaf (leaf_count p)) as (λ b. led_on (if b then child_at leaf p else child_at (leaf - leaf_count p) q) next ≡ Some n
-    → tree_size (tree_of (if b then Test_node t o on (child_changed leaf f p) q else Test_node t o on p (child_changed (leaf - leaf_count p) f q))) ≡ suc (tree_size (tree_of p) + tree_size (tree_of q))) [
+    → tree_size (tree_of (if b then Test_node t o on (child_changed leaf f p) q else Test_node t o on p (child_changed (leaf - leaf_count p) f q))) ≡ suc
+    (tree_size (tree_of p) + tree_size (tree_of q))) [
       | true ↦ λ e. ap (λ (k : ℕ). suc (k + tree_size (tree_of q))) (child_many leaf f next n same p e)
       | false ↦ λ e. ap (λ (k : ℕ). suc (tree_size (tree_of p) + k)) (child_many (leaf - leaf_count p) f next n same q e)
     ] at

@@ -111,10 +111,11 @@ node_below m place (Test_node t o on p q) h =
     elim (nat_eq place 0) as (λ b. TreeBelow m (tree_of (if b then Test_node t o on p q
     else (if nat_lt (place - 1) (node_size p) then Test_node t o on (node_deleted (place - 1) p) q else Test_node t o on p (node_deleted (place - 1 - node_size p) q))))) [
       | true ↦ h
-      | false ↦ (elim (nat_lt (place - 1) (node_size p)) as (λ b. TreeBelow m (tree_of (if b then Test_node t o on (node_deleted (place - 1) p) q else Test_node t o on p (node_deleted (place - 1 - node_size p) q)))) [
-        | true ↦ (h.0, node_below m (place - 1) p h.1, h.2)
-        | false ↦ (h.0, h.1, node_below m (place - 1 - node_size p) q h.2)
-      ])
+      | false ↦ (elim (nat_lt (place - 1) (node_size p)) as
+          (λ b. TreeBelow m (tree_of (if b then Test_node t o on (node_deleted (place - 1) p) q else Test_node t o on p (node_deleted (place - 1 - node_size p) q)))) [
+            | true ↦ (h.0, node_below m (place - 1) p h.1, h.2)
+            | false ↦ (h.0, h.1, node_below m (place - 1 - node_size p) q h.2)
+          ])
     ]
 node_below m place (Leads_to below) h = h
 node_below m place (Leads_out out) h = h
@@ -147,10 +148,11 @@ all_deleted P place (Test_node t o on p q) h =
     elim (nat_eq place 0) as (λ b. AllItems P (node_front (if b then Test_node t o on p q
     else (if nat_lt (place - 1) (node_size p) then Test_node t o on (node_deleted (place - 1) p) q else Test_node t o on p (node_deleted (place - 1 - node_size p) q))))) [
       | true ↦ h
-      | false ↦ (elim (nat_lt (place - 1) (node_size p)) as (λ b. AllItems P (node_front (if b then Test_node t o on (node_deleted (place - 1) p) q else Test_node t o on p (node_deleted (place - 1 - node_size p) q)))) [
-        | true ↦ (all_deleted P (place - 1) p h.0, h.1)
-        | false ↦ (h.0, all_deleted P (place - 1 - node_size p) q h.1)
-      ])
+      | false ↦ (elim (nat_lt (place - 1) (node_size p)) as
+          (λ b. AllItems P (node_front (if b then Test_node t o on (node_deleted (place - 1) p) q else Test_node t o on p (node_deleted (place - 1 - node_size p) q)))) [
+            | true ↦ (all_deleted P (place - 1) p h.0, h.1)
+            | false ↦ (h.0, all_deleted P (place - 1 - node_size p) q h.1)
+          ])
     ]
 all_deleted P place (Leads_to below) h = h
 all_deleted P place (Leads_out out) h = h
@@ -207,7 +209,8 @@ no_more place (Test_node t o on p q) =
       | false ↦ (elim (nat_lt (place - 1) (node_size p)) as (λ b. NoMore (Split t o on (node_front p) (node_front q)) (node_front (if b then Test_node t o on (node_deleted (place - 1) p) q
           else Test_node t o on p (node_deleted (place - 1 - node_size p) q)))) [
             | true ↦ more_sides t o on (node_front p) (node_front q) (node_front (node_deleted (place - 1) p)) (node_front q) (no_more (place - 1) p) (as_many (node_front q))
-            | false ↦ more_sides t o on (node_front p) (node_front q) (node_front p) (node_front (node_deleted (place - 1 - node_size p) q)) (as_many (node_front p)) (no_more (place - 1 - node_size p) q)
+            | false ↦ more_sides t o on (node_front p) (node_front q) (node_front p)
+                (node_front (node_deleted (place - 1 - node_size p) q)) (as_many (node_front p)) (no_more (place - 1 - node_size p) q)
           ])
     ]
 no_more place (Leads_to below) = as_many (Unfinished (tree_of below))
@@ -275,7 +278,8 @@ deletion_keeps w v path place deleted legal proper = by_node (node_at path (node
             within = front.1;
           };
           room = kept.room;
-          names_below = subst (TreeBelow (length w.names.forms)) (sym (whole_front u)) (path_below (length w.names.forms) path place t (subst (TreeBelow (length w.names.forms)) (whole_front t) kept.names_below));
+          names_below = subst (TreeBelow (length w.names.forms)) (sym (whole_front u))
+              (path_below (length w.names.forms) path place t (subst (TreeBelow (length w.names.forms)) (whole_front t) kept.names_below));
           forms_below = kept.forms_below;
         } in
         let walk : KeepsWalk forms (tree_of t) forms (tree_of u) = walk_kept forms forms None (tree_of t) (tree_of u)

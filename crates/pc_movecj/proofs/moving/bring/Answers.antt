@@ -14,5 +14,6 @@ swap_node-requires-clause-small c = left_small _ c.args.parent.now c.args.tree.n
 pub returns : goal.returns
 returns c =
     let path = c.args.parent.now in let left = nodes_in c.swap_node-node.new.tree in
-    put_back path (nodes_in c.args.tree.now) left (nodes_in c.swap_node.new.tree) (nodes_in c.swap_node-node.result) (divided c.args.climb.tag c.args.climb.origin c.args.climb.on c.args.leaf) (Leads_out Stop_exit)
+    put_back path (nodes_in c.args.tree.now) left (nodes_in c.swap_node.new.tree) (nodes_in c.swap_node-node.result)
+    (divided c.args.climb.tag c.args.climb.origin c.args.climb.on c.args.leaf) (Leads_out Stop_exit)
     c.swap_node-node.ensures.node c.swap_node-node.ensures.tree (c.swap_node.ensures.tree ∙ ap (λ n. with_node path n left) c.divide.ensures)
