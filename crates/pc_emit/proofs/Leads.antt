@@ -1,5 +1,5 @@
 -- What leads to a region.
-use Rattle.std.proofs.Common.{◌≡◌, ℕ, zero, suc, ◌+◌, ◌<◌, length, Option, Some, None, refl, sym, ◌∙◌, ap, arith}
+use Rattle.std.proofs.Common.{◌≡◌, ℕ, ◌+◌, ◌<◌, length, Option, Some, None, sym, ◌∙◌, ap, arith}
 use Rattle.std.specs.Prelude.{IsSome, slice_get, slice_index}
 use Rattle.std.proofs.lemmas.List.{length-map}
 use Rattle.pc_table.specs.Table.{table_of, table_region, region_tree}
@@ -7,7 +7,7 @@ use Rattle.pc_machine.specs.MachineCode.{Leaf, Leads_to}
 use Rattle.pc_emit.specs.declared.form.RegionForm.{RegionForm as StoredForm}
 use Rattle.pc_emit.specs.declared.form.RegionForm.TheVariants as stored
 use Rattle.pc_emit.specs.declared.plan.Plan.{Plan}
-use Rattle.pc_emit.specs.Emitted.{LeadsToRegion, Plain, Packed}
+use Rattle.pc_emit.specs.Emitted.{LeadsToRegion, Plain}
 use Rattle.pc_emit.specs.Emitting.{form_in, forms_in, HasForm}
 use Rattle.pc_emit.specs.models.Packing.{emission_in, IsPlan, leaf_in}
 

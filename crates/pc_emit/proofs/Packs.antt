@@ -1,6 +1,6 @@
 -- Rows of packed regions: what leads on from a leaf, and rows from their parts.
-use Rattle.std.proofs.Common.{◌≡◌, ℕ, ◌+◌, List, Some, refl, sym, ◌∙◌, ap, subst}
-use Rattle.std.specs.Prelude.{slice_get, slice_index}
+use Rattle.std.proofs.Common.{◌≡◌, ℕ, ◌+◌, List, sym, ◌∙◌, ap, subst}
+use Rattle.std.specs.Prelude.{slice_get}
 use Rattle.pc_word.specs.declared.item.Item.{Item}
 use Rattle.pc_word.specs.declared.item.Operand.{Operand}
 use Rattle.pc_word.specs.declared.item.TrapKind.{TrapKind}
@@ -14,11 +14,11 @@ use Rattle.pc_copies.specs.declared.moves.Move.{Move}
 use Rattle.pc_copies.specs.Moves.{IsArranged}
 use Rattle.pc_machine.specs.MachineCode.{Leaf, Leads_to, Ends, Traps, CodeRow}
 use Rattle.pc_emit.specs.Registers.{in_register, in_registers, argument_moves, home_moves}
-use Rattle.pc_emit.specs.Emitted.{LeadsToRegion, Moves, LeafStands, leads_to_state, leads_to_region, ends_here, traps_here, item_stands, test_stands, leaf_stands}
+use Rattle.pc_emit.specs.Emitted.{LeadsToRegion, leads_to_state, leads_to_region, ends_here, traps_here, item_stands, test_stands, leaf_stands}
 use Rattle.pc_emit.specs.declared.output.Output.{Output}
 use Rattle.pc_emit.specs.declared.plan.Plan.{Plan}
 use Rattle.pc_emit.specs.declared.packed.PackedSite.{PackedSite}
-use Rattle.pc_emit.specs.models.Output.{Stays, Grows, PassesAlong}
+use Rattle.pc_emit.specs.models.Output.{Grows, PassesAlong}
 use Rattle.pc_emit.specs.models.Packing.{emission_in, states_at, names_at, IsSite, MovesAlong, MovesToRegion, LeafMade, RowMade}
 
 -- ---- moves

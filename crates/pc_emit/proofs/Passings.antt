@@ -1,11 +1,11 @@
 -- Ways through rows of copies.
-use Rattle.std.proofs.Common.{◌≡◌, ℕ, suc, ◌+◌, ◌<◌, List, [], ◌∷◌, length, Some, refl, sym, ◌∙◌, ap, subst, drop, drop-cons, get_or}
+use Rattle.std.proofs.Common.{◌≡◌, ℕ, suc, ◌<◌, List, [], ◌∷◌, length, Some, refl, sym, ◌∙◌, ap, subst, drop, drop-cons, get_or}
 use Rattle.pc_copies.specs.declared.moves.Move.{Move}
 use Rattle.pc_copies.specs.Laws.{copy_row}
 use Rattle.pc_machine.specs.MachineCode.{Leaf, Leads_to, CodeRow}
 use Rattle.pc_emit.specs.declared.output.Output.{Output}
-use Rattle.pc_emit.specs.Emitted.{Passes, passes_none, passes_row}
-use Rattle.pc_emit.specs.models.Output.{Stays, Grows, StandsAt, PassesAlong}
+use Rattle.pc_emit.specs.Emitted.{passes_none, passes_row}
+use Rattle.pc_emit.specs.models.Output.{Grows, StandsAt, PassesAlong}
 
 -- what was made stands
 pub nothing_grows : (output : Output) → Grows output output

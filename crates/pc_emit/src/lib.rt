@@ -10,8 +10,8 @@ mod output;
 mod packed;
 mod passing;
 mod plan;
-mod trees;
 mod target;
+mod trees;
 
 pub use error::EmitError;
 pub use form::RegionForm;

@@ -16,8 +16,8 @@ use crate::names::{StateNames, argument_moves, home_moves};
 use crate::output::Output;
 use crate::passing::pass_through;
 use crate::plan::Plan;
-use crate::trees::{with_item, with_test};
 use crate::target::Target;
+use crate::trees::{with_item, with_test};
 use pc_assign::Assigned;
 use pc_automaton::{Automaton, AutomatonLeaf, RowTree};
 use pc_copies::arrange;
@@ -91,7 +91,15 @@ fn packed_leaf(
 {
     match leaf {
         AutomatonLeaf::To { state, arguments } => {
-            to_state(alloc, plan, site, names, *state, arguments.as_slice(), output)
+            to_state(
+                alloc,
+                plan,
+                site,
+                names,
+                *state,
+                arguments.as_slice(),
+                output,
+            )
         }
         AutomatonLeaf::Out { region, homes } => {
             to_region(alloc, plan, site, names, *region, homes.as_slice(), output)

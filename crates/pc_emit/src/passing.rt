@@ -6,8 +6,8 @@ ghost use Rattle.pc_emit.specs.models.Output.{leaf_of, Grows, PassesAlong};
 
 use crate::error::EmitError;
 use crate::output::Output;
-use crate::trees::with_item;
 use crate::target::Target;
+use crate::trees::with_item;
 use pc_copies::{CopyRow, Move};
 use pc_machine::Tree;
 use pc_word::Item;

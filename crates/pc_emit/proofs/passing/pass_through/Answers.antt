@@ -28,7 +28,7 @@ loop-at-preserved c =
     let is : row_of c.in_ok-row.row ≡ copy_row c.as_slice.result.now (leaf_of c.loop-at.from) = search rules in
     let here = subst (λ at. PassesAlong c.loop-at.output (leaf_of c.loop-at.from) (drop at c.args.rows.now) (leaf_of c.args.target)) next invariant.passes in
     let through = passes_one c.loop-at.output new c.in_ok-push_copies.field-0 (row_of c.in_ok-row.row) c.as_slice.result.now (drop (suc (c.loop-at.at - 1)) c.args.rows.now)
-        (leaf_of c.loop-at.from) (leaf_of c.args.target) grew stands is here in
+    (leaf_of c.loop-at.from) (leaf_of c.args.target) grew stands is here in
     record {
       within = omega (arith, within);
       grows = grows_more _ _ _ invariant.grows grew;
