@@ -1,8 +1,7 @@
 -- A code in which the rows of regions stand shows what the table shows.
-use Rattle.std.proofs.Common.{◌≡◌, ℕ, zero, suc, ◌<◌, ◌≤◌, List, [], ◌∷◌, length, Option, Some, None, refl, sym, ◌∙◌, ap, subst, inl, inr, arith}
-use Rattle.std.specs.Prelude.{ℤ, Bool, true, false, nat_eq, slice_get}
+use Rattle.std.proofs.Common.{◌≡◌, ℕ, zero, suc, ◌<◌, List, [], ◌∷◌, length, Option, Some, None, refl, sym, ◌∙◌, ap, subst, inl, inr, arith}
+use Rattle.std.specs.Prelude.{true, nat_eq, slice_get}
 use Rattle.std.specs.List.{AllByRecursion}
-use Rattle.pc_word.specs.declared.item.Operand.{Operand}
 use Rattle.pc_word.specs.declared.item.Limits.{Limits}
 use Rattle.pc_word.specs.State.{State, start_state}
 use Rattle.pc_word.specs.Row.{Row, Then, Either, At_leaf, row_step}
@@ -10,7 +9,6 @@ use Rattle.pc_word.specs.Run.{Seen, Answers, Agree, run_from}
 use Rattle.pc_table.specs.Table.{TableTree, Table, TableRegion, Next, tree_of, region_tree}
 use Rattle.pc_table.specs.RegionRun.{region_step, region_run}
 use Rattle.pc_table.specs.TableKeeps.{TableKeeps, ComesUntested, By_one, By_more, untested}
-use Rattle.pc_window.specs.declared.home.Home.{Home}
 use Rattle.pc_window.specs.Kept.{NeverFaults, HasItems}
 use Rattle.pc_window.specs.Rebasing.{is_in}
 use Rattle.pc_window.specs.Unwinding.{or_zero}
@@ -19,17 +17,16 @@ use Rattle.pc_window.proofs.Uses.{or_is, nat_eq-tells}
 use Rattle.pc_unwind.specs.models.Ranks.{rank}
 use Rattle.pc_unwind.proofs.Ranking.{rank_falls}
 use Rattle.pc_automaton.specs.declared.automaton.AutomatonLeaf.{AutomatonLeaf}
-use Rattle.pc_automaton.specs.declared.automaton.AutomatonLeaf.TheVariants.{To, Out, Stop, Trap}
+use Rattle.pc_automaton.specs.declared.automaton.AutomatonLeaf.TheVariants.{To, Out}
 use Rattle.pc_automaton.specs.Automaton.{AutomatonState}
 use Rattle.pc_automaton.specs.AutomatonRun.{automaton_run}
 use Rattle.pc_machine.specs.MachineCode.{Leaf, CodeRow}
-use Rattle.pc_emit.specs.Emitted.{Emission, RegionForm, Plain, Packed, form_leaf, root_leaf, RegionStands, BeginsAt, at_first_row, by_leaf_alone, IsEmitted}
+use Rattle.pc_emit.specs.Emitted.{Emission, RegionForm, Plain, Packed, form_leaf, BeginsAt, at_first_row, by_leaf_alone, IsEmitted}
 use Rattle.pc_automaton.specs.RunsAsRegion.{LeadsUntested}
 use Rattle.pc_emit.specs.PackedForm.{IsPackedForm, IsForm}
 use Rattle.pc_emit.specs.Laws.{EmittedRowsDoWhatTheirTableDoes}
-use Rattle.pc_emit.proofs.Rows.{Holds}
 use Rattle.pc_emit.proofs.Leading.{row_run, leaf_run, leaf_seen, row_seen, leaf_grows}
-use Rattle.pc_emit.proofs.PackedRuns.{code, ForthIn, BackAt, StandsAt, state_run, CommitsAt, state_forth, row_back, state_back}
+use Rattle.pc_emit.proofs.PackedRuns.{code, ForthIn, BackAt, StandsAt, CommitsAt, state_forth, row_back, state_back}
 use Rattle.pc_emit.proofs.PlainRuns.{roots, tree_forth, tree_back}
 
 -- a region that leads on without a test is in the table

@@ -1,15 +1,14 @@
 -- What a code shows from a leaf on, and through rows of copies.
-use Rattle.std.proofs.Common.{◌≡◌, ℕ, zero, suc, ◌+◌, ◌≤◌, List, [], ◌∷◌, length, Some, None, refl, sym, ◌∙◌, ap, subst, append-nil, arith}
+use Rattle.std.proofs.Common.{◌≡◌, ℕ, zero, suc, ◌+◌, ◌≤◌, List, [], ◌∷◌, length, Some, refl, sym, ◌∙◌, ap, subst, append-nil, arith}
 use Rattle.std.specs.Prelude.{ℤ, slice_get}
-use Rattle.pc_word.specs.declared.item.End.{End}
 use Rattle.pc_word.specs.declared.item.End.TheVariants.{Ended, Trapped}
 use Rattle.pc_word.specs.State.{State}
-use Rattle.pc_word.specs.Row.{Row, At_leaf, Commits, row_step}
-use Rattle.pc_word.specs.Run.{Seen, Run, Step, Answers, after_printing, seen_of, run_from}
+use Rattle.pc_word.specs.Row.{row_step}
+use Rattle.pc_word.specs.Run.{Seen, Run, Answers, after_printing, seen_of, run_from}
 use Rattle.pc_word.proofs.Runs.{Answers-refl, run_from-answers}
 use Rattle.pc_window.proofs.Paces.{answer_of_answer}
 use Rattle.pc_machine.specs.MachineCode.{Leaf, Leads_to, Ends, Traps, CodeRow, RowCode}
-use Rattle.pc_machine.specs.MachineRun.{Cycle, follow_leaf, after_row, run_row, machine_step}
+use Rattle.pc_machine.specs.MachineRun.{follow_leaf, after_row, run_row, machine_step}
 use Rattle.pc_copies.specs.declared.moves.Move.{Move}
 use Rattle.pc_copies.specs.Moves.{after_rows}
 use Rattle.pc_copies.specs.Laws.{copy_row}

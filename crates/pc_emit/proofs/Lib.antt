@@ -5,3 +5,7 @@ pub mod Leading
 pub mod PackedRuns
 pub mod PlainRuns
 pub mod Emissions
+pub mod Outputs
+pub mod Passings
+pub mod Leads
+pub mod Packs

@@ -1,12 +1,11 @@
 -- The rows of a packed region show what its automaton shows.
-use Rattle.std.proofs.Common.{◌≡◌, ℕ, zero, suc, ◌+◌, ◌<◌, ◌≤◌, List, [], ◌∷◌, length, map, Option, Some, None, refl, sym, ◌∙◌, ap, subst, arith}
+use Rattle.std.proofs.Common.{◌≡◌, ℕ, zero, suc, ◌+◌, ◌<◌, List, [], ◌∷◌, length, Option, Some, None, refl, sym, ◌∙◌, ap, subst, arith}
 use Rattle.std.specs.Prelude.{ℤ, slice_get}
 use Rattle.std.specs.List.{AllByRecursion}
 use Rattle.pc_word.specs.declared.item.Operand.{Operand}
-use Rattle.pc_word.specs.declared.item.MachineFault.{MachineFault}
 use Rattle.pc_word.specs.declared.item.Limits.{Limits}
 use Rattle.pc_word.specs.State.{State}
-use Rattle.pc_word.specs.Row.{Row, Then, Either, At_leaf, leaves_of, RowOutcome, Faults, Commits, row_step}
+use Rattle.pc_word.specs.Row.{Row, leaves_of, RowOutcome, Faults, Commits, row_step}
 use Rattle.pc_word.specs.Run.{Seen, Run, Step, Goes, Stops, Answers, after_printing, seen_of, run_from}
 use Rattle.pc_word.proofs.Lists.{all_front, all_back, all_at}
 use Rattle.pc_word.proofs.Runs.{Answers-refl, Answers-after}
@@ -20,7 +19,7 @@ use Rattle.pc_window.proofs.Paces.{answer_of_answer}
 use Rattle.pc_automaton.specs.declared.automaton.AutomatonLeaf.{AutomatonLeaf}
 use Rattle.pc_automaton.specs.declared.automaton.AutomatonLeaf.TheVariants.{To, Out, Stop, Trap}
 use Rattle.pc_automaton.specs.Automaton.{AutomatonState, IsStateAmong, IsAutomaton, Takes, LeafLeads}
-use Rattle.pc_automaton.specs.AutomatonRun.{AutomatonPlace, At_state, In_region, passed_state, state_parameters, leaf_step, outcome_step, state_step, left_step, automaton_step}
+use Rattle.pc_automaton.specs.AutomatonRun.{At_state, In_region, passed_state, state_parameters, leaf_step, outcome_step, state_step, left_step, automaton_step}
 use Rattle.pc_machine.specs.MachineCode.{Leaf, Leads_to, Ends, Traps, CodeRow, RowCode}
 use Rattle.pc_machine.specs.MachineRun.{after_row, machine_step}
 use Rattle.pc_copies.specs.Moves.{after_rows, AreDone}
@@ -28,7 +27,7 @@ use Rattle.pc_emit.specs.Registers.{register_of, argument_moves, home_moves}
 use Rattle.pc_assign.specs.Apart.{IsApart}
 use Rattle.pc_emit.proofs.Undisturbing.{stays_undisturbed}
 use Rattle.pc_emit.specs.Laws.{code_with}
-use Rattle.pc_emit.specs.Emitted.{Emission, RegionForm, form_leaf, LeadsToRegion, Moves, LeafStands, leads_to_state, leads_to_region, ends_here, traps_here}
+use Rattle.pc_emit.specs.Emitted.{Emission, RegionForm, form_leaf, Moves, LeafStands, leads_to_state, leads_to_region, ends_here, traps_here}
 use Rattle.pc_emit.specs.Emitted.{RowStands, item_stands, test_stands, leaf_stands, StateStands}
 use Rattle.pc_automaton.specs.There.{LeafIsThere, StateIsThere}
 use Rattle.pc_emit.proofs.Rows.{LeafHolds, OutcomeStands, both_fault, both_commit, Holds, row_does}

@@ -1,6 +1,6 @@
 -- The rows of a plain region show what its tree shows.
-use Rattle.std.proofs.Common.{◌≡◌, ℕ, zero, suc, ◌+◌, ◌<◌, ◌≤◌, List, [], ◌∷◌, Option, Some, None, refl, sym, ◌∙◌, ap, subst, append-nil, arith}
-use Rattle.std.specs.Prelude.{ℤ, Bool, true, false, if◌then◌else◌, slice_get}
+use Rattle.std.proofs.Common.{◌≡◌, ℕ, zero, suc, ◌+◌, ◌<◌, List, [], ◌∷◌, Option, Some, None, refl, sym, ◌∙◌, ap, subst, arith}
+use Rattle.std.specs.Prelude.{Bool, true, false, if◌then◌else◌, slice_get}
 use Rattle.pc_word.specs.declared.item.Item.{Item}
 use Rattle.pc_word.specs.declared.item.Operand.{Operand}
 use Rattle.pc_word.specs.declared.item.Limits.{Limits}
@@ -10,18 +10,18 @@ use Rattle.pc_word.specs.Word.{holds}
 use Rattle.pc_word.specs.State.{State}
 use Rattle.pc_word.specs.Items.{operand_value}
 use Rattle.pc_word.specs.Commit.{fault_of, prints_of, state_after}
-use Rattle.pc_word.specs.Row.{Then, Either, At_leaf, commit_of, row_step}
+use Rattle.pc_word.specs.Row.{Then, Either, At_leaf, commit_of}
 use Rattle.pc_word.specs.Run.{Seen, Answers, after_printing, seen_of, run_from}
-use Rattle.pc_word.proofs.Runs.{Answers-refl, Answers-after}
+use Rattle.pc_word.proofs.Runs.{Answers-after}
 use Rattle.pc_table.specs.Table.{TableTree, Does, Asks, Next, Stops_here, Traps_here, Table, region_tree}
-use Rattle.pc_table.specs.RegionRun.{arrive, place_at, lead_on, region_step, region_run, side_of}
-use Rattle.pc_table.specs.TableKeeps.{TableKeeps, units, ComesUntested, By_one, untested}
+use Rattle.pc_table.specs.RegionRun.{arrive, place_at, lead_on, region_step, region_run}
+use Rattle.pc_table.specs.TableKeeps.{TableKeeps, units, By_one, untested}
 use Rattle.pc_window.specs.Kept.{NeverFaults}
 use Rattle.pc_machine.specs.MachineCode.{Leaf, Leads_to, Ends, Traps, CodeRow}
 use Rattle.pc_machine.specs.MachineRun.{after_row, machine_step}
-use Rattle.pc_emit.specs.Emitted.{Emission, RegionForm, root_leaf, form_leaf, LeadsToRegion, LeadsBehind, to_item, to_test, to_region, to_end, to_trap}
-use Rattle.pc_emit.specs.Emitted.{TreeStands, item_row, test_row, no_row, no_end_row, no_trap_row}
-use Rattle.pc_emit.proofs.Leading.{row_run, leaf_run, leaf_seen, row_seen}
+use Rattle.pc_emit.specs.Emitted.{Emission, root_leaf, LeadsBehind, to_item, to_test, to_region, to_end, to_trap}
+use Rattle.pc_emit.specs.Emitted.{TreeStands, item_row, test_row}
+use Rattle.pc_emit.proofs.Leading.{leaf_run, leaf_seen, row_seen}
 use Rattle.pc_emit.proofs.PackedRuns.{code, table, ForthIn, BackAt}
 
 -- a tree that is no name of a region

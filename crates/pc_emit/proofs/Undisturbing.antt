@@ -1,9 +1,8 @@
 -- Where names that are live together have different registers, no row writes one that is still needed.
-use Rattle.std.proofs.Common.{◌≡◌, ◌≢◌, ℕ, List, [], ◌∷◌, ◌++◌, Option, Some, None, refl, sym, ◌∙◌, ap, subst, inl, inr}
-use Rattle.std.specs.Prelude.{Bool, true, false, nat_eq, ◌||◌}
-use Rattle.std.specs.List.{AllByRecursion, list_any, filter_map, cons_option}
+use Rattle.std.proofs.Common.{◌≡◌, ◌≢◌, ℕ, List, [], ◌∷◌, ◌++◌, Option, Some, None, sym, ◌∙◌, ap, subst, inl, inr}
+use Rattle.std.specs.Prelude.{true, nat_eq}
+use Rattle.std.specs.List.{AllByRecursion, filter_map, cons_option}
 use Rattle.std.proofs.lemmas.List.Elements.{filter_map-append}
-use Rattle.pc_word.specs.declared.item.Item.{Item}
 use Rattle.pc_word.specs.Items.{dest_of}
 use Rattle.pc_word.specs.Row.{Row, Then, Either, At_leaf, items_of}
 use Rattle.pc_word.proofs.Lists.{all_front, all_back}
@@ -16,7 +15,7 @@ use Rattle.pc_automaton.specs.Automaton.{AutomatonState, names_written}
 use Rattle.pc_assign.specs.Uses.{row_uses}
 use Rattle.pc_assign.specs.Apart.{Differ, HasAllowed, DestApart, KeepsApart, IsApart}
 use Rattle.pc_emit.specs.Registers.{register_of}
-use Rattle.pc_emit.specs.models.Undisturbed.{IsUndisturbed, DestIsUndisturbed, StaysUndisturbed}
+use Rattle.pc_emit.specs.models.Undisturbed.{IsUndisturbed, StaysUndisturbed}
 
 module _ (of : ℕ → Option ℕ) where
   -- names that share no register have different ones, if each has one

@@ -1,5 +1,6 @@
 pub mod models
 pub mod Registers
 pub mod Emitted
+pub mod Emitting
 pub mod PackedForm
 pub mod Laws

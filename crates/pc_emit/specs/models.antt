@@ -1,1 +1,3 @@
 pub mod Undisturbed
+pub mod Output
+pub mod Packing

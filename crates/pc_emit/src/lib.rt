@@ -2,6 +2,17 @@
 //! is packed, and a row for each item and test of one that is plain.
 #![tactic(auto)]
 
+mod error;
+mod form;
 mod laws;
+mod names;
+mod output;
+mod packed;
+mod passing;
+mod plan;
+mod target;
+mod trees;
 
+pub use error::EmitError;
+pub use form::RegionForm;
 pub use laws::law_of_emission;

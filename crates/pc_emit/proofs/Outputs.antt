@@ -1,0 +1,64 @@
+-- A row that is put behind others.
+use Rattle.std.proofs.Common.{◌≡◌, ℕ, zero, suc, ◌+◌, List, [], ◌∷◌, ◌++◌, length, Some, refl, sym, ◌∙◌, ap, subst}
+use Rattle.std.specs.Prelude.{slice_get}
+use Rattle.std.proofs.lemmas.List.{length-map, map-append}
+use Rattle.pc_machine.specs.declared.tree.Tree.{Tree}
+use Rattle.pc_machine.specs.MachineCode.{CodeRow, row_of, rows_of}
+use Rattle.pc_emit.specs.declared.output.Output.{Output}
+use Rattle.pc_emit.specs.models.Output.{Grows, StandsAt}
+
+-- what stands in a list stands in a longer one
+still_there : {X : Type 0} (xs ys : List X) (at : ℕ) (x : X) → slice_get xs at ≡ Some x → slice_get (xs ++ ys) at ≡ Some x
+still_there [] ys at x e = absurd (cc)
+still_there (y ∷ xs) ys zero x e = e
+still_there (y ∷ xs) ys (suc at) x e = still_there xs ys at x e
+
+-- and what was put behind it stands at its end
+stands_last : {X : Type 0} (xs : List X) (x : X) → slice_get (xs ++ x ∷ []) (length xs) ≡ Some x
+stands_last [] x = refl
+stands_last (y ∷ xs) x = stands_last xs x
+
+-- the trees of a list, and one more
+pub tree_still : (old new : List Tree) (tree : Tree) (at : ℕ) (row : CodeRow) → new ≡ old ++ tree ∷ []
+    → slice_get (rows_of old) at ≡ Some row → slice_get (rows_of new) at ≡ Some row
+tree_still old new tree at row e h =
+    subst (λ (l : List CodeRow). slice_get l at ≡ Some row) (sym (ap rows_of e ∙ map-append row_of old (tree ∷ [])))
+    (still_there (rows_of old) (row_of tree ∷ []) at row h)
+
+pub tree_last : (old new : List Tree) (tree : Tree) → new ≡ old ++ tree ∷ [] → slice_get (rows_of new) (length old) ≡ Some (row_of tree)
+tree_last old new tree e =
+    subst (λ (n : ℕ). slice_get (rows_of new) n ≡ Some (row_of tree)) (length-map old row_of)
+    (subst (λ (l : List CodeRow). slice_get l (length (rows_of old)) ≡ Some (row_of tree)) (sym (ap rows_of e ∙ map-append row_of old (tree ∷ [])))
+    (stands_last (rows_of old) (row_of tree)))
+
+-- one more row of a region
+pub row_grows : (old new : Output) (tree : Tree) → new.rows ≡ old.rows ++ tree ∷ [] → new.copies ≡ old.copies → new.base ≡ old.base → Grows old new
+row_grows old new tree e same base = record {
+  stays = λ final stays. record {
+    rows_stay = λ at row h. stays.rows_stay at row (tree_still old.rows new.rows tree at row e h);
+    copies_stay = λ at row h. subst (λ (b : ℕ). slice_get final (b + at) ≡ Some row) base
+        (stays.copies_stay at row (subst (λ (l : List Tree). slice_get (rows_of l) at ≡ Some row) (sym same) h));
+  };
+}
+
+pub row_stands : (old new : Output) (tree : Tree) → new.rows ≡ old.rows ++ tree ∷ [] → StandsAt new (length old.rows) (row_of tree)
+row_stands old new tree e = record { stands = λ final stays. stays.rows_stay (length old.rows) (row_of tree) (tree_last old.rows new.rows tree e) }
+
+-- one more row of copies
+pub copies_grow : (old new : Output) (tree : Tree) → new.copies ≡ old.copies ++ tree ∷ [] → new.rows ≡ old.rows → new.base ≡ old.base → Grows old new
+copies_grow old new tree e same base = record {
+  stays = λ final stays. record {
+    rows_stay = λ at row h. stays.rows_stay at row (subst (λ (l : List Tree). slice_get (rows_of l) at ≡ Some row) (sym same) h);
+    copies_stay = λ at row h. subst (λ (b : ℕ). slice_get final (b + at) ≡ Some row) base
+        (stays.copies_stay at row (tree_still old.copies new.copies tree at row e h));
+  };
+}
+
+pub copies_stand : (old new : Output) (tree : Tree) (at : ℕ) → new.copies ≡ old.copies ++ tree ∷ [] → new.base ≡ old.base → at ≡ old.base + length old.copies
+    → StandsAt new at (row_of tree)
+copies_stand old new tree at e base is = record {
+  stands = λ final stays. subst (λ (n : ℕ). slice_get final n ≡ Some (row_of tree)) (ap (λ (b : ℕ). b + length old.copies) base ∙ sym is)
+      (stays.copies_stay (length old.copies) (row_of tree) (tree_last old.copies new.copies tree e));
+}
+
+pub ruleset outputs = (row_grows, row_stands, copies_grow, copies_stand)

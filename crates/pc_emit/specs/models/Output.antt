@@ -1,0 +1,38 @@
+-- Rows in the making: those of regions, and those of copies, which will stand behind them all.
+use Rattle.std.specs.Prelude.{◌≡◌, ℕ, ◌+◌, List, Some, slice_get}
+use Rattle.pc_machine.specs.MachineCode.{Leaf, Leads_to, Ends, Traps, CodeRow, rows_of}
+use Rattle.pc_assign.specs.Stored.{registers_in}
+use Rattle.pc_copies.specs.declared.moves.Move.{Move}
+use Rattle.pc_emit.specs.Registers.{register_of}
+use Rattle.pc_emit.specs.Emitted.{Passes}
+use Rattle.pc_emit.specs.declared.names.StateNames.{StateNames}
+use Rattle.pc_emit.specs.declared.output.Output.{Output}
+use Rattle.pc_emit.specs.declared.target.Target.{Target}
+use Rattle.pc_emit.specs.declared.target.Target.TheVariants as target
+
+-- the leaf that leads to a target
+abbrev pub leaf_of : Target → Leaf
+leaf_of (target.Row row) = Leads_to row
+leaf_of target.Stop = Ends
+leaf_of (target.Trap kind line) = Traps kind line
+
+-- the registers of a state's names
+abbrev pub of_state : StateNames → ℕ → ℕ
+of_state names = register_of (registers_in names.registers.now names.state)
+
+-- the rows that were made have their places in these rows
+pub record Stays (output : Output) (final : List CodeRow) : Type 0 where
+  pub rows_stay : (at : ℕ) (row : CodeRow) → slice_get (rows_of output.rows) at ≡ Some row → slice_get final at ≡ Some row
+  pub copies_stay : (at : ℕ) (row : CodeRow) → slice_get (rows_of output.copies) at ≡ Some row → slice_get final (output.base + at) ≡ Some row
+
+-- more was made, and all that there was has its place still
+pub record Grows (old new : Output) : Type 0 where
+  pub stays : (final : List CodeRow) → Stays new final → Stays old final
+
+-- a row stands at a place, whatever will be made
+pub record StandsAt (output : Output) (at : ℕ) (row : CodeRow) : Type 0 where
+  pub stands : (final : List CodeRow) → Stays output final → slice_get final at ≡ Some row
+
+-- from one leaf to another through copies, whatever will be made
+pub record PassesAlong (output : Output) (from : Leaf) (copies : List (List Move)) (to : Leaf) : Type 0 where
+  pub passes : (final : List CodeRow) → Stays output final → Passes final from copies to

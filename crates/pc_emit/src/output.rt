@@ -1,0 +1,51 @@
+//! Rows in the making.
+ghost use Rattle.std.specs.Prelude.{◌≡◌, ◌+◌, length, IfOk, IfSome, OnOk};
+ghost use Rattle.pc_machine.specs.MachineCode.{row_of};
+ghost use Rattle.pc_emit.specs.models.Output.{Grows, StandsAt};
+
+use crate::error::EmitError;
+use pc_machine::{Tree, TreeList};
+
+/// The rows of regions, and those of copies, which will stand behind them all, from row `base` on.
+pub(crate) struct Output {
+    pub(crate) rows: TreeList,
+    pub(crate) copies: TreeList,
+    pub(crate) base: u32,
+}
+
+impl Output {
+    /// Puts a row behind those of regions.
+    #[tactic(auto, using(crate::proofs::Outputs::outputs))]
+    pub(crate) fn push_row(&mut self, row: Tree) -> Result<(), EmitError>
+        ensures grows { OnOk result (Grows self.old self.new) }
+        ensures count { OnOk result (length self.new.rows ≡ length self.old.rows + 1) }
+        ensures stands { OnOk result (StandsAt self.new (length self.old.rows) (row_of row)) }
+    {
+        self.rows.push(row)?;
+        Ok(())
+    }
+
+    /// Puts a row behind those of copies, and returns the number that it will have.
+    #[tactic(auto, using(crate::proofs::Outputs::outputs))]
+    pub(crate) fn push_copies(&mut self, row: Tree) -> Result<u32, EmitError>
+        ensures grows { OnOk result (Grows self.old self.new) }
+        ensures count { OnOk result (length self.new.rows ≡ length self.old.rows) }
+        ensures stands { IfOk result (λ at. StandsAt self.new at (row_of row)) }
+    {
+        let Some(at) = number_of(self.base, self.copies.len()) else {
+            return Err(EmitError::Memory);
+        };
+        self.copies.push(row)?;
+        Ok(at)
+    }
+}
+
+/// A row's number, if it has one: it stands so many rows behind this one.
+fn number_of(base: u32, behind: usize) -> Option<u32>
+    ensures { IfSome result (λ at. at ≡ base + behind) }
+{
+    let Ok(behind) = u32::try_from(behind) else {
+        return None;
+    };
+    base.checked_add(behind)
+}

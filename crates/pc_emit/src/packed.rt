@@ -1,0 +1,171 @@
+//! The rows of packed regions: one for each state, on registers.
+ghost use Rattle.std.specs.Prelude.{◌≡◌, ◌+◌, ◌<◌, Some, length, slice_get, IfOk, OnOk};
+ghost use Rattle.pc_automaton.specs.StoredRow.{row_in};
+ghost use Rattle.pc_automaton.specs.AutomatonRun.{state_parameters};
+ghost use Rattle.pc_assign.specs.Pressure.{allowed};
+ghost use Rattle.pc_copies.specs.Moves.{AreMoves};
+ghost use Rattle.pc_table.specs.Table.{table_of};
+ghost use Rattle.pc_emit.specs.Registers.{argument_moves, home_moves};
+ghost use Rattle.pc_emit.specs.Emitting.{HasForm, forms_in};
+ghost use Rattle.pc_emit.specs.models.Output.{leaf_of, of_state, Grows};
+ghost use Rattle.pc_emit.specs.models.Packing.{emission_in, states_at, registers_at, names_at, IsPlan, IsSite, LeafFits, RowFits, LeafMade, RowMade, MovesAlong, MovesToRegion};
+ghost use Rattle.pc_machine.specs.MachineCode.{Leads_to, row_of};
+
+use crate::error::EmitError;
+use crate::names::{StateNames, argument_moves, home_moves};
+use crate::output::Output;
+use crate::passing::pass_through;
+use crate::plan::Plan;
+use crate::target::Target;
+use crate::trees::{with_item, with_test};
+use pc_assign::Assigned;
+use pc_automaton::{Automaton, AutomatonLeaf, RowTree};
+use pc_copies::arrange;
+use pc_machine::Tree;
+use pc_window::Home;
+use pc_word::Operand;
+use std::alloc::Global;
+
+/// The register that copies go through.
+const SCRATCH: u32 = 127;
+
+/// A packed region: its automaton with registers for names, and the row at which it begins.
+#[derive(Clone, Copy)]
+pub(crate) struct PackedSite<'a> {
+    pub(crate) region: u32,
+    pub(crate) first: u32,
+    pub(crate) automaton: &'a Automaton,
+    pub(crate) registers: &'a Assigned,
+}
+
+/// The row of a state, or of a part of it, with these registers for its names.
+#[tactic(auto, using(crate::proofs::Packs::rows, crate::proofs::Passings::passings))]
+pub(crate) fn packed_row(
+    alloc: Global,
+    plan: &Plan,
+    site: &PackedSite,
+    names: &StateNames,
+    row: &RowTree<AutomatonLeaf>,
+    output: &mut Output,
+) -> Result<Tree, EmitError>
+    requires site { IsSite plan.now site.now }
+    requires plan { IsPlan plan.now }
+    requires fits { RowFits plan.now site.now (of_state names.now) (row_in (λ leaf. leaf) row.now) }
+    ensures grows { OnOk result (Grows output.old output.new) }
+    ensures count { OnOk result (length output.new.rows ≡ length output.old.rows) }
+    ensures made { IfOk result (λ tree. RowMade plan.now site.now (of_state names.now) output.new (row_in (λ leaf. leaf) row.now) (row_of tree)) }
+{
+    match row {
+        RowTree::Step { item, next } => {
+            let next = packed_row(alloc, plan, site, names, next, output)?;
+            Ok(with_item(alloc, names.item(*item), next)?)
+        }
+        RowTree::Test { on, yes, no } => {
+            let yes = packed_row(alloc, plan, site, names, yes, output)?;
+            let no = packed_row(alloc, plan, site, names, no, output)?;
+            Ok(with_test(alloc, names.operand(*on), yes, no)?)
+        }
+        RowTree::Leaf { leaf } => {
+            let target = packed_leaf(alloc, plan, site, names, leaf, output)?;
+            Ok(target.tree())
+        }
+    }
+}
+
+/// What leads on from a leaf, through the copies that pass its arguments or homes.
+#[tactic(auto, using(crate::proofs::Packs::leaves, crate::proofs::Passings::passings))]
+fn packed_leaf(
+    alloc: Global,
+    plan: &Plan,
+    site: &PackedSite,
+    names: &StateNames,
+    leaf: &AutomatonLeaf,
+    output: &mut Output,
+) -> Result<Target, EmitError>
+    requires site { IsSite plan.now site.now }
+    requires plan { IsPlan plan.now }
+    requires fits { LeafFits (emission_in plan.now) (states_at site.now) (registers_at site.now) (of_state names.now) leaf.now }
+    ensures grows { OnOk result (Grows output.old output.new) }
+    ensures count { OnOk result (length output.new.rows ≡ length output.old.rows) }
+    ensures made { IfOk result (λ target. LeafMade plan.now site.now (of_state names.now) output.new leaf.now (leaf_of target)) }
+{
+    match leaf {
+        AutomatonLeaf::To { state, arguments } => {
+            to_state(
+                alloc,
+                plan,
+                site,
+                names,
+                *state,
+                arguments.as_slice(),
+                output,
+            )
+        }
+        AutomatonLeaf::Out { region, homes } => {
+            to_region(alloc, plan, site, names, *region, homes.as_slice(), output)
+        }
+        AutomatonLeaf::Stop => Ok(Target::Stop),
+        AutomatonLeaf::Trap { kind, line } => Ok(Target::Trap {
+            kind: *kind,
+            line: *line,
+        }),
+    }
+}
+
+/// What leads to a state, through the copies that pass it arguments.
+#[tactic(auto, using(crate::proofs::Packs::leaves, crate::proofs::Passings::passings))]
+fn to_state(
+    alloc: Global,
+    plan: &Plan,
+    site: &PackedSite,
+    names: &StateNames,
+    state: u32,
+    arguments: &[Operand],
+    output: &mut Output,
+) -> Result<Target, EmitError>
+    requires site { IsSite plan.now site.now }
+    requires plan { IsPlan plan.now }
+    requires there { state < length site.now.automaton.now }
+    requires as_many { length arguments.now ≡ length (state_parameters (slice_get (states_at site.now) state)) }
+    requires moves { AreMoves allowed
+        (argument_moves (of_state names.now) (names_at site.now state) (state_parameters (slice_get (states_at site.now) state)) arguments.now) }
+    ensures grows { OnOk result (Grows output.old output.new) }
+    ensures count { OnOk result (length output.new.rows ≡ length output.old.rows) }
+    ensures moved { IfOk result (λ target. MovesAlong plan.now output.new (leaf_of target)
+        (argument_moves (of_state names.now) (names_at site.now state) (state_parameters (slice_get (states_at site.now) state)) arguments.now)
+        (Leads_to ((emission_in plan.now).places.state site.now.region state))) }
+{
+    let parameters = site.automaton.state(state).parameters.as_slice();
+    let to = StateNames {
+        registers: site.registers,
+        state,
+    };
+    let moves = argument_moves(alloc, names, &to, parameters, arguments)?;
+    let copies = arrange(alloc, moves.as_slice(), plan.ops, SCRATCH)?;
+    let row = site.first + state;
+    pass_through(alloc, copies.as_slice(), Target::Row { row }, output)
+}
+
+/// What leads to a region, through the copies that bring variables home.
+#[tactic(auto, using(crate::proofs::Packs::leaves, crate::proofs::Passings::passings))]
+fn to_region(
+    alloc: Global,
+    plan: &Plan,
+    site: &PackedSite,
+    names: &StateNames,
+    region: u32,
+    homes: &[Home],
+    output: &mut Output,
+) -> Result<Target, EmitError>
+    requires plan { IsPlan plan.now }
+    requires form { HasForm (table_of plan.now.table.now) (forms_in plan.now.forms.now) region }
+    requires moves { AreMoves allowed (home_moves (of_state names.now) homes.now) }
+    ensures grows { OnOk result (Grows output.old output.new) }
+    ensures count { OnOk result (length output.new.rows ≡ length output.old.rows) }
+    ensures moved { IfOk result (λ target. MovesToRegion plan.now output.new (leaf_of target) (home_moves (of_state names.now) homes.now) region) }
+{
+    let target = plan.target_of(region);
+    let moves = home_moves(alloc, names, homes)?;
+    let copies = arrange(alloc, moves.as_slice(), plan.ops, SCRATCH)?;
+    pass_through(alloc, copies.as_slice(), target, output)
+}
