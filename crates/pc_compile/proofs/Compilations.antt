@@ -1,11 +1,13 @@
 -- A program's graph, its regions and their rows, put together.
-use Rattle.std.proofs.Common.{◌≡◌, ℕ, ◌≤◌, true, List, [], ◌∷◌, length, sum, refl, sym, ◌∙◌, subst, arith}
-use Rattle.std.specs.Prelude.{nat_le}
+use Rattle.std.proofs.Common.{◌≡◌, ℕ, ◌≤◌, true, List, [], ◌∷◌, length, sum, Option, None, refl, sym, ◌∙◌, ap, subst, arith}
+use Rattle.std.specs.Prelude.{nat_le, All, ℤ}
 use Rattle.std.specs.List.{AllByRecursion, list_all}
 use Rattle.std.proofs.lemmas.Bool.Decides.{nat_tests}
 use Rattle.pc_word.specs.declared.item.Limits.{Limits}
-use Rattle.pc_word.specs.MachineLimits.{most_arrays, most_elements, most_length}
-use Rattle.pc_word.specs.Run.{AgreeOnInputs}
+use Rattle.pc_word.specs.declared.loop_mark.LoopMark.{LoopMark}
+use Rattle.pc_word.specs.MachineLimits.{most_arrays, most_elements, most_length, most_object}
+use Rattle.pc_word.specs.Run.{Run, AgreeOnInputs}
+use Rattle.pc_word.specs.Word.{IsWord}
 use Rattle.pc_word.specs.SourceLimits.{most_nodes}
 use Rattle.pc_word.proofs.Runs.{AgreeOnInputs-sym, AgreeOnInputs-trans}
 use Rattle.pc_word.proofs.Truth.{and_true}
@@ -14,7 +16,11 @@ use Rattle.pc_check.specs.Sound.{is_length}
 use Rattle.pc_meaning.specs.SourceRun.{source_run}
 use Rattle.pc_flow.specs.FlowGraph.{FlowGraph}
 use Rattle.pc_flow.specs.FlowRun.{flow_run}
+use Rattle.pc_meaning.proofs.SourceRuns.{source_run-faultless}
 use Rattle.pc_lower.specs.Lowered.{IsLowered}
+use Rattle.pc_lower.specs.SourceLoops.{SourceLoop}
+use Rattle.pc_lower.proofs.Bounds.{list-loops_sized}
+use Rattle.pc_lower.proofs.LoopMarks.{as_many_marks}
 use Rattle.pc_machine.specs.MachineRun.{machine_run}
 use Rattle.pc_machine.specs.WellFormed.{AreArrays}
 use Rattle.pc_word.specs.Ranges.{IsBetween, AreLimits}
@@ -24,15 +30,23 @@ use Rattle.pc_table.specs.Table.{Table}
 use Rattle.pc_table.specs.TableKeeps.{TableKeeps}
 use Rattle.pc_table.specs.RegionRun.{table_run}
 use Rattle.pc_regions.specs.Cut.{IsCutOf}
+use Rattle.pc_window.specs.Kept.{NeverFaults}
+use Rattle.pc_window.proofs.Paces.{NeverFaults-follows}
+use Rattle.pc_emit.specs.declared.form.RegionForm.{RegionForm as StoredForm}
+use Rattle.pc_emit.specs.Bytes.{object_bytes}
+use Rattle.pc_emit.specs.Emitting.{forms_in, emission_of}
+use Rattle.pc_emit.proofs.Emissions.{emitted_rows_do}
+use Rattle.pc_choose.specs.declared.choice.Choice.{Choice}
+use Rattle.pc_choose.specs.Choosing.{AreChosen}
+use Rattle.pc_choose.proofs.Emittable.{chosen_forms}
+use Rattle.pc_compile.specs.Notes.{notes_of}
 use Rattle.pc_compile.specs.Compiled.{IsCompiled}
-use Rattle.pc_compile.specs.models.Emitted.{all_units}
+use Rattle.pc_compile.specs.models.Counts.{all_units}
 use Rattle.pc_compile.specs.models.Made.{IsObjectOf, object_with}
-use Rattle.pc_compile.proofs.PlainCodes.{plain_is_well_formed, plain_is_short}
-use Rattle.pc_compile.proofs.PlainRuns.{rows_show}
-use Rattle.pc_compile.proofs.FewRows.{few_rows}
-use Rattle.pc_compile.proofs.Origins.{few_units}
-use Rattle.pc_compile.proofs.Reached.{rows_reached}
-use Rattle.pc_compile.proofs.Standing.{roots}
+use Rattle.pc_compile.proofs.Origins.{few_units, few_regions}
+use Rattle.pc_compile.proofs.FirstRow.{some_row}
+use Rattle.pc_compile.proofs.FewLoops.{list-counted}
+use Rattle.pc_compile.proofs.Short.{plain_is_short, few_notes, known_notes, object_is_short}
 
 -- lengths that were checked are lengths of the machine
 lengths_between : (arrays : List ℕ) → list_all is_length arrays ≡ true → AllByRecursion (IsBetween 1 most_length) arrays
@@ -49,45 +63,77 @@ lengths_between (size ∷ arrays) h =
 pub are_arrays : (arrays : List ℕ) → length arrays ≤ most_arrays → list_all is_length arrays ≡ true → sum arrays ≤ most_elements → AreArrays arrays
 are_arrays arrays few sized elements = record { count = few; each = lengths_between arrays sized; elements = elements }
 
--- the regions of a program's graph have no more items and tests than a graph may have nodes
-pub few_units_in_all : (program : ResolvedProgram) (first flow : FlowGraph) (table : Table) → IsLowered program first → Keeps first flow → IsCutOf flow table
-    → all_units table.regions ≤ most_nodes
-few_units_in_all program first flow table lowered kept cut =
-    let units = few_units flow table cut in
-    let as_many = kept.as_many in
-    let counted = lowered.counted in
-    let few = lowered.few in
-    omega (arith, units, as_many, counted, few)
+-- the regions of a program's graph have no more items and tests, are no more and have no more loops than a graph may have nodes
+module _ (program : ResolvedProgram) (first flow : FlowGraph) (table : Table) (lowered : IsLowered program first) (kept : Keeps first flow)
+    (cut : IsCutOf flow table) where
+  few_nodes : length flow.nodes ≤ most_nodes
+  few_nodes =
+      let as_many = kept.as_many in
+      let counted = lowered.counted in
+      let few = lowered.few in
+      omega (arith, as_many, counted, few)
 
--- the object that is made of the cut of a graph, which passes made of the program's, is the program's
-pub is_compiled : (program : ResolvedProgram) (limits : Limits) (first flow : FlowGraph) (table : Table) (object : CodeWithNotes) → AreLimits limits → AreArrays program.arrays
+  few_units_in_all : all_units table.regions ≤ most_nodes
+  few_units_in_all = let units = few_units flow table cut in let few = few_nodes in omega (arith, units, few)
+
+  few_regions_in_all : length table.regions ≤ most_nodes
+  few_regions_in_all = let regions = few_regions flow table cut in let few = few_nodes in omega (arith, regions, few)
+
+  pub few_loops_in_all : length table.loops ≤ most_nodes
+  few_loops_in_all =
+      let same = ap (λ (l : List LoopMark). length l) (cut.loops ∙ kept.same_loops) in
+      let marks = as_many_marks first.loops in
+      let loops = ap (λ (l : List SourceLoop). length l) lowered.loops in
+      let counted = list-counted program.body None [] in
+      let sized = list-loops_sized program.body in
+      let few = lowered.few in
+      omega (arith, same, marks, loops, counted, sized, few)
+
+  -- so its object is short with all regions plain
+  pub all_plain_is_short : TableKeeps table → object_bytes table (λ region. None) ≤ most_object
+  all_plain_is_short keeps = plain_is_short table few_regions_in_all few_units_in_all few_loops_in_all keeps.few_arrays
+
+-- a run that agrees with a program's never faults
+never_faults : (program : ResolvedProgram) (runs : List ℤ → Run) → AgreeOnInputs runs (source_run program) → (input : List ℤ) → All IsWord input
+    → NeverFaults (runs input)
+never_faults program runs agree input words =
+    NeverFaults-follows (runs input) (source_run program input) (agree input words).forth (λ n fault. source_run-faultless program input n fault)
+
+-- the object that is made of the cut of a graph, which passes made of the program's, in the forms that were chosen, is the
+-- program's
+pub is_compiled : (program : ResolvedProgram) (limits : Limits) (first flow : FlowGraph) (table : Table) (forms : List (Option StoredForm))
+    (choices : List Choice) (object : CodeWithNotes) → AreLimits limits → AreArrays program.arrays
     → IsLowered program first → Keeps first flow → IsCutOf flow table → TableKeeps table → AgreeOnInputs (table_run table) (flow_run flow)
-    → IsObjectOf table limits object → IsCompiled program limits flow table object
-is_compiled program limits first flow table object fine arrays lowered kept cut keeps cut_agrees made =
-    let plain = made.plain in
-    let rooted = roots flow table cut in
-    let code = (object_with limits table.arrays made.rows).code in
+    → AreChosen table limits choices (forms_in forms) → IsObjectOf table forms choices limits object
+    → IsCompiled program limits flow table choices object
+is_compiled program limits first flow table forms choices object fine arrays lowered kept cut keeps cut_agrees chosen made =
+    let emitted = made.emitted in
+    let e = emission_of table forms emitted.entries limits.ops in
+    let code = (object_with limits table.arrays made.rows (notes_of table choices)).code in
     let same_arrays = cut.arrays ∙ kept.same_arrays ∙ lowered.arrays in
-    let few = few_units_in_all program first flow table lowered kept cut in
+    let may = chosen_forms table limits choices (forms_in forms) keeps fine (all_plain_is_short program first flow table lowered kept cut keeps) chosen in
     let of_flow = AgreeOnInputs-trans (flow_run flow) (flow_run first) (source_run program) kept.agrees lowered.agree in
     let of_table = AgreeOnInputs-trans (table_run table) (flow_run flow) (source_run program) cut_agrees of_flow in
-    let of_code = AgreeOnInputs-trans (machine_run code) (table_run table) (source_run program) (rows_show table made.rows plain rooted limits) of_table in
-    subst (IsCompiled program limits flow table) (sym made.is) (record {
+    let of_rows = emitted_rows_do e keeps limits made.rows emitted.are may.1 (never_faults program (table_run table) of_table) in
+    let of_code = AgreeOnInputs-trans (machine_run code) (table_run table) (source_run program) of_rows of_table in
+    let few = few_notes table choices in
+    let loops = few_loops_in_all program first flow table lowered kept cut in
+    subst (IsCompiled program limits flow table choices) (sym made.is) (record {
       agree = AgreeOnInputs-sym (machine_run code) (source_run program) of_code;
       is_object = record {
-        code = plain_is_well_formed table limits fine keeps rooted made.rows plain (subst AreArrays (sym same_arrays) arrays);
-        choices = tt;
-        few_notes = omega arith;
-        few_bytes = plain_is_short table limits made.rows plain keeps few;
+        code = record { limits = fine; arrays = subst AreArrays (sym same_arrays) arrays; entry = some_row e keeps made.rows emitted.are may.1; rows = emitted.fit };
+        choices = known_notes table choices;
+        few_notes = omega (arith, few, loops);
+        few_bytes = object_is_short table (forms_in forms) choices limits made.rows emitted.short may.0.short;
       };
       limited = refl;
       arrays = same_arrays;
-      bare = refl;
       first = first;
       lowered = lowered;
       kept = kept;
       cut = cut;
-      plain = plain;
-      few = few_rows flow table cut made.rows plain;
-      reached = rows_reached table made.rows plain flow cut;
+      forms = forms;
+      chosen = chosen;
+      emitted = emitted;
+      notes = refl;
     })

@@ -1,10 +1,8 @@
 pub mod Compilations
-pub mod Emitting
-pub mod FewRows
+pub mod FewLoops
+pub mod FirstRow
 pub mod Found
+pub mod LoopNotes
 pub mod Origins
-pub mod PlainCodes
-pub mod PlainRuns
-pub mod Reached
-pub mod Standing
+pub mod Short
 pub mod Sums

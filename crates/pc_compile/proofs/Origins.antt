@@ -2,7 +2,7 @@
 use Rattle.std.proofs.Common.{◌≡◌, ◌≢◌, ◌⊎◌, inl, inr, ℕ, zero, suc, ◌+◌, ◌<◌, ◌≤◌, List, [], ◌∷◌, ◌++◌, length, Option, Some, None, refl, sym, ◌∙◌, ap, subst, arith}
 use Rattle.std.specs.Prelude.{slice_get}
 use Rattle.std.specs.List.{AllByRecursion}
-use Rattle.std.proofs.lemmas.List.{length-append}
+use Rattle.std.proofs.lemmas.List.{length-append, length-map}
 use Rattle.std.proofs.lemmas.Option.{slice_get_within}
 use Rattle.pc_word.proofs.Lists.{all_both, all_imply}
 use Rattle.pc_word.proofs.Truth.{decide_le}
@@ -17,7 +17,7 @@ use Rattle.pc_regions.specs.Cut.{IsTreeOf, An_item, A_test, A_stop, A_trap, IsBe
 use Rattle.pc_regions.proofs.Members.{Has}
 use Rattle.pc_regions.proofs.CutKeeps.{head_at}
 use Rattle.pc_regions.proofs.CutRuns.{region_at}
-use Rattle.pc_compile.specs.models.Emitted.{all_units}
+use Rattle.pc_compile.specs.models.Counts.{all_units}
 use Rattle.pc_compile.proofs.Found.{found_all}
 use Rattle.pc_compile.proofs.Sums.{same_or_not, one_if_same, one_if_other, total, total_both, total_most, total_one, total_two, sum_is}
 use Rattle.pc_compile.proofs.Sums.{count, counted, counted_once, has_front, has_back, all_of_members, member_of_all, no_more}
@@ -89,6 +89,14 @@ mutual
       → AllByRecursion (λ node. node < length flow.nodes) (origins tree)
   behind_within flow Head heads room to left tree (Taken no_head is) = tree_within flow Head heads room to left tree is
   behind_within flow Head heads room to left _ (Not_taken head there) = tt
+
+-- the node of a tree is there
+node_there : (flow : FlowGraph) (Head : ℕ → Type 0) (heads : List ℕ) (room at left : ℕ) (tree : TableTree) → IsTreeOf flow Head heads room at tree left
+    → at < length flow.nodes
+node_there flow Head heads _ at left _ (An_item {next} {item} here behind) = slice_get_within flow.nodes at (Op item next) here
+node_there flow Head heads _ at left _ (A_test {yes_side} {no_side} {on} {turn} here one other) = slice_get_within flow.nodes at (Test on yes_side no_side turn) here
+node_there flow Head heads _ at left _ (A_stop here) = slice_get_within flow.nodes at Stop here
+node_there flow Head heads _ at left _ (A_trap {line} {kind} here) = slice_get_within flow.nodes at (Trap kind line) here
 
 -- ---- trees, and how often a node is taken, named and led to
 
@@ -392,3 +400,17 @@ module _ (flow : FlowGraph) (table : Table) (cut : IsCutOf flow table) where
     where
       none_few : (a : ℕ) → a ≡ 0 → a ≤ 1
       none_few a h = omega (arith, h)
+
+  -- nor more regions
+  pub few_regions : length table.regions ≤ length flow.nodes
+  few_regions = subst (λ (n : ℕ). n ≤ length flow.nodes) (length-map table.regions (λ (region : TableRegion). region.head))
+      (no_more heads (length flow.nodes) heads_within heads_one)
+    where
+      in_list : (regions : List TableRegion) → ((number : ℕ) (region : TableRegion) → slice_get regions number ≡ Some region → region.head < length flow.nodes)
+          → AllByRecursion (λ node. node < length flow.nodes) (heads_of regions)
+      in_list [] each = tt
+      in_list (region ∷ regions) each = (each 0 region refl, in_list regions (λ number other there. each (suc number) other there))
+
+      heads_within : AllByRecursion (λ node. node < length flow.nodes) heads
+      heads_within = in_list table.regions (λ number region there. (let is = cut.each number region there in
+          node_there flow Head heads _ region.head is.left region.tree is.tree))

@@ -1,5 +1,5 @@
 -- What the object of a program is, and when there is none.
-use Rattle.std.specs.Prelude.{◌≡◌, ℕ, ◌<◌, ◌≤◌, min, [], length}
+use Rattle.std.specs.Prelude.{◌≡◌, ℕ, ◌<◌, ◌≤◌, min, List, Option, length}
 use Rattle.pc_word.specs.declared.item.Limits.{Limits}
 use Rattle.pc_word.specs.Run.{AgreeOnInputs}
 use Rattle.pc_word.specs.SourceLimits.{most_nodes}
@@ -12,27 +12,32 @@ use Rattle.pc_table.specs.Table.{Table}
 use Rattle.pc_regions.specs.Cut.{IsCutOf}
 use Rattle.pc_machine.specs.MachineRun.{machine_run}
 use Rattle.pc_object.specs.ObjectText.{CodeWithNotes, IsObject}
-use Rattle.pc_compile.specs.Plain.{IsPlain}
-use Rattle.pc_machine.specs.Reachable.{IsReachable}
+use Rattle.pc_emit.specs.declared.form.RegionForm.{RegionForm}
+use Rattle.pc_emit.specs.Emitting.{forms_in, AreEmitted}
+use Rattle.pc_choose.specs.declared.choice.Choice.{Choice}
+use Rattle.pc_choose.specs.Choosing.{AreChosen}
+use Rattle.pc_compile.specs.Notes.{notes_of}
 use Rattle.pc_compile.specs.declared.error.CompileError.{CompileError}
 use Rattle.pc_compile.specs.declared.error.CompileError.TheVariants.{TooLarge, Memory}
 
--- The object does what the program does, for every input of words, and may be written; it has the given limits, the
--- program's arrays and no notes. Its rows are those of the table, which is the cut of the graph, which passes made of the
--- program's. They are no more than the graph's nodes, and leaves lead to each from row 0.
-pub record IsCompiled (program : ResolvedProgram) (limits : Limits) (flow : FlowGraph) (table : Table) (object : CodeWithNotes) : Type 0 where
+-- The object does what the program does, for every input of words, and may be written; it has the given limits and the
+-- program's arrays. The table is the cut of the graph, which passes made of the program's. Each region that is led to from
+-- region 0 got the first form that was not refused; the rows are those of the regions in their forms, and leaves lead to each
+-- from row 0; and the notes tell the forms of the loops.
+pub record IsCompiled (program : ResolvedProgram) (limits : Limits) (flow : FlowGraph) (table : Table) (choices : List Choice) (object : CodeWithNotes)
+    : Type 0 where
   pub agree : AgreeOnInputs (source_run program) (machine_run object.code)
   pub is_object : IsObject object
   pub limited : object.code.limits ≡ limits
   pub arrays : object.code.arrays ≡ program.arrays
-  pub bare : object.notes ≡ []
   pub first : FlowGraph
   pub lowered : IsLowered program first
   pub kept : Keeps first flow
   pub cut : IsCutOf flow table
-  pub plain : IsPlain table object.code.rows
-  pub few : length object.code.rows ≤ length flow.nodes
-  pub reached : (row : ℕ) → row < length object.code.rows → IsReachable object.code.rows row
+  pub forms : List (Option RegionForm)
+  pub chosen : AreChosen table limits choices (forms_in forms)
+  pub emitted : AreEmitted table forms limits object.code.rows
+  pub notes : object.notes ≡ notes_of table choices
 
 -- Why a program of a size has no object: its flow graph would have too many nodes, and they are told, as far as a number
 -- goes; or it would not, and memory ran out.

@@ -1,3 +1,3 @@
 pub mod models
+pub mod Notes
 pub mod Compiled
-pub mod Plain

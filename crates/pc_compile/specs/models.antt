@@ -1,3 +1,4 @@
-pub mod Emitted
+pub mod Counts
 pub mod Errors
+pub mod Heading
 pub mod Made

@@ -3,6 +3,8 @@ ghost use Rattle.std.specs.Prelude.{◌≡◌};
 ghost use Rattle.pc_compile.specs.declared.error.CompileError.TheVariants.{Memory};
 ghost use Rattle.pc_compile.specs.models.Errors.{error_of_lowering};
 
+use pc_choose::ChooseError;
+use pc_emit::EmitError;
 use pc_live::LiveError;
 use pc_lower::LowerError;
 use pc_pass::PassMemory;
@@ -61,6 +63,22 @@ impl From<AllocError> for CompileError {
     ghost from_gives = { λ _ error. error ≡ Memory };
 
     fn from(_error: AllocError) -> CompileError {
+        CompileError::Memory
+    }
+}
+
+impl From<ChooseError> for CompileError {
+    ghost from_gives = { λ _ error. error ≡ Memory };
+
+    fn from(_error: ChooseError) -> CompileError {
+        CompileError::Memory
+    }
+}
+
+impl From<EmitError> for CompileError {
+    ghost from_gives = { λ _ error. error ≡ Memory };
+
+    fn from(_error: EmitError) -> CompileError {
         CompileError::Memory
     }
 }

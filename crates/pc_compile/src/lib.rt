@@ -1,9 +1,9 @@
-//! From a checked program to its object: the flow graph, passes over it, its regions, and their items and
-//! tests as rows.
+//! From a checked program to its object: the flow graph, passes over it, its regions, a form for each of them
+//! that is led to, their rows, and notes on loops.
 #![tactic(auto)]
 
-mod emission;
 mod error;
+mod notes;
 mod program;
 
 pub use error::CompileError;

@@ -1,41 +1,46 @@
 //! The object of a checked program.
-ghost use Rattle.std.specs.Prelude.{◌≡◌, ◌<◌, ◌^◌, map, IfOk, IfErr, OnOk};
+ghost use Rattle.std.specs.Prelude.{◌≡◌, length, map, IfOk, IfErr, OnOk};
 ghost use Rattle.pc_check.specs.Checks.{resolved_of};
 ghost use Rattle.pc_check.specs.Sizes.{resolved_size};
 ghost use Rattle.pc_word.specs.Ranges.{AreLimits};
 ghost use Rattle.pc_object.specs.ObjectText.{object_of};
 ghost use Rattle.pc_pass.specs.Pass.{EachRose};
-ghost use Rattle.pc_table.specs.Table.{table_of, table_regions};
+ghost use Rattle.pc_table.specs.Table.{table_of};
 ghost use Rattle.pc_table.specs.TableKeeps.{TableKeeps};
+ghost use Rattle.pc_emit.specs.Emitting.{forms_in, AreForms};
+ghost use Rattle.pc_compile.specs.declared.error.CompileError.TheVariants.{Memory};
 ghost use Rattle.pc_compile.specs.Compiled.{IsCompiled, IsUncompiled};
-ghost use Rattle.pc_compile.specs.models.Emitted.{all_units};
 ghost use Rattle.pc_compile.specs.models.Made.{IsObjectOf};
 
-use crate::emission::emit;
 use crate::error::CompileError;
+use crate::notes::notes;
 use pc_check::Checked;
+use pc_choose::{ChoiceList, Chosen, choose};
+use pc_emit::emit;
 use pc_flow::Flow;
 use pc_live::live;
 use pc_lower::lower;
 use pc_machine::Code;
-use pc_object::{NoteList, Object};
+use pc_object::Object;
 use pc_pass::{Pass, run_list};
 use pc_regions::regions;
 use pc_table::RegionTable;
 use pc_word::{LengthList, Limits};
-use std::alloc::{AllocError, Global};
+use std::alloc::Global;
 
-/// A program's flow graph behind passes, the graph's regions, and the program's object.
+/// A program's flow graph behind passes, the graph's regions, the forms that those got which are led
+/// to, and the program's object.
 #[derive(Debug, Drop)]
 pub struct Compiled {
     pub flow: Flow,
     pub table: RegionTable,
+    pub choices: ChoiceList,
     pub object: Object,
 }
 
 /// The object of a checked program, under limits of rows that the machine has, behind passes over its flow
-/// graph, each of which is applied once. The graph is cut into regions then; each item and each test of a
-/// region is a row, and a stop or a trap is the leaf of the rows that lead to it. It fails where the graph
+/// graph, each of which is applied once. The graph is cut into regions then; each of them that is led to is
+/// packed where that is not refused, and else has a row for each item and test. It fails where the graph
 /// would have more than 16,384 nodes, and where memory runs out; then some of the passes may have been
 /// applied.
 pub fn compile(
@@ -45,7 +50,7 @@ pub fn compile(
     limits: Limits,
 ) -> Result<Compiled, CompileError>
     requires { AreLimits limits }
-    ensures compiled { IfOk result (λ it. IsCompiled (resolved_of checked.now) limits it.flow (table_of it.table) (object_of it.object)) }
+    ensures compiled { IfOk result (λ it. IsCompiled (resolved_of checked.now) limits it.flow (table_of it.table) it.choices (object_of it.object)) }
     ensures uncompiled { IfErr result (λ error. IsUncompiled (resolved_size (resolved_of checked.now)) error) }
     ensures named { map (λ b. label b) passes.new.items ≡ map (λ b. label b) passes.old.items }
     ensures ran { OnOk result (EachRose (map (λ b. runs b) passes.old.items) (map (λ b. runs b) passes.new.items)) }
@@ -61,7 +66,7 @@ pub fn compile_with<P: Pass>(
     limits: Limits,
 ) -> Result<Compiled, CompileError>
     requires { AreLimits limits }
-    ensures compiled { IfOk result (λ it. IsCompiled (resolved_of checked.now) limits it.flow (table_of it.table) (object_of it.object)) }
+    ensures compiled { IfOk result (λ it. IsCompiled (resolved_of checked.now) limits it.flow (table_of it.table) it.choices (object_of it.object)) }
     ensures uncompiled { IfErr result (λ error. IsUncompiled (resolved_size (resolved_of checked.now)) error) }
     ensures named { map P.label passes.new.items ≡ map P.label passes.old.items }
     ensures ran { OnOk result (EachRose (map P.runs passes.old.items) (map P.runs passes.new.items)) }
@@ -70,27 +75,37 @@ pub fn compile_with<P: Pass>(
     run_list(passes, &mut flow)?;
     let liveness = live(alloc, &flow)?;
     let table = regions(alloc, &flow, &liveness)?;
-    let object = object_of(alloc, &table, limits)?;
+    let chosen = choose(alloc, &table, limits)?;
+    let object = object_of(alloc, &table, &chosen, limits)?;
     Ok(Compiled {
         flow,
         table,
+        choices: chosen.choices,
         object,
     })
 }
 
-/// The object of a region table, without notes.
-fn object_of(alloc: Global, table: &RegionTable, limits: Limits) -> Result<Object, AllocError>
+/// The object of a region table in the forms that were chosen.
+fn object_of(
+    alloc: Global,
+    table: &RegionTable,
+    chosen: &Chosen,
+    limits: Limits,
+) -> Result<Object, CompileError>
     requires kept { TableKeeps (table_of table.now) }
-    requires few { all_units (table_regions table.now.regions) < 2 ^ 31 }
-    ensures { IfOk result (λ object. IsObjectOf (table_of table.now) limits (object_of object)) }
+    requires limits { AreLimits limits }
+    requires count { length chosen.now.forms ≡ length table.now.regions }
+    requires forms { AreForms (table_of table.now) limits (forms_in chosen.now.forms) }
+    ensures object { IfOk result (λ object. IsObjectOf (table_of table.now) chosen.now.forms chosen.now.choices limits (object_of object)) }
+    ensures memory { IfErr result (λ error. error ≡ Memory) }
 {
     let arrays = LengthList::from_slice(alloc, table.arrays.as_slice())?;
-    let rows = emit(alloc, table)?;
+    let rows = emit(alloc, table, chosen.forms.as_slice(), limits)?;
+    let notes = notes(alloc, table, chosen.choices.as_slice())?;
     let code = Code {
         limits,
         arrays,
         rows,
     };
-    let notes = NoteList::new(alloc);
     Ok(Object { code, notes })
 }

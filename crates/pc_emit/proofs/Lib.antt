@@ -9,3 +9,6 @@ pub mod Outputs
 pub mod Passings
 pub mod Leads
 pub mod Packs
+pub mod Fitting
+pub mod FittingCopies
+pub mod Lengths

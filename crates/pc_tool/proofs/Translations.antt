@@ -9,6 +9,7 @@ use Rattle.pc_check.specs.Sizes.{size, resolved_size}
 use Rattle.pc_check.proofs.ResolvedSizes.{size-resolved}
 use Rattle.pc_flow.specs.FlowGraph.{FlowGraph}
 use Rattle.pc_table.specs.Table.{Table}
+use Rattle.pc_choose.specs.declared.choice.Choice.{Choice}
 use Rattle.pc_compile.specs.Compiled.{IsCompiled, IsUncompiled}
 use Rattle.pc_compile.specs.declared.error.CompileError.{CompileError}
 use Rattle.pc_compile.specs.declared.error.CompileError.TheVariants.{TooLarge, Memory}
@@ -27,9 +28,10 @@ pub sized : (text : List ℕ) (checked : ResolvedProgram) (h : IsChecked text ch
 sized text checked h = ap resolved_size (sym h.is_resolved) ∙ size-resolved h.program
 
 -- the object of a checked text translates it
-pub translates : (limits : Limits) (text : List ℕ) (checked : ResolvedProgram) (flow : FlowGraph) (table : Table) (object : CodeWithNotes) (h : IsChecked text checked)
-    → IsCompiled checked limits flow table object → HasWords object → Translates limits text h.program object
-translates limits text checked flow table object h compiled words =
+pub translates : (limits : Limits) (text : List ℕ) (checked : ResolvedProgram) (flow : FlowGraph) (table : Table) (choices : List Choice)
+    (object : CodeWithNotes) (h : IsChecked text checked)
+    → IsCompiled checked limits flow table choices object → HasWords object → Translates limits text h.program object
+translates limits text checked flow table choices object h compiled words =
     let same = sized text checked h in
     let few = compiled.lowered.few in
     record {
@@ -37,19 +39,19 @@ translates limits text checked flow table object h compiled words =
       loads = record { is_object = compiled.is_object; has_words = words };
       limited = compiled.limited;
       arrays = compiled.arrays ∙ ap (λ (program : ResolvedProgram). program.arrays) (sym h.is_resolved);
-      reached = compiled.reached;
-      bare = compiled.bare;
+      reached = compiled.emitted.reached;
       same = subst (λ (program : ResolvedProgram). AgreeOnInputs (source_run program) (machine_run object.code)) (sym h.is_resolved) compiled.agree;
     }
 
 -- so does what is made of it: its bytes, and what is reported of it
-pub is_translation : (limits : Limits) (text : List ℕ) (checked : ResolvedProgram) (flow : FlowGraph) (table : Table) (object : CodeWithNotes) (it : Translation) → IsChecked text checked
-    → IsCompiled checked limits flow table object → HasWords object → it.bytes.items ≡ object_text object → it.nodes ≡ length flow.nodes
+pub is_translation : (limits : Limits) (text : List ℕ) (checked : ResolvedProgram) (flow : FlowGraph) (table : Table) (choices : List Choice)
+    (object : CodeWithNotes) (it : Translation) → IsChecked text checked
+    → IsCompiled checked limits flow table choices object → HasWords object → it.bytes.items ≡ object_text object → it.nodes ≡ length flow.nodes
     → it.rows ≡ length object.code.rows → it.notes ≡ object.notes → IsTranslation limits text it
-is_translation limits text checked flow table object it h compiled words bytes nodes rows notes = record {
+is_translation limits text checked flow table choices object it h compiled words bytes nodes rows notes = record {
   program = h.program;
   object = object;
-  translates = translates limits text checked flow table object h compiled words;
+  translates = translates limits text checked flow table choices object h compiled words;
   bytes = bytes;
   nodes = nodes ∙ compiled.kept.as_many ∙ compiled.lowered.counted ∙ sized text checked h;
   rows = rows;

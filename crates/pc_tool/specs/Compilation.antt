@@ -1,5 +1,5 @@
 -- What is compiled: the object that stands for a source, and what is reported of it.
-use Rattle.std.specs.Prelude.{◌≡◌, ℕ, ◌<◌, Bool, true, false, List, [], length, map}
+use Rattle.std.specs.Prelude.{◌≡◌, ℕ, ◌<◌, Bool, true, false, List, length, map}
 use Rattle.std.specs.Io.KnownBytes.{Appends}
 use Rattle.pc_word.specs.declared.item.Limits.{Limits}
 use Rattle.pc_syntax.specs.Source.{SourceProgram}
@@ -16,15 +16,14 @@ use Rattle.pc_tool.specs.Objects.{Loads}
 use Rattle.pc_tool.specs.Outside.{Streamed}
 use Rattle.pc_tool.specs.Source.{IsSource}
 
--- The text is the source of this program; the object loads under the limits, with the program's arrays and without notes, and
--- leaves lead to each of its rows from row 0; for every input of words it does what the source means.
+-- The text is the source of this program; the object loads under the limits, with the program's arrays, and leaves lead to
+-- each of its rows from row 0; for every input of words it does what the source means.
 pub record Translates (limits : Limits) (text : List ℕ) (program : SourceProgram) (object : CodeWithNotes) : Type 0 where
   pub source : IsSource text program
   pub loads : Loads object
   pub limited : object.code.limits ≡ limits
   pub arrays : object.code.arrays ≡ (resolved program).arrays
   pub reached : (row : ℕ) → row < length object.code.rows → IsReachable object.code.rows row
-  pub bare : object.notes ≡ []
   pub same : Same program object.code
 
 -- the source that is asked for was translated; its object is held now, and all else is as before
@@ -38,8 +37,8 @@ pub record Compiled (request : CompileRequest) (program : SourceProgram) (object
 abbrev pub counts_of : {P : Type 0} → (P → List ℕ) → (P → ℕ) → List P → List PassCount
 counts_of label changed passes = map (λ pass. record { name = label pass; changes = changed pass }) passes
 
--- what is reported: the size of the program, which is the number of nodes of its flow graph, the rows of the object, and the
--- passes
+-- what is reported: the size of the program, which is the number of nodes of its flow graph, the rows of the object, the
+-- passes, and the object's notes
 abbrev pub report_on : SourceProgram → CodeWithNotes → List PassCount → Report
 report_on program object passes = record { nodes = size program; rows = length object.code.rows; passes = passes; notes = object.notes }
 

@@ -2,18 +2,25 @@ use Rattle.std.proofs.Common.{arith}
 use Rattle.pc_check.specs.Checks.{resolved_of}
 use Rattle.pc_object.specs.ObjectText.{object_of}
 use Rattle.pc_table.specs.Table.{table_of}
-use Rattle.pc_compile.proofs.Compilations.{are_arrays, few_units_in_all, is_compiled}
+use Rattle.pc_emit.specs.Emitting.{forms_in}
+use Rattle.pc_choose.proofs.Emittable.{chosen_forms}
+use Rattle.pc_compile.proofs.Compilations.{are_arrays, all_plain_is_short, is_compiled}
 use Rattle.pc_compile.proofs.program.compile_with.Goals as goal
 
-pub object_of-requires-clause-few : goal.object_of-requires-clause-few
-object_of-requires-clause-few g c =
-    let few = few_units_in_all (resolved_of c.args.checked.now) c.in_ok-flow.flow c.run_list.new.flow (table_of c.in_ok-table.table)
-    c.in_ok-flow.ensures.lowered c.run_list.ensures.keeps c.in_ok-table.ensures.cut in
-    omega (arith, few)
+pub choose-requires-clause-small : goal.choose-requires-clause-small
+choose-requires-clause-small g c =
+    all_plain_is_short (resolved_of c.args.checked.now) c.in_ok-flow.flow c.run_list.new.flow (table_of c.in_ok-table.table)
+    c.in_ok-flow.ensures.lowered c.run_list.ensures.keeps c.in_ok-table.ensures.cut c.in_ok-table.ensures.kept
+
+pub object_of-requires-clause-forms : goal.object_of-requires-clause-forms
+object_of-requires-clause-forms g c =
+    (chosen_forms (table_of c.in_ok-table.table) c.args.limits c.in_ok-chosen.chosen.choices (forms_in c.in_ok-chosen.chosen.forms)
+    c.in_ok-table.ensures.kept c.requires (choose-requires-clause-small g _) c.in_ok-chosen.ensures.chosen).0
 
 pub returns-clause-compiled : goal.returns-clause-compiled
 returns-clause-compiled g c =
     let checked = c.args.checked.now in
-    is_compiled (resolved_of checked) c.args.limits c.in_ok-flow.flow c.run_list.new.flow (table_of c.in_ok-table.table) (object_of c.in_ok-object.object) c.requires
+    is_compiled (resolved_of checked) c.args.limits c.in_ok-flow.flow c.run_list.new.flow (table_of c.in_ok-table.table)
+    c.in_ok-chosen.chosen.forms c.in_ok-chosen.chosen.choices (object_of c.in_ok-object.object) c.requires
     (are_arrays checked.arrays checked.few_arrays checked.sized checked.few_elements) c.in_ok-flow.ensures.lowered c.run_list.ensures.keeps c.in_ok-table.ensures.cut
-    c.in_ok-table.ensures.kept c.in_ok-table.ensures.agree c.in_ok-object.ensures
+    c.in_ok-table.ensures.kept c.in_ok-table.ensures.agree c.in_ok-chosen.ensures.chosen c.in_ok-object.ensures.object

@@ -1,0 +1,165 @@
+-- The object of a table is short: with all regions plain by the graph's nodes, and in the forms that were chosen by what was
+-- counted.
+use Rattle.std.proofs.Common.{◌≡◌, ℕ, zero, suc, ◌+◌, ◌-◌, ◌*◌, ◌<◌, ◌≤◌, List, [], ◌∷◌, ◌++◌, length, length-append, Option, Some, None, refl, sym, ◌∙◌, ap, subst, arith}
+use Rattle.std.specs.Prelude.{Bool, true, false, if◌then◌else◌, slice_get}
+use Rattle.std.specs.List.{AllByRecursion, flat_map}
+use Rattle.pc_word.specs.declared.item.Item.{Item}
+use Rattle.pc_word.specs.declared.item.Item.TheVariants.{Bin, Copy, Load, Store, Print, Read, More}
+use Rattle.pc_word.specs.declared.item.Operand.{Operand}
+use Rattle.pc_word.specs.declared.item.Operand.TheVariants.{Name, Lit}
+use Rattle.pc_word.specs.declared.item.Limits.{Limits}
+use Rattle.pc_word.specs.declared.loop_mark.LoopMark.{LoopMark}
+use Rattle.pc_word.specs.MachineLimits.{most_object}
+use Rattle.pc_word.proofs.Lists.{all_both}
+use Rattle.pc_table.specs.Table.{TableTree, Does, Asks, Next, Stops_here, Traps_here, TableRegion, Table}
+use Rattle.pc_table.specs.TableKeeps.{units}
+use Rattle.pc_window.specs.Steps.{is_innermost}
+use Rattle.pc_emit.specs.Emitted.{RegionForm}
+use Rattle.pc_emit.specs.Bytes.{operand_bytes, item_bytes, test_bytes, tree_bytes, regions_bytes, object_bytes}
+use Rattle.pc_choose.specs.declared.choice.Form.{Form}
+use Rattle.pc_choose.specs.declared.choice.Form.TheVariants as form
+use Rattle.pc_choose.specs.declared.choice.Cause.{Cause}
+use Rattle.pc_choose.specs.declared.choice.Cause.TheVariants.{Rows, Live, Bytes}
+use Rattle.pc_choose.specs.declared.choice.Choice.{Choice}
+use Rattle.pc_machine.specs.MachineCode.{CodeRow}
+use Rattle.pc_object.specs.declared.object.Note.{Note}
+use Rattle.pc_object.specs.ObjectText.{u16_text, u32_text, row_text, note_text, notes_text, header_text, object_text, IsChoice}
+use Rattle.pc_compile.specs.Notes.{cause_notes, form_notes, choice_notes, choice_heading, loop_notes, notes_from, notes_of}
+use Rattle.pc_compile.specs.models.Counts.{all_units}
+use Rattle.pc_compile.specs.models.Made.{object_with}
+
+-- ---- all regions plain
+
+operand_few : (o : Operand) → operand_bytes o ≤ 5
+operand_few (Name name) = omega arith
+operand_few (Lit value) = omega arith
+
+item_few : (item : Item) → item_bytes item ≤ 13
+item_few (Bin op dest left right) = let one = operand_few left in let other = operand_few right in omega (arith, one, other)
+item_few (Copy dest from) = let one = operand_few from in omega (arith, one)
+item_few (Load dest array index) = let one = operand_few index in omega (arith, one)
+item_few (Store array index value) = let one = operand_few index in let other = operand_few value in omega (arith, one, other)
+item_few (Print value) = let one = operand_few value in omega (arith, one)
+item_few (Read dest) = omega arith
+item_few (More dest) = omega arith
+
+-- the row of an item or a test has at most nineteen bytes
+tree_few : (tree : TableTree) → tree_bytes tree ≤ 19 * units tree
+tree_few (Does origin item rest) = let one = item_few item in let others = tree_few rest in omega (arith, one, others)
+tree_few (Asks origin on on_yes on_no) =
+    let one = operand_few on in let yes = tree_few on_yes in let no = tree_few on_no in omega (arith, one, yes, no)
+tree_few (Next region) = omega arith
+tree_few Stops_here = omega arith
+tree_few (Traps_here kind line) = omega arith
+
+regions_few : (number : ℕ) (regions : List TableRegion) → regions_bytes (λ region. None) number regions ≤ 6 * length regions + 19 * all_units regions
+regions_few number [] = omega arith
+regions_few number (region ∷ regions) =
+    let one = tree_few region.tree in let others = regions_few (1 + number) regions in omega (arith, one, others)
+
+-- a table of so few regions, items, tests, loops and arrays
+pub plain_is_short : (table : Table) → length table.regions ≤ 16384 → all_units table.regions ≤ 16384 → length table.loops ≤ 16384
+    → length table.arrays ≤ 32 → object_bytes table (λ region. None) ≤ most_object
+plain_is_short table regions units loops arrays = let few = regions_few 0 table.regions in omega (arith, few, regions, units, loops, arrays)
+
+-- ---- notes
+
+one_of_cause : (line : ℕ) (cause : Option Cause) → length (cause_notes line cause) ≤ 1
+one_of_cause line None = omega arith
+one_of_cause line (Some cause) = omega arith
+
+known_of_cause : (line : ℕ) (cause : Option Cause) → AllByRecursion IsChoice (cause_notes line cause)
+known_of_cause line None = tt
+known_of_cause line (Some (Rows number limit)) = (omega arith, tt)
+known_of_cause line (Some (Live number limit)) = (omega arith, tt)
+known_of_cause line (Some (Bytes number limit)) = (omega arith, tt)
+
+one_note : (line : ℕ) (kind : Form) (causes : List Cause) → length (form_notes line kind causes) ≤ 1
+one_note line form.Packed causes = omega arith
+one_note line form.Plain causes = one_of_cause line (slice_get causes (length causes - 1))
+
+known_note : (line : ℕ) (kind : Form) (causes : List Cause) → AllByRecursion IsChoice (form_notes line kind causes)
+known_note line form.Packed causes = (omega arith, tt)
+known_note line form.Plain causes = known_of_cause line (slice_get causes (length causes - 1))
+
+one_of_choice : (line : ℕ) (choice : Option Choice) → length (choice_notes line choice) ≤ 1
+one_of_choice line None = omega arith
+one_of_choice line (Some choice) = one_note line choice.form choice.causes
+
+known_of_choice : (line : ℕ) (choice : Option Choice) → AllByRecursion IsChoice (choice_notes line choice)
+known_of_choice line None = tt
+known_of_choice line (Some choice) = known_note line choice.form choice.causes
+
+one_of_loop : (table : Table) (choices : List Choice) (loop : ℕ) (mark : LoopMark) → length (loop_notes table choices loop mark) ≤ 1
+one_of_loop table choices loop mark = by (is_innermost table.loops loop) (one_of_choice mark.line (choice_heading table choices loop))
+  where
+    by : (b : Bool) → length (choice_notes mark.line (choice_heading table choices loop)) ≤ 1
+        → length (if b then choice_notes mark.line (choice_heading table choices loop) else []) ≤ 1
+    by true h = h
+    by false h = omega arith
+
+known_of_loop : (table : Table) (choices : List Choice) (loop : ℕ) (mark : LoopMark) → AllByRecursion IsChoice (loop_notes table choices loop mark)
+known_of_loop table choices loop mark = by (is_innermost table.loops loop) (known_of_choice mark.line (choice_heading table choices loop))
+  where
+    by : (b : Bool) → AllByRecursion IsChoice (choice_notes mark.line (choice_heading table choices loop))
+        → AllByRecursion IsChoice (if b then choice_notes mark.line (choice_heading table choices loop) else [])
+    by true h = h
+    by false h = tt
+
+few_from : (table : Table) (choices : List Choice) (loop : ℕ) (marks : List LoopMark) → length (notes_from table choices loop marks) ≤ length marks
+few_from table choices loop [] = omega arith
+few_from table choices loop (mark ∷ marks) =
+    let both = length-append (loop_notes table choices loop mark) (notes_from table choices (suc loop) marks) in
+    let one = one_of_loop table choices loop mark in
+    let others = few_from table choices (suc loop) marks in
+    omega (arith, both, one, others)
+
+known_from : (table : Table) (choices : List Choice) (loop : ℕ) (marks : List LoopMark) → AllByRecursion IsChoice (notes_from table choices loop marks)
+known_from table choices loop [] = tt
+known_from table choices loop (mark ∷ marks) =
+    all_both IsChoice (loop_notes table choices loop mark) (notes_from table choices (suc loop) marks)
+    (known_of_loop table choices loop mark) (known_from table choices (suc loop) marks)
+
+-- there are no more notes than loops
+pub few_notes : (table : Table) (choices : List Choice) → length (notes_of table choices) ≤ length table.loops
+few_notes table choices = few_from table choices 0 table.loops
+
+-- and each tells a choice that is known
+pub known_notes : (table : Table) (choices : List Choice) → AllByRecursion IsChoice (notes_of table choices)
+known_notes table choices = known_from table choices 0 table.loops
+
+-- ---- the object
+
+note_length : (note : Note) → length (note_text note) ≡ 13
+note_length note = refl
+
+all_notes_length : (notes : List Note) → length (flat_map note_text notes) ≡ 13 * length notes
+all_notes_length [] = refl
+all_notes_length (note ∷ notes) =
+    let both = length-append (note_text note) (flat_map note_text notes) in
+    let one = note_length note in
+    let others = all_notes_length notes in
+    omega (arith, both, one, others)
+
+all_lengths_length : (lengths : List ℕ) → length (flat_map u32_text lengths) ≡ 4 * length lengths
+all_lengths_length [] = refl
+all_lengths_length (n ∷ lengths) =
+    let both = length-append (u32_text n) (flat_map u32_text lengths) in
+    let others = all_lengths_length lengths in
+    omega (arith, both, others)
+
+-- an object whose rows are no longer than was counted for them
+pub object_is_short : (table : Table) (forms : ℕ → Option RegionForm) (choices : List Choice) (limits : Limits) (rows : List CodeRow)
+    → length (flat_map row_text rows) ≤ regions_bytes forms 0 table.regions → object_bytes table forms ≤ most_object
+    → length (object_text (object_with limits table.arrays rows (notes_of table choices))) ≤ most_object
+object_is_short table forms choices limits rows short counted =
+    let notes = notes_of table choices in
+    let code = (object_with limits table.arrays rows notes).code in
+    let header = length-append (flat_map u32_text table.arrays) (u32_text (length rows)) in
+    let arrays = all_lengths_length table.arrays in
+    let of_notes = length-append (u16_text (length notes)) (flat_map note_text notes) in
+    let noted = all_notes_length notes in
+    let few = few_notes table choices in
+    let all = length-append (header_text code) (flat_map row_text rows ++ notes_text notes) in
+    let behind = length-append (flat_map row_text rows) (notes_text notes) in
+    omega (arith, short, counted, header, arrays, of_notes, noted, few, all, behind)

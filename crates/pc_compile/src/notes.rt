@@ -1,0 +1,151 @@
+//! Notes on the loops of a program.
+ghost use Rattle.std.specs.Prelude.{◌≡◌, ◌<◌, ◌++◌, length, slice_get, IfOk, IfSome, OnOk};
+ghost use Rattle.pc_table.specs.Table.{table_of};
+ghost use Rattle.pc_window.specs.Opening.{headed_loop};
+ghost use Rattle.pc_compile.specs.Notes.{plain_note, form_notes, choice_notes, notes_of};
+ghost use Rattle.pc_compile.specs.models.Heading.{heading_set, headings, without_outer, choice_in, noted, note_list, ArePlaces};
+
+use pc_choose::{Cause, Choice, Form};
+use pc_object::{Note, NoteList};
+use pc_table::RegionTable;
+use pc_word::LoopMark;
+use std::alloc::{AllocError, Global};
+
+/// The notes of an object: one for each loop in which no other stands and at whose header a region
+/// begins that has a form, in the order of the loops. Linear in the loops and choices.
+#[tactic(auto, using(crate::proofs::LoopNotes::notes))]
+pub(crate) fn notes(
+    alloc: Global,
+    table: &RegionTable,
+    choices: &[Choice],
+) -> Result<NoteList, AllocError>
+    ensures { IfOk result (λ notes. notes ≡ notes_of (table_of table.now) choices.now) }
+{
+    let loops = table.loops.as_slice();
+    let mut heading = heading(alloc, table, choices)?;
+    leave_out_outer(loops, heading.as_mut_slice());
+    noted(alloc, loops, heading.as_slice(), choices)
+}
+
+/// For each loop the first choice of a region that heads it.
+#[tactic(auto, using(crate::proofs::LoopNotes::heading))]
+fn heading(
+    alloc: Global,
+    table: &RegionTable,
+    choices: &[Choice],
+) -> Result<Vec<Option<usize>>, AllocError>
+    ensures { IfOk result (λ found. found.items ≡ headings (table_of table.now) (length table.now.loops) 0 choices.now) }
+{
+    let mut found = vec![in alloc; None; table.loops.len()]?;
+    let mut at = choices.len();
+    while at > 0 {
+        at -= 1;
+        set_heading(&mut found, headed_loop(table, choices[at].region), Some(at));
+    }
+    Ok(found)
+}
+
+/// Leaves out the choices of loops in which others stand.
+fn leave_out_outer(loops: &[LoopMark], heading: &mut [Option<usize>])
+    ensures { heading.new ≡ without_outer heading.old loops.now }
+{
+    for mark in loops {
+        set_heading(heading, mark.outer, None);
+    }
+}
+
+/// Says which choice is of a loop, if there is such a loop.
+#[tactic(auto, using(crate::proofs::LoopNotes::heading))]
+fn set_heading(heading: &mut [Option<usize>], number: Option<u16>, choice: Option<usize>)
+    ensures { heading.new ≡ heading_set heading.old number choice }
+{
+    if let Some(number) = number {
+        let number = number as usize;
+        if number < heading.len() {
+            heading[number] = choice;
+        }
+    }
+}
+
+/// The notes of loops, where it was found which choice is of each.
+fn noted(
+    alloc: Global,
+    loops: &[LoopMark],
+    heading: &[Option<usize>],
+    choices: &[Choice],
+) -> Result<NoteList, AllocError>
+    requires as_many { length heading.now ≡ length loops.now }
+    requires there { ArePlaces (length choices.now) heading.now }
+    ensures { IfOk result (λ notes. notes ≡ noted choices.now loops.now heading.now) }
+{
+    let mut notes = NoteList::new(alloc);
+    for at in 0..loops.len() {
+        push_note(&mut notes, loops[at].line, choices, heading[at])?;
+    }
+    Ok(notes)
+}
+
+/// The loop whose header a region is.
+fn headed_loop(table: &RegionTable, region: u32) -> Option<u16>
+    ensures { result ≡ headed_loop (slice_get (table_of table.now).regions region) }
+{
+    match table.regions.get(region as usize) {
+        None => None,
+        Some(region) => region.heads,
+    }
+}
+
+/// Puts the note of a loop behind others, where a region that heads it has a form.
+#[tactic(auto, using(crate::proofs::LoopNotes::pushes))]
+fn push_note(
+    notes: &mut NoteList,
+    line: u32,
+    choices: &[Choice],
+    heading: Option<usize>,
+) -> Result<(), AllocError>
+    requires { IfSome heading (λ at. at < length choices.now) }
+    ensures { OnOk result (notes.new ≡ notes.old ++ choice_notes line (choice_in choices.now heading)) }
+{
+    match heading {
+        None => Ok(()),
+        Some(at) => match note(line, &choices[at]) {
+            None => Ok(()),
+            Some(note) => notes.push(note),
+        },
+    }
+}
+
+/// The note of a form, and of what decided it.
+fn note(line: u32, choice: &Choice) -> Option<Note>
+    ensures { note_list result ≡ form_notes line choice.now.form choice.now.causes }
+{
+    match choice.form {
+        Form::Packed => Some(Note {
+            choice: 4,
+            line,
+            number: 1,
+            limit: 1,
+        }),
+        Form::Plain => match choice.causes.as_slice().last() {
+            None => None,
+            Some(cause) => Some(plain_note(line, *cause)),
+        },
+    }
+}
+
+/// Why a loop's region is plain.
+fn plain_note(line: u32, cause: Cause) -> Note
+    ensures { result ≡ plain_note line cause }
+{
+    let (choice, number, limit) = match cause {
+        Cause::Rows { number, limit } => (5, number, limit),
+        Cause::Live { number, limit } => (6, number, limit),
+        Cause::Bytes { number, limit } => (7, number, limit),
+    };
+    Note {
+        choice,
+        line,
+        number,
+        limit,
+    }
+}
