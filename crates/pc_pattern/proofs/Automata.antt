@@ -1,5 +1,5 @@
 -- The states of a search are those of an automaton.
-use Rattle.std.proofs.Common.{◌≡◌, ℕ, zero, suc, ◌≤◌, List, [], ◌∷◌, ◌++◌, length, refl, sym, ◌∙◌, ap, subst, arith}
+use Rattle.std.proofs.Common.{◌≡◌, ℕ, zero, suc, List, [], ◌∷◌, length, refl, sym, ◌∙◌, ap, subst, arith}
 use Rattle.std.specs.Prelude.{Bool, true, false, not, ◌&&◌, ◌||◌, if◌then◌else◌, nat_eq, Option, Some, None, slice_get}
 use Rattle.std.specs.List.{AllByRecursion}
 use Rattle.std.proofs.lemmas.Bool.{eqb-true, eq-eqb}
@@ -9,7 +9,7 @@ use Rattle.pc_word.specs.declared.item.Operand.{Operand}
 use Rattle.pc_word.specs.declared.item.Operand.TheVariants.{Name, Lit}
 use Rattle.pc_word.specs.Items.{operands_of, dest_of}
 use Rattle.pc_word.specs.Commit.{writes}
-use Rattle.pc_word.specs.Row.{Row, Then, Either, At_leaf, items_of, tests_of, leaves_of}
+use Rattle.pc_word.specs.Row.{Row, items_of, tests_of, leaves_of}
 use Rattle.pc_word.proofs.Lists.{all_front, all_back, all_both, all_at, all_imply}
 use Rattle.pc_table.specs.Table.{Table}
 use Rattle.pc_table.specs.TableKeeps.{TableKeeps}
@@ -27,7 +27,7 @@ use Rattle.pc_window.proofs.Filling.{filling_window}
 use Rattle.pc_window.proofs.Live.{or_first, or_second}
 use Rattle.pc_automaton.specs.declared.automaton.AutomatonLeaf.{AutomatonLeaf}
 use Rattle.pc_automaton.specs.declared.automaton.AutomatonLeaf.TheVariants.{To, Out, Stop, Trap}
-use Rattle.pc_automaton.specs.Automaton.{AutomatonState, is_parameter, names_written, LeafIsKnown, LeavesAreKnown, Takes, LeafLeads, IsStateAmong}
+use Rattle.pc_automaton.specs.Automaton.{AutomatonState, is_parameter, LeafIsKnown, LeavesAreKnown, Takes, LeafLeads, IsStateAmong}
 use Rattle.pc_automaton.specs.Automaton.{IsAutomaton}
 use Rattle.pc_pattern.specs.Pairs.{Pair, corresponds, ones, others, themselves, defined, operands_for, OperandsAlike, ArgumentsAlike, HomesAlike}
 use Rattle.pc_pattern.specs.NamedRow.{RowsNamed, named_item, named_test, named_leaf, LeavesAlike}

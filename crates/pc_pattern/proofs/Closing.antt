@@ -1,16 +1,16 @@
 -- Where the members of a search are closed, the run of its automaton and the run of the region agree.
 use Rattle.std.proofs.Common.{◌≡◌, ℕ, zero, suc, List, [], ◌∷◌, ◌++◌, refl, sym, ◌∙◌, ap, subst, append-nil, arith}
-use Rattle.std.specs.Prelude.{ℤ, Bool, true, false, nat_eq, Option, Some, None, slice_get}
+use Rattle.std.specs.Prelude.{ℤ, false, Option, Some, None, slice_get}
 use Rattle.std.specs.List.{AllByRecursion}
 use Rattle.pc_word.specs.declared.item.TrapKind.{TrapKind}
 use Rattle.pc_word.specs.declared.item.Operand.{Operand}
 use Rattle.pc_word.specs.declared.item.End.{End}
 use Rattle.pc_word.specs.declared.item.End.TheVariants.{Ended, Trapped}
 use Rattle.pc_word.specs.Run.{Seen, Run, Answers, Follows, Agree, after_printing, seen_of, run_from, ended_run}
-use Rattle.pc_word.proofs.Runs.{Answers-equal, Answers-after, Agree-trans, Agree-equal, run_from-answers}
+use Rattle.pc_word.proofs.Runs.{Answers-equal, Answers-after, Agree-equal, run_from-answers}
 use Rattle.pc_word.specs.State.{State}
-use Rattle.pc_word.specs.Row.{Row, Then, Either, At_leaf, RowOutcome, Commits, row_step}
-use Rattle.pc_table.specs.Table.{Table, Next}
+use Rattle.pc_word.specs.Row.{Row, RowOutcome, Commits, row_step}
+use Rattle.pc_table.specs.Table.{Next}
 use Rattle.pc_table.specs.TableKeeps.{TableKeeps}
 use Rattle.pc_table.specs.RegionRun.{place_at, region_run}
 use Rattle.pc_window.specs.declared.home.Home.{Home}

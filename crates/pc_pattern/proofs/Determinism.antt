@@ -8,7 +8,7 @@ use Rattle.pc_window.specs.Tree.{whole}
 use Rattle.pc_window.specs.Names.{uses}
 use Rattle.pc_window.specs.WindowRun.{Window}
 use Rattle.pc_window.specs.Kept.{Left}
-use Rattle.pc_window.specs.Steps.{FillsTo, Cuts, UnwindsTo, Tidies, Rebases}
+use Rattle.pc_window.specs.Steps.{Cuts, Tidies}
 use Rattle.pc_window.proofs.FirstJumps.{filled_one, unwinding_one}
 use Rattle.pc_automaton.specs.declared.automaton.AutomatonLeaf.{AutomatonLeaf}
 use Rattle.pc_automaton.specs.Automaton.{AutomatonState}
@@ -19,7 +19,7 @@ use Rattle.pc_pattern.specs.Searches.{Search, begins, takes, looks, IsClosed, Is
 -- ---- one after the other
 
 module _ (rules : Rules) where
-  settles_one : (w a b : Window) → Settles rules w a → Settles rules w b → a ≡ b
+  pub settles_one : (w a b : Window) → Settles rules w a → Settles rules w b → a ≡ b
   settles_one w a b p q =
       let same = unwinding_one rules.table rules.number w p.unwound q.unwound p.unwinds q.unwinds in
       p.tidies ∙ sym (subst (λ (u : Window). Tidies u b) (sym same) q.tidies)
@@ -29,7 +29,7 @@ module _ (rules : Rules) where
       let same : p.rebased ≡ q.rebased = p.rebases ∙ sym q.rebases in
       settles_one p.rebased a b p.settles (subst (λ (u : Window). Settles rules u b) (sym same) q.settles)
 
-  row_one : (w : Window) (a b : Row Left) → RowFor rules w a → RowFor rules w b → a ≡ b
+  pub row_one : (w : Window) (a b : Row Left) → RowFor rules w a → RowFor rules w b → a ≡ b
   row_one w a b p q =
       let same = filled_one (uses (whole w.front)) w p.filled q.filled p.fills q.fills in
       p.cuts ∙ sym (subst (λ (u : Window). Cuts rules.table u b) (sym same) q.cuts)

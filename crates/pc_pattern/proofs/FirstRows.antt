@@ -1,16 +1,15 @@
 -- Where the first row of packed code leads that has neither item nor test.
-use Rattle.std.proofs.Common.{◌≡◌, ℕ, List, Option, Some, None, refl, sym, ◌∙◌, ap, subst}
+use Rattle.std.proofs.Common.{◌≡◌, ℕ, List, Option, Some, refl, sym, ◌∙◌, ap, subst}
 use Rattle.std.specs.Prelude.{slice_get}
 use Rattle.pc_word.specs.declared.item.Limits.{Limits}
 use Rattle.pc_word.specs.declared.item.TrapKind.{TrapKind}
 use Rattle.pc_word.specs.Row.{Row, Then, Either, At_leaf}
-use Rattle.pc_word.proofs.Lists.{all_at}
-use Rattle.pc_table.specs.Table.{Table, region_tree}
-use Rattle.pc_table.specs.TableKeeps.{TableKeeps, ComesUntested, By_one, untested}
+use Rattle.pc_table.specs.Table.{Table}
+use Rattle.pc_table.specs.TableKeeps.{TableKeeps, ComesUntested, By_one}
 use Rattle.pc_window.specs.declared.home.Home.{Home}
 use Rattle.pc_window.specs.Tree.{Tree, Pending, Undecided, Exit, Stop_exit, Trap_exit, Front, whole, front_of}
 use Rattle.pc_window.specs.Names.{uses}
-use Rattle.pc_window.specs.WindowRun.{Window, supply_of}
+use Rattle.pc_window.specs.WindowRun.{Window}
 use Rattle.pc_window.specs.Opening.{Grafted}
 use Rattle.pc_window.specs.Unwinding.{Unwinds, unwinds_no_more, unwinds_once}
 use Rattle.pc_window.specs.Tidying.{tidied}
@@ -24,10 +23,10 @@ use Rattle.pc_automaton.specs.Automaton.{AutomatonState}
 use Rattle.pc_automaton.specs.RunsAsRegion.{LeadsUntested}
 use Rattle.pc_pattern.specs.Pairs.{Pair, themselves}
 use Rattle.pc_window.specs.Names.{parameters_of}
-use Rattle.pc_pattern.specs.NamedRow.{RowsNamed, named_item, named_test, named_leaf}
-use Rattle.pc_pattern.specs.Searches.{Rules, Settles, bare_leaf, IsClosed, Leads, to_region, to_end, to_trap, StateFor, Automates}
+use Rattle.pc_pattern.specs.NamedRow.{RowsNamed, named_leaf}
+use Rattle.pc_pattern.specs.Searches.{Rules, IsClosed, Leads, to_region, to_end, to_trap, StateFor, Automates}
 use Rattle.pc_pattern.specs.Pattern.{packed}
-use Rattle.pc_pattern.proofs.Members.{bare_fills, rooted_front, matched_items, begins_with}
+use Rattle.pc_pattern.proofs.Members.{bare_fills, matched_items, begins_with}
 
 -- ---- leaves
 

@@ -1,7 +1,7 @@
 -- Changes that keep a window's run and forms, one after the other.
 use Rattle.std.proofs.Common.{◌≡◌, ℕ, zero, suc, List, [], None, refl, sym, subst}
 use Rattle.std.specs.Prelude.{ℤ}
-use Rattle.pc_word.specs.Run.{Seen, Run, Answers, Follows, Agree, after_printing}
+use Rattle.pc_word.specs.Run.{Seen, Run, Answers, Follows, after_printing}
 use Rattle.pc_word.specs.State.{State}
 use Rattle.pc_word.proofs.Runs.{Follows-trans, Answers-after}
 use Rattle.pc_table.specs.Table.{Table}

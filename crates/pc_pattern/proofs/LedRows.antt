@@ -1,9 +1,9 @@
 -- The row that the code makes of a cut row is the row of a state: its leaves lead on, and each place that writes a name has one
 -- of its own.
-use Rattle.std.proofs.Common.{◌≡◌, ℕ, zero, suc, ◌+◌, ◌≤◌, ◌<◌, List, [], ◌∷◌, ◌++◌, length, append_assoc, map, ◌⊎◌, inl, inr, refl, sym, ◌∙◌, ap}
+use Rattle.std.proofs.Common.{◌≡◌, ℕ, zero, suc, ◌+◌, ◌≤◌, ◌<◌, List, [], ◌∷◌, ◌++◌, length, append_assoc, ◌⊎◌, inl, inr, refl, sym, ◌∙◌, ap}
 use Rattle.std.proofs.Common.{subst, arith}
 use Rattle.std.specs.Prelude.{Bool, true, false, not, ◌&&◌, ◌||◌, if◌then◌else◌, nat_eq, Option, Some, None, slice_get}
-use Rattle.std.specs.List.{AllByRecursion, IsDistinct, filter_map, cons_option}
+use Rattle.std.specs.List.{AllByRecursion, IsDistinct, cons_option}
 use Rattle.std.proofs.lemmas.Bool.{eqb-true, eq-eqb}
 use Rattle.std.proofs.lemmas.List.Elements.{filter_map-append}
 use Rattle.pc_word.specs.declared.item.Item.{Item}
@@ -17,7 +17,7 @@ use Rattle.pc_word.specs.Row.{Row, Then, Either, At_leaf, items_of, leaves_of}
 use Rattle.pc_word.proofs.Lists.{all_both, all_imply}
 use Rattle.pc_table.specs.Table.{Table}
 use Rattle.pc_window.specs.declared.home.Home.{Home}
-use Rattle.pc_window.specs.Tree.{Tree, Pending, Undecided, Exit, Stop_exit, Trap_exit, Front, Issued, Split, Unfinished, whole, front_of}
+use Rattle.pc_window.specs.Tree.{Tree, Pending, Undecided, Exit, Stop_exit, Trap_exit, Front, Issued, Split, Unfinished, whole}
 use Rattle.pc_window.specs.Names.{uses, IsKnown, HomesKnown, and_dest, Scoped, parameters_of}
 use Rattle.pc_window.specs.Opening.{is_inside}
 use Rattle.pc_window.specs.Rename.{with_dest}
@@ -30,11 +30,11 @@ use Rattle.pc_window.proofs.CutRows.{whole_front_of}
 use Rattle.pc_window.proofs.Parameters.{parameters_known, known_homes}
 use Rattle.pc_window.proofs.Tidying.{tidied_tidy}
 use Rattle.pc_automaton.specs.declared.automaton.AutomatonLeaf.{AutomatonLeaf}
-use Rattle.pc_automaton.specs.declared.automaton.AutomatonLeaf.TheVariants.{To, Out, Stop, Trap}
+use Rattle.pc_automaton.specs.declared.automaton.AutomatonLeaf.TheVariants.{Out, Stop, Trap}
 use Rattle.pc_automaton.specs.Automaton.{names_written}
 use Rattle.pc_pattern.specs.Pairs.{Pair, corresponds, others, themselves, defined, operands_for, OperandsAlike, ArgumentsAlike, HomesAlike}
 use Rattle.pc_pattern.specs.NamedRow.{RowsNamed, named_item, named_test, named_leaf, LeavesAlike}
-use Rattle.pc_pattern.specs.Searches.{Rules, bare_leaf, Leads, to_member, to_bare, to_region, to_end, to_trap}
+use Rattle.pc_pattern.specs.Searches.{bare_leaf, Leads, to_member, to_bare, to_region, to_end, to_trap}
 use Rattle.pc_pattern.specs.Pattern.{packed}
 use Rattle.pc_pattern.specs.models.Renaming.{renamed_name, renamed_operand, renamed_homes, renamed_leaf, renamed_bare, arguments_for}
 use Rattle.pc_pattern.specs.models.Leading.{brought_on, led_as, led_left, led}

@@ -16,8 +16,10 @@ pub mod LedWindows
 pub mod Steps
 pub mod LedRows
 pub mod States
+pub mod LedStates
 pub mod Progress
 pub mod Turns
 pub mod Packed
 pub mod NamedThere
 pub mod EchoingKept
+pub mod Traps

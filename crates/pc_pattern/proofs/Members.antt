@@ -3,8 +3,7 @@ use Rattle.std.proofs.Common.{◌≡◌, ℕ, zero, suc, ◌<◌, List, [], ◌�
 use Rattle.std.specs.Prelude.{Option, Some, None, slice_get}
 use Rattle.std.specs.List.{AllByRecursion}
 use Rattle.std.proofs.lemmas.Option.{slice_get_within}
-use Rattle.pc_word.specs.declared.item.Limits.{Limits}
-use Rattle.pc_word.specs.Run.{Answers, Agree}
+use Rattle.pc_word.specs.Run.{Answers}
 use Rattle.pc_word.proofs.Runs.{Agree-trans}
 use Rattle.pc_word.proofs.Lists.{all_both, all_at}
 use Rattle.pc_word.specs.State.{State}

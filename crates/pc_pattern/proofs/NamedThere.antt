@@ -1,12 +1,11 @@
 -- What the states of packed code name is there in the table, and the first is passed variables that are live at its region.
-use Rattle.std.proofs.Common.{◌≡◌, ℕ, List, [], ◌∷◌, ◌++◌, length, map, Option, Some, refl, sym, ◌∙◌, ap, subst}
-use Rattle.std.specs.Prelude.{IfSome, nat_eq, true, slice_get}
+use Rattle.std.proofs.Common.{◌≡◌, ℕ, List, [], ◌∷◌, map, Some, refl, sym, ◌∙◌, ap, subst}
+use Rattle.std.specs.Prelude.{nat_eq, true, slice_get}
 use Rattle.std.specs.List.{AllByRecursion, list_any}
 use Rattle.pc_word.specs.declared.item.Item.{Item}
 use Rattle.pc_word.specs.declared.item.Item.TheVariants.{Bin, Copy, Load, Store, Print, Read, More}
 use Rattle.pc_word.specs.declared.item.Limits.{Limits}
-use Rattle.pc_word.specs.Items.{array_of}
-use Rattle.pc_word.specs.Row.{Row, Then, Either, At_leaf, items_of, leaves_of}
+use Rattle.pc_word.specs.Row.{Row, items_of, leaves_of}
 use Rattle.pc_word.proofs.Lists.{all_front, all_back, all_both, all_at, all_imply}
 use Rattle.pc_table.specs.Table.{Table, region_live}
 use Rattle.pc_table.specs.TableKeeps.{TableKeeps}
@@ -15,7 +14,7 @@ use Rattle.pc_window.specs.Tree.{Tree, Pending, Undecided, Exit, Stop_exit, Trap
 use Rattle.pc_window.specs.Names.{uses, parameters_of}
 use Rattle.pc_window.specs.Rename.{with_dest}
 use Rattle.pc_window.specs.WindowRun.{Window}
-use Rattle.pc_window.specs.Kept.{Left, Rest, Gone, Finished, Trapped_at}
+use Rattle.pc_window.specs.Kept.{Left}
 use Rattle.pc_window.specs.Steps.{Positive, opened_window}
 use Rattle.pc_window.specs.There.{ArrayIsThere, StubIsThere, PartsAreThere, LeftIsThere}
 use Rattle.pc_window.proofs.There.{opened_there, opened_live, tidies_there, tidies_fewer, rebases_there, fills_there, cuts_there}
@@ -26,7 +25,7 @@ use Rattle.pc_automaton.specs.There.{LeafIsThere, StateIsThere}
 use Rattle.pc_pattern.specs.Pairs.{Pair, HomesAlike}
 use Rattle.pc_pattern.specs.NamedRow.{RowsNamed, named_item, named_test, named_leaf, LeavesAlike}
 use Rattle.pc_pattern.specs.Searches.{Settles, BringsOn, bare_leaf, Looks, looks_new, looks_known, looks_bare, looks_out, looks_end, looks_trap}
-use Rattle.pc_pattern.specs.Searches.{Search, begins, takes, looks, Leads, to_same, to_member, to_bare, to_region, to_end, to_trap, StateFor, Automates}
+use Rattle.pc_pattern.specs.Searches.{Search, begins, takes, looks, Leads, to_same, to_member, to_bare, to_region, to_end, to_trap, StateFor}
 use Rattle.pc_pattern.specs.Pattern.{packed}
 use Rattle.pc_pattern.specs.Laws.{PatternsNameWhatIsThere, PatternsBeginWithLiveVariables}
 use Rattle.pc_pattern.proofs.Members.{begins_with, state_of}

@@ -1,8 +1,6 @@
 -- The laws of packed code.
-use Rattle.std.specs.Prelude.{List}
 use Rattle.pc_word.specs.declared.item.Limits.{Limits}
 use Rattle.pc_table.specs.Table.{Table}
-use Rattle.pc_window.specs.Kept.{HasItems}
 use Rattle.pc_automaton.specs.Automaton.{AutomatonState}
 use Rattle.pc_pattern.specs.Pattern.{packed, RowFits}
 use Rattle.pc_pattern.specs.Laws.{PatternsRunAsTheRegion, PatternsHaveNoEmptyStates, PatternsFit, PatternsAreAutomata, SearchesHaveOneAnswer}

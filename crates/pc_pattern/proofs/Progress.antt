@@ -1,25 +1,23 @@
 -- How far a search for packed code has come: which members were taken and have their states, and which wait.
-use Rattle.std.proofs.Common.{◌≡◌, ℕ, zero, suc, ◌+◌, ◌*◌, ◌≤◌, ◌<◌, ◌^◌, List, [], ◌∷◌, ◌++◌, length, length-append, append-nil, append_assoc}
-use Rattle.std.proofs.Common.{refl, sym, ◌∙◌, ap, subst, arith}
+use Rattle.std.proofs.Common.{◌≡◌, ℕ, zero, suc, ◌+◌, ◌*◌, ◌≤◌, ◌<◌, List, [], ◌∷◌, ◌++◌, length, length-append, append-nil, append_assoc}
+use Rattle.std.proofs.Common.{◌-◌, inl, inr, refl, sym, ◌∙◌, ap, subst, arith}
 use Rattle.std.specs.Prelude.{Bool, true, false, if◌then◌else◌, nat_eq, Option, Some, None, slice_get}
 use Rattle.std.specs.List.{AllByRecursion, IsDistinct}
 use Rattle.pc_word.specs.declared.item.Limits.{Limits}
 use Rattle.pc_word.specs.declared.item.Item.{Item}
 use Rattle.pc_word.specs.declared.item.Item.TheVariants.{Bin, Copy, Load, Store, Print, Read, More}
-use Rattle.pc_word.specs.Ranges.{AreLimits}
 use Rattle.pc_word.specs.Row.{Row, Then, Either, At_leaf, leaves_of}
-use Rattle.pc_word.proofs.Lists.{all_front, all_back, all_both, all_imply}
+use Rattle.pc_word.proofs.Lists.{all_back, all_both, all_imply}
 use Rattle.pc_table.specs.Table.{Table}
 use Rattle.pc_table.specs.TableKeeps.{TableKeeps, most_region_nodes}
-use Rattle.pc_window.specs.Tree.{Tree, Pending, Undecided, Exit, Stop_exit, Trap_exit, Front, Issued, Split, Unfinished, whole, front_of, tree_size}
+use Rattle.pc_window.specs.Tree.{Tree, Pending, Undecided, Exit, Stop_exit, Trap_exit, Front, Issued, Split, Unfinished, whole, tree_size}
 use Rattle.pc_window.specs.Names.{uses, parameters_of}
-use Rattle.pc_window.specs.Rebasing.{is_in}
 use Rattle.pc_window.specs.Opening.{Supply, first_new}
 use Rattle.pc_window.specs.Tidying.{above, tidied}
-use Rattle.pc_window.specs.Filled.{MostBehind, Filled, Full, Goes_on, Jump, given_supply}
+use Rattle.pc_window.specs.Filled.{MostBehind, Filled, Full, Goes_on, Jump}
 use Rattle.pc_window.specs.WindowRun.{Window, supply_of}
 use Rattle.pc_window.specs.Kept.{Left, Rest, Gone, Finished, Trapped_at}
-use Rattle.pc_window.specs.Steps.{LeftIs, EachLeft, FillsTo, Positive, IsProper, Tidies, opened_window}
+use Rattle.pc_window.specs.Steps.{LeftIs, EachLeft, Positive, IsProper, Tidies, opened_window}
 use Rattle.pc_window.proofs.CutRows.{whole_front_of}
 use Rattle.pc_window.proofs.Filling.{filling_window}
 use Rattle.pc_window.proofs.Sizes.{filling_bounded}
@@ -30,14 +28,15 @@ use Rattle.pc_automaton.specs.declared.automaton.AutomatonLeaf.{AutomatonLeaf}
 use Rattle.pc_automaton.specs.Automaton.{AutomatonState, names_written}
 use Rattle.pc_pattern.specs.NamedRow.{RowsNamed}
 use Rattle.pc_pattern.specs.Pairs.{themselves}
-use Rattle.pc_pattern.specs.Searches.{RowFor, bare_leaf, Search, begins, takes, Leads, StateFor, Automates, IsPattern, HasNoPattern}
-use Rattle.pc_pattern.specs.Pattern.{packed}
+use Rattle.pc_pattern.specs.Searches.{RowFor, bare_leaf, Search, begins, takes, Leads, StateFor, IsPattern, HasNoPattern}
+use Rattle.pc_pattern.specs.Pattern.{packed, IsLedTo, EachIsLedTo}
 use Rattle.pc_pattern.specs.models.Leading.{brought_on, led, most_in_front, Made, Exceeds}
+use Rattle.pc_pattern.proofs.LedStates.{LeadsTo, either_side, row_leads_to, led_still, led_by_last}
 use Rattle.pc_pattern.proofs.ParameterLists.{parameters_listed, parameters_distinct}
 use Rattle.pc_pattern.proofs.Members.{EachLeft-leaves, members_proper, state_more}
 use Rattle.pc_pattern.proofs.RowsFit.{LeftFrom, cuts_from, members_limited}
-use Rattle.pc_pattern.proofs.Steps.{first_settles, added_as, added, all_added, row_waits, looks_all, looks_too_far}
-use Rattle.pc_pattern.proofs.LedRows.{cut_scoped, LeavesScoped, renames_parameters, row_leads, Fresh, row_fresh, distinct_apart}
+use Rattle.pc_pattern.proofs.Steps.{first_settles, added_as, all_added, row_waits, looks_all, looks_too_far}
+use Rattle.pc_pattern.proofs.LedRows.{cut_scoped, LeavesScoped, renames_parameters, row_leads, row_fresh, distinct_apart}
 
 -- ---- sizes
 
@@ -180,6 +179,7 @@ pub record Searching (table : Table) (limits : Limits) (region rows : ℕ) (stat
   pub made : EachMade table limits (took ++ waiting) took states
   pub few : length states + length waiting ≤ rows
   pub small : AllByRecursion (IsSmall (most_names (length states))) waiting
+  pub led : (at : ℕ) → suc at < length states + length waiting → IsLedTo states (suc at)
 
 made_many : (table : Table) (limits : Limits) (members ws : List Window) (states : List AutomatonState) → EachMade table limits members ws states
     → length ws ≡ length states
@@ -234,6 +234,7 @@ begins_searching table limits region rows first some tidies names size = record 
   made = tt;
   few = omega (arith, some);
   small = (record { names = omega (arith, names); size = size }, tt);
+  led = λ at below. absurd (omega (arith, below));
 }
 
 module _ (table : Table) (keeps : TableKeeps table) (limits : Limits) (room : Positive limits) (region rows : ℕ) (states : List AutomatonState)
@@ -264,6 +265,24 @@ module _ (table : Table) (keeps : TableKeeps table) (limits : Limits) (room : Po
 
   regrouped : (ys : List Window) → (s.took ++ (w ∷ rest)) ++ ys ≡ (s.took ++ (w ∷ [])) ++ (rest ++ ys)
   regrouped ys = append_assoc s.took (w ∷ rest) ys ∙ sym (append_assoc s.took (w ∷ []) (rest ++ ys))
+
+  -- each that waits then is led to, as each that waited
+  led_on : (state : AutomatonState) (later : List Window) → Made table (suc (length states)) w rest state later
+      → (at : ℕ) → suc at < length (states ++ (state ∷ [])) + length later → IsLedTo (states ++ (state ∷ [])) (suc at)
+  led_on state later m at below = elim (either_side (suc at) (length states + length (w ∷ rest))) [
+    | inl before ↦ led_still states (state ∷ []) (suc at) (s.led at before)
+    | inr after ↦ (
+        let many_states = length-append states (state ∷ []) in
+        let k = at - length states in
+        let is : suc (length states) + k ≡ suc at = omega (arith, after) in
+        let waits = ap (λ (l : List Window). length l) m.waits in
+        let led_there : LeadsTo (led (suc (length states)) [] m.filled.next rest m.cut).row (suc (length states) + k) =
+        row_leads_to (suc (length states)) [] m.filled.next rest m.cut k (omega (arith, after)) (omega (arith, below, many_states, waits, after)) in
+        led_by_last states state (suc at) (omega (arith, after))
+        (subst (λ (r : Row AutomatonLeaf). LeadsTo r (suc at)) (sym m.row)
+        (subst (λ (n : ℕ). LeadsTo (led (suc (length states)) [] m.filled.next rest m.cut).row n) is led_there))
+        )
+  ]
 
   -- once it has its state, the search is a member further
   pub searching_on : (state : AutomatonState) (later : List Window) → Made table (suc (length states)) w rest state later
@@ -311,6 +330,7 @@ module _ (table : Table) (keeps : TableKeeps table) (limits : Limits) (room : Po
         small = subst (λ (l : List Window). AllByRecursion (IsSmall n) l) (sym waits)
             (all_both (IsSmall n) rest more (small_more (most_names (length states)) n (omega (arith, enough)) rest s.small.1)
             (all_small n (leaves_of m.cut) left_proper left_small));
+        led = led_on state later m;
       }
 
   -- and where more members than there may be would wait, there is no pattern
@@ -332,7 +352,12 @@ module _ (table : Table) (keeps : TableKeeps table) (limits : Limits) (room : Po
             (omega (arith, some, took_many, few)) (omega (arith, waits, some, all, behind_it, took_many, many_more)),
       )
 
--- where no window waits, the states are those of a pattern
+-- where no window waits, each state but the first is led to
+pub states_led : (table : Table) (limits : Limits) (region rows : ℕ) (states : List AutomatonState) → Searching table limits region rows states []
+    → EachIsLedTo states
+states_led table limits region rows states s at below = s.led at (omega (arith, below))
+
+-- and the states are those of a pattern
 pub pattern_found : (table : Table) (limits : Limits) (region rows : ℕ) (states : List AutomatonState) → Searching table limits region rows states []
     → IsPattern (packed table limits) region rows states
 pattern_found table limits region rows states s =

@@ -4,20 +4,18 @@ use Rattle.std.specs.Prelude.{Bool, true, false, cond, if◌then◌else◌, slic
 use Rattle.std.specs.List.{AllByRecursion, count_by}
 use Rattle.pc_word.specs.declared.item.Item.{Item}
 use Rattle.pc_word.specs.declared.item.Item.TheVariants.{Bin, Copy, Load, Store, Print, Read, More}
-use Rattle.pc_word.specs.declared.item.Operand.{Operand}
 use Rattle.pc_word.specs.declared.item.Limits.{Limits}
 use Rattle.pc_word.specs.Items.{is_memory, is_effect}
-use Rattle.pc_word.specs.Row.{Row, Then, Either, At_leaf, items_of, tests_of, leaves_of, paths_of}
+use Rattle.pc_word.specs.Row.{Row, Then, Either, At_leaf, items_of, tests_of, paths_of}
 use Rattle.pc_word.proofs.Lists.{all_both, all_at, count_more, count_both}
 use Rattle.pc_table.specs.Table.{Table}
 use Rattle.pc_table.specs.TableKeeps.{TableKeeps}
-use Rattle.pc_window.specs.Tree.{Tree, Pending, Undecided, Exit, Stop_exit, Trap_exit, Front, Issued, Split, Unfinished, whole, front_of, tree_size}
+use Rattle.pc_window.specs.Tree.{Tree, Pending, Undecided, Exit, Stop_exit, Trap_exit, Front, Issued, Split, Unfinished, whole, tree_size}
 use Rattle.pc_window.specs.Rename.{with_dest}
 use Rattle.pc_window.specs.Opening.{is_inside}
 use Rattle.pc_window.specs.WindowRun.{Window}
 use Rattle.pc_window.specs.Filled.{MostBehind}
 use Rattle.pc_window.specs.Kept.{Left, Rest, Gone}
-use Rattle.pc_window.specs.Laws.{IsLegal}
 use Rattle.pc_window.specs.Steps.{LeftIs, EachLeft, Positive, IsProper, Cuts, with_tree, left_of, front_row, cut_row}
 use Rattle.pc_window.proofs.CutRows.{whole_front_of}
 use Rattle.pc_window.proofs.Filling.{filling_limits}
@@ -28,7 +26,7 @@ use Rattle.pc_automaton.specs.Automaton.{AutomatonState}
 use Rattle.pc_pattern.specs.Pairs.{Pair}
 use Rattle.pc_pattern.specs.NamedRow.{RowsNamed, named_item, named_test, named_leaf}
 use Rattle.pc_pattern.specs.Searches.{Rules, Settles, BringsOn, Looks, looks_new, looks_known, looks_bare, looks_out, looks_end, looks_trap, Search}
-use Rattle.pc_pattern.specs.Searches.{begins, takes, looks, IsClosed, StateFor, Automates}
+use Rattle.pc_pattern.specs.Searches.{begins, takes, looks, IsClosed, Automates}
 use Rattle.pc_pattern.specs.Pattern.{RowFits}
 use Rattle.pc_pattern.proofs.Members.{EachLeft-leaves, members_proper, state_of}
 

@@ -1,8 +1,6 @@
 -- The state of a member, as the code makes it.
-use Rattle.std.proofs.Common.{◌≡◌, ℕ, suc, ◌+◌, ◌≤◌, ◌<◌, ◌^◌, List, [], length, map, refl, sym, ◌∙◌, ap, subst, arith}
-use Rattle.std.specs.Prelude.{true}
+use Rattle.std.proofs.Common.{◌≡◌, ℕ, ◌≤◌, ◌<◌, ◌^◌, List, [], length, sym, ◌∙◌, ap, arith}
 use Rattle.pc_word.specs.declared.item.Limits.{Limits}
-use Rattle.pc_word.specs.MachineLimits.{most_ops, most_tests}
 use Rattle.pc_word.specs.Ranges.{AreLimits}
 use Rattle.pc_word.specs.Row.{Row}
 use Rattle.pc_table.specs.Table.{Table}
@@ -10,18 +8,16 @@ use Rattle.pc_table.specs.TableKeeps.{most_region_nodes}
 use Rattle.pc_window.specs.declared.window.Window.{Window as StoredWindow}
 use Rattle.pc_window.specs.Tree.{Tree, whole, tree_size}
 use Rattle.pc_window.specs.Names.{uses, parameters_of}
-use Rattle.pc_window.specs.Filled.{front_size}
 use Rattle.pc_window.specs.WindowRun.{Window}
 use Rattle.pc_window.specs.Kept.{Left}
 use Rattle.pc_window.specs.Steps.{FillsTo, Cuts, IsProper}
-use Rattle.pc_window.specs.StoredWindow.{tree_in, front_in, window_in}
+use Rattle.pc_window.specs.StoredWindow.{tree_in, window_in}
 use Rattle.pc_window.proofs.WindowsStored.{whole_in}
 use Rattle.pc_window.proofs.Filling.{filling_limits}
 use Rattle.pc_fill.specs.Fillable.{IsFillable, FilledFrom}
 use Rattle.pc_automaton.proofs.Cuts.{in_nodes_behind}
 use Rattle.pc_automaton.specs.Automaton.{AutomatonState}
-use Rattle.pc_pattern.specs.declared.error.SearchError.{SearchError}
-use Rattle.pc_pattern.specs.models.Leading.{led, IsSettled, most_in_front, Made}
+use Rattle.pc_pattern.specs.models.Leading.{led, IsSettled, Made}
 use Rattle.pc_pattern.proofs.LedWindows.{names_there}
 
 -- a window that waits can be filled

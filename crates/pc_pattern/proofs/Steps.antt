@@ -1,13 +1,12 @@
 -- The steps of a search for packed code, as the code takes them.
-use Rattle.std.proofs.Common.{◌≡◌, ℕ, zero, suc, ◌+◌, ◌≤◌, ◌<◌, List, [], ◌∷◌, ◌++◌, length, length-append, append-nil, append_assoc, ◌⊎◌, inl, inr}
+use Rattle.std.proofs.Common.{◌≡◌, ℕ, suc, ◌≤◌, ◌<◌, List, [], ◌∷◌, ◌++◌, length, length-append, append-nil, append_assoc, ◌⊎◌, inl, inr}
 use Rattle.std.proofs.Common.{refl, sym, ◌∙◌, ap, subst, arith}
 use Rattle.std.specs.Prelude.{Option, Some, None}
 use Rattle.pc_word.specs.declared.item.Limits.{Limits}
 use Rattle.pc_word.specs.Row.{Row, Then, Either, At_leaf, leaves_of}
 use Rattle.pc_word.specs.Items.{dest_of}
 use Rattle.pc_table.specs.Table.{Table}
-use Rattle.pc_window.specs.Tree.{Tree, whole, front_of}
-use Rattle.pc_window.specs.Names.{uses}
+use Rattle.pc_window.specs.Tree.{Tree, whole}
 use Rattle.pc_window.specs.Rename.{with_dest}
 use Rattle.pc_window.specs.Rebasing.{rebased}
 use Rattle.pc_window.specs.Opening.{Supply}
@@ -19,10 +18,10 @@ use Rattle.pc_window.specs.Steps.{window_of, with_tree, grafted_of, UnwindsTo, T
 use Rattle.pc_window.proofs.CutRows.{whole_front_of}
 use Rattle.pc_automaton.specs.declared.automaton.AutomatonLeaf.{AutomatonLeaf}
 use Rattle.pc_pattern.specs.Pairs.{Pair, defined}
-use Rattle.pc_pattern.specs.Searches.{Settles, BringsOn, bare_leaf, Looks, looks_new, looks_bare, looks_out, looks_end, looks_trap, Search, begins}
+use Rattle.pc_pattern.specs.Searches.{Settles, BringsOn, bare_leaf, Looks, looks_new, looks_bare, looks_out, looks_end, looks_trap, Search}
 use Rattle.pc_pattern.specs.Searches.{looks, HasNoPattern}
 use Rattle.pc_pattern.specs.Pattern.{packed}
-use Rattle.pc_pattern.specs.models.Renaming.{renamed_bare, renamed_leaf}
+use Rattle.pc_pattern.specs.models.Renaming.{renamed_bare}
 use Rattle.pc_pattern.specs.models.Leading.{brought_on, led_as, led_left, led}
 
 -- ---- with window number 1 nothing is unwound

@@ -8,9 +8,8 @@ use Rattle.pc_word.specs.Ranges.{AreLimits}
 use Rattle.pc_table.specs.Table.{Table}
 use Rattle.pc_table.specs.TableKeeps.{TableKeeps, most_region_nodes}
 use Rattle.pc_window.specs.declared.window.Window.{Window as StoredWindow}
-use Rattle.pc_window.specs.Tree.{Tree, whole, tree_size}
+use Rattle.pc_window.specs.Tree.{Tree, tree_size}
 use Rattle.pc_window.specs.Opening.{first_new}
-use Rattle.pc_window.specs.WindowRun.{Window}
 use Rattle.pc_window.specs.Steps.{Positive, IsProper, Tidies, opened_window}
 use Rattle.pc_window.specs.StoredWindow.{tree_in, window_in}
 use Rattle.pc_window.proofs.WindowsStored.{whole_in}
@@ -19,9 +18,9 @@ use Rattle.pc_automaton.specs.Automaton.{AutomatonState, state_in, states_in}
 use Rattle.pc_pattern.specs.declared.error.SearchError.{SearchError}
 use Rattle.pc_pattern.specs.declared.error.SearchError.TheVariants.{Memory, NoPattern}
 use Rattle.pc_pattern.specs.Searches.{IsPattern}
-use Rattle.pc_pattern.specs.Pattern.{packed, IsUnpacked}
+use Rattle.pc_pattern.specs.Pattern.{packed, EachIsLedTo, IsUnpacked}
 use Rattle.pc_pattern.specs.models.Leading.{Made, IsUnmade}
-use Rattle.pc_pattern.proofs.Progress.{Searching, begins_searching, next_proper, next_limits, next_small, searching_on, too_far, pattern_found}
+use Rattle.pc_pattern.proofs.Progress.{Searching, begins_searching, next_proper, next_limits, next_small, searching_on, too_far, states_led, pattern_found}
 
 -- limits in their ranges leave room
 pub room_of : (limits : Limits) → AreLimits limits → Positive limits
@@ -114,4 +113,11 @@ pub turned : (table : Table) (limits : Limits) (region rows : ℕ) (states : Lis
     → Searching table limits region rows (states_in states) (map window_in waiting) → IsPattern (packed table limits) region rows (states_in states)
 turned table limits region rows states waiting none s =
     pattern_found table limits region rows (states_in states)
+    (subst (λ (l : List StoredWindow). Searching table limits region rows (states_in states) (map window_in l)) none s)
+
+-- of which each state but the first is led to
+pub turned_led : (table : Table) (limits : Limits) (region rows : ℕ) (states : List StoredState) (waiting : List StoredWindow) → waiting ≡ []
+    → Searching table limits region rows (states_in states) (map window_in waiting) → EachIsLedTo (states_in states)
+turned_led table limits region rows states waiting none s =
+    states_led table limits region rows (states_in states)
     (subst (λ (l : List StoredWindow). Searching table limits region rows (states_in states) (map window_in l)) none s)

@@ -1,9 +1,8 @@
 -- Rows that write no name twice on a path.
-use Rattle.std.proofs.Common.{◌≡◌, ℕ, List, [], ◌∷◌, ◌++◌, Option, Some, None, refl, subst}
-use Rattle.std.specs.Prelude.{Bool, true, false, ◌||◌, nat_eq}
-use Rattle.std.specs.List.{AllByRecursion, IsDistinct, filter_map, cons_option}
+use Rattle.std.proofs.Common.{◌≡◌, ℕ, List, [], ◌∷◌, ◌++◌, Option, Some, None, subst}
+use Rattle.std.specs.Prelude.{Bool, false, ◌||◌, nat_eq}
+use Rattle.std.specs.List.{AllByRecursion, IsDistinct, cons_option}
 use Rattle.std.proofs.lemmas.List.Elements.{filter_map-append}
-use Rattle.pc_word.specs.declared.item.Item.{Item}
 use Rattle.pc_word.specs.Commit.{writes}
 use Rattle.pc_word.specs.Items.{dest_of}
 use Rattle.pc_word.specs.Row.{Row, Then, Either, At_leaf, items_of}

@@ -1,12 +1,15 @@
 -- The laws of packed code. Each is the contract of a function of laws.rt, which does nothing.
-use Rattle.std.specs.Prelude.{◌≡◌, ℕ, true, nat_eq, List, Some, slice_get}
+use Rattle.std.specs.Prelude.{◌≡◌, ℕ, ◌≤◌, true, nat_eq, List, [], ◌∷◌, Some, slice_get}
 use Rattle.std.specs.List.{AllByRecursion, list_any}
 use Rattle.pc_word.specs.declared.item.Limits.{Limits}
-use Rattle.pc_table.specs.Table.{Table, region_live}
+use Rattle.pc_word.specs.declared.item.TrapKind.{TrapKind}
+use Rattle.pc_word.specs.Row.{At_leaf}
+use Rattle.pc_table.specs.Table.{Traps_here, Table, region_tree, region_live}
 use Rattle.pc_table.specs.TableKeeps.{TableKeeps}
 use Rattle.pc_window.specs.WindowRun.{Window}
 use Rattle.pc_window.specs.Kept.{Left}
 use Rattle.pc_window.specs.Steps.{Positive}
+use Rattle.pc_automaton.specs.declared.automaton.AutomatonLeaf.TheVariants.{Trap}
 use Rattle.pc_automaton.specs.Automaton.{AutomatonState, IsAutomaton}
 use Rattle.pc_automaton.specs.There.{StateIsThere}
 use Rattle.pc_pattern.specs.Searches.{Search, IsPattern, HasNoPattern}
@@ -54,3 +57,14 @@ abbrev pub SearchesAreOne : Type 0
 SearchesAreOne = (table : Table) (limits : Limits) (region steps : ℕ) (members others : List Window) (taken taken' : ℕ) (lefts lefts' : List Left)
     → Search (packed table limits) region steps members taken lefts → Search (packed table limits) region steps others taken' lefts'
     → (members ≡ others) × (taken ≡ taken') × (lefts ≡ lefts')
+
+-- the state that is a trap alone
+abbrev pub trap_state : TrapKind → ℕ → AutomatonState
+trap_state kind line = record { parameters = []; row = At_leaf (Trap kind line) }
+
+-- from a region that is a trap alone a search comes to one state, which is that trap
+abbrev pub TrapsHaveOneState : Type 0
+TrapsHaveOneState = (table : Table) (limits : Limits) (region line : ℕ) (kind : TrapKind) → region_tree table region ≡ Traps_here kind line
+    → (rows : ℕ) → 1 ≤ rows
+    → (HasNoPattern (packed table limits) region rows → ⊥)
+    × ((states : List AutomatonState) → IsPattern (packed table limits) region rows states → states ≡ trap_state kind line ∷ [])

@@ -1,7 +1,7 @@
 //! Laws of packed code. No function here does anything: each one's contract is a law, and that it is
 //! proved is all that it is for.
 ghost use Rattle.pc_pattern.specs.Laws.{PatternsRunAsTheRegion, PatternsHaveNoEmptyStates, PatternsFit, PatternsAreAutomata};
-ghost use Rattle.pc_pattern.specs.Laws.{PatternsNameWhatIsThere, PatternsBeginWithLiveVariables, SearchesHaveOneAnswer, SearchesAreOne};
+ghost use Rattle.pc_pattern.specs.Laws.{PatternsNameWhatIsThere, PatternsBeginWithLiveVariables, SearchesHaveOneAnswer, SearchesAreOne, TrapsHaveOneState};
 
 /// The states of a closed search do what its region does and are at most the first row behind it;
 /// each but the first has an item or a test; each row keeps the limits of fronts; they are those of
@@ -15,8 +15,10 @@ pub fn laws_of_patterns()
     ensures live { PatternsBeginWithLiveVariables }
 {}
 
-/// A search has one answer, and comes to the same in as many steps.
+/// A search has one answer, and comes to the same in as many steps; from a region that is a trap
+/// alone it comes to one state.
 pub fn laws_of_searches()
     ensures one_answer { SearchesHaveOneAnswer }
     ensures one_search { SearchesAreOne }
+    ensures traps { TrapsHaveOneState }
 {}

@@ -11,7 +11,7 @@ ghost use Rattle.pc_window.specs.Steps.{opened_window, Tidies, IsProper};
 ghost use Rattle.pc_window.specs.StoredWindow.{tree_in, window_in};
 ghost use Rattle.pc_automaton.specs.Automaton.{state_in, states_in};
 ghost use Rattle.pc_pattern.specs.Searches.{IsPattern};
-ghost use Rattle.pc_pattern.specs.Pattern.{packed, IsPacked, IsUnpacked};
+ghost use Rattle.pc_pattern.specs.Pattern.{packed, EachIsLedTo, IsPacked, IsUnpacked};
 ghost use Rattle.pc_pattern.specs.models.Leading.{IsWithinRows, IsSettled, IsMade, IsNotMade};
 
 use crate::error::SearchError;
@@ -67,6 +67,7 @@ fn members(
     requires limits { AreLimits limits }
     requires rows { IsBetween 1 most_rows rows }
     ensures pattern { IfOk result (λ states. IsPattern (packed (table_of table.now) limits) region rows (states_in states)) }
+    ensures led { IfOk result (λ states. EachIsLedTo (states_in states)) }
     ensures refused { IfErr result (λ error. IsUnpacked (table_of table.now) limits region rows error) }
 {
     let first = first(alloc, table, region, limits)?;

@@ -1,6 +1,5 @@
 -- The row of a state, made from a cut row: with new names, and with leaves that lead on; and the windows that come to wait.
 use Rattle.std.specs.Prelude.{◌≡◌, ℕ, suc, ◌+◌, ◌<◌, ◌≤◌, ◌^◌, true, List, [], ◌∷◌, ◌++◌, length, map, Option, Some, None}
-use Rattle.std.specs.List.{AllByRecursion}
 use Rattle.pc_word.specs.MachineLimits.{most_ops, most_tests}
 use Rattle.pc_word.specs.Items.{dest_of}
 use Rattle.pc_word.specs.Row.{Row, Then, Either, At_leaf}

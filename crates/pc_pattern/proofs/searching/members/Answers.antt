@@ -1,9 +1,9 @@
-use Rattle.std.proofs.Common.{◌≡◌, ℕ, ◌+◌, [], ◌∷◌, ap, arith, rules}
+use Rattle.std.proofs.Common.{◌≡◌, ℕ, ◌+◌, [], ap, arith, rules}
 use Rattle.std.specs.Prelude.{true, false, Err}
 use Rattle.pc_table.specs.Table.{table_of}
 use Rattle.pc_pattern.specs.models.Leading.{IsSettled}
 use Rattle.pc_pattern.proofs.Turns.{one_behind, all_of_one, all_of_rest, none_waits, begun, turn_proper, turn_limits, turn_size, turn_refused}
-use Rattle.pc_pattern.proofs.Turns.{turn_on, turned}
+use Rattle.pc_pattern.proofs.Turns.{turn_on, turned, turned_led}
 use Rattle.pc_pattern.proofs.searching.members.Goals as goal
 
 pub loop-window-init : goal.loop-window-init
@@ -58,4 +58,12 @@ returns-clause-pattern c =
     none_waits c.loop-window.waiting.items (λ some. (let is : false ≡ true = c.in_default.ensures.variant.1
     (first_of (omega arith, omega (arith, c.loop-window.waiting.ok.0), omega (arith, c.loop-window.waiting.ok), search rules)) in cc)) in
     turned (table_of c.args.table.now) c.args.limits c.args.region c.args.rows c.loop-window.states c.loop-window.waiting.items none
+    c.loop-window.invariant.0
+
+pub returns-clause-led : goal.returns-clause-led
+returns-clause-led c =
+    let none : c.loop-window.waiting.items ≡ [] =
+    none_waits c.loop-window.waiting.items (λ some. (let is : false ≡ true = c.in_default.ensures.variant.1
+    (first_of (omega arith, omega (arith, c.loop-window.waiting.ok.0), omega (arith, c.loop-window.waiting.ok), search rules)) in cc)) in
+    turned_led (table_of c.args.table.now) c.args.limits c.args.region c.args.rows c.loop-window.states c.loop-window.waiting.items none
     c.loop-window.invariant.0

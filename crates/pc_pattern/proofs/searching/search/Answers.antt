@@ -1,5 +1,4 @@
 use Rattle.pc_table.specs.Table.{table_of}
-use Rattle.pc_automaton.specs.Automaton.{states_in}
 use Rattle.pc_pattern.proofs.Packed.{are_packed, are_states}
 use Rattle.pc_pattern.proofs.searching.search.Goals as goal
 
@@ -11,4 +10,4 @@ unreachable-requires c =
 pub returns-clause-packed : goal.returns-clause-packed
 returns-clause-packed c =
     are_packed (table_of c.args.table.now) c.requires.kept c.args.limits c.requires.limits c.args.region c.args.rows _
-    (rw c.in-Ok.ensures.0 c.in_ok-states.ensures.pattern)
+    (rw c.in-Ok.ensures.0 c.in_ok-states.ensures.pattern) (rw c.in-Ok.ensures.0 c.in_ok-states.ensures.led)
