@@ -1,14 +1,11 @@
 -- A region that is a trap alone is never refused, so it is never plain.
-use Rattle.std.proofs.Common.{◌≡◌, ℕ, zero, suc, ◌+◌, ◌-◌, ◌<◌, ◌≤◌, List, [], ◌∷◌, length, Option, Some, None, refl, sym, ◌∙◌, ap, subst, arith}
-use Rattle.std.specs.Prelude.{slice_get}
+use Rattle.std.proofs.Common.{◌≡◌, ℕ, zero, suc, ◌<◌, ◌≤◌, List, [], ◌∷◌, length, Option, Some, None, refl, sym, ◌∙◌, ap, subst, arith}
 use Rattle.pc_word.specs.declared.item.Limits.{Limits}
 use Rattle.pc_word.specs.declared.item.TrapKind.{TrapKind}
 use Rattle.pc_word.specs.MachineLimits.{most_object, most_rows}
-use Rattle.pc_word.specs.Row.{At_leaf}
-use Rattle.pc_table.specs.Table.{Table, TableTree, Traps_here, region_tree}
-use Rattle.pc_automaton.specs.declared.automaton.AutomatonLeaf.TheVariants.{Trap}
+use Rattle.pc_table.specs.Table.{Table, Traps_here, region_tree}
 use Rattle.pc_automaton.specs.Automaton.{AutomatonState}
-use Rattle.pc_assign.specs.Pressure.{allowed, pressure_of, IsFirstHigh}
+use Rattle.pc_assign.specs.Pressure.{pressure_of, IsFirstHigh}
 use Rattle.pc_pattern.specs.Searches.{HasNoPattern}
 use Rattle.pc_pattern.specs.Pattern.{packed, IsPacked}
 use Rattle.pc_pattern.specs.Laws.{trap_state}
@@ -16,8 +13,8 @@ use Rattle.pc_emit.specs.Emitted.{RegionForm, Plain, Packed}
 use Rattle.pc_emit.specs.Bytes.{states_bytes, plain_bytes, object_bytes}
 use Rattle.pc_choose.specs.declared.choice.Cause.{Cause}
 use Rattle.pc_choose.specs.declared.choice.Form.{Form}
-use Rattle.pc_choose.specs.Choosing.{bytes_with, HasRegisters, IsRefused, Many_rows, High_pressure, Many_bytes, Gets, Gets_packed, Gets_plain}
-use Rattle.pc_choose.proofs.Counting.{counted_with, plain_within, plain_counts}
+use Rattle.pc_choose.specs.Choosing.{bytes_with, IsRefused, Many_rows, High_pressure, Many_bytes, Gets, Gets_plain}
+use Rattle.pc_choose.proofs.Counting.{counted_with, plain_within}
 
 -- the pressure of the state of a trap alone is low
 trap_is_low : (kind : TrapKind) (line number live : ℕ) → IsFirstHigh (trap_state kind line ∷ []) number live → ⊥

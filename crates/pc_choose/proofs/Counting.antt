@@ -1,11 +1,11 @@
 -- The bytes of an object where one region gets a form.
-use Rattle.std.proofs.Common.{◌≡◌, ◌≢◌, ℕ, zero, suc, ◌+◌, ◌*◌, ◌-◌, ◌<◌, ◌≤◌, true, cond, List, [], ◌∷◌, length, Option, Some, None, refl, sym, ◌∙◌, ap, subst, arith}
-use Rattle.std.specs.Prelude.{nat_eq, slice_get}
+use Rattle.std.proofs.Common.{◌≡◌, ◌≢◌, ℕ, zero, suc, ◌+◌, ◌*◌, ◌-◌, ◌<◌, ◌≤◌, cond, List, [], ◌∷◌, length, Option, Some, None, refl, ◌∙◌, ap, arith}
+use Rattle.std.specs.Prelude.{slice_get}
 use Rattle.pc_table.specs.Table.{TableTree, TableRegion, Table, tree_of, region_tree}
 use Rattle.pc_emit.specs.Emitted.{RegionForm, Plain}
-use Rattle.pc_emit.specs.Bytes.{tree_bytes, plain_bytes, form_bytes, regions_bytes, object_bytes}
+use Rattle.pc_emit.specs.Bytes.{plain_bytes, form_bytes, regions_bytes, object_bytes}
 use Rattle.pc_choose.specs.Choosing.{with_form, bytes_with}
-use Rattle.pc_choose.specs.models.Counting.{all_plain_bytes, bytes_beside}
+use Rattle.pc_choose.specs.models.Counting.{all_plain_bytes}
 use Rattle.pc_choose.specs.models.Giving.{bytes_of}
 use Rattle.pc_choose.proofs.Places.{own_number, other_number}
 
@@ -48,11 +48,11 @@ regions_with forms region form tree number at [] is there lt = absurd (omega ari
 regions_with forms region form tree number zero (first ∷ regions) is there lt =
     let same : number ≡ region = omega arith in
     let now =
-        ap (form_bytes first.tree) (ap (with_form forms region form) same ∙ with_form-same forms region form)
-        ∙ ap (λ (t : TableTree). form_bytes t (Some form)) there in
+    ap (form_bytes first.tree) (ap (with_form forms region form) same ∙ with_form-same forms region form)
+    ∙ ap (λ (t : TableTree). form_bytes t (Some form)) there in
     let before = ap (form_bytes first.tree) (ap forms same) ∙ ap (λ (t : TableTree). form_bytes t (forms region)) there in
     let rest = regions_same (with_form forms region form) forms (1 + number) regions
-        (λ other up. with_form-other forms region other form (λ e. absurd (omega arith))) in
+    (λ other up. with_form-other forms region other form (λ e. absurd (omega arith))) in
     omega (arith, now, before, rest)
 regions_with forms region form tree number (suc at) (first ∷ regions) is there lt =
     let here = ap (form_bytes first.tree) (with_form-other forms region number form (λ e. absurd (omega arith))) in

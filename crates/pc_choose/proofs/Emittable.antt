@@ -1,17 +1,15 @@
 -- Chosen forms are such as may be emitted.
-use Rattle.std.proofs.Common.{◌≡◌, ℕ, zero, suc, ◌<◌, ◌≤◌, List, length, Option, Some, None, refl, sym, ◌∙◌, ap, subst, arith}
+use Rattle.std.proofs.Common.{◌≡◌, ℕ, ◌<◌, ◌≤◌, List, Option, Some, None, refl, sym, ◌∙◌, subst, arith}
 use Rattle.std.specs.Prelude.{Bool, true, false, slice_get}
-use Rattle.std.specs.List.{AllByRecursion}
 use Rattle.std.proofs.lemmas.Option.{slice_get_within}
 use Rattle.pc_word.specs.declared.item.Limits.{Limits}
-use Rattle.pc_word.specs.declared.item.TrapKind.{TrapKind}
 use Rattle.pc_word.specs.MachineLimits.{most_object, most_rows}
 use Rattle.pc_word.specs.Ranges.{AreLimits}
-use Rattle.pc_table.specs.Table.{Table, TableTree, Traps_here, region_tree}
+use Rattle.pc_table.specs.Table.{Table, region_tree}
 use Rattle.pc_table.specs.TableKeeps.{TableKeeps}
 use Rattle.pc_automaton.specs.Automaton.{AutomatonState, IsAutomaton}
 use Rattle.pc_assign.specs.Pressure.{allowed}
-use Rattle.pc_assign.specs.Assigned.{names_of, IsAssigned}
+use Rattle.pc_assign.specs.Assigned.{names_of}
 use Rattle.pc_assign.specs.Apart.{IsApart, HasAllowed}
 use Rattle.pc_assign.proofs.Apartness.{live_apart, variables_stay, all_in, past}
 use Rattle.pc_window.specs.Rebasing.{is_in}
@@ -23,13 +21,13 @@ use Rattle.pc_emit.specs.Bytes.{object_bytes}
 use Rattle.pc_choose.specs.declared.choice.Choice.{Choice}
 use Rattle.pc_choose.specs.declared.choice.Cause.{Cause}
 use Rattle.pc_choose.specs.declared.choice.Form.{Form}
-use Rattle.pc_choose.specs.Choosing.{bytes_with, HasRegisters, Gets, Gets_packed, Gets_plain, Choosing, AreChosen}
+use Rattle.pc_choose.specs.Choosing.{bytes_with, HasRegisters, Gets, Gets_packed, AreChosen}
 use Rattle.pc_pattern.proofs.Traps.{traps_have_one_state}
 use Rattle.pc_choose.proofs.Places.{found_within, listed}
 use Rattle.pc_choose.proofs.Taken.{taken_of_form}
 use Rattle.pc_choose.proofs.BareTraps.{trap_not_plain}
 use Rattle.pc_choose.proofs.Trying.{packed_automaton, packed_there, packed_begins}
-use Rattle.pc_choose.proofs.Standing.{IsIn, place_of, WasGiven, Stands, chosen_stands, names_have, state_has}
+use Rattle.pc_choose.proofs.Standing.{IsIn, place_of, Stands, chosen_stands, names_have, state_has}
 
 -- ---- packed forms
 
@@ -60,6 +58,7 @@ module _ (table : Table) (keeps : TableKeeps table) (limits : Limits) (ranges : 
           subst (λ (r : ℕ). r < allowed) (sym same) one.below
       in_state state here false listed =
           let none : registers number name ≡ None = (has.assigned.each number state here).others name listed in absurd (cc)
+
       by : (found : Option AutomatonState) → slice_get states number ≡ found → register < allowed
       by (Some state) here = in_state state here (is_in name (names_of state)) refl
       by None out =

@@ -1,13 +1,17 @@
 -- Regions that are found in order, part by part.
-use Rattle.std.proofs.Common.{◌≡◌, ℕ, List, [], ◌∷◌, ◌++◌, length, refl, sym, ◌∙◌, ap, subst, append_assoc}
-use Rattle.std.specs.List.{flat_map}
-use Rattle.pc_word.specs.declared.item.Operand.{Operand}
-use Rattle.pc_word.specs.declared.item.Item.{Item}
-use Rattle.pc_word.specs.Row.{Row, Then, Either, At_leaf, leaves_of}
+use Rattle.std.proofs.Common.{◌≡◌, ℕ, suc, ◌+◌, Some, arith, drop, List, [], ◌∷◌, ◌++◌, refl, sym, ◌∙◌, ap, subst, append_assoc}
+use Rattle.std.specs.Prelude.{slice_get}
+use Rattle.std.specs.List.{AllByRecursion, flat_map}
+use Rattle.pc_word.specs.Row.{Row, leaves_of}
 use Rattle.pc_automaton.specs.declared.automaton.AutomatonLeaf.{AutomatonLeaf}
-use Rattle.pc_emit.specs.Leading.{leaf_leads}
+use Rattle.pc_word.proofs.Lists.{all_at}
+use Rattle.pc_automaton.specs.declared.automaton.AutomatonState.{AutomatonState as StoredState}
+use Rattle.pc_automaton.specs.StoredRow.{row_in}
+use Rattle.pc_automaton.specs.Automaton.{AutomatonState, state_in, states_in}
+use Rattle.pc_emit.specs.Leading.{leaf_leads, states_lead}
 use Rattle.pc_choose.specs.Choosing.{with_region, with_regions}
 use Rattle.pc_choose.specs.models.Marked.{Marked, Finds}
+use Rattle.pc_choose.proofs.Places.{drop_at, map_at}
 
 -- regions of two lists are found one list after the other
 pub with_both : (found regions others : List ℕ) → with_regions found (regions ++ others) ≡ with_regions (with_regions found regions) others
@@ -44,5 +48,21 @@ finds_leaf leaf old new h = subst (λ (regions : List ℕ). Finds regions old ne
     append_nil : (xs : List ℕ) → xs ++ [] ≡ xs
     append_nil [] = refl
     append_nil (x ∷ xs) = ap (λ (rest : List ℕ). x ∷ rest) (append_nil xs)
+
+-- the states from a place on: what the state there leads out to is found first
+pub finds_state : (states : List StoredState) (number : ℕ) (state : StoredState) (old new : Marked) → slice_get states number ≡ Some state
+    → Finds (flat_map leaf_leads (leaves_of (row_in (λ leaf. leaf) state.row))) old new
+    → with_regions new.order (states_lead (states_in (drop (number + 1) states))) ≡ with_regions old.order (states_lead (states_in (drop number states)))
+finds_state states number state old new here finds =
+    let one : suc number ≡ number + 1 = omega arith in
+    ap (λ (found : List ℕ). with_regions found (states_lead (states_in (drop (number + 1) states)))) finds.order
+    ∙ sym (with_both old.order (flat_map leaf_leads (leaves_of (row_in (λ leaf. leaf) state.row))) (states_lead (states_in (drop (number + 1) states))))
+    ∙ ap (λ (n : ℕ). with_regions old.order (flat_map leaf_leads (leaves_of (row_in (λ leaf. leaf) state.row)) ++ states_lead (states_in (drop n states)))) (sym one)
+    ∙ ap (λ (rest : List StoredState). with_regions old.order (states_lead (states_in rest))) (sym (drop_at states number state here))
+
+-- what holds of each state holds of one in memory
+pub state_at : (P : AutomatonState → Type 0) (states : List StoredState) (number : ℕ) (state : StoredState) → slice_get states number ≡ Some state
+    → AllByRecursion P (states_in states) → P (state_in state)
+state_at P states number state here all = all_at P (states_in states) number (state_in state) all (map_at state_in states number state here)
 
 pub ruleset finding = (finds_none, finds_both, finds_sides, finds_leaf)

@@ -1,15 +1,12 @@
 -- Regions that are found, and their marks.
-use Rattle.std.proofs.Common.{◌≡◌, ◌≢◌, ℕ, zero, suc, ◌+◌, ◌<◌, ◌≤◌, inl, inr, Bool, true, false, ◌||◌, cond, List, [], ◌∷◌, ◌++◌, length, Some, None, refl, sym, ◌∙◌, ap, subst, arith, get_or}
+use Rattle.std.proofs.Common.{◌≡◌, ◌≢◌, ℕ, zero, suc, ◌+◌, ◌<◌, ◌≤◌, inl, inr, Bool, true, false, ◌||◌, cond, List, [], ◌∷◌, ◌++◌, length, Some, refl, sym, ◌∙◌, ap, subst, arith, get_or}
 use Rattle.std.specs.Prelude.{nat_eq, slice_get, slice_set, replicate}
-use Rattle.std.specs.List.{AllByRecursion, list_any, count_by}
-use Rattle.std.proofs.lemmas.List.{length-replicate}
-use Rattle.std.proofs.lemmas.List.Folds.{list_any-append}
+use Rattle.std.specs.List.{list_any, count_by}
 use Rattle.std.proofs.lemmas.List.Sums.{count_by-le-length}
 use Rattle.std.proofs.lemmas.Option.{slice_get_within, slice_get-get_or}
 use Rattle.pc_word.proofs.Lists.{count_more, set_at, set_length, all_both, all_imply, all_at}
-use Rattle.pc_choose.specs.Choosing.{with_region, with_regions}
 use Rattle.pc_choose.specs.models.Marked.{Marked, IsMarked, none_found, Finds}
-use Rattle.pc_choose.proofs.Places.{own_number, other_number, length_more, set_there, found_within}
+use Rattle.pc_choose.proofs.Places.{own_number, other_number, length_more}
 
 -- ---- none is found
 

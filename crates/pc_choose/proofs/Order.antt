@@ -1,5 +1,5 @@
 -- Regions are taken in the order that their forms fix.
-use Rattle.std.proofs.Common.{◌≡◌, ℕ, zero, suc, ◌+◌, ◌-◌, ◌<◌, ◌≤◌, ◌⊎◌, inl, inr, List, [], ◌∷◌, ◌++◌, length, map, take, Option, Some, None, refl, sym, ◌∙◌, ap, subst, arith, zero-add}
+use Rattle.std.proofs.Common.{◌≡◌, ℕ, zero, suc, ◌+◌, ◌-◌, ◌≤◌, inl, inr, List, [], ◌∷◌, ◌++◌, length, map, Option, Some, None, refl, sym, ◌∙◌, ap, arith, zero-add}
 use Rattle.std.specs.Prelude.{slice_get}
 use Rattle.std.proofs.lemmas.Option.{slice_get_past}
 use Rattle.pc_word.specs.declared.item.Limits.{Limits}
@@ -11,7 +11,7 @@ use Rattle.pc_choose.specs.declared.choice.Choice.{Choice}
 use Rattle.pc_choose.specs.declared.choice.Cause.{Cause}
 use Rattle.pc_choose.specs.declared.choice.Form.{Form}
 use Rattle.pc_choose.specs.declared.choice.Form.TheVariants as kind
-use Rattle.pc_choose.specs.Choosing.{with_form, bytes_with, with_regions, choice_of, Gets, Gets_packed, Gets_plain, Choosing, Begins, Takes, AreChosen}
+use Rattle.pc_choose.specs.Choosing.{bytes_with, with_regions, choice_of, Gets, Gets_packed, Gets_plain, Choosing, Begins, Takes, AreChosen}
 use Rattle.pc_choose.proofs.Places.{get_more, length_more, map_length}
 use Rattle.pc_choose.proofs.Counting.{with_form-same, form_stays}
 use Rattle.pc_choose.proofs.Taken.{with_regions_keep, next_is_free}
@@ -84,7 +84,7 @@ module _ (table : Table) (limits : Limits) (forms : ℕ → Option RegionForm) w
         ∙ ap grown (sym (length_more choices (choice_of last kind causes)));
     regions = λ at region e.
         elim (get_more (map (λ choice. choice.region) choices) last at region
-            (ap (λ (rs : List ℕ). slice_get rs at) (sym (map_more (λ (choice : Choice). choice.region) choices (choice_of last kind causes))) ∙ e)) [
+        (ap (λ (rs : List ℕ). slice_get rs at) (sym (map_more (λ (choice : Choice). choice.region) choices (choice_of last kind causes))) ∙ e)) [
           | inl h ↦ with_regions_keep found (form_leads (region_tree table last) chosen) at region (follows.regions at region h)
           | inr h ↦
               let place : at ≡ length choices = h.0 ∙ map_length (λ (choice : Choice). choice.region) choices in

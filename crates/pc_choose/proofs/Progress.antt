@@ -1,7 +1,8 @@
 -- Forms are chosen region by region.
-use Rattle.std.proofs.Common.{◌≡◌, ◌≢◌, ℕ, zero, suc, ◌-◌, ◌<◌, ◌≤◌, inl, inr, Bool, true, false, cond, List, [], ◌∷◌, ◌++◌, length, map, Option, Some, None, refl, sym, ◌∙◌, ap, subst, arith}
+use Rattle.std.proofs.Common.{◌≡◌, ℕ, zero, suc, ◌-◌, ◌<◌, ◌≤◌, Bool, true, false, cond, List, [], ◌∷◌, ◌++◌, length, Option, Some, None, refl, sym, ◌∙◌, ap, subst, arith}
 use Rattle.std.specs.Prelude.{nat_eq, slice_get, slice_set, replicate}
 use Rattle.std.specs.List.{AllByRecursion}
+use Rattle.std.proofs.lemmas.List.{length-replicate}
 use Rattle.std.proofs.lemmas.Option.{slice_get_within}
 use Rattle.std.proofs.lemmas.Bool.Decides.{nat_tests}
 use Rattle.pc_word.specs.declared.item.Limits.{Limits}
@@ -9,15 +10,15 @@ use Rattle.pc_word.specs.MachineLimits.{most_object}
 use Rattle.pc_word.specs.Ranges.{AreLimits}
 use Rattle.pc_word.specs.Row.{Row, Then, Either, At_leaf, leaves_of}
 use Rattle.pc_word.proofs.Lists.{all_front, all_back, all_imply, set_length}
-use Rattle.pc_table.specs.Table.{TableTree, Does, Asks, Next, Stops_here, Traps_here, TableRegion, Table, tree_of, region_tree}
+use Rattle.pc_table.specs.Table.{TableTree, Does, Asks, Next, Stops_here, Traps_here, TableRegion, Table, tree_of, region_tree, table_region, table_of}
+use Rattle.pc_table.specs.declared.table.RegionTable.{RegionTable}
 use Rattle.pc_table.specs.TableKeeps.{TableKeeps, TreeIsThere}
 use Rattle.pc_automaton.specs.declared.automaton.AutomatonLeaf.{AutomatonLeaf}
 use Rattle.pc_automaton.specs.declared.automaton.AutomatonLeaf.TheVariants.{To, Out, Stop, Trap}
-use Rattle.pc_automaton.specs.Automaton.{AutomatonState}
 use Rattle.pc_automaton.specs.There.{LeafIsThere, StateIsThere}
 use Rattle.pc_emit.specs.declared.form.RegionForm.{RegionForm as StoredForm}
 use Rattle.pc_emit.specs.declared.form.RegionForm.TheVariants as stored
-use Rattle.pc_emit.specs.Emitted.{RegionForm, Plain, Packed}
+use Rattle.pc_emit.specs.Emitted.{RegionForm}
 use Rattle.pc_emit.specs.Emitting.{form_in, forms_in}
 use Rattle.pc_emit.specs.Leading.{form_leads}
 use Rattle.pc_emit.specs.Bytes.{plain_bytes, object_bytes}
@@ -27,14 +28,15 @@ use Rattle.pc_choose.specs.declared.giving.Given.{Given}
 use Rattle.pc_choose.specs.declared.choice.Choice.{Choice}
 use Rattle.pc_choose.specs.declared.choice.Cause.{Cause}
 use Rattle.pc_choose.specs.declared.choice.Form.{Form}
-use Rattle.pc_choose.specs.Choosing.{with_form, bytes_with, with_regions, choice_of, Gets, Gets_packed, Gets_plain, Choosing, Takes}
-use Rattle.pc_choose.specs.models.Marked.{Marked, Finds, NamesBelow, LeadsBelow}
+use Rattle.pc_choose.specs.Choosing.{with_form, bytes_with, choice_of, Gets, Gets_packed, Gets_plain, Choosing, Begins, Takes, AreChosen}
+use Rattle.pc_choose.specs.models.Marked.{IsMarked, Finds, NamesBelow, LeadsBelow}
 use Rattle.pc_choose.specs.models.Giving.{form_of, FormLeadsBelow, bytes_of, IsGiven}
 use Rattle.pc_choose.specs.models.Progress.{IsChoosing}
-use Rattle.pc_choose.proofs.Places.{set_there, set_elsewhere, same_number}
-use Rattle.pc_choose.proofs.Counting.{plain_within, counted_with, counts_alike}
+use Rattle.pc_choose.proofs.Places.{set_there, set_elsewhere, same_number, map_length, none_left}
+use Rattle.pc_choose.proofs.Marks.{no_more_found, found_there}
+use Rattle.pc_choose.proofs.Counting.{plain_within, counts_alike}
 use Rattle.pc_choose.proofs.Trying.{packed_there}
-use Rattle.pc_choose.proofs.Taken.{next_is_free}
+use Rattle.pc_choose.proofs.Taken.{next_is_free, taken_few}
 
 -- ---- what a form leads to is there
 
@@ -96,6 +98,7 @@ forms_with forms region form lt = λ i other. at_each other i
       where
         differ : (other : ℕ) → nat_eq other region ≡ false → region ≡ other → ⊥
         differ other e same = grind (arith, nat_tests)
+
     at_each : (other : ℕ) → forms_in (slice_set forms region (Some form)) other ≡ with_form (forms_in forms) region (form_of form) other
     at_each other = by other (nat_eq other region) refl
 
@@ -106,6 +109,24 @@ none_in (suc count) (suc region) = none_in count region
 
 pub no_forms_in : (count : ℕ) → forms_in (replicate count None) ≡ (λ region. None)
 no_forms_in count = λ i region. none_in count region i
+
+-- ---- region 0 is found
+
+pub progress_begins : (table : Table) (limits : Limits) (it : Progress) → it.found.order ≡ 0 ∷ [] → length it.found.marks ≡ length table.regions
+    → it.chosen.choices ≡ [] → it.chosen.forms ≡ replicate (length table.regions) None → it.bytes ≡ object_bytes table (λ region. None)
+    → object_bytes table (λ region. None) ≤ most_object → IsChoosing table limits it
+progress_begins table limits it order marks choices forms bytes small =
+    let none : forms_in it.chosen.forms ≡ (λ region. None) = ap forms_in forms ∙ no_forms_in (length table.regions) in
+    record {
+      choosing =
+          subst (λ (f : ℕ → Option RegionForm). Choosing table limits it.found.order it.chosen.choices f) (sym none)
+          (subst (λ (c : List Choice). Choosing table limits it.found.order c (λ region. None)) (sym choices)
+          (subst (λ (o : List ℕ). Choosing table limits o [] (λ region. None)) (sym order) Begins));
+      counted = bytes ∙ ap (λ (f : ℕ → Option RegionForm). object_bytes table f) (sym none);
+      short = subst (λ (n : ℕ). n ≤ most_object) (sym bytes) small;
+      forms = let nothing : Option StoredForm = None in ap length forms ∙ length-replicate (length table.regions) nothing;
+      marks = marks;
+    }
 
 -- ---- a region is taken
 
@@ -137,9 +158,9 @@ module _ (table : Table) (limits : Limits) (old : Progress) (is : IsChoosing tab
         let gets = subst (λ (b : RegionForm → ℕ). Gets table limits region b (form_of given.form) given.kind given.causes) counts gives.gets in
         let takes = Takes is.choosing next gets in
         let found = subst (λ (f : List ℕ). Choosing table limits f (old.chosen.choices ++ choice_of region given.kind given.causes ∷ [])
-            (with_form (forms_in old.chosen.forms) region (form_of given.form))) (sym finds.order) takes in
+        (with_form (forms_in old.chosen.forms) region (form_of given.form))) (sym finds.order) takes in
         let chosen = subst (λ (c : List Choice). Choosing table limits new.found.order c (with_form (forms_in old.chosen.forms) region (form_of given.form)))
-            (sym choices) found in
+        (sym choices) found in
         subst (λ (f : ℕ → Option RegionForm). Choosing table limits new.found.order new.chosen.choices f) (sym forms_now) chosen
 
     pub takes_next : IsChoosing table limits new
@@ -151,3 +172,36 @@ module _ (table : Table) (limits : Limits) (old : Progress) (is : IsChoosing tab
       forms = ap length forms ∙ set_length old.chosen.forms region (Some given.form) ∙ is.forms;
       marks = finds.as_many ∙ is.marks;
     }
+
+-- ---- regions that are found
+
+-- a region that was found is there
+pub next_there : (table : RegionTable) (limits : Limits) (it : Progress) → IsChoosing (table_of table) limits it → IsMarked it.found → (at region : ℕ)
+    → slice_get it.found.order at ≡ Some region → region < length table.regions
+next_there table limits it is marked at region here =
+    let lt = found_there it.found at region marked here in
+    let marks = is.marks in
+    let regions = map_length table_region table.regions in
+    omega (arith, lt, marks, regions)
+
+-- while one is left, fewer were taken than there are
+pub taken_fewer : (table : RegionTable) (limits : Limits) (it : Progress) → IsChoosing (table_of table) limits it → IsMarked it.found → (region : ℕ)
+    → slice_get it.found.order (length it.chosen.choices) ≡ Some region → length it.chosen.choices < length table.regions
+taken_fewer table limits it is marked region next =
+    let lt = slice_get_within it.found.order (length it.chosen.choices) region next in
+    let few = no_more_found it.found marked in
+    let marks = is.marks in
+    let regions = map_length table_region table.regions in
+    omega (arith, lt, few, marks, regions)
+
+-- where none is left, forms were chosen
+pub all_chosen : (table : Table) (limits : Limits) (it : Progress) → IsChoosing table limits it
+    → slice_get it.found.order (length it.chosen.choices) ≡ None → AreChosen table limits it.chosen.choices (forms_in it.chosen.forms)
+all_chosen table limits it is none = record {
+  found = it.found.order;
+  choosing = is.choosing;
+  all =
+      let few = taken_few table limits it.found.order it.chosen.choices (forms_in it.chosen.forms) is.choosing in
+      let end = none_left it.found.order (length it.chosen.choices) none in
+      omega (arith, few, end);
+}

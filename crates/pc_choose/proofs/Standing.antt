@@ -1,12 +1,12 @@
 -- Chosen forms may be emitted.
-use Rattle.std.proofs.Common.{◌≡◌, ◌≢◌, ℕ, zero, suc, ◌<◌, ◌≤◌, ◌⊎◌, inl, inr, Bool, true, false, ◌||◌, cond, List, [], ◌∷◌, ◌++◌, length, Option, Some, None, refl, sym, ◌∙◌, ap, subst, arith}
-use Rattle.std.specs.Prelude.{nat_eq, slice_get, Contains}
+use Rattle.std.proofs.Common.{◌≡◌, ℕ, zero, suc, ◌<◌, ◌≤◌, ◌⊎◌, inl, inr, Bool, true, false, ◌||◌, cond, List, [], ◌∷◌, ◌++◌, length, Option, Some, None, refl, sym, ◌∙◌, ap, subst, arith}
+use Rattle.std.specs.Prelude.{nat_eq, slice_get}
 use Rattle.std.specs.List.{AllByRecursion, list_any, flat_map}
 use Rattle.std.proofs.lemmas.List.Folds.{list_any-append}
-use Rattle.std.proofs.lemmas.Map.Views.{Contains-from_any, list_any-from_Contains}
+use Rattle.std.proofs.lemmas.Map.Views.{Contains-from_any}
 use Rattle.std.proofs.lemmas.Option.{slice_get_within}
 use Rattle.pc_word.specs.declared.item.Limits.{Limits}
-use Rattle.pc_word.specs.MachineLimits.{most_object, most_rows}
+use Rattle.pc_word.specs.MachineLimits.{most_object}
 use Rattle.pc_word.specs.Ranges.{AreLimits}
 use Rattle.pc_word.specs.Row.{Row, Then, Either, At_leaf, leaves_of}
 use Rattle.pc_word.proofs.Lists.{all_both}
@@ -25,10 +25,10 @@ use Rattle.pc_emit.specs.models.Packing.{LeavesFit}
 use Rattle.pc_choose.specs.declared.choice.Choice.{Choice}
 use Rattle.pc_choose.specs.declared.choice.Cause.{Cause}
 use Rattle.pc_choose.specs.declared.choice.Form.{Form}
-use Rattle.pc_choose.specs.Choosing.{with_form, bytes_with, with_region, with_regions, choice_of, Gets, Gets_packed, Gets_plain, Choosing, Begins, Takes, AreChosen}
+use Rattle.pc_choose.specs.Choosing.{with_form, bytes_with, with_region, with_regions, choice_of, Gets, Gets_packed, Gets_plain, Choosing, Begins, Takes}
 use Rattle.pc_choose.specs.models.Marked.{NamesBelow, LeadsBelow}
 use Rattle.pc_choose.specs.models.Giving.{FormLeadsBelow}
-use Rattle.pc_choose.proofs.Places.{get_front, get_more, length_more, listed, found_within, same_number, own_number}
+use Rattle.pc_choose.proofs.Places.{length_more, listed, found_within, same_number, own_number}
 use Rattle.pc_choose.proofs.Counting.{with_form-same, form_stays, plain_counts}
 use Rattle.pc_choose.proofs.Progress.{leads_below}
 use Rattle.pc_choose.proofs.Taken.{with_regions_keep, form_among, next_is_free}
@@ -80,6 +80,7 @@ found_either found (first ∷ regions) region h = by (found_either (with_region 
       | inl old ↦ inl old
       | inr new ↦ inr (in_front (first ∷ []) regions region new)
     ]
+
     by : IsIn (with_region found first) region ⊎ IsIn regions region → IsIn found region ⊎ IsIn (first ∷ regions) region
     by (inl k) = one (list_any (nat_eq first) found) k
     by (inr k) = inr (in_back (first ∷ []) regions region k)
@@ -152,7 +153,7 @@ led_below count tree Plain below region h = named_below count tree below region 
 led_below count tree (Packed states registers) below region h =
     in_flat (λ state. LeavesFit (LeadsBelow count) state.row) (λ state. flat_map leaf_leads (leaves_of state.row)) states region (region < count)
     (λ state fits k. in_flat (LeadsBelow count) leaf_leads (leaves_of state.row) region (region < count) (λ leaf under j. leaf_led_below count leaf under region j)
-        (leaves_all (LeadsBelow count) state.row fits) k)
+    (leaves_all (LeadsBelow count) state.row fits) k)
     below h
 
 -- where each region that a tree names has a form, its names have forms
@@ -284,6 +285,7 @@ module _ (table : Table) (keeps : TableKeeps table) (limits : Limits) (ranges : 
             let kept = with_regions_keep found leads at was.0 was.1 in
             let same : was.0 ≡ region = (cc) in
             was.1 ∙ ap Some same
+
         by : (length choices ≤ at) ⊎ (at < length choices) → (form : RegionForm) × (with_it region ≡ Some form)
         by (inl up) =
             let same : at ≡ length choices = omega arith in
@@ -301,7 +303,13 @@ module _ (table : Table) (keeps : TableKeeps table) (limits : Limits) (ranges : 
         by (inl h) =
             subst (λ (f : RegionForm). WasGiven region f) h.1
             (subst (λ (r : ℕ). WasGiven r chosen) (sym h.0) (record {
-              had = forms; free = last_free; short = stands.short; kind = kind; causes = causes; there = last_there; gets = gets
+              had = forms;
+              free = last_free;
+              short = stands.short;
+              kind = kind;
+              causes = causes;
+              there = last_there;
+              gets = gets;
             }))
         by (inr h) = stands.given region form h
 
@@ -311,8 +319,8 @@ module _ (table : Table) (keeps : TableKeeps table) (limits : Limits) (ranges : 
         by : ((from ≡ last) × (chosen ≡ form)) ⊎ (forms from ≡ Some form) → IsIn now region
         by (inl k) =
             let here : IsIn (form_leads (region_tree table last) chosen) region =
-                subst (λ (f : RegionForm). IsIn (form_leads (region_tree table last) f) region) (sym k.1)
-                (subst (λ (r : ℕ). IsIn (form_leads (region_tree table r) form) region) k.0 h) in
+            subst (λ (f : RegionForm). IsIn (form_leads (region_tree table last) f) region) (sym k.1)
+            (subst (λ (r : ℕ). IsIn (form_leads (region_tree table r) form) region) k.0 h) in
             found_now found leads region here
         by (inr k) = found_still found leads region (stands.behind from region form k h)
 

@@ -1,5 +1,5 @@
 -- How many bytes states have at most.
-use Rattle.std.proofs.Common.{◌≡◌, ℕ, zero, suc, ◌+◌, ◌*◌, ◌<◌, ◌≤◌, true, List, [], ◌∷◌, ◌++◌, length, drop, map, max, Option, Some, None, refl, sym, ◌∙◌, ap, subst, arith}
+use Rattle.std.proofs.Common.{◌≡◌, ℕ, zero, suc, ◌+◌, ◌*◌, ◌<◌, ◌≤◌, true, List, [], ◌∷◌, length, drop, Option, Some, None, refl, sym, ◌∙◌, ap, arith}
 use Rattle.std.specs.Prelude.{nat_eq, slice_get, slice_index}
 use Rattle.std.specs.List.{AllByRecursion, list_any}
 use Rattle.std.specs.List.Sorted.{IsStrictlyIncreasing}
@@ -10,24 +10,22 @@ use Rattle.pc_word.specs.declared.item.Item.TheVariants.{Bin, Copy, Load, Store,
 use Rattle.pc_word.specs.declared.item.Operand.{Operand}
 use Rattle.pc_word.specs.declared.item.Operand.TheVariants.{Name, Lit}
 use Rattle.pc_word.specs.declared.item.Limits.{Limits}
-use Rattle.pc_word.specs.declared.item.TrapKind.{TrapKind}
 use Rattle.pc_word.specs.Ranges.{AreLimits}
 use Rattle.pc_word.specs.MachineLimits.{most_object, most_rows}
 use Rattle.pc_word.specs.Row.{Row, Then, Either, At_leaf, items_of, tests_of, leaves_of}
-use Rattle.pc_word.proofs.Lists.{all_front, all_back, all_at, all_imply}
+use Rattle.pc_word.proofs.Lists.{all_front, all_back}
 use Rattle.pc_table.specs.Table.{Table, TableRegion, live_of, region_live}
 use Rattle.pc_table.specs.TableKeeps.{TableKeeps}
 use Rattle.pc_window.specs.declared.home.Home.{Home}
-use Rattle.pc_window.specs.There.{StubIsThere}
 use Rattle.pc_automaton.specs.declared.automaton.AutomatonLeaf.{AutomatonLeaf}
 use Rattle.pc_automaton.specs.declared.automaton.AutomatonLeaf.TheVariants.{To, Out, Stop, Trap}
 use Rattle.pc_automaton.specs.declared.automaton.AutomatonState.{AutomatonState as StoredState}
 use Rattle.pc_automaton.specs.StoredRow.{row_in}
 use Rattle.pc_automaton.specs.Automaton.{states_in, AutomatonState, Takes, LeafLeads, IsStateAmong, IsAutomaton}
 use Rattle.pc_automaton.specs.There.{LeafIsThere, StateIsThere}
-use Rattle.pc_assign.specs.Pressure.{allowed, row_pressure, pressure_of, IsLow, LowBefore}
+use Rattle.pc_assign.specs.Pressure.{LowBefore}
 use Rattle.pc_pattern.specs.Pattern.{RowFits}
-use Rattle.pc_emit.specs.Bytes.{operand_bytes, item_bytes, test_bytes, leaf_bytes, row_bytes, states_bytes}
+use Rattle.pc_emit.specs.Bytes.{operand_bytes, item_bytes, leaf_bytes, row_bytes, states_bytes}
 use Rattle.pc_choose.proofs.Places.{listed, map_length, drop_at}
 
 -- ---- items and tests
@@ -137,8 +135,8 @@ state_most : (table : Table) → TableKeeps table → (limits : Limits) → AreL
     → (state : AutomatonState) → IsStateAmong states state → StateIsThere table state → RowFits limits state.row → row_bytes state.row ≤ row_limit
 state_most table keeps limits ranges states low state among there fits =
     let leaves =
-        all_both_hold (LeafLeads states) (LeafIsThere table) (λ leaf. leaf_bytes leaf ≤ leaf_limit) (leaves_of state.row)
-        (leaf_most table keeps states low) among.lead there.leaves in
+    all_both_hold (LeafLeads states) (LeafIsThere table) (λ leaf. leaf_bytes leaf ≤ leaf_limit) (leaves_of state.row)
+    (leaf_most table keeps states low) among.lead there.leaves in
     let most = row_most state.row leaves in
     let items = fits.items in
     let tests = fits.tests in
@@ -156,12 +154,12 @@ pub states_short : (table : Table) → TableKeeps table → (limits : Limits) �
     → length states ≤ most_rows → states_bytes states ≤ most_object
 states_short table keeps limits ranges states automaton low there fits few =
     let both =
-        all_both_hold (IsStateAmong states) (StateIsThere table) (λ state. IsStateAmong states state × StateIsThere table state) states
-        (λ state h k. (h, k)) automaton.each there in
+    all_both_hold (IsStateAmong states) (StateIsThere table) (λ state. IsStateAmong states state × StateIsThere table state) states
+    (λ state h k. (h, k)) automaton.each there in
     let rows =
-        all_both_hold (λ state. IsStateAmong states state × StateIsThere table state) (λ state. RowFits limits state.row)
-        (λ state. row_bytes state.row ≤ row_limit) states
-        (λ state h k. state_most table keeps limits ranges states low state h.0 h.1 k) both fits in
+    all_both_hold (λ state. IsStateAmong states state × StateIsThere table state) (λ state. RowFits limits state.row)
+    (λ state. row_bytes state.row ≤ row_limit) states
+    (λ state h k. state_most table keeps limits ranges states low state h.0 h.1 k) both fits in
     let most = bytes_most states rows in
     omega (arith, most, few)
 

@@ -1,6 +1,6 @@
 -- What the table of the tests keeps.
-use Rattle.std.proofs.Common.{◌≡◌, ℕ, zero, suc, ◌+◌, ◌<◌, ◌≤◌, List, [], ◌∷◌, Some, None, length, refl, sym, ◌∙◌, ap, subst, arith, pos}
-use Rattle.std.specs.Prelude.{Bool, true, false, nat_eq, not, ◌&&◌, ◌||◌, Option, IfSome, slice_get}
+use Rattle.std.proofs.Common.{◌≡◌, ℕ, zero, suc, ◌+◌, ◌<◌, ◌≤◌, [], ◌∷◌, Some, None, refl, subst, arith}
+use Rattle.std.specs.Prelude.{Bool, true, false, nat_eq, not, ◌&&◌, ◌||◌, IfSome, slice_get}
 use Rattle.std.specs.List.{list_any}
 use Rattle.std.proofs.lemmas.Bool.Decides.{nat_tests}
 use Rattle.pc_word.specs.declared.loop_mark.LoopMark.{LoopMark}
@@ -26,7 +26,7 @@ comes_from_0_to_1 from to (By_more {mid = mid} comes e) =
     (before.0, last.1)
 
 no_cycle : (region : ℕ) → ComesUntested summing_table region region → ⊥
-no_cycle region comes = let ends = comes_from_0_to_1 region region comes in let same : 0 ≡ 1 = sym ends.0 ∙ ends.1 in absurd (cc)
+no_cycle region comes = let ends = comes_from_0_to_1 region region comes in let first = ends.0 in let last = ends.1 in absurd (omega (arith, first, last))
 
 -- ---- what is live
 

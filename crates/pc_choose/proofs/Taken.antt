@@ -1,5 +1,5 @@
 -- Regions that were found while forms are chosen: each once, and those that have a form were taken.
-use Rattle.std.proofs.Common.{◌≡◌, ◌≢◌, ℕ, zero, suc, ◌<◌, ◌≤◌, ◌⊎◌, inl, inr, Bool, true, false, cond, List, [], ◌∷◌, ◌++◌, length, Option, Some, None, refl, sym, ◌∙◌, ap, subst, arith}
+use Rattle.std.proofs.Common.{◌≡◌, ℕ, zero, suc, ◌<◌, ◌≤◌, ◌⊎◌, inl, inr, Bool, true, false, cond, List, [], ◌∷◌, ◌++◌, length, Option, Some, None, refl, sym, ◌∙◌, ap, arith}
 use Rattle.std.specs.Prelude.{nat_eq, slice_get}
 use Rattle.std.specs.List.{list_any}
 use Rattle.std.proofs.lemmas.Option.{slice_get_within}
@@ -8,8 +8,6 @@ use Rattle.pc_table.specs.Table.{Table, region_tree}
 use Rattle.pc_emit.specs.Emitted.{RegionForm}
 use Rattle.pc_emit.specs.Leading.{form_leads}
 use Rattle.pc_choose.specs.declared.choice.Choice.{Choice}
-use Rattle.pc_choose.specs.declared.choice.Cause.{Cause}
-use Rattle.pc_choose.specs.declared.choice.Form.{Form}
 use Rattle.pc_choose.specs.Choosing.{with_form, with_region, with_regions, choice_of, Choosing, Begins, Takes}
 use Rattle.pc_choose.proofs.Places.{get_front, get_more, length_more, listed, same_number}
 
@@ -26,6 +24,7 @@ once_more found region none once one other at here there =
     not_there : (place : ℕ) → slice_get found place ≡ Some at → region ≡ at → ⊥
     not_there place e same =
         let is : list_any (nat_eq region) found ≡ true = listed found place region (e ∙ ap Some (sym same)) in absurd (cc)
+
     by : (slice_get found one ≡ Some at) ⊎ ((one ≡ length found) × (region ≡ at))
         → (slice_get found other ≡ Some at) ⊎ ((other ≡ length found) × (region ≡ at)) → one ≡ other
     by (inl h) (inl k) = once one other at h k
@@ -118,3 +117,13 @@ module _ (table : Table) (limits : Limits) where
           let same = found_once found choices forms choosing was.place (length choices) region was.there next in
           let lt = was.before in
           absurd (omega (arith, same, lt))
+
+  -- no more are taken than were found
+  pub taken_few : (found : List ℕ) (choices : List Choice) (forms : ℕ → Option RegionForm) → Choosing table limits found choices forms
+      → length choices ≤ length found
+  taken_few found choices forms Begins = omega arith
+  taken_few found choices forms (Takes {found = before} {choices = earlier} {forms = had} {region = last} {chosen = chosen} {kind = kind} {causes = causes} choosing next gets) =
+      let leads = form_leads (region_tree table last) chosen in
+      let kept = slice_get_within (with_regions before leads) (length earlier) last (with_regions_keep before leads (length earlier) last next) in
+      let more = length_more earlier (choice_of last kind causes) in
+      omega (arith, kept, more)

@@ -1,6 +1,5 @@
 -- What a search's states keep, and what comes of trying to pack a region.
-use Rattle.std.proofs.Common.{◌≡◌, ℕ, suc, ◌+◌, ◌^◌, ◌<◌, ◌≤◌, List, [], ◌∷◌, length, map, sym, ◌∙◌, ap, subst, arith}
-use Rattle.std.specs.Prelude.{slice_get}
+use Rattle.std.proofs.Common.{◌≡◌, ℕ, suc, ◌+◌, ◌^◌, ◌<◌, ◌≤◌, List, [], ◌∷◌, length, sym, ◌∙◌, ap, subst, arith}
 use Rattle.std.specs.List.{AllByRecursion}
 use Rattle.pc_word.specs.declared.item.Limits.{Limits}
 use Rattle.pc_word.specs.Ranges.{AreLimits}
@@ -8,7 +7,8 @@ use Rattle.pc_word.specs.MachineLimits.{most_object, most_rows}
 use Rattle.pc_word.proofs.Lists.{all_imply}
 use Rattle.pc_table.specs.Table.{Table, region_tree, region_live}
 use Rattle.pc_table.specs.TableKeeps.{TableKeeps}
-use Rattle.std.specs.Prelude.{nat_eq, true}
+use Rattle.std.specs.Prelude.{nat_eq, true, Result, Ok, Err, IfOk}
+use Rattle.pc_choose.specs.declared.error.ChooseError.{ChooseError}
 use Rattle.std.specs.List.{list_any}
 use Rattle.pc_automaton.specs.declared.automaton.AutomatonState.{AutomatonState as StoredState}
 use Rattle.pc_automaton.specs.Automaton.{AutomatonState, IsAutomaton, state_in, states_in}
@@ -22,7 +22,7 @@ use Rattle.pc_pattern.specs.Pattern.{packed, IsPacked}
 use Rattle.pc_pattern.proofs.Turns.{room_of}
 use Rattle.pc_pattern.proofs.Patterns.{patterns_are_automata}
 use Rattle.pc_pattern.proofs.NamedThere.{patterns_there, patterns_live}
-use Rattle.pc_emit.specs.Emitted.{Plain, Packed}
+use Rattle.pc_emit.specs.Emitted.{Plain}
 use Rattle.pc_emit.specs.Bytes.{states_bytes, plain_bytes}
 use Rattle.pc_emit.specs.declared.form.RegionForm.{RegionForm as StoredForm}
 use Rattle.pc_emit.specs.declared.form.RegionForm.TheVariants as stored
@@ -65,13 +65,17 @@ pub packed_few : (table : Table) (limits : Limits) (region : ℕ) (automaton : L
 packed_few table limits region automaton found =
     let few = found.few in let same = map_length state_in automaton in omega (arith, few, same)
 
+-- each of them has a low pressure
+pub low_all : (automaton : List StoredState) → LowBefore (states_in automaton) (length automaton) → LowBefore (states_in automaton) (length (states_in automaton))
+low_all automaton low = subst (λ (n : ℕ). LowBefore (states_in automaton) n) (sym (map_length state_in automaton)) low
+
 -- states that registers were given to
 pub registers_given : (table : Table) (limits : Limits) (region : ℕ) (automaton : List StoredState) (registers : Assigned)
     → IsPacked table limits region most_rows (states_in automaton) → LowBefore (states_in automaton) (length automaton)
     → IsAssigned (states_in automaton) (registers_in registers) → HasRegisters table limits region (states_in automaton) (registers_in registers)
 registers_given table limits region automaton registers found low assigned = record {
   found = found;
-  low = subst (λ (n : ℕ). LowBefore (states_in automaton) n) (sym (map_length state_in automaton)) low;
+  low = low_all automaton low;
   assigned = assigned;
 }
 
@@ -87,6 +91,12 @@ module _ (table : Table) (limits : Limits) (region others : ℕ) where
       → IsFirstHigh (states_in automaton) number live → attempt ≡ Refused (Live live allowed) → IsAttempt table limits region others attempt
   tried_live attempt automaton number live found high refused = subst (IsAttempt table limits region others) (sym refused) (High_pressure found high)
 
+  pub told_live : (answer : Result Attempt ChooseError) (automaton : List StoredState) (number live : ℕ)
+      → IsPacked table limits region most_rows (states_in automaton) → IsFirstHigh (states_in automaton) number live
+      → IfOk answer (λ attempt. attempt ≡ Refused (Live live allowed)) → IfOk answer (IsAttempt table limits region others)
+  told_live (Ok attempt) automaton number live found high refused = tried_live attempt automaton number live found high refused
+  told_live (Err error) automaton number live found high refused = tt
+
   pub tried_bytes : (attempt : Attempt) (automaton : List StoredState) (registers : Assigned) (bytes : ℕ)
       → HasRegisters table limits region (states_in automaton) (registers_in registers) → bytes ≡ others + states_bytes (states_in automaton)
       → most_object < bytes → attempt ≡ Refused (Bytes bytes most_object) → IsAttempt table limits region others attempt
@@ -100,6 +110,7 @@ module _ (table : Table) (limits : Limits) (region others : ℕ) where
   tried_fits automaton registers bytes has is short few = record {
     gets = Gets_packed has (subst (λ (n : ℕ). n ≤ most_object) is short);
     counted = is;
+    short = short;
     numbers = few;
   }
 

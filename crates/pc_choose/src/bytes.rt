@@ -13,7 +13,9 @@ use pc_word::{Item, Operand};
 
 /// The bytes of a leaf that leads to a row, of the end, and of a trap with its line.
 const GOTO_BYTES: u32 = 5;
+
 const END_BYTES: u32 = 1;
+
 const TRAP_BYTES: u32 = 6;
 
 /// The bytes of the two rows of one copy that are counted for each argument or home that is passed.

@@ -14,7 +14,7 @@ use crate::bytes::object_bytes;
 use crate::choice::{Choice, Chosen};
 use crate::error::ChooseError;
 use crate::found::Found;
-use crate::giving::{Given, form_for};
+use crate::giving::{Given, form_for, region_tree};
 use crate::leading::find_behind;
 use crate::{ChoiceList, FormList};
 use pc_emit::RegionForm;
@@ -92,13 +92,13 @@ fn take(
     requires kept { TableKeeps (table_of table.now) }
     requires limits { AreLimits limits }
     requires choosing { IsChoosing (table_of table.now) limits progress.old }
+    requires there { region < length table.now.regions }
     requires next { slice_get progress.old.found.order (length progress.old.chosen.choices) ≡ Some region }
     ensures choosing { OnOk result (IsChoosing (table_of table.now) limits progress.new) }
     ensures taken { OnOk result (length progress.new.chosen.choices ≡ suc (length progress.old.chosen.choices)) }
 {
     let given = form_for(alloc, table, region, limits, progress.bytes)?;
-    let tree = &table.regions.as_slice()[region as usize].tree;
-    find_behind(tree, &given.form, &mut progress.found)?;
+    find_behind(region_tree(table, region), &given.form, &mut progress.found)?;
     progress.bytes = given.bytes;
     put(region, given, &mut progress.chosen)?;
     Ok(())
@@ -111,7 +111,10 @@ fn put(region: u32, given: Given, chosen: &mut Chosen) -> Result<(), AllocError>
     ensures forms { OnOk result (chosen.new.forms ≡ slice_set chosen.old.forms region (Some given.form)) }
 {
     let Given {
-        form, kind, causes, ..
+        form,
+        kind,
+        causes,
+        ..
     } = given;
     chosen.choices.push(Choice {
         region,

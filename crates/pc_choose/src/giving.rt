@@ -16,7 +16,7 @@ use crate::{Cause, CauseList, Form};
 use pc_assign::{AssignError, assign};
 use pc_emit::RegionForm;
 use pc_pattern::{SearchError, search};
-use pc_table::RegionTable;
+use pc_table::{RegionTable, RegionTree};
 use pc_word::{Limits, MOST_OBJECT, MOST_ROWS};
 use std::alloc::Global;
 
@@ -55,7 +55,7 @@ pub(crate) fn form_for(
     ensures { IfOk result (IsGiven (table_of table.now) limits region (bytes - plain_bytes (region_tree (table_of table.now) region))) }
 {
     let mut causes = CauseList::new(alloc);
-    let others = bytes - plain_bytes(&table.regions.as_slice()[region as usize].tree);
+    let others = bytes - plain_bytes(region_tree(table, region));
     match packed(alloc, table, region, limits, others)? {
         Attempt::Fits { form, bytes } => {
             return Ok(Given {
@@ -73,6 +73,14 @@ pub(crate) fn form_for(
         causes,
         bytes,
     })
+}
+
+/// The tree of a region.
+pub(crate) fn region_tree(table: &RegionTable, region: u32) -> &RegionTree
+    requires { region < length table.now.regions }
+    ensures { table_tree result.now ≡ region_tree (table_of table.now) region }
+{
+    &table.regions.as_slice()[region as usize].tree
 }
 
 /// Tries to pack a region, where all but it has so many bytes.

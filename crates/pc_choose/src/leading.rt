@@ -8,7 +8,7 @@ ghost use Rattle.pc_automaton.specs.Automaton.{states_in};
 ghost use Rattle.pc_emit.specs.Leading.{tree_leads, leaf_leads, states_lead, form_leads};
 ghost use Rattle.pc_emit.specs.models.Packing.{LeavesFit};
 ghost use Rattle.pc_choose.specs.models.Marked.{Finds, NamesBelow, LeadsBelow};
-ghost use Rattle.pc_choose.specs.models.Giving.{form_of, FormLeadsBelow};
+ghost use Rattle.pc_choose.specs.models.Giving.{form_of, HasNumbers, FormLeadsBelow};
 
 use crate::found::Found;
 use pc_automaton::{Automaton, AutomatonLeaf, RowTree};
@@ -22,6 +22,7 @@ pub(crate) fn find_behind(
     form: &RegionForm,
     found: &mut Found,
 ) -> Result<(), AllocError>
+    requires numbers { HasNumbers form.now }
     requires there { FormLeadsBelow (length found.old.marks) (table_tree tree.now) (form_of form.now) }
     ensures { OnOk result (Finds (form_leads (table_tree tree.now) (form_of form.now)) found.old found.new) }
 {

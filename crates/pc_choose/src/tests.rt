@@ -102,14 +102,9 @@ fn are_packed(chosen: &Chosen, regions: &[u32]) -> bool {
     if chosen.choices.len() != regions.len() {
         return false;
     }
-    chosen
-        .choices
-        .as_slice()
-        .iter()
-        .zip(regions)
-        .all(|(choice, region)| {
-            choice.region == *region && choice.form == Form::Packed && choice.causes.is_empty()
-        })
+    chosen.choices.as_slice().iter().zip(regions).all(|(choice, region)| {
+        choice.region == *region && choice.form == Form::Packed && choice.causes.is_empty()
+    })
 }
 
 #[test]

@@ -1,17 +1,16 @@
 -- Forms in memory, and what comes of trying them.
-use Rattle.std.specs.Prelude.{◌≡◌, ℕ, ◌<◌, ◌≤◌, ◌^◌, [], List, length}
+use Rattle.std.specs.Prelude.{◌≡◌, ℕ, ◌<◌, ◌≤◌, ◌^◌, [], length}
 use Rattle.std.specs.List.{AllByRecursion}
 use Rattle.pc_word.specs.declared.item.Limits.{Limits}
 use Rattle.pc_word.specs.MachineLimits.{most_object}
 use Rattle.pc_table.specs.Table.{TableTree, Table, region_tree}
-use Rattle.pc_automaton.specs.Automaton.{AutomatonState, states_in}
+use Rattle.pc_automaton.specs.Automaton.{states_in}
 use Rattle.pc_assign.specs.Stored.{registers_in}
 use Rattle.pc_emit.specs.declared.form.RegionForm.{RegionForm as StoredForm}
 use Rattle.pc_emit.specs.declared.form.RegionForm.TheVariants as stored
 use Rattle.pc_emit.specs.Emitted.{RegionForm, Plain, Packed}
 use Rattle.pc_emit.specs.models.Packing.{LeavesFit}
 use Rattle.pc_choose.specs.declared.choice.Form.TheVariants as kind
-use Rattle.pc_choose.specs.declared.choice.Cause.{Cause}
 use Rattle.pc_choose.specs.declared.giving.Attempt.{Attempt}
 use Rattle.pc_choose.specs.declared.giving.Attempt.TheVariants.{Fits, Refused}
 use Rattle.pc_choose.specs.declared.giving.Given.{Given}
@@ -42,6 +41,7 @@ bytes_of table region others = bytes_beside others (region_tree table region)
 pub record FitsPacked (table : Table) (limits : Limits) (region others : ℕ) (form : StoredForm) (bytes : ℕ) : Type 0 where
   pub gets : Gets table limits region (bytes_of table region others) (form_of form) kind.Packed []
   pub counted : bytes ≡ bytes_of table region others (form_of form)
+  pub short : bytes ≤ most_object
   pub numbers : HasNumbers form
 
 -- what comes of trying to pack a region, where all but it has so many bytes

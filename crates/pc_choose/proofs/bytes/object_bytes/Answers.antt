@@ -1,4 +1,4 @@
-use Rattle.std.proofs.Common.{◌≡◌, ap, arith}
+use Rattle.std.proofs.Common.{ap, arith}
 use Rattle.pc_table.specs.Table.{table_of, table_regions}
 use Rattle.pc_choose.specs.models.Counting.{all_plain_bytes}
 use Rattle.pc_choose.proofs.Counting.{plain_object}

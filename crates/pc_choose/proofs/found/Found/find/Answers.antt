@@ -1,4 +1,4 @@
-use Rattle.std.proofs.Common.{◌≡◌, ◌<◌, false, length, List, [], ◌∷◌, subst, sym, Some}
+use Rattle.std.proofs.Common.{◌≡◌, ◌<◌, false, length, [], ◌∷◌, subst, sym, Some}
 use Rattle.std.specs.Prelude.{slice_get}
 use Rattle.pc_choose.specs.models.Marked.{Marked, Finds}
 use Rattle.pc_choose.specs.contracts.found.Found.{the_view}
@@ -21,4 +21,4 @@ pub returns : goal.returns
 returns c =
     subst (λ (it : Marked). Finds (c.args.region ∷ []) it (record { marks = c.set.new.self; order = c.push.new.self })) c.self.view_is
     (found_next (the_view c.self.inside) (record { marks = c.set.new.self; order = c.push.new.self }) c.args.region c.self.invariant (free c)
-        c.set.ensures c.in_ok-push.ensures.ok)
+    c.set.ensures c.in_ok-push.ensures.ok)
