@@ -1,0 +1,146 @@
+-- Chosen forms are such as may be emitted.
+use Rattle.std.proofs.Common.{◌≡◌, ℕ, ◌<◌, ◌≤◌, List, Option, Some, None, refl, sym, ◌∙◌, subst, arith}
+use Rattle.std.specs.Prelude.{Bool, true, false, slice_get}
+use Rattle.std.proofs.lemmas.Option.{slice_get_within}
+use Rattle.pc_word.specs.declared.item.Limits.{Limits}
+use Rattle.pc_word.specs.MachineLimits.{most_object, most_rows}
+use Rattle.pc_word.specs.Ranges.{AreLimits}
+use Rattle.pc_table.specs.Table.{Table, region_tree}
+use Rattle.pc_table.specs.TableKeeps.{TableKeeps}
+use Rattle.pc_automaton.specs.Automaton.{AutomatonState, IsAutomaton}
+use Rattle.pc_assign.specs.Pressure.{allowed}
+use Rattle.pc_assign.specs.Assigned.{names_of}
+use Rattle.pc_assign.specs.Apart.{IsApart, HasAllowed}
+use Rattle.pc_assign.proofs.Apartness.{live_apart, variables_stay, all_in, past}
+use Rattle.pc_window.specs.Rebasing.{is_in}
+use Rattle.pc_emit.specs.Emitted.{RegionForm, Plain, Packed}
+use Rattle.pc_emit.specs.Emitting.{HasForm, CanPack, CanHave, AreForms}
+use Rattle.pc_emit.specs.PackedForm.{IsPackedForm, IsForm}
+use Rattle.pc_emit.specs.Leading.{states_lead, form_leads}
+use Rattle.pc_emit.specs.Bytes.{object_bytes}
+use Rattle.pc_choose.specs.declared.choice.Choice.{Choice}
+use Rattle.pc_choose.specs.declared.choice.Cause.{Cause}
+use Rattle.pc_choose.specs.declared.choice.Form.{Form}
+use Rattle.pc_choose.specs.Choosing.{bytes_with, HasRegisters, Gets, Gets_packed, AreChosen}
+use Rattle.pc_pattern.proofs.Traps.{traps_have_one_state}
+use Rattle.pc_choose.proofs.Places.{found_within, listed}
+use Rattle.pc_choose.proofs.Taken.{taken_of_form}
+use Rattle.pc_choose.proofs.BareTraps.{trap_not_plain}
+use Rattle.pc_choose.proofs.Trying.{packed_automaton, packed_there, packed_begins}
+use Rattle.pc_choose.proofs.Standing.{IsIn, place_of, Stands, chosen_stands, names_have, state_has}
+
+-- ---- packed forms
+
+-- states that a form was given with have registers
+given_registers : (table : Table) (limits : Limits) (region : ℕ) (bytes : RegionForm → ℕ) (states : List AutomatonState) (registers : ℕ → ℕ → Option ℕ)
+    (kind : Form) (causes : List Cause) → Gets table limits region bytes (Packed states registers) kind causes
+    → HasRegisters table limits region states registers
+given_registers table limits region bytes states registers kind causes (Gets_packed has short) = has
+
+module _ (table : Table) (keeps : TableKeeps table) (limits : Limits) (ranges : AreLimits limits) (region : ℕ) (states : List AutomatonState)
+    (registers : ℕ → ℕ → Option ℕ) (has : HasRegisters table limits region states registers) where
+  automaton : IsAutomaton states
+  automaton = packed_automaton table keeps limits ranges region states has.found
+
+  apart : (number : ℕ) (state : AutomatonState) → slice_get states number ≡ Some state → IsApart (registers number) state
+  apart number state here =
+      live_apart states registers automaton (packed_begins table keeps limits ranges region states has.found) has.assigned number state here
+
+  -- all registers are allowed
+  below : (number name register : ℕ) → registers number name ≡ Some register → register < allowed
+  below number name register is = by (slice_get states number) refl
+    where
+      in_state : (state : AutomatonState) → slice_get states number ≡ Some state → (b : Bool) → is_in name (names_of state) ≡ b → register < allowed
+      in_state state here true listed =
+          let one = all_in (HasAllowed (registers number)) (names_of state) name (apart number state here).allowed listed in
+          let both : Some register ≡ Some one.register = sym is ∙ one.has in
+          let same : register ≡ one.register = (cc) in
+          subst (λ (r : ℕ). r < allowed) (sym same) one.below
+      in_state state here false listed =
+          let none : registers number name ≡ None = (has.assigned.each number state here).others name listed in absurd (cc)
+
+      by : (found : Option AutomatonState) → slice_get states number ≡ found → register < allowed
+      by (Some state) here = in_state state here (is_in name (names_of state)) refl
+      by None out =
+          let none : registers number name ≡ None = has.assigned.none number name (past states number out) in absurd (cc)
+
+  -- it is a form that the region may have
+  pub is_packed_form : IsPackedForm table region states registers
+  is_packed_form =
+      let some = automaton.some in
+      let first = found_within states 0 (omega (arith, some)) in
+      record {
+        automaton = automaton;
+        first = first.0;
+        is_first = first.1;
+        runs = has.found.runs.alike first.0 first.1;
+        untested = has.found.runs.untested first.0 first.1;
+        variables = variables_stay states registers has.assigned first.0 first.1;
+        apart = apart;
+        there = packed_there table keeps limits ranges region states has.found;
+      }
+
+  -- and may be emitted
+  pub can_pack : (forms : ℕ → Option RegionForm) → ((to : ℕ) → IsIn (states_lead states) to → HasForm table forms to)
+      → CanPack table limits forms states registers
+  can_pack forms each = record {
+    automaton = automaton;
+    apart = apart;
+    below = below;
+    there = packed_there table keeps limits ranges region states has.found;
+    out = state_has table forms states each;
+    fit = has.found.fits;
+    led = has.found.led;
+  }
+
+-- ---- the whole
+
+module _ (table : Table) (keeps : TableKeeps table) (limits : Limits) (ranges : AreLimits limits)
+    (small : object_bytes table (λ region. None) ≤ most_object) (choices : List Choice) (forms : ℕ → Option RegionForm)
+    (chosen : AreChosen table limits choices forms) where
+  stands : Stands table keeps limits ranges small chosen.found choices forms
+  stands = chosen_stands table keeps limits ranges small chosen.found choices forms chosen.choosing
+
+  -- each region that was found has a form
+  has_form : (region : ℕ) → IsIn chosen.found region → HasForm table forms region
+  has_form region h =
+      let at = place_of chosen.found region h in
+      let within = slice_get_within chosen.found at.0 region at.1 in
+      let all = chosen.all in
+      let form = stands.taken at.0 region (omega (arith, within, all)) at.1 in
+      record { there = stands.there region h; form = form.0; has = form.1 }
+
+  -- so has each to which a form leads
+  leads_have : (from : ℕ) (form : RegionForm) → forms from ≡ Some form → (region : ℕ) → IsIn (form_leads (region_tree table from) form) region
+      → HasForm table forms region
+  leads_have from form has region h = has_form region (stands.behind from region form has h)
+
+  pub form_can : (region : ℕ) (form : RegionForm) → forms region ≡ Some form → CanHave table limits forms (region_tree table region) form
+  form_can region Plain has = names_have table forms (region_tree table region) (leads_have region Plain has)
+  form_can region (Packed states registers) has =
+      let given = stands.given region (Packed states registers) has in
+      can_pack table keeps limits ranges region states registers
+      (given_registers table limits region (bytes_with table given.had region) states registers given.kind given.causes given.gets)
+      forms (leads_have region (Packed states registers) has)
+
+  pub form_is : (region : ℕ) (form : RegionForm) → forms region ≡ Some form → IsForm table region form
+  form_is region Plain has = tt
+  form_is region (Packed states registers) has =
+      let given = stands.given region (Packed states registers) has in
+      is_packed_form table keeps limits ranges region states registers
+      (given_registers table limits region (bytes_with table given.had region) states registers given.kind given.causes given.gets)
+
+  pub are_forms : AreForms table limits forms
+  are_forms = record {
+    first = has_form 0 (listed chosen.found 0 0 stands.first);
+    each = form_can;
+    met = λ region form has.
+        let taken = taken_of_form table limits chosen.found choices forms chosen.choosing region form has in
+        stands.met region (listed chosen.found taken.place region taken.there);
+    traps = λ region line kind is has.
+        let given = stands.given region Plain has in
+        let one = traps_have_one_state table limits region line kind is most_rows (omega arith) in
+        trap_not_plain table limits region line kind is one.0 (λ states found. one.1 states found.pattern) given.had given.there given.free given.short
+        given.kind given.causes given.gets;
+    short = stands.short;
+  }

@@ -1,0 +1,13 @@
+pub mod Places
+pub mod Marks
+pub mod Finding
+pub mod Counting
+pub mod StateBytes
+pub mod Trying
+pub mod Taken
+pub mod Progress
+pub mod Standing
+pub mod Order
+pub mod BareTraps
+pub mod Emittable
+pub mod SummingKept

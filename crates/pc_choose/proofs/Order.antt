@@ -1,0 +1,156 @@
+-- Regions are taken in the order that their forms fix.
+use Rattle.std.proofs.Common.{◌≡◌, ℕ, zero, suc, ◌+◌, ◌-◌, ◌≤◌, inl, inr, List, [], ◌∷◌, ◌++◌, length, map, Option, Some, None, refl, sym, ◌∙◌, ap, arith, zero-add}
+use Rattle.std.specs.Prelude.{slice_get}
+use Rattle.std.proofs.lemmas.Option.{slice_get_past}
+use Rattle.pc_word.specs.declared.item.Limits.{Limits}
+use Rattle.pc_word.proofs.Truth.{decide_le}
+use Rattle.pc_table.specs.Table.{Table, region_tree}
+use Rattle.pc_emit.specs.Emitted.{RegionForm, Plain, Packed}
+use Rattle.pc_emit.specs.Leading.{form_leads}
+use Rattle.pc_choose.specs.declared.choice.Choice.{Choice}
+use Rattle.pc_choose.specs.declared.choice.Cause.{Cause}
+use Rattle.pc_choose.specs.declared.choice.Form.{Form}
+use Rattle.pc_choose.specs.declared.choice.Form.TheVariants as kind
+use Rattle.pc_choose.specs.Choosing.{bytes_with, with_regions, choice_of, Gets, Gets_packed, Gets_plain, Choosing, Begins, Takes, AreChosen}
+use Rattle.pc_choose.proofs.Places.{get_more, length_more, map_length}
+use Rattle.pc_choose.proofs.Counting.{with_form-same, form_stays}
+use Rattle.pc_choose.proofs.Taken.{with_regions_keep, next_is_free}
+
+-- ---- lists
+
+-- lists of one length with the same elements at their places are equal
+same_at : {X : Type 0} (xs ys : List X) → length xs ≡ length ys → ((at : ℕ) (x : X) → slice_get xs at ≡ Some x → slice_get ys at ≡ Some x) → xs ≡ ys
+same_at [] [] e each = refl
+same_at [] (y ∷ ys) e each = absurd (omega arith)
+same_at (x ∷ xs) [] e each = absurd (omega arith)
+same_at (x ∷ xs) (y ∷ ys) e each =
+    let first : Some y ≡ Some x = each 0 x refl in
+    let same : x ≡ y = (cc) in
+    ap (λ z. z ∷ xs) same ∙ ap (λ zs. y ∷ zs) (same_at xs ys (omega arith) (λ at z h. each (suc at) z h))
+
+-- the images of a list with an element more
+map_more : {X Y : Type 0} (f : X → Y) (xs : List X) (x : X) → map f (xs ++ x ∷ []) ≡ map f xs ++ f x ∷ []
+map_more f [] x = refl
+map_more f (y ∷ xs) x = ap (λ zs. f y ∷ zs) (map_more f xs x)
+
+-- ---- the kinds of forms
+
+kind_of : RegionForm → Form
+kind_of Plain = kind.Plain
+kind_of (Packed states registers) = kind.Packed
+
+abbrev kind_at : Option RegionForm → Form
+kind_at (Some form) = kind_of form
+kind_at None = kind.Plain
+
+gets_kind : (table : Table) (limits : Limits) (region : ℕ) (bytes : RegionForm → ℕ) (form : RegionForm) (kind : Form) (causes : List Cause)
+    → Gets table limits region bytes form kind causes → kind ≡ kind_of form
+unfolding kind_of
+gets_kind table limits region bytes form kind causes (Gets_packed has short) = refl
+gets_kind table limits region bytes form kind causes (Gets_plain refused) = refl
+
+-- ---- the order
+
+module _ (table : Table) (limits : Limits) (forms : ℕ → Option RegionForm) where
+  -- what a region leads to
+  abbrev leads_of : Option RegionForm → ℕ → List ℕ
+  leads_of (Some form) region = form_leads (region_tree table region) form
+  leads_of None region = []
+
+  -- the regions that are found when a region is taken, if there is one
+  abbrev behind : List ℕ → Option ℕ → List ℕ
+  behind found (Some region) = with_regions found (leads_of (forms region) region)
+  behind found None = found
+
+  -- the regions that are found when so many are taken
+  abbrev grown : ℕ → List ℕ
+  grown zero = 0 ∷ []
+  grown (suc n) = behind (grown n) (slice_get (grown n) n)
+
+  -- what the choices of some regions say
+  record Follows (found : List ℕ) (choices : List Choice) : Type 0 where
+    order : found ≡ grown (length choices)
+    regions : (at region : ℕ) → slice_get (map (λ choice. choice.region) choices) at ≡ Some region → slice_get found at ≡ Some region
+    kinds : map (λ choice. choice.form) choices ≡ map (λ choice. kind_at (forms choice.region)) choices
+
+  takes_follows : (found : List ℕ) (choices : List Choice) (last : ℕ) (chosen : RegionForm) (kind : Form) (causes : List Cause)
+      → slice_get found (length choices) ≡ Some last → forms last ≡ Some chosen → kind ≡ kind_of chosen → Follows found choices
+      → Follows (with_regions found (form_leads (region_tree table last) chosen)) (choices ++ choice_of last kind causes ∷ [])
+  takes_follows found choices last chosen kind causes next has is follows = record {
+    order =
+        ap (λ (f : Option RegionForm). with_regions found (leads_of f last)) (sym has)
+        ∙ ap (λ (r : Option ℕ). behind found r) (sym next)
+        ∙ ap (λ (f : List ℕ). behind f (slice_get f (length choices))) follows.order
+        ∙ ap grown (sym (length_more choices (choice_of last kind causes)));
+    regions = λ at region e.
+        elim (get_more (map (λ choice. choice.region) choices) last at region
+        (ap (λ (rs : List ℕ). slice_get rs at) (sym (map_more (λ (choice : Choice). choice.region) choices (choice_of last kind causes))) ∙ e)) [
+          | inl h ↦ with_regions_keep found (form_leads (region_tree table last) chosen) at region (follows.regions at region h)
+          | inr h ↦
+              let place : at ≡ length choices = h.0 ∙ map_length (λ (choice : Choice). choice.region) choices in
+              with_regions_keep found (form_leads (region_tree table last) chosen) at region
+              (ap (slice_get found) place ∙ next ∙ ap Some h.1)
+        ];
+    kinds =
+        map_more (λ (choice : Choice). choice.form) choices (choice_of last kind causes)
+        ∙ ap (λ (ks : List Form). ks ++ kind ∷ []) follows.kinds
+        ∙ ap (λ (k : Form). map (λ (choice : Choice). kind_at (forms choice.region)) choices ++ k ∷ []) (is ∙ sym (ap kind_at has))
+        ∙ sym (map_more (λ (choice : Choice). kind_at (forms choice.region)) choices (choice_of last kind causes));
+  }
+
+  -- so it is whatever was chosen, while all forms are among the last ones
+  choosing_follows : (found : List ℕ) (choices : List Choice) (had : ℕ → Option RegionForm) → Choosing table limits found choices had
+      → ((region : ℕ) (form : RegionForm) → had region ≡ Some form → forms region ≡ Some form) → Follows found choices
+  choosing_follows found choices had Begins among = record { order = refl; regions = λ at region e. absurd (cc); kinds = refl }
+  choosing_follows found choices had (Takes {found = before} {choices = earlier} {forms = old} {region = last} {chosen = chosen} {kind = kind} {causes = causes} choosing next gets) among =
+      let free = next_is_free table limits before earlier old choosing last next in
+      takes_follows before earlier last chosen kind causes next (among last chosen (with_form-same old last chosen))
+      (gets_kind table limits last (bytes_with table old last) chosen kind causes gets)
+      (choosing_follows before earlier old choosing (λ region form has. among region form (form_stays old last region chosen form free has)))
+
+  -- where all that were found were taken, no more are found
+  grown_stays : (n more : ℕ) → length (grown n) ≡ n → grown (more + n) ≡ grown n
+  grown_stays n zero full = ap grown (zero-add n)
+  grown_stays n (suc more) full =
+      let one : suc more + n ≡ suc (more + n) = omega arith in
+      let same = grown_stays n more full in
+      let past : slice_get (grown n) (more + n) ≡ None = slice_get_past (grown n) (more + n) (omega (arith, full)) in
+      ap grown one ∙ ap (λ (f : List ℕ). behind f (slice_get f (more + n))) same ∙ ap (behind (grown n)) past
+
+  one_end : (n m : ℕ) → length (grown n) ≡ n → length (grown m) ≡ m → n ≤ m → n ≡ m
+  one_end n m full end up =
+      let rest : m ≡ (m - n) + n = omega arith in
+      let same = ap (λ (k : ℕ). length (grown k)) rest ∙ ap length (grown_stays n (m - n) full) in
+      omega (arith, full, end, same)
+
+  -- the regions are taken in one order, and get one kind of form
+  module _ (choices others : List Choice) (one : AreChosen table limits choices forms) (other : AreChosen table limits others forms) where
+    follows : Follows one.found choices
+    follows = choosing_follows one.found choices forms one.choosing (λ region form has. has)
+
+    other_follows : Follows other.found others
+    other_follows = choosing_follows other.found others forms other.choosing (λ region form has. has)
+
+    as_many : length choices ≡ length others
+    as_many =
+        let full : length (grown (length choices)) ≡ length choices = ap length (sym follows.order) ∙ sym one.all in
+        let end : length (grown (length others)) ≡ length others = ap length (sym other_follows.order) ∙ sym other.all in
+        elim (decide_le (length choices) (length others)) [
+          | inl up ↦ one_end (length choices) (length others) full end up
+          | inr down ↦ sym (one_end (length others) (length choices) end full (omega arith))
+        ]
+
+    pub one_order : map (λ choice. choice.region) choices ≡ map (λ choice. choice.region) others
+    one_order =
+        same_at (map (λ (choice : Choice). choice.region) choices) one.found (map_length (λ (choice : Choice). choice.region) choices ∙ one.all) follows.regions
+        ∙ follows.order ∙ ap grown as_many ∙ sym other_follows.order
+        ∙ sym (same_at (map (λ (choice : Choice). choice.region) others) other.found (map_length (λ (choice : Choice). choice.region) others ∙ other.all) other_follows.regions)
+
+    pub one_kind : map (λ choice. choice.form) choices ≡ map (λ choice. choice.form) others
+    one_kind =
+        follows.kinds ∙ kinds_of choices ∙ ap (map (λ (region : ℕ). kind_at (forms region))) one_order ∙ sym (kinds_of others) ∙ sym other_follows.kinds
+      where
+        kinds_of : (list : List Choice) → map (λ (choice : Choice). kind_at (forms choice.region)) list
+            ≡ map (λ (region : ℕ). kind_at (forms region)) (map (λ (choice : Choice). choice.region) list)
+        kinds_of [] = refl
+        kinds_of (choice ∷ list) = ap (λ (ks : List Form). kind_at (forms choice.region) ∷ ks) (kinds_of list)

@@ -1,0 +1,98 @@
+-- What stands at the places of a list, and numbers told apart.
+use Rattle.std.proofs.Common.{◌≡◌, ◌≢◌, ℕ, zero, suc, ◌<◌, ◌≤◌, ◌⊎◌, inl, inr, true, false, List, [], ◌∷◌, ◌++◌, length, drop, map, Some, None, refl, sym, ap, subst, arith}
+use Rattle.std.specs.Prelude.{nat_eq, slice_get, slice_set}
+use Rattle.std.specs.List.{list_any}
+use Rattle.std.proofs.lemmas.Bool.Decides.{nat_tests}
+use Rattle.pc_window.proofs.Live.{or_first, or_second}
+
+-- ---- places
+
+-- what stands in a list stands there in a longer one
+pub get_front : {X : Type 0} (xs ys : List X) (i : ℕ) (x : X) → slice_get xs i ≡ Some x → slice_get (xs ++ ys) i ≡ Some x
+get_front [] ys i x e = absurd (cc)
+get_front (z ∷ xs) ys zero x e = e
+get_front (z ∷ xs) ys (suc i) x e = get_front xs ys i x e
+
+-- an element that was put behind a list
+pub get_last : {X : Type 0} (xs : List X) (x : X) → slice_get (xs ++ x ∷ []) (length xs) ≡ Some x
+get_last [] x = refl
+get_last (y ∷ xs) x = get_last xs x
+
+-- what stands in a list with an element more stood there before, or is that element
+pub get_more : {X : Type 0} (xs : List X) (y : X) (i : ℕ) (x : X) → slice_get (xs ++ y ∷ []) i ≡ Some x
+    → (slice_get xs i ≡ Some x) ⊎ ((i ≡ length xs) × (y ≡ x))
+get_more [] y zero x e = inr (refl, cc)
+get_more [] y (suc i) x e = absurd (cc)
+get_more (z ∷ xs) y zero x e = inl e
+get_more (z ∷ xs) y (suc i) x e = elim (get_more xs y i x e) [
+  | inl h ↦ inl h
+  | inr h ↦ inr (ap suc h.0, h.1)
+]
+
+-- a list with an element more
+pub length_more : {X : Type 0} (xs : List X) (x : X) → length (xs ++ x ∷ []) ≡ suc (length xs)
+length_more [] x = refl
+length_more (y ∷ xs) x = ap suc (length_more xs x)
+
+-- what stands within a list
+pub found_within : {X : Type 0} (xs : List X) (i : ℕ) → i < length xs → (x : X) × (slice_get xs i ≡ Some x)
+found_within [] i lt = absurd (omega arith)
+found_within (x ∷ xs) zero lt = (x, refl)
+found_within (x ∷ xs) (suc i) lt = found_within xs i (omega arith)
+
+-- where nothing stands the list has ended
+pub none_left : {X : Type 0} (xs : List X) (i : ℕ) → slice_get xs i ≡ None → length xs ≤ i
+none_left [] i e = omega arith
+none_left (x ∷ xs) zero e = absurd (cc)
+none_left (x ∷ xs) (suc i) e = let rest = none_left xs i e in omega (arith, rest)
+
+-- the rest of a list from a place on begins with what stands there
+pub drop_at : {X : Type 0} (xs : List X) (i : ℕ) (x : X) → slice_get xs i ≡ Some x → drop i xs ≡ x ∷ drop (suc i) xs
+drop_at [] i x e = absurd (cc)
+drop_at (y ∷ xs) zero x e = let same : y ≡ x = (cc) in ap (λ z. z ∷ xs) same
+drop_at (y ∷ xs) (suc i) x e = drop_at xs i x e
+
+-- what stands at a place of images
+pub map_at : {X Y : Type 0} (f : X → Y) (xs : List X) (i : ℕ) (x : X) → slice_get xs i ≡ Some x → slice_get (map f xs) i ≡ Some (f x)
+map_at f [] i x e = absurd (cc)
+map_at f (y ∷ xs) zero x e = let same : y ≡ x = (cc) in ap (λ z. Some (f z)) same
+map_at f (y ∷ xs) (suc i) x e = map_at f xs i x e
+
+-- there are as many images
+pub map_length : {X Y : Type 0} (f : X → Y) (xs : List X) → length (map f xs) ≡ length xs
+map_length f [] = refl
+map_length f (x ∷ xs) = ap suc (map_length f xs)
+
+-- what stands where an element was put
+pub set_there : {X : Type 0} (xs : List X) (i : ℕ) (x : X) → i < length xs → slice_get (slice_set xs i x) i ≡ Some x
+set_there [] i x h = absurd (omega arith)
+set_there (y ∷ xs) zero x h = refl
+set_there (y ∷ xs) (suc i) x h = set_there xs i x (omega arith)
+
+-- and elsewhere
+pub set_elsewhere : {X : Type 0} (xs : List X) (i j : ℕ) (x : X) → i ≢ j → slice_get (slice_set xs i x) j ≡ slice_get xs j
+set_elsewhere [] i j x h = refl
+set_elsewhere (y ∷ xs) zero zero x h = absurd (h refl)
+set_elsewhere (y ∷ xs) zero (suc j) x h = refl
+set_elsewhere (y ∷ xs) (suc i) zero x h = refl
+set_elsewhere (y ∷ xs) (suc i) (suc j) x h = set_elsewhere xs i j x (λ e. h (ap suc e))
+
+-- ---- numbers
+
+-- numbers that a test finds equal
+pub same_number : (x y : ℕ) → nat_eq x y ≡ true → x ≡ y
+same_number x y e = grind (arith, nat_tests)
+
+-- and different
+pub other_number : (x y : ℕ) → x ≢ y → nat_eq x y ≡ false
+other_number x y e = grind (arith, nat_tests)
+
+-- each is equal to itself
+pub own_number : (x : ℕ) → nat_eq x x ≡ true
+own_number x = grind (arith, nat_tests)
+
+-- a number that stands in a list is listed
+pub listed : (xs : List ℕ) (i x : ℕ) → slice_get xs i ≡ Some x → list_any (nat_eq x) xs ≡ true
+listed [] i x e = absurd (cc)
+listed (y ∷ xs) zero x e = let same : y ≡ x = (cc) in or_first (nat_eq x y) (list_any (nat_eq x) xs) (subst (λ (z : ℕ). nat_eq x z ≡ true) (sym same) (own_number x))
+listed (y ∷ xs) (suc i) x e = or_second (nat_eq x y) (list_any (nat_eq x) xs) (listed xs i x e)

@@ -1,0 +1,3 @@
+pub mod models
+pub mod Choosing
+pub mod Laws

@@ -1,0 +1,5 @@
+pub mod Marked
+pub mod Counting
+pub mod Giving
+pub mod Progress
+pub mod Summing
