@@ -1,8 +1,11 @@
 -- What is emitted from a table and a form for each of its regions, and what that needs.
-use Rattle.std.specs.Prelude.{◌≡◌, ℕ, ◌+◌, ◌<◌, List, Option, Some, None, length, slice_get, slice_index}
-use Rattle.std.specs.List.{AllByRecursion}
+use Rattle.std.specs.Prelude.{◌≡◌, ℕ, ◌+◌, ◌<◌, ◌≤◌, List, Option, Some, None, length, slice_get, slice_index}
+use Rattle.std.specs.List.{AllByRecursion, flat_map}
+use Rattle.pc_word.specs.declared.item.Limits.{Limits}
+use Rattle.pc_word.specs.declared.item.TrapKind.{TrapKind}
+use Rattle.pc_word.specs.MachineLimits.{most_object}
 use Rattle.pc_word.specs.Row.{leaves_of}
-use Rattle.pc_table.specs.Table.{TableTree, Does, Asks, Next, Stops_here, Traps_here, Table}
+use Rattle.pc_table.specs.Table.{TableTree, Does, Asks, Next, Stops_here, Traps_here, Table, region_tree}
 use Rattle.pc_automaton.specs.declared.automaton.AutomatonLeaf.{AutomatonLeaf}
 use Rattle.pc_automaton.specs.declared.automaton.AutomatonLeaf.TheVariants.{To, Out, Stop, Trap}
 use Rattle.pc_automaton.specs.Automaton.{AutomatonState, IsAutomaton, states_in}
@@ -10,10 +13,16 @@ use Rattle.pc_automaton.specs.There.{StateIsThere}
 use Rattle.pc_assign.specs.Pressure.{allowed}
 use Rattle.pc_assign.specs.Apart.{IsApart}
 use Rattle.pc_assign.specs.Stored.{registers_in}
+use Rattle.pc_pattern.specs.Pattern.{RowFits, EachIsLedTo}
 use Rattle.pc_machine.specs.MachineCode.{CodeRow}
+use Rattle.pc_machine.specs.WellFormed.{IsRow}
+use Rattle.pc_machine.specs.Reachable.{IsReachable}
+use Rattle.pc_object.specs.ObjectText.{row_text}
 use Rattle.pc_emit.specs.declared.form.RegionForm.{RegionForm as StoredForm}
 use Rattle.pc_emit.specs.declared.form.RegionForm.TheVariants as stored
 use Rattle.pc_emit.specs.Emitted.{RegionForm, Plain, Packed, Emission, IsEmitted}
+use Rattle.pc_emit.specs.Leading.{IsMet}
+use Rattle.pc_emit.specs.Bytes.{regions_bytes, object_bytes}
 
 -- ---- what is emitted
 
@@ -39,10 +48,14 @@ emission_of table forms entries ops = record {
   scratch = allowed;
 }
 
--- these rows are those of a table's regions in these forms
-pub record AreEmitted (table : Table) (forms : List (Option StoredForm)) (ops : ℕ) (rows : List CodeRow) : Type 0 where
+-- These rows are those of a table's regions in these forms. Each keeps the limits of the machine and its own, leaves lead to
+-- each from row 0, and together they are no longer than was counted.
+pub record AreEmitted (table : Table) (forms : List (Option StoredForm)) (limits : Limits) (rows : List CodeRow) : Type 0 where
   pub entries : List ℕ
-  pub are : IsEmitted (emission_of table forms entries ops) rows
+  pub are : IsEmitted (emission_of table forms entries limits.ops) rows
+  pub fit : AllByRecursion (IsRow limits (length table.arrays) (length rows)) rows
+  pub reached : (row : ℕ) → row < length rows → IsReachable rows row
+  pub short : length (flat_map row_text rows) ≤ regions_bytes (forms_in forms) 0 table.regions
 
 -- ---- what that needs
 
@@ -67,16 +80,28 @@ LeadsToForm table forms (Out region homes) = HasForm table forms region
 LeadsToForm table forms Stop = Unit {0}
 LeadsToForm table forms (Trap kind line) = Unit {0}
 
--- an automaton that may be emitted: names that are live together have different registers, all registers are below 127, and what
--- its leaves lead out to is there and has a form
-pub record CanPack (table : Table) (forms : ℕ → Option RegionForm) (states : List AutomatonState) (registers : ℕ → ℕ → Option ℕ) : Type 0 where
+-- an automaton that may be emitted: names that are live together have different registers, all registers are below 127, what its
+-- leaves lead out to is there and has a form, its rows keep the limits, and each state but the first is led to
+pub record CanPack (table : Table) (limits : Limits) (forms : ℕ → Option RegionForm) (states : List AutomatonState) (registers : ℕ → ℕ → Option ℕ)
+    : Type 0 where
   pub automaton : IsAutomaton states
   pub apart : (number : ℕ) (state : AutomatonState) → slice_get states number ≡ Some state → IsApart (registers number) state
   pub below : (number name register : ℕ) → registers number name ≡ Some register → register < allowed
   pub there : AllByRecursion (StateIsThere table) states
   pub out : (number : ℕ) (state : AutomatonState) → slice_get states number ≡ Some state → AllByRecursion (LeadsToForm table forms) (leaves_of state.row)
+  pub fit : AllByRecursion (λ state. RowFits limits state.row) states
+  pub led : EachIsLedTo states
 
 -- a form that may be emitted, of a region with this tree
-abbrev pub CanHave : Table → (ℕ → Option RegionForm) → TableTree → RegionForm → Type 0
-CanHave table forms tree Plain = NamesHaveForms table forms tree
-CanHave table forms tree (Packed states registers) = CanPack table forms states registers
+abbrev pub CanHave : Table → Limits → (ℕ → Option RegionForm) → TableTree → RegionForm → Type 0
+CanHave table limits forms tree Plain = NamesHaveForms table forms tree
+CanHave table limits forms tree (Packed states registers) = CanPack table limits forms states registers
+
+-- Forms of a table's regions that may be emitted: region 0 has one, each is one that its region may have, only regions that
+-- are led to from region 0 have one, no region that is a trap alone is plain, and the object is short enough.
+pub record AreForms (table : Table) (limits : Limits) (forms : ℕ → Option RegionForm) : Type 0 where
+  pub first : HasForm table forms 0
+  pub each : (region : ℕ) (form : RegionForm) → forms region ≡ Some form → CanHave table limits forms (region_tree table region) form
+  pub met : (region : ℕ) (form : RegionForm) → forms region ≡ Some form → IsMet table forms region
+  pub traps : (region line : ℕ) (kind : TrapKind) → region_tree table region ≡ Traps_here kind line → forms region ≡ Some Plain → ⊥
+  pub short : object_bytes table forms ≤ most_object

@@ -1,13 +1,15 @@
 -- Packed code: the automaton of a region that is not unwound, in which no two windows are taken for the same.
-use Rattle.std.specs.Prelude.{◌≡◌, ℕ, suc, ◌≤◌, List, length, Some, slice_get}
+use Rattle.std.specs.Prelude.{◌≡◌, ℕ, suc, ◌<◌, ◌≤◌, List, length, Contains, Some, slice_get}
 use Rattle.std.specs.List.{AllByRecursion, count_by}
 use Rattle.pc_word.specs.declared.item.Limits.{Limits}
+use Rattle.pc_word.specs.declared.item.Operand.{Operand}
 use Rattle.pc_word.specs.State.{State}
 use Rattle.pc_word.specs.Items.{is_memory, is_effect}
-use Rattle.pc_word.specs.Row.{Row, items_of, tests_of, paths_of}
+use Rattle.pc_word.specs.Row.{Row, items_of, tests_of, leaves_of, paths_of}
 use Rattle.pc_table.specs.Table.{Table, Next}
 use Rattle.pc_table.specs.RegionRun.{region_run}
 use Rattle.pc_window.specs.Kept.{NeverFaults, HasItems}
+use Rattle.pc_automaton.specs.declared.automaton.AutomatonLeaf.TheVariants.{To}
 use Rattle.pc_automaton.specs.Automaton.{AutomatonState}
 use Rattle.pc_automaton.specs.RunsAsRegion.{RunsAlike, LeadsUntested}
 use Rattle.pc_pattern.specs.declared.error.SearchError.{SearchError}
@@ -35,6 +37,19 @@ pub record RunsAsTheRegion (table : Table) (region : ℕ) (states : List Automat
   pub alike : (first : AutomatonState) → slice_get states 0 ≡ Some first → (s : State) → NeverFaults (region_run table (Next region) s) → RunsAlike table region states first s
   pub untested : (first : AutomatonState) → slice_get states 0 ≡ Some first → LeadsUntested table region first.row
 
+-- a leaf of a state with a smaller number leads to the state with this one
+pub record IsLedTo (states : List AutomatonState) (to : ℕ) : Type 0 where
+  pub from : ℕ
+  pub state : AutomatonState
+  pub arguments : List Operand
+  pub earlier : from < to
+  pub there : slice_get states from ≡ Some state
+  pub leaf : Contains (leaves_of state.row) (To to arguments)
+
+-- so it is of each state but the first
+abbrev pub EachIsLedTo : List AutomatonState → Type 0
+EachIsLedTo states = (at : ℕ) → suc at < length states → IsLedTo states (suc at)
+
 -- the packed code of a region, of at most so many states
 pub record IsPacked (table : Table) (limits : Limits) (region rows : ℕ) (states : List AutomatonState) : Type 0 where
   pub pattern : IsPattern (packed table limits) region rows states
@@ -42,6 +57,7 @@ pub record IsPacked (table : Table) (limits : Limits) (region rows : ℕ) (state
   pub runs : RunsAsTheRegion table region states
   pub fits : AllByRecursion (λ state. RowFits limits state.row) states
   pub no_empty : NoneIsEmpty states
+  pub led : EachIsLedTo states
 
 -- why there is none: want of memory, or more windows than so many
 abbrev pub IsUnpacked : Table → Limits → ℕ → ℕ → SearchError → Type 0
