@@ -1,11 +1,14 @@
 -- The rows of a plain region, one behind the other.
-use Rattle.std.proofs.Common.{◌≡◌, ℕ, suc, ◌+◌, ◌≤◌, List, [], ◌∷◌, ◌++◌, length, sym, ◌∙◌, ap, subst, arith}
+use Rattle.std.proofs.Common.{◌≡◌, ◌⊎◌, inl, inr, ℕ, suc, ◌+◌, ◌≤◌, List, [], ◌∷◌, ◌++◌, length, sym, ◌∙◌, ap, subst, arith}
 use Rattle.std.specs.Prelude.{slice_get, Some}
 use Rattle.std.proofs.lemmas.List.{length-append}
 use Rattle.pc_word.specs.declared.item.Item.{Item}
 use Rattle.pc_word.specs.declared.item.Operand.{Operand}
 use Rattle.pc_word.specs.Row.{Then, Either, At_leaf}
-use Rattle.pc_table.specs.Table.{TableTree, Does, Asks, Next, Stops_here, Traps_here}
+use Rattle.pc_word.specs.declared.item.TrapKind.{TrapKind}
+use Rattle.pc_table.specs.Table.{TableTree, Does, Asks, Next, Stops_here, Traps_here, table_tree}
+use Rattle.pc_table.specs.declared.tree.RegionTree.{RegionTree}
+use Rattle.pc_table.specs.declared.tree.RegionTree.TheVariants as stored
 use Rattle.pc_table.specs.TableKeeps.{units}
 use Rattle.pc_machine.specs.MachineCode.{Leaf, CodeRow}
 use Rattle.pc_object.specs.ObjectText.{operand_text, item_text, leaf_text, row_text}
@@ -61,6 +64,13 @@ bare_tree plan output row (Asks origin on on_yes on_no) none = absurd (omega (ar
 bare_tree plan output row (Next region) none = record { stands = λ final stays. no_row }
 bare_tree plan output row Stops_here none = record { stands = λ final stays. no_end_row }
 bare_tree plan output row (Traps_here kind line) none = record { stands = λ final stays. no_trap_row }
+
+-- which a tree in memory is that has neither an item nor a test
+pub bare_units : (it : RegionTree) → ((region : ℕ) × (it ≡ stored.Next region)) ⊎ ((it ≡ stored.Stop) ⊎ ((kind : TrapKind) × (line : ℕ) × (it ≡ stored.Trap kind line)))
+    → units (table_tree it) ≡ 0
+bare_units it (inl next) = ap (λ (r : RegionTree). units (table_tree r)) next.1
+bare_units it (inr (inl stop)) = ap (λ (r : RegionTree). units (table_tree r)) stop
+bare_units it (inr (inr trap)) = ap (λ (r : RegionTree). units (table_tree r)) trap.2
 
 -- ---- bytes
 
