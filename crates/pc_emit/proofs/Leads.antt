@@ -1,11 +1,13 @@
 -- What leads to a region, and to what stands behind an item or a test.
-use Rattle.std.proofs.Common.{◌≡◌, ℕ, ◌+◌, ◌<◌, length, Option, Some, None, sym, ◌∙◌, ap, subst, arith}
+use Rattle.std.proofs.Common.{◌≡◌, ℕ, zero, suc, ◌+◌, ◌<◌, List, [], ◌∷◌, length, Option, Some, None, sym, ◌∙◌, ap, subst, arith}
 use Rattle.std.specs.Prelude.{IsSome, slice_get, slice_index}
 use Rattle.std.proofs.lemmas.List.{length-map}
 use Rattle.pc_word.specs.declared.item.Item.{Item}
 use Rattle.pc_word.specs.declared.item.Operand.{Operand}
 use Rattle.pc_word.specs.declared.item.TrapKind.{TrapKind}
-use Rattle.pc_table.specs.Table.{TableTree, Does, Asks, Next, Stops_here, Traps_here, table_region, region_tree}
+use Rattle.pc_table.specs.Table.{TableTree, Does, Asks, Next, Stops_here, Traps_here, tree_of, table_tree, table_region, table_regions, table_of, region_tree}
+use Rattle.pc_table.specs.declared.table.Region.{Region}
+use Rattle.pc_table.specs.declared.table.RegionTable.{RegionTable}
 use Rattle.pc_machine.specs.MachineCode.{Leaf, Leads_to, Ends, Traps}
 use Rattle.pc_emit.specs.declared.form.RegionForm.{RegionForm as StoredForm}
 use Rattle.pc_emit.specs.declared.form.RegionForm.TheVariants as stored
@@ -13,6 +15,17 @@ use Rattle.pc_emit.specs.declared.plan.Plan.{Plan}
 use Rattle.pc_emit.specs.Emitted.{LeadsToRegion, Plain, LeadsBehind, to_item, to_test, to_region, to_end, to_trap}
 use Rattle.pc_emit.specs.Emitting.{form_in, HasForm}
 use Rattle.pc_emit.specs.models.Planned.{table_in, forms_at, emission_in, IsPlan, leaf_in}
+
+-- the tree of a region in memory is that of the table
+pub tree_is : (table : RegionTable) (number : ℕ) (region : Region) → slice_get table.regions number ≡ Some region → table_tree region.tree ≡ region_tree (table_of table) number
+tree_is table number region e = in_list table.regions number e
+  where
+    in_list : (regions : List Region) (at : ℕ) → slice_get regions at ≡ Some region → table_tree region.tree ≡ tree_of (slice_get (table_regions regions) at)
+    in_list [] at e = absurd (cc)
+    in_list (other ∷ regions) zero e = let same : region ≡ other = (cc) in ap (λ (r : Region). table_tree r.tree) same
+    in_list (other ∷ regions) (suc at) e = in_list regions at e
+
+pub ruleset trees = (tree_is)
 
 module _ (plan : Plan) (region : ℕ) (is : IsPlan plan) (has : HasForm (table_in plan) (forms_at plan) region) where
   -- a region that has a form is there, in the table and in all lists

@@ -6,17 +6,21 @@ use Rattle.std.proofs.lemmas.Option.{slice_get_within}
 use Rattle.pc_table.specs.Table.{TableTree, region_tree}
 use Rattle.pc_table.specs.TableKeeps.{units}
 use Rattle.pc_automaton.specs.Automaton.{AutomatonState, state_in}
+use Rattle.pc_machine.specs.declared.tree.Tree.{Tree}
+use Rattle.pc_machine.specs.MachineCode.{rows_of}
 use Rattle.pc_emit.specs.Bytes.{tree_bytes, states_bytes}
 use Rattle.pc_emit.specs.Emitted.{RegionForm, Plain, Packed, RegionStands, StateStands}
 use Rattle.pc_emit.specs.Emitting.{NamesHaveForms, CanHave}
 use Rattle.pc_emit.specs.declared.output.Output.{Output}
 use Rattle.pc_emit.specs.declared.plan.Plan.{Plan}
 use Rattle.pc_emit.specs.declared.packed.PackedSite.{PackedSite}
+use Rattle.pc_emit.specs.models.Output.{bytes_of}
 use Rattle.pc_emit.specs.models.Planned.{rows_in, table_in, forms_at, emission_in, end_of, states_at, registers_at, IsPlan, IsSite}
 use Rattle.pc_emit.specs.models.Packing.{StatesMade}
 use Rattle.pc_emit.specs.models.Making.{bytes_in, TreeMade, RegionMade}
 use Rattle.pc_emit.proofs.Entries.{region_within}
 use Rattle.pc_emit.proofs.Ways.{same_copies}
+use Rattle.pc_emit.proofs.States.{bytes_made}
 
 -- two forms of one region are one
 one_form : {forms : Option RegionForm} {form other : RegionForm} → forms ≡ Some form → forms ≡ Some other → form ≡ other
@@ -46,9 +50,13 @@ module _ (plan : Plan) (region : ℕ) where
       → rows_in (region_tree (table_in plan) region) (forms_at plan region) ≡ units tree
   plain_rows tree e is = ap (rows_in (region_tree (table_in plan) region)) e ∙ ap units (sym is)
 
-  pub plain_bytes_in : (tree : TableTree) → forms_at plan region ≡ Some Plain → tree ≡ region_tree (table_in plan) region
-      → bytes_in (region_tree (table_in plan) region) (forms_at plan region) ≡ tree_bytes tree
-  plain_bytes_in tree e is = ap (bytes_in (region_tree (table_in plan) region)) e ∙ ap tree_bytes (sym is)
+  pub plain_short : (old new : Output) (tree : TableTree) → forms_at plan region ≡ Some Plain → tree ≡ region_tree (table_in plan) region
+      → new.copies.items ≡ old.copies.items → bytes_of (rows_of new.rows) ≤ bytes_of (rows_of old.rows) + tree_bytes tree
+      → bytes_made new ≤ bytes_made old + bytes_in (region_tree (table_in plan) region) (forms_at plan region)
+  plain_short old new tree e is same short =
+      let counted = ap (bytes_in (region_tree (table_in plan) region)) e ∙ ap tree_bytes (sym is) in
+      let copies = ap (λ (l : List Tree). bytes_of (rows_of l)) same in
+      omega (arith, counted, copies, short)
 
   pub plain_names : (tree : TableTree) → IsPlan plan → forms_at plan region ≡ Some Plain → tree ≡ region_tree (table_in plan) region
       → NamesHaveForms (table_in plan) (forms_at plan) tree
@@ -98,7 +106,7 @@ pub ruleset regions = (
   none_rows,
   plain_made,
   plain_rows,
-  plain_bytes_in,
+  plain_short,
   plain_names,
   plain_few,
   packed_site,

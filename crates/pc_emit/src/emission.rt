@@ -101,19 +101,16 @@ fn region_rows(
     ensures short { OnOk result (bytes_of (rows_of output.new.rows) + bytes_of (rows_of output.new.copies.items)
         ≤ bytes_of (rows_of output.old.rows) + bytes_of (rows_of output.old.copies.items) + bytes_in (region_tree (table_in plan.now) region) (forms_at plan.now region)) }
 {
-    let at = region as usize;
     match form {
         None => Ok(()),
-        Some(RegionForm::Plain) => {
-            tree_rows(alloc, plan, &plan.table.regions.as_slice()[at].tree, output)
-        }
+        Some(RegionForm::Plain) => tree_rows(alloc, plan, plan.tree_of(region), output),
         Some(RegionForm::Packed {
             automaton,
             registers,
         }) => {
             let site = PackedSite {
                 region,
-                first: plan.entries[at],
+                first: plan.entries[region as usize],
                 automaton,
                 registers,
             };

@@ -1,11 +1,10 @@
-ghost use Rattle.std.specs.Prelude.{◌≡◌, ◌+◌, ◌<◌, ◌^◌, IsSome, IfOk, length};
-ghost use Rattle.pc_table.specs.Table.{table_tree};
+ghost use Rattle.std.specs.Prelude.{◌≡◌, ◌+◌, ◌<◌, ◌^◌, IsSome, IfOk, Some, length};
+ghost use Rattle.pc_table.specs.Table.{region_tree, table_tree};
 ghost use Rattle.pc_table.specs.TableKeeps.{units};
 ghost use Rattle.pc_emit.specs.Emitted.{LeadsToRegion, LeadsBehind, root_leaf};
 ghost use Rattle.pc_emit.specs.Emitting.{HasForm, NamesHaveForms, form_in};
 ghost use Rattle.pc_emit.specs.models.Output.{leaf_of};
 ghost use Rattle.pc_emit.specs.models.Planned.{emission_in, table_in, forms_at, IsPlan, leaf_in, rows_in, all_rows, entries_from};
-ghost use Rattle.std.specs.Prelude.{Some};
 
 use crate::form::RegionForm;
 use crate::target::Target;
@@ -23,7 +22,7 @@ pub(crate) struct Plan<'a> {
     pub(crate) limits: Limits,
 }
 
-impl Plan<'_> {
+impl<'a> Plan<'a> {
     /// What leads to a region: a goto to its first row, or the stop or trap that it is.
     #[tactic(auto, using(crate::proofs::Leads::leads))]
     pub(crate) fn target_of(&self, region: u32) -> Target
@@ -32,8 +31,16 @@ impl Plan<'_> {
         ensures { LeadsToRegion (emission_in self.now) region (leaf_of result) }
     {
         let at = region as usize;
-        let tree = &self.table.regions.as_slice()[at].tree;
-        beginning(&self.forms[at], tree, self.entries[at])
+        beginning(&self.forms[at], self.tree_of(region), self.entries[at])
+    }
+
+    /// The tree of a region.
+    #[tactic(auto, using(crate::proofs::Leads::trees))]
+    pub(crate) fn tree_of(&self, region: u32) -> &'a RegionTree
+        requires { region < length self.now.table.now.regions }
+        ensures { table_tree result.now ≡ region_tree (table_in self.now) region }
+    {
+        &self.table.regions.as_slice()[region as usize].tree
     }
 
     /// What leads to what stands behind an item or a test: to this row, or to the region that follows.
