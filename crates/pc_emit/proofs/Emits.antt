@@ -1,9 +1,9 @@
 -- The rows of all regions, one region behind the other.
-use Rattle.std.proofs.Common.{◌≡◌, inl, inr, ℕ, zero, suc, ◌+◌, ◌-◌, ◌<◌, ◌≤◌, ◌^◌, List, [], ◌∷◌, ◌++◌, length, Option, Some, None, refl, sym, ◌∙◌, ap, subst, drop, arith}
+use Rattle.std.proofs.Common.{◌≡◌, inl, inr, ℕ, zero, suc, ◌+◌, ◌-◌, ◌<◌, ◌≤◌, ◌^◌, List, [], ◌∷◌, ◌++◌, length, Option, Some, None, refl, sym, ◌∙◌, ap, subst, drop, get_or, arith}
 use Rattle.std.specs.Prelude.{slice_get, slice_index}
 use Rattle.std.specs.List.{AllByRecursion}
 use Rattle.std.proofs.lemmas.List.{length-append, length-map}
-use Rattle.std.proofs.lemmas.Option.{slice_get_within}
+use Rattle.std.proofs.lemmas.Option.{slice_get_within, slice_get-get_or}
 use Rattle.pc_word.proofs.Truth.{decide_le}
 use Rattle.pc_word.proofs.Lists.{all_both}
 use Rattle.pc_word.specs.declared.item.Limits.{Limits}
@@ -22,7 +22,7 @@ use Rattle.pc_machine.specs.Reachable.{IsReachable}
 use Rattle.pc_emit.specs.declared.form.RegionForm.{RegionForm as StoredForm}
 use Rattle.pc_emit.specs.Bytes.{tree_bytes, leaf_bytes, row_bytes, states_bytes, form_bytes, regions_bytes, object_bytes}
 use Rattle.pc_emit.specs.Emitted.{RegionForm, Plain, Packed, root_leaf, form_leaf, BeginsAt, at_first_row, by_leaf_alone, IsEmitted}
-use Rattle.pc_emit.specs.Emitting.{form_in, forms_in, AreEmitted, AreForms}
+use Rattle.pc_emit.specs.Emitting.{form_in, forms_in, CanHave, AreEmitted, AreForms}
 use Rattle.pc_emit.specs.declared.output.Output.{Output}
 use Rattle.pc_emit.specs.declared.plan.Plan.{Plan}
 use Rattle.pc_emit.specs.models.Output.{bytes_of, Stays, Grows, EachCopy}
@@ -31,6 +31,7 @@ use Rattle.pc_emit.specs.models.Making.{bytes_in, IsWay, RowsReached, RegionMade
 use Rattle.pc_emit.proofs.Entries.{form_within}
 use Rattle.pc_emit.proofs.PlainRuns.{IsRoot, roots}
 use Rattle.pc_emit.proofs.AllRows.{all_reached, all_fit}
+use Rattle.pc_emit.proofs.Leads.{tree_is}
 use Rattle.pc_emit.proofs.Passings.{nothing_grows, grows_more}
 use Rattle.pc_emit.proofs.Texts.{bytes_both}
 use Rattle.pc_emit.proofs.Ways.{same_copies}
@@ -383,4 +384,44 @@ module _ (plan : Plan) (is : IsPlan plan) (old new : Output) (rows : List CodeRo
   pub are_emitted : AreEmitted (table_in plan) plan.forms.now plan.limits rows
   are_emitted = record { entries = plan.entries.now; are = all_emitted; fit = fit; reached = reached; short = short }
 
-pub ruleset emits = (no_regions, one_more_region, rows_below)
+-- ---- what the code reads
+
+-- the rows of regions begin behind the leaf alone of region 0
+pub begins_behind : (table : RegionTable) (forms : List (Option StoredForm)) (regions : List Region) (region : Region) (form : Option StoredForm) (front : List Tree) (first : ℕ)
+    → regions ≡ table.regions → 1 ≤ length (table_of table).regions → length forms ≡ length table.regions → form ≡ get_or forms 0 form
+    → rows_of front ≡ in_front (table_tree (get_or regions 0 region).tree) (form_in (Some form)) → first ≡ length front
+    → first ≡ length (in_front (region_tree (table_of table) 0) (forms_in forms 0))
+begins_behind table forms regions region form front first same some count of_form is begins =
+    let many = length-map table.regions table_region in
+    let some_region : 0 < length regions = (let long = ap (λ (l : List Region). length l) same in omega (arith, some, many, long)) in
+    let some_form : 0 < length forms = omega (arith, some, many, count) in
+    let there = ap (λ (l : List Region). slice_get l 0) (sym same) ∙ slice_get-get_or regions 0 region some_region in
+    let tree = tree_is table 0 (get_or regions 0 region) there in
+    let has = ap form_in (slice_get-get_or forms 0 form some_form ∙ ap (λ (f : Option StoredForm). Some f) (sym of_form)) in
+    begins ∙ sym (length-map front row_of)
+    ∙ ap (λ (l : List CodeRow). length l) (is ∙ ap (λ (t : TableTree). in_front t (form_in (Some form))) tree ∙ ap (in_front (region_tree (table_of table) 0)) (sym has))
+
+-- there are fewer regions than numbers
+pub regions_few : (plan : Plan) → IsPlan plan → length plan.table.now.regions < 2 ^ 32
+regions_few plan is =
+    let few = each_some (table_in plan).regions 0 (λ region states registers has.
+    let can : CanHave (table_in plan) plan.limits (forms_at plan) (region_tree (table_in plan) region) (Packed states registers) = is.forms.each region (Packed states registers) has in
+    can.automaton.some) in
+    let short = is.forms.short in
+    let many = length-map plan.table.now.regions table_region in
+    omega (arith, few, short, many)
+  where
+    one : (tree : TableTree) (form : Option RegionForm) → ((states : List AutomatonState) (registers : ℕ → ℕ → Option ℕ) → form ≡ Some (Packed states registers) → 1 ≤ length states)
+        → 1 ≤ form_bytes tree form
+    one tree None some = omega arith
+    one tree (Some Plain) some = omega arith
+    one tree (Some (Packed states registers)) some = let few = states_few states in let first = some states registers refl in omega (arith, few, first)
+
+    each_some : (regions : List TableRegion) (number : ℕ)
+        → ((region : ℕ) (states : List AutomatonState) (registers : ℕ → ℕ → Option ℕ) → forms_at plan region ≡ Some (Packed states registers) → 1 ≤ length states)
+        → length regions ≤ regions_bytes (forms_at plan) number regions
+    each_some [] number some = omega arith
+    each_some (region ∷ regions) number some =
+        let first = one region.tree (forms_at plan number) (some number) in
+        let rest = each_some regions (1 + number) some in
+        omega (arith, first, rest)

@@ -28,7 +28,6 @@ use std::alloc::{AllocError, Global};
 /// no row, and a leaf alone stands in front.
 ///
 /// It fails where memory runs out, or the numbers of rows.
-#[tactic(auto, using(crate::proofs::Emits::emits))]
 pub fn emit(
     alloc: Global,
     table: &RegionTable,
@@ -42,21 +41,30 @@ pub fn emit(
     ensures { IfOk result (λ rows. AreEmitted (table_of table.now) forms.now limits (rows_of rows)) }
 {
     let regions = table.regions.as_slice();
-    let rows = in_front(alloc, &forms[0], &regions[0].tree)?;
-    let entries = entries(alloc, regions, forms, rows.len() as u32)?;
+    let front = in_front(alloc, &forms[0], &regions[0].tree)?;
+    let entries = entries(alloc, regions, forms, front.len() as u32)?;
     let plan = Plan {
         table,
         forms,
         entries: entries.as_slice(),
         limits,
     };
+    all_rows(alloc, &plan, front)
+}
+
+/// The rows of all regions behind this one in front, and those of copies behind them.
+fn all_rows(alloc: Global, plan: &Plan, front: TreeList) -> Result<TreeList, EmitError>
+    requires plan { IsPlan plan.now }
+    requires front { rows_of front ≡ in_front (region_tree (table_in plan.now) 0) (forms_at plan.now 0) }
+    ensures { IfOk result (λ rows. AreEmitted (table_in plan.now) plan.now.forms.now plan.now.limits (rows_of rows)) }
+{
     let mut output = Output {
-        rows,
+        rows: front,
         copies: Vec::new(alloc),
-        base: entries[regions.len()],
+        base: plan.entries[plan.forms.len()],
     };
-    for region in 0..regions.len() {
-        region_rows(alloc, &plan, region as u32, &forms[region], &mut output)?;
+    for region in 0..plan.forms.len() {
+        region_rows(alloc, plan, region as u32, &plan.forms[region], &mut output)?;
     }
     output.all()
 }
@@ -104,10 +112,12 @@ fn region_rows(
     match form {
         None => Ok(()),
         Some(RegionForm::Plain) => tree_rows(alloc, plan, plan.tree_of(region), output),
-        Some(RegionForm::Packed {
-            automaton,
-            registers,
-        }) => {
+        Some(
+            RegionForm::Packed {
+                automaton,
+                registers,
+            },
+        ) => {
             let site = PackedSite {
                 region,
                 first: plan.entries[region as usize],

@@ -52,7 +52,9 @@ impl Output {
         ensures { IfOk result (λ rows. rows_of rows ≡ rows_of self.rows ++ rows_of self.copies.items) }
     {
         let Output {
-            mut rows, copies, ..
+            mut rows,
+            copies,
+            ..
         } = self;
         for row in copies {
             rows.push(row)?;
