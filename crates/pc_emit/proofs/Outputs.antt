@@ -1,7 +1,7 @@
 -- A row that is put behind others.
-use Rattle.std.proofs.Common.{◌≡◌, ℕ, zero, suc, ◌+◌, List, [], ◌∷◌, ◌++◌, length, Some, refl, sym, ◌∙◌, ap, subst}
+use Rattle.std.proofs.Common.{◌≡◌, ℕ, zero, suc, ◌+◌, List, [], ◌∷◌, ◌++◌, length, Some, refl, sym, ◌∙◌, ap, subst, arith}
 use Rattle.std.specs.Prelude.{slice_get}
-use Rattle.std.proofs.lemmas.List.{length-map, map-append}
+use Rattle.std.proofs.lemmas.List.{length-map, length-append, map-append}
 use Rattle.pc_machine.specs.declared.tree.Tree.{Tree}
 use Rattle.pc_machine.specs.MachineCode.{CodeRow, row_of, rows_of}
 use Rattle.pc_emit.specs.declared.output.Output.{Output}
@@ -32,8 +32,10 @@ tree_last old new tree e =
     (stands_last (rows_of old) (row_of tree)))
 
 -- one more row of a region
-pub row_grows : (old new : Output) (tree : Tree) → new.rows ≡ old.rows ++ tree ∷ [] → new.copies ≡ old.copies → new.base ≡ old.base → Grows old new
+pub row_grows : (old new : Output) (tree : Tree) → new.rows ≡ old.rows ++ tree ∷ [] → new.copies.items ≡ old.copies.items → new.base ≡ old.base → Grows old new
 row_grows old new tree e same base = record {
+  base = base;
+  more = let many = ap (λ (l : List Tree). length l) same in omega (arith, many);
   stays = λ final stays. record {
     rows_stay = λ at row h. stays.rows_stay at row (tree_still old.rows new.rows tree at row e h);
     copies_stay = λ at row h. subst (λ (b : ℕ). slice_get final (b + at) ≡ Some row) base
@@ -45,20 +47,29 @@ pub row_stands : (old new : Output) (tree : Tree) → new.rows ≡ old.rows ++ t
 row_stands old new tree e = record { stands = λ final stays. stays.rows_stay (length old.rows) (row_of tree) (tree_last old.rows new.rows tree e) }
 
 -- one more row of copies
-pub copies_grow : (old new : Output) (tree : Tree) → new.copies ≡ old.copies ++ tree ∷ [] → new.rows ≡ old.rows → new.base ≡ old.base → Grows old new
+pub copies_grow : (old new : Output) (tree : Tree) → new.copies.items ≡ old.copies.items ++ tree ∷ [] → new.rows ≡ old.rows → new.base ≡ old.base → Grows old new
 copies_grow old new tree e same base = record {
+  base = base;
+  more =
+      let many = ap (λ (l : List Tree). length l) e in
+      let both = length-append old.copies.items (tree ∷ []) in
+      omega (arith, many, both);
   stays = λ final stays. record {
     rows_stay = λ at row h. stays.rows_stay at row (subst (λ (l : List Tree). slice_get (rows_of l) at ≡ Some row) (sym same) h);
     copies_stay = λ at row h. subst (λ (b : ℕ). slice_get final (b + at) ≡ Some row) base
-        (stays.copies_stay at row (tree_still old.copies new.copies tree at row e h));
+        (stays.copies_stay at row (tree_still old.copies.items new.copies.items tree at row e h));
   };
 }
 
-pub copies_stand : (old new : Output) (tree : Tree) (at : ℕ) → new.copies ≡ old.copies ++ tree ∷ [] → new.base ≡ old.base → at ≡ old.base + length old.copies
-    → StandsAt new at (row_of tree)
+pub copies_stand : (old new : Output) (tree : Tree) (at : ℕ) → new.copies.items ≡ old.copies.items ++ tree ∷ [] → new.base ≡ old.base
+    → at ≡ old.base + length old.copies.items → StandsAt new at (row_of tree)
 copies_stand old new tree at e base is = record {
-  stands = λ final stays. subst (λ (n : ℕ). slice_get final n ≡ Some (row_of tree)) (ap (λ (b : ℕ). b + length old.copies) base ∙ sym is)
-      (stays.copies_stay (length old.copies) (row_of tree) (tree_last old.copies new.copies tree e));
+  stands = λ final stays. subst (λ (n : ℕ). slice_get final n ≡ Some (row_of tree)) (ap (λ (b : ℕ). b + length old.copies.items) base ∙ sym is)
+      (stays.copies_stay (length old.copies.items) (row_of tree) (tree_last old.copies.items new.copies.items tree e));
 }
 
-pub ruleset outputs = (row_grows, row_stands, copies_grow, copies_stand)
+-- the rows of one tree more
+pub tree_added : (old new : List Tree) (tree : Tree) → new ≡ old ++ tree ∷ [] → rows_of new ≡ rows_of old ++ row_of tree ∷ []
+tree_added old new tree e = ap rows_of e ∙ map-append row_of old (tree ∷ [])
+
+pub ruleset outputs = (row_grows, row_stands, copies_grow, copies_stand, tree_added)

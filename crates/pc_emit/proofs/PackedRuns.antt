@@ -36,7 +36,7 @@ use Rattle.pc_emit.proofs.Leading.{row_run, leaf_run, leaf_seen, row_seen, passe
 use Rattle.pc_table.proofs.Live.{region_same}
 
 -- what holds of each leaf of a row holds beside what relates it
-with_leaves : {Related : AutomatonLeaf → Leaf → Type 0} {of : ℕ → ℕ} {row : Row AutomatonLeaf} {below : CodeRow} (P : AutomatonLeaf → Type 0)
+pub with_leaves : {Related : AutomatonLeaf → Leaf → Type 0} {of : ℕ → ℕ} {row : Row AutomatonLeaf} {below : CodeRow} (P : AutomatonLeaf → Type 0)
     → AllByRecursion P (leaves_of row) → RowStands Related of row below → RowStands (λ leaf to. P leaf × Related leaf to) of row below
 with_leaves P all (item_stands item h) = item_stands item (with_leaves P all h)
 with_leaves P all (test_stands on {on_yes} {on_no} h k) =

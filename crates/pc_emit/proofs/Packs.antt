@@ -1,6 +1,7 @@
 -- Rows of packed regions: what leads on from a leaf, and rows from their parts.
-use Rattle.std.proofs.Common.{◌≡◌, ℕ, ◌+◌, List, sym, ◌∙◌, ap, subst}
+use Rattle.std.proofs.Common.{◌≡◌, ℕ, zero, suc, ◌+◌, ◌*◌, ◌<◌, ◌≤◌, List, [], ◌∷◌, ◌++◌, length, Some, refl, sym, ◌∙◌, ap, subst, arith}
 use Rattle.std.specs.Prelude.{slice_get}
+use Rattle.std.proofs.lemmas.List.{length-append, length-map}
 use Rattle.pc_word.specs.declared.item.Item.{Item}
 use Rattle.pc_word.specs.declared.item.Operand.{Operand}
 use Rattle.pc_word.specs.declared.item.TrapKind.{TrapKind}
@@ -8,41 +9,68 @@ use Rattle.pc_word.specs.Row.{Row, Then, Either, At_leaf}
 use Rattle.pc_window.specs.declared.home.Home.{Home}
 use Rattle.pc_automaton.specs.declared.automaton.AutomatonLeaf.{AutomatonLeaf}
 use Rattle.pc_automaton.specs.declared.automaton.AutomatonLeaf.TheVariants.{To, Out, Stop, Trap}
+use Rattle.pc_automaton.specs.declared.automaton.AutomatonState.{AutomatonState as StoredState}
+use Rattle.pc_automaton.specs.Automaton.{state_in, states_in}
 use Rattle.pc_automaton.specs.AutomatonRun.{state_parameters}
-use Rattle.pc_assign.specs.Pressure.{allowed}
 use Rattle.pc_copies.specs.declared.moves.Move.{Move}
-use Rattle.pc_copies.specs.Moves.{IsArranged}
 use Rattle.pc_machine.specs.MachineCode.{Leaf, Leads_to, Ends, Traps, CodeRow}
+use Rattle.pc_object.specs.ObjectText.{operand_text, item_text, leaf_text, row_text}
 use Rattle.pc_emit.specs.Registers.{in_register, in_registers, argument_moves, home_moves}
 use Rattle.pc_emit.specs.Emitted.{LeadsToRegion, leads_to_state, leads_to_region, ends_here, traps_here, item_stands, test_stands, leaf_stands}
+use Rattle.pc_emit.specs.Bytes.{leaf_bytes, row_bytes}
 use Rattle.pc_emit.specs.declared.output.Output.{Output}
 use Rattle.pc_emit.specs.declared.plan.Plan.{Plan}
 use Rattle.pc_emit.specs.declared.packed.PackedSite.{PackedSite}
-use Rattle.pc_emit.specs.models.Output.{Grows, PassesAlong}
-use Rattle.pc_emit.specs.models.Packing.{emission_in, states_at, names_at, IsSite, MovesAlong, MovesToRegion, LeafMade, RowMade}
+use Rattle.pc_emit.specs.models.Output.{Grows}
+use Rattle.pc_emit.specs.models.Planned.{emission_in, states_at, names_at, IsSite}
+use Rattle.pc_emit.specs.models.Packing.{MovesAlong, MovesToRegion, LeafMade, RowMade}
+use Rattle.pc_emit.specs.models.Making.{IsTarget}
+use Rattle.pc_emit.proofs.Ways.{ways}
+use Rattle.pc_emit.proofs.Texts.{operand_short, item_short, operand_same, item_same}
 
 -- ---- moves
 
-module _ (plan : Plan) (output : Output) (from : Leaf) (moves given : List Move) (copies : List (List Move)) (arranged : IsArranged moves plan.ops allowed copies)
-    (are : moves ≡ given) where
-  -- copies that were arranged do their moves on the way
-  moved : (to : Leaf) → PassesAlong output from copies to → MovesAlong plan output from given to
-  moved to passes = record {
-    stands = λ final stays. record {
-      copies = copies;
-      arranged = subst (λ (m : List Move). IsArranged m plan.ops allowed copies) are arranged;
-      passes = passes.passes final stays;
-    };
-  }
-
-  -- on the way to a state
-  pub moved_to_state : (site : PackedSite) (state row : ℕ) → IsSite plan site → row ≡ site.first + state → PassesAlong output from copies (Leads_to row)
+module _ (plan : Plan) (output : Output) (from to : Leaf) (moves given : List Move) (are : moves ≡ given) (along : MovesAlong plan output from moves to) where
+  -- moves on the way to a state
+  pub moved_to_state : (site : PackedSite) (state row : ℕ) → IsSite plan site → row ≡ site.first + state → to ≡ Leads_to row
       → MovesAlong plan output from given (Leads_to ((emission_in plan).places.state site.region state))
-  moved_to_state site state row is at passes = moved _ (subst (λ (n : ℕ). PassesAlong output from copies (Leads_to n)) (at ∙ ap (λ (n : ℕ). n + state) is.begins) passes)
+  moved_to_state site state row is at leads =
+      subst (λ (l : Leaf). MovesAlong plan output from given l) (leads ∙ ap Leads_to (at ∙ ap (λ (n : ℕ). n + state) is.begins))
+      (subst (λ (m : List Move). MovesAlong plan output from m to) are along)
 
   -- on the way to a region
-  pub moved_to_region : (region : ℕ) (to : Leaf) → LeadsToRegion (emission_in plan) region to → PassesAlong output from copies to → MovesToRegion plan output from given region
-  moved_to_region region to leads passes = record { to = to; leads = leads; along = moved to passes }
+  pub moved_to_region : (region : ℕ) → LeadsToRegion (emission_in plan) region to → MovesToRegion plan output from given region
+  moved_to_region region leads = record { to = to; leads = leads; along = subst (λ (m : List Move). MovesAlong plan output from m to) are along }
+
+-- what leads to a state may stand behind copies
+pub state_target : (plan : Plan) (site : PackedSite) (state row : ℕ) → IsSite plan site → state < length site.automaton.now → row ≡ site.first + state
+    → IsTarget plan (Leads_to row)
+state_target plan site state row is there at = record { within = let few = is.few in omega (arith, few, there, at); short = omega arith }
+
+-- a state in memory is one of the states
+pub state_there : (site : PackedSite) (number : ℕ) (stored : StoredState) → slice_get site.automaton.now number ≡ Some stored
+    → slice_get (states_at site) number ≡ Some (state_in stored)
+state_there site number stored e = in_list site.automaton.now number e
+  where
+    in_list : (list : List StoredState) (at : ℕ) → slice_get list at ≡ Some stored → slice_get (states_in list) at ≡ Some (state_in stored)
+    in_list [] at e = absurd (cc)
+    in_list (first ∷ list) zero e = let same : first ≡ stored = (cc) in ap (λ (s : StoredState). Some (state_in s)) same
+    in_list (first ∷ list) (suc at) e = in_list list at e
+
+-- there is a move for each argument
+pub many_arguments : (of to : ℕ → ℕ) (parameters : List ℕ) (arguments : List Operand) → length arguments ≡ length parameters
+    → length (argument_moves of to parameters arguments) ≡ length arguments
+many_arguments of to [] [] same = refl
+many_arguments of to [] (argument ∷ arguments) same = absurd (omega (arith, same))
+many_arguments of to (parameter ∷ parameters) [] same = absurd (omega (arith, same))
+many_arguments of to (parameter ∷ parameters) (argument ∷ arguments) same = ap suc (many_arguments of to parameters arguments (omega (arith, same)))
+
+-- so copies are no longer than was counted
+pub homes_short : (of : ℕ → ℕ) (homes : List Home) (moves : List Move) (bytes before : ℕ) → moves ≡ home_moves of homes → bytes ≤ before + (5 + 24 * length moves)
+    → bytes ≤ before + (5 + 24 * length homes)
+homes_short of homes moves bytes before are short =
+    let many = ap (λ (l : List Move). length l) are ∙ length-map homes (λ (home : Home). let move : Move = record { dest = home.variable; from = in_register of home.value } in move) in
+    omega (arith, short, many)
 
 -- ---- leaves
 
@@ -70,7 +98,36 @@ module _ (plan : Plan) (site : PackedSite) (of : ℕ → ℕ) (output : Output) 
       subst (λ (l : AutomatonLeaf). LeafMade plan site of output l made) (sym e)
       (subst (λ (m : Leaf). LeafMade plan site of output (Trap kind line) m) (sym is) (record { stands = λ final stays. traps_here }))
 
-pub ruleset leaves = (moved_to_state, moved_to_region, leaf_to_state, leaf_to_region, leaf_ends, leaf_traps)
+-- ---- bytes of leaves
+
+module _ (leaf : AutomatonLeaf) (bytes before : ℕ) where
+  pub to_state_short : (state : ℕ) (arguments : List Operand) → leaf ≡ To state arguments → bytes ≤ before + (5 + 24 * length arguments) → bytes ≤ before + leaf_bytes leaf
+  to_state_short state arguments e short = subst (λ (l : AutomatonLeaf). bytes ≤ before + leaf_bytes l) (sym e) short
+
+  pub to_region_short : (region : ℕ) (homes : List Home) → leaf ≡ Out region homes → bytes ≤ before + (5 + 24 * length homes) → bytes ≤ before + leaf_bytes leaf
+  to_region_short region homes e short = subst (λ (l : AutomatonLeaf). bytes ≤ before + leaf_bytes l) (sym e) short
+
+pub end_short : (leaf : AutomatonLeaf) (before : ℕ) → leaf ≡ Stop → before + 1 ≤ before + leaf_bytes leaf
+end_short leaf before e = subst (λ (l : AutomatonLeaf). before + 1 ≤ before + leaf_bytes l) (sym e) (omega arith)
+
+pub trap_short : (leaf : AutomatonLeaf) (kind : TrapKind) (line before : ℕ) → leaf ≡ Trap kind line → before + 6 ≤ before + leaf_bytes leaf
+trap_short leaf kind line before e = subst (λ (l : AutomatonLeaf). before + 6 ≤ before + leaf_bytes l) (sym e) (omega arith)
+
+pub ruleset leaves = (
+  state_target,
+  moved_to_state,
+  moved_to_region,
+  homes_short,
+  leaf_to_state,
+  leaf_to_region,
+  leaf_ends,
+  leaf_traps,
+  to_state_short,
+  to_region_short,
+  end_short,
+  trap_short,
+  ways,
+)
 
 -- ---- rows
 
@@ -97,4 +154,36 @@ module _ (plan : Plan) (site : PackedSite) (of : ℕ → ℕ) (row : Row Automat
       (subst (λ (m : CodeRow). RowMade plan site of output (At_leaf leaf) m) (sym is)
       (record { stands = λ final stays. leaf_stands (one.stands final stays) }))
 
-pub ruleset rows = (item_made, test_made, leaf_made)
+-- ---- bytes of rows
+
+module _ (of : ℕ → ℕ) (row : Row AutomatonLeaf) (made : CodeRow) (bytes before : ℕ) where
+  pub item_row_short : (item : Item) (rest : Row AutomatonLeaf) (below : CodeRow) → row ≡ Then item rest → made ≡ Then (in_registers of item) below
+      → bytes + length (row_text below) ≤ before + row_bytes rest → bytes + length (row_text made) ≤ before + row_bytes row
+  item_row_short item rest below e is short =
+      let counted = ap row_bytes e in
+      let text = ap (λ (r : CodeRow). length (row_text r)) is in
+      let both = length-append (item_text (in_registers of item)) (row_text below) in
+      let one = item_short (in_registers of item) in
+      let same = item_same of item in
+      omega (arith, short, counted, text, both, one, same)
+
+  pub test_row_short : (on : Operand) (on_yes on_no : Row AutomatonLeaf) (yes_below no_below : CodeRow) (mid : ℕ) → row ≡ Either on on_yes on_no
+      → made ≡ Either (in_register of on) yes_below no_below → mid + length (row_text yes_below) ≤ before + row_bytes on_yes
+      → bytes + length (row_text no_below) ≤ mid + row_bytes on_no → bytes + length (row_text made) ≤ before + row_bytes row
+  test_row_short on on_yes on_no yes_below no_below mid e is first second =
+      let counted = ap row_bytes e in
+      let text = ap (λ (r : CodeRow). length (row_text r)) is in
+      let all = length-append (operand_text (in_register of on)) (row_text yes_below ++ row_text no_below) in
+      let both = length-append (row_text yes_below) (row_text no_below) in
+      let one = operand_short (in_register of on) in
+      let same = operand_same of on in
+      omega (arith, first, second, counted, text, all, both, one, same)
+
+  pub leaf_row_short : (leaf : AutomatonLeaf) (below : Leaf) → row ≡ At_leaf leaf → made ≡ At_leaf below → bytes + length (leaf_text below) ≤ before + leaf_bytes leaf
+      → bytes + length (row_text made) ≤ before + row_bytes row
+  leaf_row_short leaf below e is short =
+      let counted = ap row_bytes e in
+      let text = ap (λ (r : CodeRow). length (row_text r)) is in
+      omega (arith, short, counted, text)
+
+pub ruleset rows = (item_made, test_made, leaf_made, item_row_short, test_row_short, leaf_row_short, ways)

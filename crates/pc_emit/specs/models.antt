@@ -1,3 +1,5 @@
-pub mod Undisturbed
 pub mod Output
+pub mod Planned
 pub mod Packing
+pub mod Making
+pub mod Undisturbed

@@ -2,6 +2,7 @@
 //! is packed, and a row for each item and test of one that is plain.
 #![tactic(auto)]
 
+mod emission;
 mod error;
 mod form;
 mod laws;
@@ -9,10 +10,12 @@ mod names;
 mod output;
 mod packed;
 mod passing;
+mod plain;
 mod plan;
 mod target;
 mod trees;
 
+pub use emission::emit;
 pub use error::EmitError;
 pub use form::RegionForm;
 pub use laws::law_of_emission;

@@ -1,33 +1,33 @@
 //! The rows of packed regions: one for each state, on registers.
-ghost use Rattle.std.specs.Prelude.{◌≡◌, ◌+◌, ◌<◌, Some, length, slice_get, IfOk, OnOk};
+ghost use Rattle.std.specs.Prelude.{◌≡◌, ◌+◌, ◌*◌, ◌<◌, ◌≤◌, [], ◌∷◌, Some, length, slice_get, IfOk, OnOk};
+ghost use Rattle.pc_word.specs.Row.{At_leaf, leaves_of};
 ghost use Rattle.pc_automaton.specs.StoredRow.{row_in};
 ghost use Rattle.pc_automaton.specs.AutomatonRun.{state_parameters};
 ghost use Rattle.pc_assign.specs.Pressure.{allowed};
 ghost use Rattle.pc_copies.specs.Moves.{AreMoves};
-ghost use Rattle.pc_table.specs.Table.{table_of};
+ghost use Rattle.pc_machine.specs.MachineCode.{Leads_to, row_of, rows_of};
+ghost use Rattle.pc_object.specs.ObjectText.{leaf_text, row_text};
 ghost use Rattle.pc_emit.specs.Registers.{argument_moves, home_moves};
-ghost use Rattle.pc_emit.specs.Emitting.{HasForm, forms_in};
-ghost use Rattle.pc_emit.specs.models.Output.{leaf_of, of_state, Grows};
-ghost use Rattle.pc_emit.specs.models.Packing.{emission_in, states_at, registers_at, names_at, IsPlan, IsSite, LeafFits, RowFits, LeafMade, RowMade, MovesAlong, MovesToRegion};
-ghost use Rattle.pc_machine.specs.MachineCode.{Leads_to, row_of};
+ghost use Rattle.pc_emit.specs.Emitting.{HasForm};
+ghost use Rattle.pc_emit.specs.Bytes.{goto_bytes, passed_bytes, leaf_bytes, row_bytes, states_bytes};
+ghost use Rattle.pc_emit.specs.models.Output.{bytes_of, leaf_of, of_state, EachCopy, Grows};
+ghost use Rattle.pc_emit.specs.models.Planned.{emission_in, end_of, forms_at, names_at, registers_at, states_at, table_in, IsPlan, IsSite};
+ghost use Rattle.pc_emit.specs.models.Packing.{CanMakeLeaf, CanMakeRow, LeafMade, RowMade, StatesMade, MovesAlong, MovesToRegion};
+ghost use Rattle.pc_emit.specs.models.Making.{IsWay, LeavesReached, RowsReached};
 
 use crate::error::EmitError;
 use crate::names::{StateNames, argument_moves, home_moves};
 use crate::output::Output;
-use crate::passing::pass_through;
+use crate::passing::move_along;
 use crate::plan::Plan;
 use crate::target::Target;
 use crate::trees::{with_item, with_test};
 use pc_assign::Assigned;
 use pc_automaton::{Automaton, AutomatonLeaf, RowTree};
-use pc_copies::arrange;
 use pc_machine::Tree;
 use pc_window::Home;
 use pc_word::Operand;
 use std::alloc::Global;
-
-/// The register that copies go through.
-const SCRATCH: u32 = 127;
 
 /// A packed region: its automaton with registers for names, and the row at which it begins.
 #[derive(Clone, Copy)]
@@ -38,9 +38,40 @@ pub(crate) struct PackedSite<'a> {
     pub(crate) registers: &'a Assigned,
 }
 
+/// Puts the rows of the states of a packed region behind others.
+#[tactic(auto, using(crate::proofs::States::states))]
+pub(crate) fn state_rows(
+    alloc: Global,
+    plan: &Plan,
+    site: &PackedSite,
+    output: &mut Output,
+) -> Result<(), EmitError>
+    requires site { IsSite plan.now site.now }
+    requires plan { IsPlan plan.now }
+    requires base { output.old.base ≡ end_of plan.now }
+    requires begins { length output.old.rows ≡ site.now.first }
+    ensures grows { OnOk result (Grows output.old output.new) }
+    ensures count { OnOk result (length output.new.rows ≡ length output.old.rows + length site.now.automaton.now) }
+    ensures made { OnOk result (StatesMade plan.now site.now (length site.now.automaton.now) output.new) }
+    ensures ways { OnOk result (EachCopy (IsWay plan.now (RowsReached (length output.old.rows) (length output.new.rows))) output.old output.new) }
+    ensures short { OnOk result (bytes_of (rows_of output.new.rows) + bytes_of (rows_of output.new.copies.items)
+        ≤ bytes_of (rows_of output.old.rows) + bytes_of (rows_of output.old.copies.items) + states_bytes (states_at site.now)) }
+{
+    for state in 0..site.automaton.count() {
+        let names = StateNames {
+            registers: site.registers,
+            state,
+        };
+        let row = &site.automaton.state(state).row;
+        let row = packed_row(alloc, plan, site, &names, row, output)?;
+        output.push_row(row)?;
+    }
+    Ok(())
+}
+
 /// The row of a state, or of a part of it, with these registers for its names.
 #[tactic(auto, using(crate::proofs::Packs::rows, crate::proofs::Passings::passings))]
-pub(crate) fn packed_row(
+fn packed_row(
     alloc: Global,
     plan: &Plan,
     site: &PackedSite,
@@ -50,10 +81,14 @@ pub(crate) fn packed_row(
 ) -> Result<Tree, EmitError>
     requires site { IsSite plan.now site.now }
     requires plan { IsPlan plan.now }
-    requires fits { RowFits plan.now site.now (of_state names.now) (row_in (λ leaf. leaf) row.now) }
+    requires base { output.old.base ≡ end_of plan.now }
+    requires can { CanMakeRow plan.now site.now (of_state names.now) (row_in (λ leaf. leaf) row.now) }
     ensures grows { OnOk result (Grows output.old output.new) }
-    ensures count { OnOk result (length output.new.rows ≡ length output.old.rows) }
+    ensures rows { OnOk result (output.new.rows ≡ output.old.rows) }
     ensures made { IfOk result (λ tree. RowMade plan.now site.now (of_state names.now) output.new (row_in (λ leaf. leaf) row.now) (row_of tree)) }
+    ensures ways { IfOk result (λ tree. EachCopy (IsWay plan.now (LeavesReached (leaves_of (row_of tree)))) output.old output.new) }
+    ensures short { IfOk result (λ tree. bytes_of (rows_of output.new.copies.items) + length (row_text (row_of tree))
+        ≤ bytes_of (rows_of output.old.copies.items) + row_bytes (row_in (λ leaf. leaf) row.now)) }
 {
     match row {
         RowTree::Step { item, next } => {
@@ -84,10 +119,14 @@ fn packed_leaf(
 ) -> Result<Target, EmitError>
     requires site { IsSite plan.now site.now }
     requires plan { IsPlan plan.now }
-    requires fits { LeafFits (emission_in plan.now) (states_at site.now) (registers_at site.now) (of_state names.now) leaf.now }
+    requires base { output.old.base ≡ end_of plan.now }
+    requires can { CanMakeLeaf (emission_in plan.now) (states_at site.now) (registers_at site.now) (of_state names.now) leaf.now }
     ensures grows { OnOk result (Grows output.old output.new) }
-    ensures count { OnOk result (length output.new.rows ≡ length output.old.rows) }
+    ensures rows { OnOk result (output.new.rows ≡ output.old.rows) }
     ensures made { IfOk result (λ target. LeafMade plan.now site.now (of_state names.now) output.new leaf.now (leaf_of target)) }
+    ensures ways { IfOk result (λ target. EachCopy (IsWay plan.now (LeavesReached (leaf_of target ∷ []))) output.old output.new) }
+    ensures short { IfOk result (λ target. bytes_of (rows_of output.new.copies.items) + length (leaf_text (leaf_of target))
+        ≤ bytes_of (rows_of output.old.copies.items) + leaf_bytes leaf.now) }
 {
     match leaf {
         AutomatonLeaf::To { state, arguments } => {
@@ -102,7 +141,7 @@ fn packed_leaf(
             )
         }
         AutomatonLeaf::Out { region, homes } => {
-            to_region(alloc, plan, site, names, *region, homes.as_slice(), output)
+            to_region(alloc, plan, names, *region, homes.as_slice(), output)
         }
         AutomatonLeaf::Stop => Ok(Target::Stop),
         AutomatonLeaf::Trap { kind, line } => Ok(Target::Trap {
@@ -125,15 +164,19 @@ fn to_state(
 ) -> Result<Target, EmitError>
     requires site { IsSite plan.now site.now }
     requires plan { IsPlan plan.now }
+    requires base { output.old.base ≡ end_of plan.now }
     requires there { state < length site.now.automaton.now }
     requires as_many { length arguments.now ≡ length (state_parameters (slice_get (states_at site.now) state)) }
     requires moves { AreMoves allowed
         (argument_moves (of_state names.now) (names_at site.now state) (state_parameters (slice_get (states_at site.now) state)) arguments.now) }
     ensures grows { OnOk result (Grows output.old output.new) }
-    ensures count { OnOk result (length output.new.rows ≡ length output.old.rows) }
+    ensures rows { OnOk result (output.new.rows ≡ output.old.rows) }
     ensures moved { IfOk result (λ target. MovesAlong plan.now output.new (leaf_of target)
         (argument_moves (of_state names.now) (names_at site.now state) (state_parameters (slice_get (states_at site.now) state)) arguments.now)
         (Leads_to ((emission_in plan.now).places.state site.now.region state))) }
+    ensures ways { IfOk result (λ target. EachCopy (IsWay plan.now (LeavesReached (leaf_of target ∷ []))) output.old output.new) }
+    ensures short { IfOk result (λ target. bytes_of (rows_of output.new.copies.items) + length (leaf_text (leaf_of target))
+        ≤ bytes_of (rows_of output.old.copies.items) + (goto_bytes + passed_bytes * length arguments.now)) }
 {
     let parameters = site.automaton.state(state).parameters.as_slice();
     let to = StateNames {
@@ -141,9 +184,8 @@ fn to_state(
         state,
     };
     let moves = argument_moves(alloc, names, &to, parameters, arguments)?;
-    let copies = arrange(alloc, moves.as_slice(), plan.ops, SCRATCH)?;
     let row = site.first + state;
-    pass_through(alloc, copies.as_slice(), Target::Row { row }, output)
+    move_along(alloc, plan, moves.as_slice(), Target::Row { row }, output)
 }
 
 /// What leads to a region, through the copies that bring variables home.
@@ -151,21 +193,23 @@ fn to_state(
 fn to_region(
     alloc: Global,
     plan: &Plan,
-    site: &PackedSite,
     names: &StateNames,
     region: u32,
     homes: &[Home],
     output: &mut Output,
 ) -> Result<Target, EmitError>
     requires plan { IsPlan plan.now }
-    requires form { HasForm (table_of plan.now.table.now) (forms_in plan.now.forms.now) region }
+    requires base { output.old.base ≡ end_of plan.now }
+    requires form { HasForm (table_in plan.now) (forms_at plan.now) region }
     requires moves { AreMoves allowed (home_moves (of_state names.now) homes.now) }
     ensures grows { OnOk result (Grows output.old output.new) }
-    ensures count { OnOk result (length output.new.rows ≡ length output.old.rows) }
+    ensures rows { OnOk result (output.new.rows ≡ output.old.rows) }
     ensures moved { IfOk result (λ target. MovesToRegion plan.now output.new (leaf_of target) (home_moves (of_state names.now) homes.now) region) }
+    ensures ways { IfOk result (λ target. EachCopy (IsWay plan.now (LeavesReached (leaf_of target ∷ []))) output.old output.new) }
+    ensures short { IfOk result (λ target. bytes_of (rows_of output.new.copies.items) + length (leaf_text (leaf_of target))
+        ≤ bytes_of (rows_of output.old.copies.items) + (goto_bytes + passed_bytes * length homes.now)) }
 {
     let target = plan.target_of(region);
     let moves = home_moves(alloc, names, homes)?;
-    let copies = arrange(alloc, moves.as_slice(), plan.ops, SCRATCH)?;
-    pass_through(alloc, copies.as_slice(), target, output)
+    move_along(alloc, plan, moves.as_slice(), target, output)
 }

@@ -1,31 +1,52 @@
 //! Leaves that lead on through rows of copies.
-ghost use Rattle.std.specs.Prelude.{◌≡◌, length, IfOk, OnOk};
+ghost use Rattle.std.specs.Prelude.{◌≡◌, ◌+◌, ◌*◌, ◌≤◌, [], ◌∷◌, length, IfOk, OnOk};
+ghost use Rattle.pc_assign.specs.Pressure.{allowed};
 ghost use Rattle.pc_copies.specs.Laws.{copy_row};
-ghost use Rattle.pc_machine.specs.MachineCode.{row_of};
-ghost use Rattle.pc_emit.specs.models.Output.{leaf_of, Grows, PassesAlong};
+ghost use Rattle.pc_copies.specs.Moves.{AreMoves};
+ghost use Rattle.pc_machine.specs.MachineCode.{row_of, rows_of};
+ghost use Rattle.pc_object.specs.ObjectText.{leaf_text};
+ghost use Rattle.pc_emit.specs.Bytes.{goto_bytes, passed_bytes};
+ghost use Rattle.pc_emit.specs.models.Output.{bytes_of, leaf_of, EachCopy, Grows};
+ghost use Rattle.pc_emit.specs.models.Planned.{end_of, IsPlan};
+ghost use Rattle.pc_emit.specs.models.Packing.{MovesAlong};
+ghost use Rattle.pc_emit.specs.models.Making.{IsTarget, IsWay, LeavesReached};
 
 use crate::error::EmitError;
 use crate::output::Output;
+use crate::plan::Plan;
 use crate::target::Target;
 use crate::trees::with_item;
-use pc_copies::{CopyRow, Move};
+use pc_copies::{Move, arrange};
 use pc_machine::Tree;
 use pc_word::Item;
 use std::alloc::{AllocError, Global};
 
-/// Puts rows of copies behind others, the last one first, and returns what leads through them all to a
-/// target.
+/// The register that copies go through.
+const SCRATCH: u32 = 127;
+
+/// Puts the rows of copies that do moves behind others, the last one first, and returns what leads
+/// through them all to a target.
 #[tactic(auto, using(crate::proofs::Passings::passings))]
-pub(crate) fn pass_through(
+pub(crate) fn move_along(
     alloc: Global,
-    rows: &[CopyRow],
+    plan: &Plan,
+    moves: &[Move],
     target: Target,
     output: &mut Output,
 ) -> Result<Target, EmitError>
+    requires plan { IsPlan plan.now }
+    requires base { output.old.base ≡ end_of plan.now }
+    requires moves { AreMoves allowed moves.now }
+    requires target { IsTarget plan.now (leaf_of target) }
     ensures grows { OnOk result (Grows output.old output.new) }
-    ensures count { OnOk result (length output.new.rows ≡ length output.old.rows) }
-    ensures passes { IfOk result (λ from. PassesAlong output.new (leaf_of from) rows.now (leaf_of target)) }
+    ensures rows { OnOk result (output.new.rows ≡ output.old.rows) }
+    ensures moved { IfOk result (λ from. MovesAlong plan.now output.new (leaf_of from) moves.now (leaf_of target)) }
+    ensures ways { IfOk result (λ from. EachCopy (IsWay plan.now (LeavesReached (leaf_of from ∷ []))) output.old output.new) }
+    ensures short { IfOk result (λ from. bytes_of (rows_of output.new.copies.items) + length (leaf_text (leaf_of from))
+        ≤ bytes_of (rows_of output.old.copies.items) + (goto_bytes + passed_bytes * length moves.now)) }
 {
+    let rows = arrange(alloc, moves, plan.limits.ops, SCRATCH)?;
+    let rows = rows.as_slice();
     let mut from = target;
     let mut at = rows.len();
     while at > 0 {

@@ -1,35 +1,64 @@
-ghost use Rattle.std.specs.Prelude.{◌≡◌, IsSome};
-ghost use Rattle.pc_table.specs.Table.{table_of, table_tree};
-ghost use Rattle.pc_emit.specs.Emitted.{LeadsToRegion, root_leaf};
-ghost use Rattle.pc_emit.specs.Emitting.{HasForm, forms_in};
+ghost use Rattle.std.specs.Prelude.{◌≡◌, ◌+◌, ◌<◌, ◌^◌, IsSome, IfOk, Some, length};
+ghost use Rattle.pc_table.specs.Table.{region_tree, table_tree};
+ghost use Rattle.pc_table.specs.TableKeeps.{units};
+ghost use Rattle.pc_emit.specs.Emitted.{LeadsToRegion, LeadsBehind, root_leaf};
+ghost use Rattle.pc_emit.specs.Emitting.{HasForm, NamesHaveForms, form_in};
 ghost use Rattle.pc_emit.specs.models.Output.{leaf_of};
-ghost use Rattle.pc_emit.specs.models.Packing.{emission_in, IsPlan, leaf_in};
+ghost use Rattle.pc_emit.specs.models.Planned.{emission_in, table_in, forms_at, IsPlan, leaf_in, rows_in, all_rows, entries_from};
 
 use crate::form::RegionForm;
 use crate::target::Target;
-use pc_table::{RegionTable, RegionTree};
+use pc_table::{Region, RegionTable, RegionTree};
+use pc_word::Limits;
+use std::alloc::{AllocError, Global};
 
 /// What rows are made from: the regions of a table, the form of each that has one, the row at which
-/// each begins, and how many copies a row may have.
+/// each begins, and the limits that rows keep.
 #[derive(Clone, Copy)]
 pub(crate) struct Plan<'a> {
     pub(crate) table: &'a RegionTable,
     pub(crate) forms: &'a [Option<RegionForm>],
     pub(crate) entries: &'a [u32],
-    pub(crate) ops: u8,
+    pub(crate) limits: Limits,
 }
 
-impl Plan<'_> {
+impl<'a> Plan<'a> {
     /// What leads to a region: a goto to its first row, or the stop or trap that it is.
     #[tactic(auto, using(crate::proofs::Leads::leads))]
     pub(crate) fn target_of(&self, region: u32) -> Target
         requires plan { IsPlan self.now }
-        requires form { HasForm (table_of self.now.table.now) (forms_in self.now.forms.now) region }
+        requires form { HasForm (table_in self.now) (forms_at self.now) region }
         ensures { LeadsToRegion (emission_in self.now) region (leaf_of result) }
     {
         let at = region as usize;
-        let tree = &self.table.regions.as_slice()[at].tree;
-        beginning(&self.forms[at], tree, self.entries[at])
+        beginning(&self.forms[at], self.tree_of(region), self.entries[at])
+    }
+
+    /// The tree of a region.
+    #[tactic(auto, using(crate::proofs::Leads::trees))]
+    pub(crate) fn tree_of(&self, region: u32) -> &'a RegionTree
+        requires { region < length self.now.table.now.regions }
+        ensures { table_tree result.now ≡ region_tree (table_in self.now) region }
+    {
+        &self.table.regions.as_slice()[region as usize].tree
+    }
+
+    /// What leads to what stands behind an item or a test: to this row, or to the region that follows.
+    #[tactic(auto, using(crate::proofs::Leads::leads))]
+    pub(crate) fn target_behind(&self, tree: &RegionTree, row: u32) -> Target
+        requires plan { IsPlan self.now }
+        requires names { NamesHaveForms (table_in self.now) (forms_at self.now) (table_tree tree.now) }
+        ensures { LeadsBehind (emission_in self.now) row (table_tree tree.now) (leaf_of result) }
+    {
+        match tree {
+            RegionTree::Next { region } => self.target_of(*region),
+            RegionTree::Step { .. } | RegionTree::Test { .. } => Target::Row { row },
+            RegionTree::Stop => Target::Stop,
+            RegionTree::Trap { kind, line } => Target::Trap {
+                kind: *kind,
+                line: *line,
+            },
+        }
     }
 }
 
@@ -58,5 +87,51 @@ pub(crate) fn root(tree: &RegionTree, row: u32) -> Target
             kind: *kind,
             line: *line,
         },
+    }
+}
+
+/// The row at which each region begins, the first of them at this one; and, last, the row behind
+/// them all.
+pub(crate) fn entries(
+    alloc: Global,
+    regions: &[Region],
+    forms: &[Option<RegionForm>],
+    first: u32,
+) -> Result<Vec<u32>, AllocError>
+    requires count { length forms.now ≡ length regions.now }
+    requires few { first + all_rows regions.now forms.now < 2 ^ 32 }
+    ensures { IfOk result (λ entries. entries.items ≡ entries_from first regions.now forms.now) }
+{
+    let mut entries = Vec::new(alloc);
+    let mut row = first;
+    for at in 0..regions.len() {
+        entries.push(row)?;
+        row += rows_in(&regions[at].tree, &forms[at]);
+    }
+    entries.push(row)?;
+    Ok(entries)
+}
+
+/// The rows of a region with this tree.
+fn rows_in(tree: &RegionTree, form: &Option<RegionForm>) -> u32
+    requires { rows_in (table_tree tree.now) (form_in (Some form.now)) < 2 ^ 32 }
+    ensures { result ≡ rows_in (table_tree tree.now) (form_in (Some form.now)) }
+{
+    match form {
+        None => 0,
+        Some(RegionForm::Plain) => units(tree),
+        Some(RegionForm::Packed { automaton, .. }) => automaton.count(),
+    }
+}
+
+/// The items and tests of a tree.
+pub(crate) fn units(tree: &RegionTree) -> u32
+    requires { units (table_tree tree.now) < 2 ^ 32 }
+    ensures { result ≡ units (table_tree tree.now) }
+{
+    match tree {
+        RegionTree::Step { next, .. } => units(next) + 1,
+        RegionTree::Test { yes, no, .. } => units(yes) + units(no) + 1,
+        RegionTree::Next { .. } | RegionTree::Stop | RegionTree::Trap { .. } => 0,
     }
 }

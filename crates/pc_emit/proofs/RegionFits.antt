@@ -1,0 +1,90 @@
+-- The rows of regions keep the limits.
+use Rattle.std.proofs.Common.{◌≡◌, inl, inr, ℕ, suc, ◌+◌, ◌<◌, ◌≤◌, List, [], ◌∷◌, ◌++◌, length, Option, Some, None, refl, sym, ◌∙◌, ap, subst, arith}
+use Rattle.std.specs.Prelude.{nat_eq, slice_get, slice_index}
+use Rattle.std.specs.List.{AllByRecursion, IsDistinct, filter_map}
+use Rattle.std.proofs.lemmas.List.Sums.{count_by-le-length}
+use Rattle.std.proofs.lemmas.Option.{slice_get_within}
+use Rattle.pc_word.specs.declared.item.Item.{Item}
+use Rattle.pc_word.specs.declared.item.Item.TheVariants.{Bin, Copy, Load, Store, Print, Read, More}
+use Rattle.pc_word.specs.declared.item.Operand.{Operand}
+use Rattle.pc_word.specs.declared.item.Operand.TheVariants.{Name, Lit}
+use Rattle.pc_word.specs.declared.item.Limits.{Limits}
+use Rattle.pc_word.specs.Ranges.{AreLimits}
+use Rattle.pc_word.specs.Items.{dest_of, is_effect, is_memory}
+use Rattle.pc_word.specs.Row.{Then, Either, At_leaf}
+use Rattle.pc_word.proofs.Truth.{decide_le}
+use Rattle.pc_table.specs.Table.{TableTree, Does, Asks, Next, Stops_here, Traps_here}
+use Rattle.pc_table.specs.TableKeeps.{NamesVariable, ItemIsThere, TreeIsThere, units}
+use Rattle.pc_machine.specs.MachineCode.{Leaf, Leads_to, CodeRow}
+use Rattle.pc_machine.specs.WellFormed.{IsOperand, IsItem, IsLeaf, IsPath, IsRow}
+
+-- ---- rows of one item or test
+
+-- a variable is a register
+operand_fits : (operand : Operand) → NamesVariable operand → IsOperand operand
+operand_fits (Name name) h = omega (arith, h)
+operand_fits (Lit value) h = tt
+
+-- an item of a table is one of the machine
+item_fits : (arrays : ℕ) (item : Item) → ItemIsThere arrays item → IsItem arrays item
+item_fits arrays (Bin op dest left right) h =
+    (let w = h.writes in omega (arith, w), operand_fits left h.reads.0, operand_fits right h.reads.1.0)
+item_fits arrays (Copy dest from) h = (let w = h.writes in omega (arith, w), operand_fits from h.reads.0)
+item_fits arrays (Load dest array index) h = (let w = h.writes in omega (arith, w), h.array, operand_fits index h.reads.0)
+item_fits arrays (Store array index value) h = (h.array, operand_fits index h.reads.0, operand_fits value h.reads.1.0)
+item_fits arrays (Print value) h = operand_fits value h.reads.0
+item_fits arrays (Read dest) h = let w = h.writes in omega (arith, w)
+item_fits arrays (More dest) h = let w = h.writes in omega (arith, w)
+
+-- one item alone writes each register once
+writes_once : (item : Item) → IsDistinct nat_eq (filter_map dest_of (item ∷ []))
+unfolding IsDistinct
+writes_once (Bin op dest left right) = (tt, tt)
+writes_once (Copy dest from) = (tt, tt)
+writes_once (Load dest array index) = (tt, tt)
+writes_once (Store array index value) = tt
+writes_once (Print value) = tt
+writes_once (Read dest) = (tt, tt)
+writes_once (More dest) = (tt, tt)
+
+alone_is_path : (item : Item) → IsPath (item ∷ [])
+alone_is_path item = record { writes_once = writes_once item; one_effect = count_by-le-length is_effect (item ∷ []) }
+
+none_is_path : IsPath []
+unfolding IsDistinct
+none_is_path = record { writes_once = tt; one_effect = omega arith }
+
+module _ (limits : Limits) (fine : AreLimits limits) (arrays rows : ℕ) where
+  pub item_row_fits : (item : Item) (leaf : Leaf) → ItemIsThere arrays item → IsLeaf rows leaf → IsRow limits arrays rows (Then item (At_leaf leaf))
+  item_row_fits item leaf fits is = record {
+    ops = let low = fine.ops.0 in omega (arith, low);
+    tests = omega arith;
+    mem = let low = fine.mem.0 in let few = count_by-le-length is_memory (item ∷ []) in omega (arith, low, few);
+    items = (item_fits arrays item fits, tt);
+    operands = tt;
+    leaves = (is, tt);
+    paths = (alone_is_path item, tt);
+  }
+
+  pub test_row_fits : (on : Operand) (one other : Leaf) → NamesVariable on → IsLeaf rows one → IsLeaf rows other
+      → IsRow limits arrays rows (Either on (At_leaf one) (At_leaf other))
+  test_row_fits on one other fits is is_too = record {
+    ops = omega arith;
+    tests = let low = fine.tests.0 in omega (arith, low);
+    mem = omega arith;
+    items = tt;
+    operands = (operand_fits on fits, tt);
+    leaves = (is, (is_too, tt));
+    paths = (none_is_path, (none_is_path, tt));
+  }
+
+  pub leaf_row_fits : (leaf : Leaf) → IsLeaf rows leaf → IsRow limits arrays rows (At_leaf leaf)
+  leaf_row_fits leaf is = record {
+    ops = omega arith;
+    tests = omega arith;
+    mem = omega arith;
+    items = tt;
+    operands = tt;
+    leaves = (is, tt);
+    paths = (none_is_path, tt);
+  }

@@ -1,0 +1,53 @@
+-- Rows of regions in the making, and what is so of the copies behind them.
+use Rattle.std.specs.Prelude.{◌≡◌, ℕ, zero, ◌<◌, ◌≤◌, List, Contains, Option, Some, None, length, slice_get}
+use Rattle.pc_table.specs.Table.{TableTree}
+use Rattle.pc_machine.specs.MachineCode.{Leaf, Leads_to, CodeRow}
+use Rattle.pc_machine.specs.WellFormed.{IsLeaf, IsRow}
+use Rattle.pc_machine.specs.Reachable.{IsReachable}
+use Rattle.pc_object.specs.ObjectText.{leaf_text}
+use Rattle.pc_emit.specs.Bytes.{goto_bytes, tree_bytes, states_bytes}
+use Rattle.pc_emit.specs.Emitted.{RegionForm, Plain, Packed, TreeStands, RegionStands}
+use Rattle.pc_emit.specs.declared.output.Output.{Output}
+use Rattle.pc_emit.specs.declared.plan.Plan.{Plan}
+use Rattle.pc_emit.specs.models.Output.{Stays}
+use Rattle.pc_emit.specs.models.Planned.{forms_at, emission_in, end_of}
+
+-- ---- what copies lead to, and what leads to them
+
+-- a leaf that copies may lead to: a row of a region, or the end
+pub record IsTarget (plan : Plan) (leaf : Leaf) : Type 0 where
+  pub within : IsLeaf (end_of plan) leaf
+  pub short : length (leaf_text leaf) ≤ goto_bytes
+
+-- all rows that leaves lead to are reached
+abbrev pub LeavesReached : List Leaf → List CodeRow → Type 0
+LeavesReached leaves final = (number : ℕ) → Contains leaves (Leads_to number) → IsReachable final number
+
+-- all rows from one on and before another are reached
+abbrev pub RowsReached : (from to : ℕ) → List CodeRow → Type 0
+RowsReached from to final = (number : ℕ) → from ≤ number → number < to → IsReachable final number
+
+-- a row keeps the limits, and it is reached where this is
+pub record IsWay (plan : Plan) (Reached : List CodeRow → Type 0) (final : List CodeRow) (number : ℕ) : Type 0 where
+  pub fits : end_of plan ≤ length final → (row : CodeRow) → slice_get final number ≡ Some row → IsRow plan.limits (length plan.table.now.arrays) (length final) row
+  pub reached : Reached final → IsReachable final number
+
+-- ---- regions
+
+-- the bytes of a region's rows, without a leaf alone in front of them
+abbrev pub bytes_in : TableTree → Option RegionForm → ℕ
+bytes_in tree None = zero
+bytes_in tree (Some Plain) = tree_bytes tree
+bytes_in tree (Some (Packed states registers)) = states_bytes states
+
+-- the rows of a tree stand from this one on, whatever will be made
+pub record TreeMade (plan : Plan) (output : Output) (row : ℕ) (tree : TableTree) : Type 0 where
+  pub stands : (final : List CodeRow) → Stays output final → TreeStands (emission_in plan) final row tree
+
+-- the rows of a region stand
+pub record RegionMade (plan : Plan) (output : Output) (region : ℕ) : Type 0 where
+  pub stands : (form : RegionForm) → forms_at plan region ≡ Some form → (final : List CodeRow) → Stays output final → RegionStands (emission_in plan) final region form
+
+-- so do those of the first regions
+pub record RegionsMade (plan : Plan) (output : Output) (count : ℕ) : Type 0 where
+  pub each : (region : ℕ) → region < count → RegionMade plan output region
