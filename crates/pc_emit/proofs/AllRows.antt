@@ -26,7 +26,7 @@ use Rattle.pc_emit.specs.Emitted.{LeadsBehind, to_item, to_test, to_region, to_e
 use Rattle.pc_emit.specs.Emitted.{root_leaf, form_leaf, BeginsAt, by_leaf_alone, IsEmitted}
 use Rattle.pc_emit.specs.Emitting.{CanHave, CanPack}
 use Rattle.pc_emit.specs.declared.plan.Plan.{Plan}
-use Rattle.pc_emit.specs.models.Planned.{rows_in, leaf_alone, in_front, table_in, forms_at, emission_in, end_of, IsPlan}
+use Rattle.pc_emit.specs.models.Layout.{rows_in, leaf_alone, front_rows, table_in, forms_at, emission_in, rows_end, IsPlan}
 use Rattle.pc_emit.specs.models.Making.{RowsReached}
 use Rattle.pc_emit.proofs.Entries.{form_within, region_target}
 use Rattle.pc_emit.proofs.Passings.{within_more}
@@ -56,7 +56,7 @@ module _ (plan : Plan) (is : IsPlan plan) (rows : List CodeRow) (emitted : IsEmi
   -- what is so of the row in front and of each row of a region is so of each before the end
   each_row : (P : ℕ → Type 0) → ((number : ℕ) → number < entry 0 → P number)
       → ((region : ℕ) (form : RegionForm) → forms_at plan region ≡ Some form → (number : ℕ) → entry region ≤ number → number < entry region + count region form → P number)
-      → (number : ℕ) → number < end_of plan → P number
+      → (number : ℕ) → number < rows_end plan → P number
   each_row P front own number lt =
       below (length plan.table.now.regions) (let many = length-map plan.table.now.regions table_region in omega (arith, many)) number lt
     where
@@ -88,7 +88,7 @@ module _ (plan : Plan) (is : IsPlan plan) (rows : List CodeRow) (emitted : IsEmi
       one_alone Stops_here = omega arith
       one_alone (Traps_here kind line) = omega arith
 
-      at_most_one : (tree : TableTree) (form : Option RegionForm) → length (in_front tree form) ≤ 1
+      at_most_one : (tree : TableTree) (form : Option RegionForm) → length (front_rows tree form) ≤ 1
       at_most_one tree None = omega arith
       at_most_one tree (Some Plain) = one_alone tree
       at_most_one tree (Some (Packed states registers)) = omega arith
@@ -103,7 +103,7 @@ module _ (plan : Plan) (is : IsPlan plan) (rows : List CodeRow) (emitted : IsEmi
   in_order : (region number : ℕ) → entry region + number ≡ (entry region + 0) + number
   in_order region number = omega arith
 
-  pub all_reached : (number : ℕ) → number < end_of plan → IsReachable rows number
+  pub all_reached : (number : ℕ) → number < rows_end plan → IsReachable rows number
   all_reached = each_row (λ number. IsReachable rows number)
       (λ number lt. subst (IsReachable rows) (sym (front_is_first number lt)) Entry)
       (λ region form has number low high. own form
@@ -124,9 +124,9 @@ module _ (plan : Plan) (is : IsPlan plan) (rows : List CodeRow) (emitted : IsEmi
   row_fits : (number : ℕ) (made : CodeRow) → slice_get rows number ≡ Some made → IsRow plan.limits (length plan.table.now.arrays) (length rows) made → Fits number
   row_fits number made there fits row also = subst (IsRow plan.limits (length plan.table.now.arrays) (length rows)) (one_row there also) fits
 
-  module _ (within : end_of plan ≤ length rows) where
+  module _ (within : rows_end plan ≤ length rows) where
     region_leaf_fits : (region : ℕ) (leaf : Leaf) → LeadsToRegion (emission_in plan) region leaf → IsLeaf (length rows) leaf
-    region_leaf_fits region leaf leads = within_more (end_of plan) (length rows) leaf within (region_target plan is region leaf leads).within
+    region_leaf_fits region leaf leads = within_more (rows_end plan) (length rows) leaf within (region_target plan is region leaf leads).within
 
     -- ---- plain regions
 
@@ -264,12 +264,12 @@ module _ (plan : Plan) (is : IsPlan plan) (rows : List CodeRow) (emitted : IsEmi
             (leaf_row_fits plan.limits is.limits (length plan.table.now.arrays) (length rows) Ends tt))
         by_tree (Traps_here kind line) t e lt = absurd (is.forms.traps 0 line kind t e)
 
-        by_form : (it : Option RegionForm) → forms_at plan 0 ≡ it → number < length (in_front (region_tree (table_in plan) 0) it) → Fits number
+        by_form : (it : Option RegionForm) → forms_at plan 0 ≡ it → number < length (front_rows (region_tree (table_in plan) 0) it) → Fits number
         by_form None e lt = absurd (omega (arith, lt))
         by_form (Some Plain) e lt = by_tree (region_tree (table_in plan) 0) refl e lt
         by_form (Some (Packed states registers)) e lt = absurd (omega (arith, lt))
 
-    pub all_fit : (number : ℕ) → number < end_of plan → Fits number
+    pub all_fit : (number : ℕ) → number < rows_end plan → Fits number
     all_fit = each_row Fits front_fits own
       where
         own : (region : ℕ) (form : RegionForm) → forms_at plan region ≡ Some form → (number : ℕ) → entry region ≤ number → number < entry region + count region form → Fits number

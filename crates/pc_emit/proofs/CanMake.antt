@@ -38,7 +38,7 @@ use Rattle.pc_emit.specs.Emitting.{LeadsToForm, CanHave}
 use Rattle.pc_emit.specs.Emitted.{Packed, Emission}
 use Rattle.pc_emit.specs.declared.plan.Plan.{Plan}
 use Rattle.pc_emit.specs.declared.packed.PackedSite.{PackedSite}
-use Rattle.pc_emit.specs.models.Planned.{table_in, forms_at, emission_in, states_at, registers_at, names_at, IsPlan, IsSite}
+use Rattle.pc_emit.specs.models.Layout.{table_in, forms_at, emission_in, states_at, registers_at, names_at, IsPlan, IsSite}
 use Rattle.pc_emit.specs.models.Packing.{CanMakeLeaf, CanMakeLeaves, CanMakeRow}
 
 -- ---- registers

@@ -17,7 +17,7 @@ use Rattle.pc_automaton.specs.declared.automaton.AutomatonLeaf.TheVariants.{To, 
 use Rattle.pc_automaton.specs.Automaton.{AutomatonState}
 use Rattle.pc_machine.specs.declared.tree.Tree.{Tree}
 use Rattle.pc_machine.specs.MachineCode.{Leaf, Leads_to, Ends, Traps, CodeRow, row_of, rows_of}
-use Rattle.pc_machine.specs.WellFormed.{IsRow}
+use Rattle.pc_machine.specs.WellFormed.{IsLeaf, IsRow}
 use Rattle.pc_machine.specs.Reachable.{IsReachable}
 use Rattle.pc_emit.specs.declared.form.RegionForm.{RegionForm as StoredForm}
 use Rattle.pc_emit.specs.Bytes.{tree_bytes, leaf_bytes, row_bytes, states_bytes, form_bytes, regions_bytes, object_bytes}
@@ -26,9 +26,9 @@ use Rattle.pc_emit.specs.Emitting.{form_in, forms_in, CanHave, AreEmitted, AreFo
 use Rattle.pc_emit.specs.declared.output.Output.{Output}
 use Rattle.pc_emit.specs.declared.plan.Plan.{Plan}
 use Rattle.pc_emit.specs.models.Output.{bytes_of, Stays, Grows, EachCopy}
-use Rattle.pc_emit.specs.models.Planned.{rows_in, leaf_alone, in_front, all_rows, entries_from, AreEntries, table_in, forms_at, emission_in, end_of, IsPlan}
-use Rattle.pc_emit.specs.models.Making.{bytes_in, IsWay, RowsReached, RegionMade, RegionsMade}
-use Rattle.pc_emit.proofs.Entries.{form_within}
+use Rattle.pc_emit.specs.models.Layout.{rows_in, leaf_alone, front_rows, all_rows, entries_from, AreEntries, table_in, forms_at, emission_in, rows_end, IsPlan}
+use Rattle.pc_emit.specs.models.Making.{bytes_in, IsOnTheWay, RowsReached, RegionMade, RegionsMade}
+use Rattle.pc_emit.proofs.Entries.{form_within, region_target}
 use Rattle.pc_emit.proofs.PlainRuns.{IsRoot, roots}
 use Rattle.pc_emit.proofs.AllRows.{all_reached, all_fit}
 use Rattle.pc_emit.proofs.Leads.{tree_is}
@@ -108,7 +108,7 @@ last_entry row (region ∷ regions) (form ∷ forms) same =
 
 -- no table has as many rows as there are numbers
 pub rows_below : (table : RegionTable) (forms : List (Option StoredForm)) (limits : Limits) (first : ℕ) → AreForms (table_of table) limits (forms_in forms)
-    → first ≡ length (in_front (region_tree (table_of table) 0) (forms_in forms 0)) → first + all_rows table.regions forms < 2 ^ 32
+    → first ≡ length (front_rows (region_tree (table_of table) 0) (forms_in forms 0)) → first + all_rows table.regions forms < 2 ^ 32
 rows_below table forms limits first are begins =
     let few = all_few (forms_in forms) 0 table.regions forms (λ at. (let none : 0 + at ≡ at = omega arith in ap (forms_in forms) none)) in
     let short = are.short in
@@ -122,14 +122,14 @@ rows_below table forms limits first are begins =
     alone_few Stops_here = omega arith
     alone_few (Traps_here kind line) = omega arith
 
-    front_few : (tree : TableTree) (form : Option RegionForm) → length (in_front tree form) ≤ 1
+    front_few : (tree : TableTree) (form : Option RegionForm) → length (front_rows tree form) ≤ 1
     front_few tree None = omega arith
     front_few tree (Some Plain) = alone_few tree
     front_few tree (Some (Packed states registers)) = omega arith
 
 -- the entries that are found are those of the plan
 pub are_entries : (table : RegionTable) (forms : List (Option StoredForm)) (limits : Limits) (entries : List ℕ) (first : ℕ) → length forms ≡ length table.regions
-    → AreForms (table_of table) limits (forms_in forms) → first ≡ length (in_front (region_tree (table_of table) 0) (forms_in forms 0))
+    → AreForms (table_of table) limits (forms_in forms) → first ≡ length (front_rows (region_tree (table_of table) 0) (forms_in forms 0))
     → entries ≡ entries_from first table.regions forms → AreEntries (table_of table) (forms_in forms) entries
 are_entries table forms limits entries first same are begins found = record {
   as_many =
@@ -175,7 +175,7 @@ bare_less f number (region ∷ regions) =
 
 -- a leaf alone is counted with region 0
 front_less : (f : ℕ → Option RegionForm) (regions : List TableRegion) → 1 ≤ length regions
-    → bytes_of (in_front (tree_of (slice_get regions 0)) (f 0)) + bare_bytes f 0 regions ≤ regions_bytes f 0 regions
+    → bytes_of (front_rows (tree_of (slice_get regions 0)) (f 0)) + bare_bytes f 0 regions ≤ regions_bytes f 0 regions
 front_less f [] some = absurd (omega (arith, some))
 front_less f (region ∷ regions) some =
     let one = of_form region.tree (f 0) in
@@ -189,7 +189,7 @@ front_less f (region ∷ regions) some =
     of_tree Stops_here = omega arith
     of_tree (Traps_here kind line) = omega arith
 
-    of_form : (tree : TableTree) (form : Option RegionForm) → bytes_of (in_front tree form) + bytes_in tree form ≤ form_bytes tree form
+    of_form : (tree : TableTree) (form : Option RegionForm) → bytes_of (front_rows tree form) + bytes_in tree form ≤ form_bytes tree form
     of_form tree None = omega arith
     of_form tree (Some Plain) = let few = of_tree tree in omega (arith, few)
     of_form tree (Some (Packed states registers)) = omega arith
@@ -201,7 +201,7 @@ pub record RegionsSoFar (plan : Plan) (old new : Output) (count : ℕ) : Type 0 
   pub grows : Grows old new
   pub count_is : length new.rows ≡ slice_index plan.entries.now count
   pub made : RegionsMade plan new count
-  pub ways : EachCopy (IsWay plan (RowsReached 0 (length new.rows))) old new
+  pub ways : EachCopy (IsOnTheWay plan (RowsReached 0 (length new.rows))) old new
   pub short : bytes_made new + bare_bytes (forms_at plan) count (drop count (table_in plan).regions) ≤ bytes_made old + bare_bytes (forms_at plan) 0 (table_in plan).regions
 
 module _ (plan : Plan) (is : IsPlan plan) (old : Output) where
@@ -218,7 +218,7 @@ module _ (plan : Plan) (is : IsPlan plan) (old : Output) where
   -- and one region more
   pub one_more_region : (mid new : Output) (region : ℕ) → region < length (table_in plan).regions → RegionsSoFar plan old mid region → Grows mid new
       → length new.rows ≡ length mid.rows + rows_in (region_tree (table_in plan) region) (forms_at plan region) → RegionMade plan new region
-      → EachCopy (IsWay plan (RowsReached (length mid.rows) (length new.rows))) mid new
+      → EachCopy (IsOnTheWay plan (RowsReached (length mid.rows) (length new.rows))) mid new
       → bytes_made new ≤ bytes_made mid + bytes_in (region_tree (table_in plan) region) (forms_at plan region)
       → RegionsSoFar plan old new (region + 1)
   one_more_region mid new region within so_far grows count_more made ways short = record {
@@ -239,7 +239,7 @@ module _ (plan : Plan) (is : IsPlan plan) (old : Output) where
       each = λ final stays at low high. elim (decide_le (suc at) (length mid.copies.items)) [
         | inl below ↦
             let way = so_far.ways.each final (grows.stays final stays) at low below in
-            subst (λ (b : ℕ). IsWay plan (RowsReached 0 (length new.rows)) final (b + at)) (sym grows.base)
+            subst (λ (b : ℕ). IsOnTheWay plan (RowsReached 0 (length new.rows)) final (b + at)) (sym grows.base)
             (record { fits = way.fits; reached = λ reached. way.reached (λ row from to. reached row from (omega (arith, to, count_more))) })
         | inr above ↦
             let way = ways.each final stays at (omega (arith, above)) high in
@@ -266,12 +266,12 @@ module _ (plan : Plan) (is : IsPlan plan) (old : Output) where
 -- ---- all rows
 
 module _ (plan : Plan) (is : IsPlan plan) (old new : Output) (rows : List CodeRow) (so_far : RegionsSoFar plan old new (length plan.table.now.regions))
-    (base : old.base ≡ end_of plan) (no_copies : length old.copies.items ≡ 0)
-    (front : rows_of old.rows ≡ in_front (region_tree (table_in plan) 0) (forms_at plan 0)) (are : rows ≡ rows_of new.rows ++ rows_of new.copies.items) where
-  rows_many : length (rows_of new.rows) ≡ end_of plan
+    (base : old.base ≡ rows_end plan) (no_copies : length old.copies.items ≡ 0)
+    (front : rows_of old.rows ≡ front_rows (region_tree (table_in plan) 0) (forms_at plan 0)) (are : rows ≡ rows_of new.rows ++ rows_of new.copies.items) where
+  rows_many : length (rows_of new.rows) ≡ rows_end plan
   rows_many = length-map new.rows row_of ∙ so_far.count_is
 
-  base_is : new.base ≡ end_of plan
+  base_is : new.base ≡ rows_end plan
   base_is = so_far.grows.base ∙ base
 
   -- all that was made has its place
@@ -293,7 +293,7 @@ module _ (plan : Plan) (is : IsPlan plan) (old new : Output) (rows : List CodeRo
       in_back_part (x ∷ xs) ys zero at row is e = absurd (omega (arith, is))
       in_back_part (x ∷ xs) ys (suc place) at row is e = in_back_part xs ys place at row (omega (arith, is)) e
 
-  rows_in_all : length rows ≡ end_of plan + length new.copies.items
+  rows_in_all : length rows ≡ rows_end plan + length new.copies.items
   rows_in_all =
       let all = ap (λ (l : List CodeRow). length l) are in
       let both = length-append (rows_of new.rows) (rows_of new.copies.items) in
@@ -312,7 +312,7 @@ module _ (plan : Plan) (is : IsPlan plan) (old new : Output) (rows : List CodeRo
   }
     where
       -- the row in front, if there is one
-      in_front_is : (leaf : CodeRow) → in_front (region_tree (table_in plan) 0) (forms_at plan 0) ≡ leaf ∷ [] → slice_get rows 0 ≡ Some leaf
+      in_front_is : (leaf : CodeRow) → front_rows (region_tree (table_in plan) 0) (forms_at plan 0) ≡ leaf ∷ [] → slice_get rows 0 ≡ Some leaf
       in_front_is leaf e = (so_far.grows.stays rows all_stays).rows_stay 0 leaf (ap (λ (l : List CodeRow). slice_get l 0) (front ∙ e))
 
       entry : ℕ
@@ -320,36 +320,36 @@ module _ (plan : Plan) (is : IsPlan plan) (old new : Output) (rows : List CodeRo
 
       by_tree : (tree : TableTree) → region_tree (table_in plan) 0 ≡ tree → IsRoot tree → forms_at plan 0 ≡ Some Plain → BeginsAt rows (root_leaf entry tree)
       by_tree (Does origin item rest) t root e =
-          let none : entry ≡ 0 = is.entries.first ∙ ap (λ (f : Option RegionForm). length (in_front (region_tree (table_in plan) 0) f)) e ∙ ap (λ (it : TableTree). length (leaf_alone it)) t in
+          let none : entry ≡ 0 = is.entries.first ∙ ap (λ (f : Option RegionForm). length (front_rows (region_tree (table_in plan) 0) f)) e ∙ ap (λ (it : TableTree). length (leaf_alone it)) t in
           subst (λ (n : ℕ). BeginsAt rows (Leads_to n)) (sym none) at_first_row
       by_tree (Asks origin on on_yes on_no) t root e =
-          let none : entry ≡ 0 = is.entries.first ∙ ap (λ (f : Option RegionForm). length (in_front (region_tree (table_in plan) 0) f)) e ∙ ap (λ (it : TableTree). length (leaf_alone it)) t in
+          let none : entry ≡ 0 = is.entries.first ∙ ap (λ (f : Option RegionForm). length (front_rows (region_tree (table_in plan) 0) f)) e ∙ ap (λ (it : TableTree). length (leaf_alone it)) t in
           subst (λ (n : ℕ). BeginsAt rows (Leads_to n)) (sym none) at_first_row
       by_tree (Next region) t root e = absurd root
-      by_tree Stops_here t root e = by_leaf_alone (in_front_is (At_leaf Ends) (ap (in_front (region_tree (table_in plan) 0)) e ∙ ap leaf_alone t))
-      by_tree (Traps_here kind line) t root e = by_leaf_alone (in_front_is (At_leaf (Traps kind line)) (ap (in_front (region_tree (table_in plan) 0)) e ∙ ap leaf_alone t))
+      by_tree Stops_here t root e = by_leaf_alone (in_front_is (At_leaf Ends) (ap (front_rows (region_tree (table_in plan) 0)) e ∙ ap leaf_alone t))
+      by_tree (Traps_here kind line) t root e = by_leaf_alone (in_front_is (At_leaf (Traps kind line)) (ap (front_rows (region_tree (table_in plan) 0)) e ∙ ap leaf_alone t))
 
       begins : (form : RegionForm) → forms_at plan 0 ≡ Some form → BeginsAt rows (form_leaf (emission_in plan) 0 form)
       begins Plain e = by_tree (region_tree (table_in plan) 0) refl (roots (table_in plan) is.kept 0) e
       begins (Packed states registers) e =
-          let first = is.entries.first ∙ ap (λ (f : Option RegionForm). length (in_front (region_tree (table_in plan) 0) f)) e in
+          let first = is.entries.first ∙ ap (λ (f : Option RegionForm). length (front_rows (region_tree (table_in plan) 0) f)) e in
           let none : entry + 0 ≡ 0 = omega (arith, first) in
           subst (λ (n : ℕ). BeginsAt rows (Leads_to n)) (sym none) at_first_row
 
   -- a row is one of a region, or of copies
-  by_part : (P : ℕ → Type 0) → ((number : ℕ) → number < end_of plan → P number)
+  by_part : (P : ℕ → Type 0) → ((number : ℕ) → number < rows_end plan → P number)
       → ((at : ℕ) → at < length new.copies.items → P (new.base + at)) → (number : ℕ) → number < length rows → P number
-  by_part P own copies number lt = elim (decide_le (suc number) (end_of plan)) [
+  by_part P own copies number lt = elim (decide_le (suc number) (rows_end plan)) [
     | inl below ↦ own number below
     | inr above ↦
         let many = rows_in_all in
         let base = base_is in
-        let at = number - end_of plan in
+        let at = number - rows_end plan in
         let is : new.base + at ≡ number = omega (arith, above, base) in
         subst P is (copies at (omega (arith, above, lt, many)))
   ]
 
-  way : (at : ℕ) → at < length new.copies.items → IsWay plan (RowsReached 0 (length new.rows)) rows (new.base + at)
+  way : (at : ℕ) → at < length new.copies.items → IsOnTheWay plan (RowsReached 0 (length new.rows)) rows (new.base + at)
   way at lt = so_far.ways.each rows all_stays at (omega (arith, no_copies)) lt
 
   reached : (number : ℕ) → number < length rows → IsReachable rows number
@@ -361,12 +361,19 @@ module _ (plan : Plan) (is : IsPlan plan) (old new : Output) (rows : List CodeRo
       (λ at row there. by_part (λ number. (row : CodeRow) → slice_get rows number ≡ Some row → IsRow plan.limits (length plan.table.now.arrays) (length rows) row)
       (all_fit plan is rows all_emitted within) (λ at lt. (way at lt).fits within) at (slice_get_within rows at row there) row there)
     where
-      within : end_of plan ≤ length rows
+      within : rows_end plan ≤ length rows
       within = let many = rows_in_all in omega (arith, many)
 
       at_each : {X : Type 0} (P : X → Type 0) (xs : List X) → ((at : ℕ) (x : X) → slice_get xs at ≡ Some x → P x) → AllByRecursion P xs
       at_each P [] h = tt
       at_each P (x ∷ xs) h = (h 0 x refl, at_each P xs (λ at y e. h (suc at) y e))
+
+  some : 1 ≤ length rows
+  some = by_leaf all_emitted.begins (region_target plan is 0 all_emitted.first all_emitted.leads).within
+    where
+      by_leaf : {leaf : Leaf} → BeginsAt rows leaf → IsLeaf (rows_end plan) leaf → 1 ≤ length rows
+      by_leaf at_first_row within = let many = rows_in_all in omega (arith, many, within)
+      by_leaf (by_leaf_alone there) within = let less = slice_get_within rows 0 _ there in omega (arith, less)
 
   short : bytes_of rows ≤ regions_bytes (forms_at plan) 0 (table_in plan).regions
   short =
@@ -382,15 +389,15 @@ module _ (plan : Plan) (is : IsPlan plan) (old new : Output) (rows : List CodeRo
       empty (tree ∷ trees) e = absurd (omega (arith, e))
 
   pub are_emitted : AreEmitted (table_in plan) plan.forms.now plan.limits rows
-  are_emitted = record { entries = plan.entries.now; are = all_emitted; fit = fit; reached = reached; short = short }
+  are_emitted = record { entries = plan.entries.now; are = all_emitted; some = some; fit = fit; reached = reached; short = short }
 
 -- ---- what the code reads
 
 -- the rows of regions begin behind the leaf alone of region 0
 pub begins_behind : (table : RegionTable) (forms : List (Option StoredForm)) (regions : List Region) (region : Region) (form : Option StoredForm) (front : List Tree) (first : ℕ)
     → regions ≡ table.regions → 1 ≤ length (table_of table).regions → length forms ≡ length table.regions → form ≡ get_or forms 0 form
-    → rows_of front ≡ in_front (table_tree (get_or regions 0 region).tree) (form_in (Some form)) → first ≡ length front
-    → first ≡ length (in_front (region_tree (table_of table) 0) (forms_in forms 0))
+    → rows_of front ≡ front_rows (table_tree (get_or regions 0 region).tree) (form_in (Some form)) → first ≡ length front
+    → first ≡ length (front_rows (region_tree (table_of table) 0) (forms_in forms 0))
 begins_behind table forms regions region form front first same some count of_form is begins =
     let many = length-map table.regions table_region in
     let some_region : 0 < length regions = (let long = ap (λ (l : List Region). length l) same in omega (arith, some, many, long)) in
@@ -399,7 +406,7 @@ begins_behind table forms regions region form front first same some count of_for
     let tree = tree_is table 0 (get_or regions 0 region) there in
     let has = ap form_in (slice_get-get_or forms 0 form some_form ∙ ap (λ (f : Option StoredForm). Some f) (sym of_form)) in
     begins ∙ sym (length-map front row_of)
-    ∙ ap (λ (l : List CodeRow). length l) (is ∙ ap (λ (t : TableTree). in_front t (form_in (Some form))) tree ∙ ap (in_front (region_tree (table_of table) 0)) (sym has))
+    ∙ ap (λ (l : List CodeRow). length l) (is ∙ ap (λ (t : TableTree). front_rows t (form_in (Some form))) tree ∙ ap (front_rows (region_tree (table_of table) 0)) (sym has))
 
 -- there are fewer regions than numbers
 pub regions_few : (plan : Plan) → IsPlan plan → length plan.table.now.regions < 2 ^ 32

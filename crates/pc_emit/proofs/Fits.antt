@@ -101,10 +101,13 @@ module _ (of : ℕ → ℕ) where
 
   -- ---- no path writes a register twice
 
+  abbrev dests : List Item → List ℕ
+  dests path = filter_map dest_of (map moved path)
+
   -- the registers that a path writes are others than those of some names, and differ
   record WritesApart (above : List ℕ) (path : List Item) : Type 0 where
-    once : IsDistinct nat_eq (filter_map dest_of (map moved path))
-    apart : AllByRecursion (λ dest. AllByRecursion (λ name. of name ≢ dest) above) (filter_map dest_of (map moved path))
+    once : IsDistinct nat_eq (dests path)
+    apart : AllByRecursion (λ dest. AllByRecursion (λ name. of name ≢ dest) above) (dests path)
 
   none_written : (above : List ℕ) → WritesApart above []
   unfolding IsDistinct
@@ -133,15 +136,19 @@ module _ (of : ℕ → ℕ) where
       let parts = without_first dest above dests apart in
       ((parts.0, once), (defined, parts.1))
 
+  both : {above : List ℕ} {path : List Item} → IsDistinct nat_eq (dests path) × AllByRecursion (λ dest. AllByRecursion (λ name. of name ≢ dest) above) (dests path)
+      → WritesApart above path
+  both parts = record { once = parts.0; apart = parts.1 }
+
   item_writes : (parameters above : List ℕ) (rest : Row AutomatonLeaf) (item : Item) (path : List Item) → IsUndisturbed of parameters above rest (dest_of item)
       → WritesApart (named (dest_of item) above) path → WritesApart above (item ∷ path)
-  item_writes parameters above rest (Bin op dest left right) path is writes = let more = one_written above dest (filter_map dest_of (map moved path)) is.defined writes.once writes.apart in record { once = more.0; apart = more.1 }
-  item_writes parameters above rest (Copy dest from) path is writes = let more = one_written above dest (filter_map dest_of (map moved path)) is.defined writes.once writes.apart in record { once = more.0; apart = more.1 }
-  item_writes parameters above rest (Load dest array index) path is writes = let more = one_written above dest (filter_map dest_of (map moved path)) is.defined writes.once writes.apart in record { once = more.0; apart = more.1 }
+  item_writes parameters above rest (Bin op dest left right) path is writes = both (one_written above dest (dests path) is.defined writes.once writes.apart)
+  item_writes parameters above rest (Copy dest from) path is writes = both (one_written above dest (dests path) is.defined writes.once writes.apart)
+  item_writes parameters above rest (Load dest array index) path is writes = both (one_written above dest (dests path) is.defined writes.once writes.apart)
   item_writes parameters above rest (Store array index value) path is writes = record { once = writes.once; apart = writes.apart }
   item_writes parameters above rest (Print value) path is writes = record { once = writes.once; apart = writes.apart }
-  item_writes parameters above rest (Read dest) path is writes = let more = one_written above dest (filter_map dest_of (map moved path)) is.defined writes.once writes.apart in record { once = more.0; apart = more.1 }
-  item_writes parameters above rest (More dest) path is writes = let more = one_written above dest (filter_map dest_of (map moved path)) is.defined writes.once writes.apart in record { once = more.0; apart = more.1 }
+  item_writes parameters above rest (Read dest) path is writes = both (one_written above dest (dests path) is.defined writes.once writes.apart)
+  item_writes parameters above rest (More dest) path is writes = both (one_written above dest (dests path) is.defined writes.once writes.apart)
 
   paths_write : (parameters above : List ℕ) (row : Row AutomatonLeaf) → StaysUndisturbed of parameters above row → AllByRecursion (WritesApart above) (paths_of row)
   paths_write parameters above (Then item rest) apart = each (paths_of rest) (paths_write parameters (named (dest_of item) above) rest apart.1)

@@ -14,7 +14,7 @@ use Rattle.pc_emit.specs.declared.form.RegionForm.TheVariants as stored
 use Rattle.pc_emit.specs.declared.plan.Plan.{Plan}
 use Rattle.pc_emit.specs.Emitted.{LeadsToRegion, Plain, LeadsBehind, to_item, to_test, to_region, to_end, to_trap}
 use Rattle.pc_emit.specs.Emitting.{form_in, HasForm}
-use Rattle.pc_emit.specs.models.Planned.{table_in, forms_at, emission_in, IsPlan, leaf_in}
+use Rattle.pc_emit.specs.models.Layout.{table_in, forms_at, emission_in, IsPlan, leaf_in}
 
 -- the tree of a region in memory is that of the table
 pub tree_is : (table : RegionTable) (number : ℕ) (region : Region) → slice_get table.regions number ≡ Some region → table_tree region.tree ≡ region_tree (table_of table) number

@@ -22,9 +22,9 @@ use Rattle.pc_emit.specs.declared.output.Output.{Output}
 use Rattle.pc_emit.specs.declared.plan.Plan.{Plan}
 use Rattle.pc_emit.specs.declared.packed.PackedSite.{PackedSite}
 use Rattle.pc_emit.specs.models.Output.{Grows}
-use Rattle.pc_emit.specs.models.Planned.{emission_in, states_at, names_at, IsSite}
+use Rattle.pc_emit.specs.models.Layout.{emission_in, states_at, names_at, IsSite}
 use Rattle.pc_emit.specs.models.Packing.{MovesAlong, MovesToRegion, LeafMade, RowMade}
-use Rattle.pc_emit.specs.models.Making.{IsTarget}
+use Rattle.pc_emit.specs.models.Making.{MayFollow}
 use Rattle.pc_emit.proofs.Ways.{ways}
 use Rattle.pc_emit.proofs.Texts.{operand_short, item_short, operand_same, item_same}
 
@@ -44,7 +44,7 @@ module _ (plan : Plan) (output : Output) (from to : Leaf) (moves given : List Mo
 
 -- what leads to a state may stand behind copies
 pub state_target : (plan : Plan) (site : PackedSite) (state row : ℕ) → IsSite plan site → state < length site.automaton.now → row ≡ site.first + state
-    → IsTarget plan (Leads_to row)
+    → MayFollow plan (Leads_to row)
 state_target plan site state row is there at = record { within = let few = is.few in omega (arith, few, there, at); short = omega arith }
 
 -- a state in memory is one of the states

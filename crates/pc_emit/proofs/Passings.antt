@@ -19,9 +19,9 @@ use Rattle.pc_emit.specs.declared.output.Output.{Output}
 use Rattle.pc_emit.specs.declared.plan.Plan.{Plan}
 use Rattle.pc_emit.specs.Emitted.{passes_none, passes_row}
 use Rattle.pc_emit.specs.models.Output.{bytes_of, Stays, Grows, StandsAt, PassesAlong, EachCopy}
-use Rattle.pc_emit.specs.models.Planned.{end_of}
+use Rattle.pc_emit.specs.models.Layout.{rows_end}
 use Rattle.pc_emit.specs.models.Packing.{MovesAlong}
-use Rattle.pc_emit.specs.models.Making.{IsTarget, IsWay, LeavesReached}
+use Rattle.pc_emit.specs.models.Making.{MayFollow, IsOnTheWay, LeavesReached}
 use Rattle.pc_emit.proofs.Ways.{same_copies}
 use Rattle.pc_emit.proofs.Copying.{one_leaf, copies_fit, copies_short}
 use Rattle.pc_emit.proofs.Texts.{bytes_more}
@@ -48,8 +48,8 @@ pub record LeadsThrough (plan : Plan) (old new : Output) (from : Leaf) (copies :
   pub grows : Grows old new
   pub rows : new.rows ≡ old.rows
   pub passes : PassesAlong new from copies to
-  pub ways : EachCopy (IsWay plan (LeavesReached (from ∷ []))) old new
-  pub within : (final : List CodeRow) → Stays new final → end_of plan ≤ length final → IsLeaf (length final) from
+  pub ways : EachCopy (IsOnTheWay plan (LeavesReached (from ∷ []))) old new
+  pub within : (final : List CodeRow) → Stays new final → rows_end plan ≤ length final → IsLeaf (length final) from
   pub short : length (leaf_text from) ≤ 5
   pub bytes : bytes_of (rows_of new.copies.items) ≤ bytes_of (rows_of old.copies.items) + 12 * copies_in copies
 
@@ -59,13 +59,13 @@ within_more rows more (Leads_to row) le is = omega (arith, le, is)
 within_more rows more _ le is = is
 
 -- a target leads to itself
-pub through_none : (plan : Plan) (output : Output) (to : Leaf) → IsTarget plan to → LeadsThrough plan output output to [] to
+pub through_none : (plan : Plan) (output : Output) (to : Leaf) → MayFollow plan to → LeadsThrough plan output output to [] to
 through_none plan output to target = record {
   grows = nothing_grows output;
   rows = refl;
   passes = record { passes = λ final stays. passes_none };
   ways = same_copies output output refl;
-  within = λ final stays le. within_more (end_of plan) (length final) to le target.within;
+  within = λ final stays le. within_more (rows_end plan) (length final) to le target.within;
   short = target.short;
   bytes = omega arith;
 }
@@ -83,7 +83,7 @@ module _ (plan : Plan) (old mid new : Output) (number : ℕ) (row : CodeRow) (co
       (subst (λ (r : CodeRow). HasLeafTo r to) (sym is) (subst (λ (l : List Leaf). Contains l (Leads_to to)) (sym (one_leaf copies next)) has))
 
   -- the row itself
-  own_way : (final : List CodeRow) → Stays new final → IsWay plan Here final number
+  own_way : (final : List CodeRow) → Stays new final → IsOnTheWay plan Here final number
   own_way final stays = record {
     fits = λ le other there.
         let same : row ≡ other = same_row (stands.stands final stays) there in
@@ -96,9 +96,9 @@ module _ (plan : Plan) (old mid new : Output) (number : ℕ) (row : CodeRow) (co
       same_row e f = cc
 
   -- those made before it
-  earlier_way : (final : List CodeRow) → Stays new final → (at : ℕ) → IsWay plan (LeavesReached (next ∷ [])) final (mid.base + at) → IsWay plan Here final (new.base + at)
+  earlier_way : (final : List CodeRow) → Stays new final → (at : ℕ) → IsOnTheWay plan (LeavesReached (next ∷ [])) final (mid.base + at) → IsOnTheWay plan Here final (new.base + at)
   earlier_way final stays at way =
-      subst (λ (b : ℕ). IsWay plan Here final (b + at)) (sym grows.base)
+      subst (λ (b : ℕ). IsOnTheWay plan Here final (b + at)) (sym grows.base)
       (record { fits = way.fits; reached = λ reached. way.reached (leads_on final stays reached) })
 
   -- through one row more
@@ -113,7 +113,7 @@ module _ (plan : Plan) (old mid new : Output) (number : ℕ) (row : CodeRow) (co
     ways = record {
       each = λ final stays place low high. elim (decide_le (suc place) (length mid.copies.items)) [
         | inl below ↦ earlier_way final stays place (through.ways.each final (grows.stays final stays) place low below)
-        | inr above ↦ subst (IsWay plan Here final) (last place above high) (own_way final stays)
+        | inr above ↦ subst (IsOnTheWay plan Here final) (last place above high) (own_way final stays)
       ];
     };
     within = λ final stays le. slice_get_within final number row (stands.stands final stays);
@@ -137,7 +137,7 @@ module _ (plan : Plan) (old mid new : Output) (number : ℕ) (row : CodeRow) (co
       last place above high = let count = many in let base = grows.base in omega (arith, at, above, high, count, base)
 
 -- at the end of a list nothing is left
-pub through_rest_of_none : (plan : Plan) (output : Output) (rows : List (List Move)) (to : Leaf) → IsTarget plan to → LeadsThrough plan output output to (drop (length rows) rows) to
+pub through_rest_of_none : (plan : Plan) (output : Output) (rows : List (List Move)) (to : Leaf) → MayFollow plan to → LeadsThrough plan output output to (drop (length rows) rows) to
 through_rest_of_none plan output rows to target =
     subst (λ (l : List (List Move)). LeadsThrough plan output output to l to) (sym (none_left rows)) (through_none plan output to target)
   where

@@ -17,7 +17,7 @@ use Rattle.pc_emit.specs.Emitted.{LeadsBehind, item_row, test_row, no_row, no_en
 use Rattle.pc_emit.specs.declared.output.Output.{Output}
 use Rattle.pc_emit.specs.declared.plan.Plan.{Plan}
 use Rattle.pc_emit.specs.models.Output.{bytes_of, Grows, StandsAt}
-use Rattle.pc_emit.specs.models.Planned.{emission_in}
+use Rattle.pc_emit.specs.models.Layout.{emission_in}
 use Rattle.pc_emit.specs.models.Making.{TreeMade}
 use Rattle.pc_emit.proofs.Texts.{operand_short, item_short, leaf_short, bytes_more}
 

@@ -25,7 +25,7 @@ use Rattle.pc_emit.specs.Emitted.{LeadsBehind, to_item, to_test, to_region, to_e
 use Rattle.pc_emit.specs.Emitted.{RegionStands, BeginsAt, at_first_row, by_leaf_alone, IsEmitted}
 use Rattle.pc_emit.specs.Leading.{tree_leads, leaf_leads, states_lead, form_leads, IsMet, Met_first, Met_behind}
 use Rattle.pc_emit.specs.models.Making.{RowsReached}
-use Rattle.pc_emit.specs.models.Planned.{rows_in}
+use Rattle.pc_emit.specs.models.Layout.{rows_in}
 use Rattle.pc_emit.proofs.PlainRuns.{IsRoot, roots}
 use Rattle.pc_emit.proofs.Copying.{one_leaf}
 

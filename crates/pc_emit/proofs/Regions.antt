@@ -15,7 +15,7 @@ use Rattle.pc_emit.specs.declared.output.Output.{Output}
 use Rattle.pc_emit.specs.declared.plan.Plan.{Plan}
 use Rattle.pc_emit.specs.declared.packed.PackedSite.{PackedSite}
 use Rattle.pc_emit.specs.models.Output.{bytes_of}
-use Rattle.pc_emit.specs.models.Planned.{rows_in, table_in, forms_at, emission_in, end_of, states_at, registers_at, IsPlan, IsSite}
+use Rattle.pc_emit.specs.models.Layout.{rows_in, table_in, forms_at, emission_in, rows_end, states_at, registers_at, IsPlan, IsSite}
 use Rattle.pc_emit.specs.models.Packing.{StatesMade}
 use Rattle.pc_emit.specs.models.Making.{bytes_in, TreeMade, RegionMade}
 use Rattle.pc_emit.proofs.Entries.{region_within}
@@ -63,7 +63,7 @@ module _ (plan : Plan) (region : ℕ) where
   plain_names tree is e same = subst (NamesHaveForms (table_in plan) (forms_at plan)) (sym same) (is.forms.each region Plain e)
 
   pub plain_few : (tree : TableTree) (row : ℕ) → IsPlan plan → forms_at plan region ≡ Some Plain → tree ≡ region_tree (table_in plan) region
-      → row ≡ slice_index plan.entries.now region → row + units tree ≤ end_of plan
+      → row ≡ slice_index plan.entries.now region → row + units tree ≤ rows_end plan
   plain_few tree row is e same at =
       let within = region_within plan is region Plain e in
       let many = ap units same in

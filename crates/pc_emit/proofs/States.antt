@@ -15,9 +15,9 @@ use Rattle.pc_emit.specs.declared.output.Output.{Output}
 use Rattle.pc_emit.specs.declared.plan.Plan.{Plan}
 use Rattle.pc_emit.specs.declared.packed.PackedSite.{PackedSite}
 use Rattle.pc_emit.specs.models.Output.{bytes_of, Grows, StandsAt, EachCopy}
-use Rattle.pc_emit.specs.models.Planned.{states_at, names_at, IsSite}
+use Rattle.pc_emit.specs.models.Layout.{states_at, names_at, IsSite}
 use Rattle.pc_emit.specs.models.Packing.{RowMade, StateMade, StatesMade}
-use Rattle.pc_emit.specs.models.Making.{IsWay, LeavesReached, RowsReached}
+use Rattle.pc_emit.specs.models.Making.{IsOnTheWay, LeavesReached, RowsReached}
 use Rattle.pc_emit.proofs.Passings.{nothing_grows, grows_more}
 use Rattle.pc_emit.proofs.Texts.{bytes_more}
 use Rattle.pc_emit.proofs.Ways.{same_copies}
@@ -31,7 +31,7 @@ pub record StatesSoFar (plan : Plan) (site : PackedSite) (old new : Output) (cou
   pub grows : Grows old new
   pub count_is : length new.rows ≡ length old.rows + count
   pub made : StatesMade plan site count new
-  pub ways : EachCopy (IsWay plan (RowsReached (length old.rows) (length new.rows))) old new
+  pub ways : EachCopy (IsOnTheWay plan (RowsReached (length old.rows) (length new.rows))) old new
   pub short : bytes_made new + states_bytes (drop count (states_at site)) ≤ bytes_made old + states_bytes (states_at site)
 
 module _ (plan : Plan) (site : PackedSite) (old : Output) where
@@ -48,7 +48,7 @@ module _ (plan : Plan) (site : PackedSite) (old : Output) where
   module _ (mid later new : Output) (number : ℕ) (state : AutomatonState) (made : CodeRow) (so_far : StatesSoFar plan site old mid number)
       (there : slice_get (states_at site) number ≡ Some state) (grows : Grows mid later) (same : later.rows ≡ mid.rows)
       (row_made : RowMade plan site (names_at site number) later state.row made)
-      (ways : EachCopy (IsWay plan (LeavesReached (leaves_of made))) mid later)
+      (ways : EachCopy (IsOnTheWay plan (LeavesReached (leaves_of made))) mid later)
       (short : bytes_of (rows_of later.copies.items) + length (row_text made) ≤ bytes_of (rows_of mid.copies.items) + row_bytes state.row)
       (grows_too : Grows later new) (copies : new.copies.items ≡ later.copies.items) (added : rows_of new.rows ≡ rows_of later.rows ++ made ∷ [])
       (count_more : length new.rows ≡ length later.rows + 1) (stands : StandsAt new (length later.rows) made) where
@@ -71,12 +71,12 @@ module _ (plan : Plan) (site : PackedSite) (old : Output) where
           | inl below ↦
               let way = so_far.ways.each final (grows.stays final (grows_too.stays final stays)) at low below in
               let base : mid.base ≡ new.base = sym (grows_too.base ∙ grows.base) in
-              subst (λ (b : ℕ). IsWay plan (RowsReached (length old.rows) (length new.rows)) final (b + at)) base
+              subst (λ (b : ℕ). IsOnTheWay plan (RowsReached (length old.rows) (length new.rows)) final (b + at)) base
               (record { fits = way.fits; reached = λ reached. way.reached (λ row from to. reached row from (let one = same_count in omega (arith, to, one, count_more))) })
           | inr above ↦
               let many = ap (λ (l : List Tree). length l) copies in
               let way = ways.each final (grows_too.stays final stays) at (omega (arith, above)) (omega (arith, high, many)) in
-              subst (λ (b : ℕ). IsWay plan (RowsReached (length old.rows) (length new.rows)) final (b + at)) (sym grows_too.base)
+              subst (λ (b : ℕ). IsOnTheWay plan (RowsReached (length old.rows) (length new.rows)) final (b + at)) (sym grows_too.base)
               (record {
                 fits = way.fits;
                 reached = λ reached. way.reached (λ to has. Behind (reached (length later.rows)

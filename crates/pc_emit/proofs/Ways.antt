@@ -10,7 +10,7 @@ use Rattle.pc_machine.specs.MachineCode.{Leaf, Leads_to, CodeRow}
 use Rattle.pc_emit.specs.declared.output.Output.{Output}
 use Rattle.pc_emit.specs.declared.plan.Plan.{Plan}
 use Rattle.pc_emit.specs.models.Output.{Stays, Grows, EachCopy}
-use Rattle.pc_emit.specs.models.Making.{IsWay, LeavesReached}
+use Rattle.pc_emit.specs.models.Making.{IsOnTheWay, LeavesReached}
 
 -- none was made since
 pub same_copies : {P : List CodeRow → ℕ → Type 0} (old new : Output) → new.copies.items ≡ old.copies.items → EachCopy P old new
@@ -35,35 +35,35 @@ copies_imply P Q old new implies ways = record { each = λ final stays at low hi
 
 -- what is reached where less is reached
 pub ways_from : (plan : Plan) (Reached Known : List CodeRow → Type 0) (old new : Output)
-    → ((final : List CodeRow) → Stays new final → Known final → Reached final) → EachCopy (IsWay plan Reached) old new → EachCopy (IsWay plan Known) old new
+    → ((final : List CodeRow) → Stays new final → Known final → Reached final) → EachCopy (IsOnTheWay plan Reached) old new → EachCopy (IsOnTheWay plan Known) old new
 ways_from plan Reached Known old new implies ways =
-    copies_imply (IsWay plan Reached) (IsWay plan Known) old new
+    copies_imply (IsOnTheWay plan Reached) (IsOnTheWay plan Known) old new
     (λ final stays number way. record { fits = way.fits; reached = λ known. way.reached (implies final stays known) }) ways
 
 -- ---- rows
 
 module _ (plan : Plan) (made : CodeRow) where
   -- the leaves of a row are those behind its item
-  pub item_ways : (item : Item) (below : CodeRow) (old new : Output) → made ≡ Then item below → EachCopy (IsWay plan (LeavesReached (leaves_of below))) old new
-      → EachCopy (IsWay plan (LeavesReached (leaves_of made))) old new
-  item_ways item below old new is ways = subst (λ (m : CodeRow). EachCopy (IsWay plan (LeavesReached (leaves_of m))) old new) (sym is) ways
+  pub item_ways : (item : Item) (below : CodeRow) (old new : Output) → made ≡ Then item below → EachCopy (IsOnTheWay plan (LeavesReached (leaves_of below))) old new
+      → EachCopy (IsOnTheWay plan (LeavesReached (leaves_of made))) old new
+  item_ways item below old new is ways = subst (λ (m : CodeRow). EachCopy (IsOnTheWay plan (LeavesReached (leaves_of m))) old new) (sym is) ways
 
   -- and those of both sides of its test
   pub test_ways : (on : Operand) (yes_below no_below : CodeRow) (old mid new : Output) → made ≡ Either on yes_below no_below → Grows mid new
-      → EachCopy (IsWay plan (LeavesReached (leaves_of yes_below))) old mid → EachCopy (IsWay plan (LeavesReached (leaves_of no_below))) mid new
-      → EachCopy (IsWay plan (LeavesReached (leaves_of made))) old new
+      → EachCopy (IsOnTheWay plan (LeavesReached (leaves_of yes_below))) old mid → EachCopy (IsOnTheWay plan (LeavesReached (leaves_of no_below))) mid new
+      → EachCopy (IsOnTheWay plan (LeavesReached (leaves_of made))) old new
   test_ways on yes_below no_below old mid new is grows one other =
       let all = leaves_of yes_below ++ leaves_of no_below in
-      subst (λ (m : CodeRow). EachCopy (IsWay plan (LeavesReached (leaves_of m))) old new) (sym is)
-      (copies_more {P = IsWay plan (LeavesReached all)} old mid new grows
+      subst (λ (m : CodeRow). EachCopy (IsOnTheWay plan (LeavesReached (leaves_of m))) old new) (sym is)
+      (copies_more {P = IsOnTheWay plan (LeavesReached all)} old mid new grows
       (ways_from plan (LeavesReached (leaves_of yes_below)) (LeavesReached all) old mid
       (λ final stays known number has. known number (Contains-append_left (leaves_of yes_below) (leaves_of no_below) (Leads_to number) has)) one)
       (ways_from plan (LeavesReached (leaves_of no_below)) (LeavesReached all) mid new
       (λ final stays known number has. known number (Contains-append_right (leaves_of yes_below) (leaves_of no_below) (Leads_to number) has)) other))
 
   -- or it is a leaf
-  pub leaf_ways : (leaf : Leaf) (old new : Output) → made ≡ At_leaf leaf → EachCopy (IsWay plan (LeavesReached (leaf ∷ []))) old new
-      → EachCopy (IsWay plan (LeavesReached (leaves_of made))) old new
-  leaf_ways leaf old new is ways = subst (λ (m : CodeRow). EachCopy (IsWay plan (LeavesReached (leaves_of m))) old new) (sym is) ways
+  pub leaf_ways : (leaf : Leaf) (old new : Output) → made ≡ At_leaf leaf → EachCopy (IsOnTheWay plan (LeavesReached (leaf ∷ []))) old new
+      → EachCopy (IsOnTheWay plan (LeavesReached (leaves_of made))) old new
+  leaf_ways leaf old new is ways = subst (λ (m : CodeRow). EachCopy (IsOnTheWay plan (LeavesReached (leaves_of m))) old new) (sym is) ways
 
 pub ruleset ways = (same_copies, item_ways, test_ways, leaf_ways)

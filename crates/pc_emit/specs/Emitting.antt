@@ -48,11 +48,12 @@ emission_of table forms entries ops = record {
   scratch = allowed;
 }
 
--- These rows are those of a table's regions in these forms. Each keeps the limits of the machine and its own, leaves lead to
--- each from row 0, and together they are no longer than was counted.
+-- These rows are those of a table's regions in these forms. There is one; each keeps the limits of the machine and its own,
+-- leaves lead to each from row 0, and together they are no longer than was counted.
 pub record AreEmitted (table : Table) (forms : List (Option StoredForm)) (limits : Limits) (rows : List CodeRow) : Type 0 where
   pub entries : List ℕ
   pub are : IsEmitted (emission_of table forms entries limits.ops) rows
+  pub some : 1 ≤ length rows
   pub fit : AllByRecursion (IsRow limits (length table.arrays) (length rows)) rows
   pub reached : (row : ℕ) → row < length rows → IsReachable rows row
   pub short : length (flat_map row_text rows) ≤ regions_bytes (forms_in forms) 0 table.regions

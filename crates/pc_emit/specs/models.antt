@@ -1,5 +1,5 @@
 pub mod Output
-pub mod Planned
+pub mod Layout
 pub mod Packing
 pub mod Making
 pub mod Undisturbed

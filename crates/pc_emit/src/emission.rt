@@ -6,8 +6,8 @@ ghost use Rattle.pc_table.specs.TableKeeps.{TableKeeps};
 ghost use Rattle.pc_machine.specs.MachineCode.{rows_of};
 ghost use Rattle.pc_emit.specs.Emitting.{forms_in, form_in, AreEmitted, AreForms};
 ghost use Rattle.pc_emit.specs.models.Output.{bytes_of, EachCopy, Grows};
-ghost use Rattle.pc_emit.specs.models.Planned.{end_of, forms_at, in_front, rows_in, table_in, IsPlan};
-ghost use Rattle.pc_emit.specs.models.Making.{bytes_in, IsWay, RegionMade, RowsReached};
+ghost use Rattle.pc_emit.specs.models.Layout.{rows_end, forms_at, front_rows, rows_in, table_in, IsPlan};
+ghost use Rattle.pc_emit.specs.models.Making.{bytes_in, IsOnTheWay, RegionMade, RowsReached};
 
 use crate::error::EmitError;
 use crate::form::RegionForm;
@@ -41,7 +41,7 @@ pub fn emit(
     ensures { IfOk result (λ rows. AreEmitted (table_of table.now) forms.now limits (rows_of rows)) }
 {
     let regions = table.regions.as_slice();
-    let front = in_front(alloc, &forms[0], &regions[0].tree)?;
+    let front = front_rows(alloc, &forms[0], &regions[0].tree)?;
     let entries = entries(alloc, regions, forms, front.len() as u32)?;
     let plan = Plan {
         table,
@@ -55,7 +55,7 @@ pub fn emit(
 /// The rows of all regions behind this one in front, and those of copies behind them.
 fn all_rows(alloc: Global, plan: &Plan, front: TreeList) -> Result<TreeList, EmitError>
     requires plan { IsPlan plan.now }
-    requires front { rows_of front ≡ in_front (region_tree (table_in plan.now) 0) (forms_at plan.now 0) }
+    requires front { rows_of front ≡ front_rows (region_tree (table_in plan.now) 0) (forms_at plan.now 0) }
     ensures { IfOk result (λ rows. AreEmitted (table_in plan.now) plan.now.forms.now plan.now.limits (rows_of rows)) }
 {
     let mut output = Output {
@@ -70,12 +70,12 @@ fn all_rows(alloc: Global, plan: &Plan, front: TreeList) -> Result<TreeList, Emi
 }
 
 /// The leaf alone of a plain region that is a stop or a trap, and no row of another region.
-fn in_front(
+fn front_rows(
     alloc: Global,
     form: &Option<RegionForm>,
     tree: &RegionTree,
 ) -> Result<TreeList, AllocError>
-    ensures { IfOk result (λ rows. rows_of rows ≡ in_front (table_tree tree.now) (form_in (Some form.now))) }
+    ensures { IfOk result (λ rows. rows_of rows ≡ front_rows (table_tree tree.now) (form_in (Some form.now))) }
 {
     let mut rows = TreeList::new(alloc);
     match form {
@@ -98,14 +98,14 @@ fn region_rows(
     output: &mut Output,
 ) -> Result<(), EmitError>
     requires plan { IsPlan plan.now }
-    requires base { output.old.base ≡ end_of plan.now }
+    requires base { output.old.base ≡ rows_end plan.now }
     requires form { forms_at plan.now region ≡ form_in (Some form.now) }
     requires there { region < length plan.now.table.now.regions }
     requires begins { length output.old.rows ≡ slice_index plan.now.entries.now region }
     ensures grows { OnOk result (Grows output.old output.new) }
     ensures count { OnOk result (length output.new.rows ≡ length output.old.rows + rows_in (region_tree (table_in plan.now) region) (forms_at plan.now region)) }
     ensures made { OnOk result (RegionMade plan.now output.new region) }
-    ensures ways { OnOk result (EachCopy (IsWay plan.now (RowsReached (length output.old.rows) (length output.new.rows))) output.old output.new) }
+    ensures ways { OnOk result (EachCopy (IsOnTheWay plan.now (RowsReached (length output.old.rows) (length output.new.rows))) output.old output.new) }
     ensures short { OnOk result (bytes_of (rows_of output.new.rows) + bytes_of (rows_of output.new.copies.items)
         ≤ bytes_of (rows_of output.old.rows) + bytes_of (rows_of output.old.copies.items) + bytes_in (region_tree (table_in plan.now) region) (forms_at plan.now region)) }
 {

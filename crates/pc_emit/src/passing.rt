@@ -7,9 +7,9 @@ ghost use Rattle.pc_machine.specs.MachineCode.{row_of, rows_of};
 ghost use Rattle.pc_object.specs.ObjectText.{leaf_text};
 ghost use Rattle.pc_emit.specs.Bytes.{goto_bytes, passed_bytes};
 ghost use Rattle.pc_emit.specs.models.Output.{bytes_of, leaf_of, EachCopy, Grows};
-ghost use Rattle.pc_emit.specs.models.Planned.{end_of, IsPlan};
+ghost use Rattle.pc_emit.specs.models.Layout.{rows_end, IsPlan};
 ghost use Rattle.pc_emit.specs.models.Packing.{MovesAlong};
-ghost use Rattle.pc_emit.specs.models.Making.{IsTarget, IsWay, LeavesReached};
+ghost use Rattle.pc_emit.specs.models.Making.{MayFollow, IsOnTheWay, LeavesReached};
 
 use crate::error::EmitError;
 use crate::output::Output;
@@ -35,13 +35,13 @@ pub(crate) fn move_along(
     output: &mut Output,
 ) -> Result<Target, EmitError>
     requires plan { IsPlan plan.now }
-    requires base { output.old.base ≡ end_of plan.now }
+    requires base { output.old.base ≡ rows_end plan.now }
     requires moves { AreMoves allowed moves.now }
-    requires target { IsTarget plan.now (leaf_of target) }
+    requires target { MayFollow plan.now (leaf_of target) }
     ensures grows { OnOk result (Grows output.old output.new) }
     ensures rows { OnOk result (output.new.rows ≡ output.old.rows) }
     ensures moved { IfOk result (λ from. MovesAlong plan.now output.new (leaf_of from) moves.now (leaf_of target)) }
-    ensures ways { IfOk result (λ from. EachCopy (IsWay plan.now (LeavesReached (leaf_of from ∷ []))) output.old output.new) }
+    ensures ways { IfOk result (λ from. EachCopy (IsOnTheWay plan.now (LeavesReached (leaf_of from ∷ []))) output.old output.new) }
     ensures short { IfOk result (λ from. bytes_of (rows_of output.new.copies.items) + length (leaf_text (leaf_of from))
         ≤ bytes_of (rows_of output.old.copies.items) + (goto_bytes + passed_bytes * length moves.now)) }
 {

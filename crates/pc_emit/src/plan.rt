@@ -4,7 +4,7 @@ ghost use Rattle.pc_table.specs.TableKeeps.{units};
 ghost use Rattle.pc_emit.specs.Emitted.{LeadsToRegion, LeadsBehind, root_leaf};
 ghost use Rattle.pc_emit.specs.Emitting.{HasForm, NamesHaveForms, form_in};
 ghost use Rattle.pc_emit.specs.models.Output.{leaf_of};
-ghost use Rattle.pc_emit.specs.models.Planned.{emission_in, table_in, forms_at, IsPlan, leaf_in, rows_in, all_rows, entries_from};
+ghost use Rattle.pc_emit.specs.models.Layout.{emission_in, table_in, forms_at, IsPlan, leaf_in, rows_in, all_rows, entries_from};
 
 use crate::form::RegionForm;
 use crate::target::Target;

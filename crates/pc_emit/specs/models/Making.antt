@@ -10,13 +10,13 @@ use Rattle.pc_emit.specs.Emitted.{RegionForm, Plain, Packed, TreeStands, RegionS
 use Rattle.pc_emit.specs.declared.output.Output.{Output}
 use Rattle.pc_emit.specs.declared.plan.Plan.{Plan}
 use Rattle.pc_emit.specs.models.Output.{Stays}
-use Rattle.pc_emit.specs.models.Planned.{forms_at, emission_in, end_of}
+use Rattle.pc_emit.specs.models.Layout.{forms_at, emission_in, rows_end}
 
 -- ---- what copies lead to, and what leads to them
 
 -- a leaf that copies may lead to: a row of a region, or the end
-pub record IsTarget (plan : Plan) (leaf : Leaf) : Type 0 where
-  pub within : IsLeaf (end_of plan) leaf
+pub record MayFollow (plan : Plan) (leaf : Leaf) : Type 0 where
+  pub within : IsLeaf (rows_end plan) leaf
   pub short : length (leaf_text leaf) ≤ goto_bytes
 
 -- all rows that leaves lead to are reached
@@ -28,8 +28,8 @@ abbrev pub RowsReached : (from to : ℕ) → List CodeRow → Type 0
 RowsReached from to final = (number : ℕ) → from ≤ number → number < to → IsReachable final number
 
 -- a row keeps the limits, and it is reached where this is
-pub record IsWay (plan : Plan) (Reached : List CodeRow → Type 0) (final : List CodeRow) (number : ℕ) : Type 0 where
-  pub fits : end_of plan ≤ length final → (row : CodeRow) → slice_get final number ≡ Some row → IsRow plan.limits (length plan.table.now.arrays) (length final) row
+pub record IsOnTheWay (plan : Plan) (Reached : List CodeRow → Type 0) (final : List CodeRow) (number : ℕ) : Type 0 where
+  pub fits : rows_end plan ≤ length final → (row : CodeRow) → slice_get final number ≡ Some row → IsRow plan.limits (length plan.table.now.arrays) (length final) row
   pub reached : Reached final → IsReachable final number
 
 -- ---- regions

@@ -16,7 +16,7 @@ use Rattle.pc_emit.specs.declared.output.Output.{Output}
 use Rattle.pc_emit.specs.declared.plan.Plan.{Plan}
 use Rattle.pc_emit.specs.declared.packed.PackedSite.{PackedSite}
 use Rattle.pc_emit.specs.models.Output.{Stays}
-use Rattle.pc_emit.specs.models.Planned.{emission_in, states_at, registers_at}
+use Rattle.pc_emit.specs.models.Layout.{emission_in, states_at, registers_at}
 
 -- what a leaf needs: its moves may be done at once, and what it leads to is there
 abbrev pub CanMakeLeaf : Emission → List AutomatonState → (ℕ → ℕ → Option ℕ) → (ℕ → ℕ) → AutomatonLeaf → Type 0

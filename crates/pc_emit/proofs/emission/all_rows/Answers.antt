@@ -4,7 +4,7 @@ use Rattle.std.proofs.lemmas.List.{length-map}
 use Rattle.std.proofs.lemmas.Result.{IfOk-weaker}
 use Rattle.pc_table.specs.Table.{table_region}
 use Rattle.pc_machine.specs.MachineCode.{rows_of}
-use Rattle.pc_emit.specs.models.Planned.{table_in}
+use Rattle.pc_emit.specs.models.Layout.{table_in}
 use Rattle.pc_emit.proofs.Emits.{RegionsSoFar, one_more_region, are_emitted, regions_few}
 use Rattle.pc_emit.proofs.emission.all_rows.Goals as goal
 

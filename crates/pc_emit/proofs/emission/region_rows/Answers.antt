@@ -4,7 +4,7 @@ use Rattle.pc_table.specs.Table.{table_tree}
 use Rattle.pc_automaton.specs.Automaton.{states_in}
 use Rattle.pc_assign.specs.Stored.{registers_in}
 use Rattle.pc_emit.specs.Emitted.{Plain, Packed}
-use Rattle.pc_emit.specs.models.Planned.{forms_at}
+use Rattle.pc_emit.specs.models.Layout.{forms_at}
 use Rattle.pc_emit.proofs.Results.{on_ok_all}
 use Rattle.pc_emit.proofs.Regions.{plain_made, plain_rows, plain_short, plain_names, plain_few, packed_site, packed_made}
 use Rattle.pc_emit.proofs.emission.region_rows.Goals as goal

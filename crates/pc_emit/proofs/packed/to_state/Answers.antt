@@ -5,7 +5,7 @@ use Rattle.pc_machine.specs.MachineCode.{rows_of}
 use Rattle.pc_object.specs.ObjectText.{leaf_text}
 use Rattle.pc_emit.specs.Registers.{argument_moves}
 use Rattle.pc_emit.specs.models.Output.{bytes_of, leaf_of, of_state}
-use Rattle.pc_emit.specs.models.Planned.{states_at, names_at}
+use Rattle.pc_emit.specs.models.Layout.{states_at, names_at}
 use Rattle.pc_emit.proofs.Packs.{many_arguments, state_there}
 use Rattle.pc_emit.proofs.packed.to_state.Goals as goal
 

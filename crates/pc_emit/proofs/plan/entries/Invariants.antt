@@ -1,5 +1,5 @@
 use Rattle.std.proofs.Common.{◌≡◌, ◌+◌, ◌++◌, drop}
-use Rattle.pc_emit.specs.models.Planned.{all_rows, entries_from}
+use Rattle.pc_emit.specs.models.Layout.{all_rows, entries_from}
 use Rattle.pc_emit.proofs.plan.entries.Given as goal
 
 -- the entries so far, before those of the regions that are left, are those of all

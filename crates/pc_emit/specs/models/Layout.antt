@@ -32,10 +32,10 @@ leaf_alone (Next region) = []
 leaf_alone Stops_here = At_leaf Ends ∷ []
 leaf_alone (Traps_here kind line) = At_leaf (Traps kind line) ∷ []
 
-abbrev pub in_front : TableTree → Option RegionForm → List CodeRow
-in_front tree None = []
-in_front tree (Some Plain) = leaf_alone tree
-in_front tree (Some (Packed states registers)) = []
+abbrev pub front_rows : TableTree → Option RegionForm → List CodeRow
+front_rows tree None = []
+front_rows tree (Some Plain) = leaf_alone tree
+front_rows tree (Some (Packed states registers)) = []
 
 -- the rows of all regions
 abbrev pub all_rows : List Region → List (Option StoredForm) → ℕ
@@ -51,7 +51,7 @@ entries_from row _ _ = row ∷ []
 -- each region begins where the one before it ends, and the first behind the row in front
 pub record AreEntries (table : Table) (forms : ℕ → Option RegionForm) (entries : List ℕ) : Type 0 where
   pub as_many : length entries ≡ suc (length table.regions)
-  pub first : slice_index entries 0 ≡ length (in_front (region_tree table 0) (forms 0))
+  pub first : slice_index entries 0 ≡ length (front_rows (region_tree table 0) (forms 0))
   pub next : (region : ℕ) → region < length table.regions → slice_index entries (suc region) ≡ slice_index entries region + rows_in (region_tree table region) (forms region)
   pub few : slice_index entries (length table.regions) < 2 ^ 32
 
@@ -69,8 +69,8 @@ abbrev pub emission_in : Plan → Emission
 emission_in plan = emission_of (table_in plan) plan.forms.now plan.entries.now plan.limits.ops
 
 -- the row behind those of all regions
-abbrev pub end_of : Plan → ℕ
-end_of plan = slice_index plan.entries.now (length plan.table.now.regions)
+abbrev pub rows_end : Plan → ℕ
+rows_end plan = slice_index plan.entries.now (length plan.table.now.regions)
 
 -- the forms may be emitted, and there is an entry for each region
 pub record IsPlan (plan : Plan) : Type 0 where
@@ -103,4 +103,4 @@ names_at site number = register_of (registers_at site number)
 pub record IsSite (plan : Plan) (site : PackedSite) : Type 0 where
   pub begins : site.first ≡ slice_index plan.entries.now site.region
   pub form : forms_at plan site.region ≡ Some (Packed (states_at site) (registers_at site))
-  pub few : site.first + length site.automaton.now ≤ end_of plan
+  pub few : site.first + length site.automaton.now ≤ rows_end plan
