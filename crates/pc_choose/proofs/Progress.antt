@@ -22,7 +22,7 @@ use Rattle.pc_emit.specs.Emitted.{RegionForm}
 use Rattle.pc_emit.specs.Emitting.{form_in, forms_in}
 use Rattle.pc_emit.specs.Leading.{form_leads}
 use Rattle.pc_emit.specs.Bytes.{plain_bytes, object_bytes}
-use Rattle.pc_emit.specs.models.Packing.{LeavesFit}
+use Rattle.pc_choose.specs.models.Leaves.{LeavesKeep}
 use Rattle.pc_choose.specs.declared.choosing.Progress.{Progress}
 use Rattle.pc_choose.specs.declared.giving.Given.{Given}
 use Rattle.pc_choose.specs.declared.choice.Choice.{Choice}
@@ -61,7 +61,7 @@ leaf_below table Stop there = tt
 leaf_below table (Trap kind line) there = tt
 
 leaves_below : (table : Table) (row : Row AutomatonLeaf) → AllByRecursion (LeafIsThere table) (leaves_of row)
-    → LeavesFit (LeadsBelow (length table.regions)) row
+    → LeavesKeep (LeadsBelow (length table.regions)) row
 leaves_below table (Then item rest) there = leaves_below table rest there
 leaves_below table (Either on on_yes on_no) there = (
   leaves_below table on_yes (all_front (LeafIsThere table) (leaves_of on_yes) (leaves_of on_no) there),
@@ -73,7 +73,7 @@ pub leads_below : (table : Table) → TableKeeps table → (limits : Limits) →
     (kind : Form) (causes : List Cause) → Gets table limits region bytes form kind causes
     → FormLeadsBelow (length table.regions) (region_tree table region) form
 leads_below table keeps limits ranges region bytes form kind causes (Gets_packed {states = states} has short) =
-    all_imply (StateIsThere table) (λ state. LeavesFit (LeadsBelow (length table.regions)) state.row) states
+    all_imply (StateIsThere table) (λ state. LeavesKeep (LeadsBelow (length table.regions)) state.row) states
     (λ state there. leaves_below table state.row there.leaves)
     (packed_there table keeps limits ranges region states has.found)
 leads_below table keeps limits ranges region bytes form kind causes (Gets_plain refused) = tree_names_below table keeps region

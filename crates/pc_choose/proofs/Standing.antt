@@ -21,7 +21,7 @@ use Rattle.pc_emit.specs.Emitted.{RegionForm, Plain, Packed}
 use Rattle.pc_emit.specs.Emitting.{HasForm, NamesHaveForms, LeadsToForm}
 use Rattle.pc_emit.specs.Leading.{tree_leads, leaf_leads, states_lead, form_leads, IsMet, Met_first, Met_behind}
 use Rattle.pc_emit.specs.Bytes.{object_bytes}
-use Rattle.pc_emit.specs.models.Packing.{LeavesFit}
+use Rattle.pc_choose.specs.models.Leaves.{LeavesKeep}
 use Rattle.pc_choose.specs.declared.choice.Choice.{Choice}
 use Rattle.pc_choose.specs.declared.choice.Cause.{Cause}
 use Rattle.pc_choose.specs.declared.choice.Form.{Form}
@@ -141,7 +141,7 @@ in_flat P f (x ∷ xs) region Q each all h = by (in_either (f x) (flat_map f xs)
     by (inl k) rest = each x all.0 k
     by (inr k) rest = rest k
 
-leaves_all : (P : AutomatonLeaf → Type 0) (row : Row AutomatonLeaf) → LeavesFit P row → AllByRecursion P (leaves_of row)
+leaves_all : (P : AutomatonLeaf → Type 0) (row : Row AutomatonLeaf) → LeavesKeep P row → AllByRecursion P (leaves_of row)
 leaves_all P (Then item rest) h = leaves_all P rest h
 leaves_all P (Either on on_yes on_no) h = all_both P (leaves_of on_yes) (leaves_of on_no) (leaves_all P on_yes h.0) (leaves_all P on_no h.1)
 leaves_all P (At_leaf leaf) h = (h, tt)
@@ -151,7 +151,7 @@ led_below : (count : ℕ) (tree : TableTree) (form : RegionForm) → FormLeadsBe
     → region < count
 led_below count tree Plain below region h = named_below count tree below region h
 led_below count tree (Packed states registers) below region h =
-    in_flat (λ state. LeavesFit (LeadsBelow count) state.row) (λ state. flat_map leaf_leads (leaves_of state.row)) states region (region < count)
+    in_flat (λ state. LeavesKeep (LeadsBelow count) state.row) (λ state. flat_map leaf_leads (leaves_of state.row)) states region (region < count)
     (λ state fits k. in_flat (LeadsBelow count) leaf_leads (leaves_of state.row) region (region < count) (λ leaf under j. leaf_led_below count leaf under region j)
     (leaves_all (LeadsBelow count) state.row fits) k)
     below h

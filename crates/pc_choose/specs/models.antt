@@ -1,3 +1,4 @@
+pub mod Leaves
 pub mod Marked
 pub mod Counting
 pub mod Giving

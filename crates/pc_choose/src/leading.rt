@@ -6,7 +6,7 @@ ghost use Rattle.pc_table.specs.Table.{table_tree};
 ghost use Rattle.pc_automaton.specs.StoredRow.{row_in};
 ghost use Rattle.pc_automaton.specs.Automaton.{states_in};
 ghost use Rattle.pc_emit.specs.Leading.{tree_leads, leaf_leads, states_lead, form_leads};
-ghost use Rattle.pc_emit.specs.models.Packing.{LeavesFit};
+ghost use Rattle.pc_choose.specs.models.Leaves.{LeavesKeep};
 ghost use Rattle.pc_choose.specs.models.Marked.{Finds, NamesBelow, LeadsBelow};
 ghost use Rattle.pc_choose.specs.models.Giving.{form_of, HasNumbers, FormLeadsBelow};
 
@@ -52,7 +52,7 @@ fn find_named(tree: &RegionTree, found: &mut Found) -> Result<(), AllocError>
 /// Finds the regions that the states of an automaton lead out to, state by state.
 fn find_led_out(automaton: &Automaton, found: &mut Found) -> Result<(), AllocError>
     requires count { length automaton.now < 2 ^ 32 }
-    requires there { AllByRecursion (λ state. LeavesFit (LeadsBelow (length found.old.marks)) state.row) (states_in automaton.now) }
+    requires there { AllByRecursion (λ state. LeavesKeep (LeadsBelow (length found.old.marks)) state.row) (states_in automaton.now) }
     ensures { OnOk result (Finds (states_lead (states_in automaton.now)) found.old found.new) }
 {
     for number in 0..automaton.count() {
@@ -64,7 +64,7 @@ fn find_led_out(automaton: &Automaton, found: &mut Found) -> Result<(), AllocErr
 /// Finds the regions that the leaves of a row lead out to, the yes side of a test first.
 #[tactic(auto, using(crate::proofs::Finding::finding))]
 fn find_in_row(row: &RowTree<AutomatonLeaf>, found: &mut Found) -> Result<(), AllocError>
-    requires { LeavesFit (LeadsBelow (length found.old.marks)) (row_in (λ leaf. leaf) row.now) }
+    requires { LeavesKeep (LeadsBelow (length found.old.marks)) (row_in (λ leaf. leaf) row.now) }
     ensures { OnOk result (Finds (flat_map leaf_leads (leaves_of (row_in (λ leaf. leaf) row.now))) found.old found.new) }
 {
     match row {

@@ -38,13 +38,12 @@ use Rattle.pc_emit.specs.Emitting.{forms_in, emission_of}
 use Rattle.pc_emit.proofs.Emissions.{emitted_rows_do}
 use Rattle.pc_choose.specs.declared.choice.Choice.{Choice}
 use Rattle.pc_choose.specs.Choosing.{AreChosen}
-use Rattle.pc_choose.proofs.Emittable.{chosen_forms}
+use Rattle.pc_choose.proofs.Emittable.{are_forms, form_is}
 use Rattle.pc_compile.specs.Notes.{notes_of}
 use Rattle.pc_compile.specs.Compiled.{IsCompiled}
 use Rattle.pc_compile.specs.models.Counts.{all_units}
 use Rattle.pc_compile.specs.models.Made.{IsObjectOf, object_with}
 use Rattle.pc_compile.proofs.Origins.{few_units, few_regions}
-use Rattle.pc_compile.proofs.FirstRow.{some_row}
 use Rattle.pc_compile.proofs.FewLoops.{list-counted}
 use Rattle.pc_compile.proofs.Short.{plain_is_short, few_notes, known_notes, object_is_short}
 
@@ -111,20 +110,22 @@ is_compiled program limits first flow table forms choices object fine arrays low
     let e = emission_of table forms emitted.entries limits.ops in
     let code = (object_with limits table.arrays made.rows (notes_of table choices)).code in
     let same_arrays = cut.arrays ∙ kept.same_arrays ∙ lowered.arrays in
-    let may = chosen_forms table limits choices (forms_in forms) keeps fine (all_plain_is_short program first flow table lowered kept cut keeps) chosen in
+    let plain = all_plain_is_short program first flow table lowered kept cut keeps in
+    let may = are_forms table keeps limits fine plain choices (forms_in forms) chosen in
+    let each = form_is table keeps limits fine plain choices (forms_in forms) chosen in
     let of_flow = AgreeOnInputs-trans (flow_run flow) (flow_run first) (source_run program) kept.agrees lowered.agree in
     let of_table = AgreeOnInputs-trans (table_run table) (flow_run flow) (source_run program) cut_agrees of_flow in
-    let of_rows = emitted_rows_do e keeps limits made.rows emitted.are may.1 (never_faults program (table_run table) of_table) in
+    let of_rows = emitted_rows_do e keeps limits made.rows emitted.are each (never_faults program (table_run table) of_table) in
     let of_code = AgreeOnInputs-trans (machine_run code) (table_run table) (source_run program) of_rows of_table in
     let few = few_notes table choices in
     let loops = few_loops_in_all program first flow table lowered kept cut in
     subst (IsCompiled program limits flow table choices) (sym made.is) (record {
       agree = AgreeOnInputs-sym (machine_run code) (source_run program) of_code;
       is_object = record {
-        code = record { limits = fine; arrays = subst AreArrays (sym same_arrays) arrays; entry = some_row e keeps made.rows emitted.are may.1; rows = emitted.fit };
+        code = record { limits = fine; arrays = subst AreArrays (sym same_arrays) arrays; entry = emitted.some; rows = emitted.fit };
         choices = known_notes table choices;
         few_notes = omega (arith, few, loops);
-        few_bytes = object_is_short table (forms_in forms) choices limits made.rows emitted.short may.0.short;
+        few_bytes = object_is_short table (forms_in forms) choices limits made.rows emitted.short may.short;
       };
       limited = refl;
       arrays = same_arrays;

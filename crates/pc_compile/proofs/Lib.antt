@@ -1,6 +1,5 @@
 pub mod Compilations
 pub mod FewLoops
-pub mod FirstRow
 pub mod Found
 pub mod LoopNotes
 pub mod Origins

@@ -1,7 +1,7 @@
 -- What the code tells of loops is what the notes say of them.
 use Rattle.std.proofs.Common.{◌≡◌, ◌≢◌, ◌⊎◌, inl, inr, ℕ, zero, suc, ◌+◌, ◌<◌, ◌≤◌, List, [], ◌∷◌, ◌++◌, length, length-append, append-nil, append_assoc, drop}
 use Rattle.std.proofs.Common.{Option, Some, None, refl, sym, ◌∙◌, ap, subst, arith}
-use Rattle.std.specs.Prelude.{Bool, true, false, not, ◌&&◌, ◌||◌, nat_eq, if◌then◌else◌, IfSome, replicate, slice_get, slice_set}
+use Rattle.std.specs.Prelude.{Bool, true, false, not, ◌&&◌, ◌||◌, nat_eq, if◌then◌else◌, IfSome, replicate, slice_get, slice_index_or, slice_set}
 use Rattle.std.specs.List.{list_any}
 use Rattle.std.proofs.lemmas.List.{length-replicate}
 use Rattle.std.proofs.lemmas.Option.{slice_get_within}
@@ -214,40 +214,37 @@ without_places count heading (mark ∷ marks) are =
 pub heading_for_none : (heading : List (Option ℕ)) (loop : ℕ) (choice : Option ℕ) → length heading ≤ loop → slice_set heading loop choice ≡ heading
 heading_for_none heading loop choice le = set_outside heading loop choice le
 
-pub as_many_places : (table : Table) (marks : List LoopMark) (choices : List Choice) (heading later : List (Option ℕ))
-    → heading ≡ headings table (length marks) 0 choices → later ≡ without_outer heading marks → length later ≡ length marks
-as_many_places table marks choices heading later is left =
-    ap (λ (l : List (Option ℕ)). length l) left ∙ without_as_long heading marks ∙ ap (λ (l : List (Option ℕ)). length l) is
+pub as_many_places : (table : Table) (marks : List LoopMark) (choices : List Choice) (places : List (Option ℕ))
+    → places ≡ without_outer (headings table (length marks) 0 choices) marks → length places ≡ length marks
+as_many_places table marks choices places is =
+    ap (λ (l : List (Option ℕ)). length l) is ∙ without_as_long (headings table (length marks) 0 choices) marks
     ∙ headings_as_long table (length marks) 0 choices
 
-pub are_places : (table : Table) (marks : List LoopMark) (choices : List Choice) (heading later : List (Option ℕ))
-    → heading ≡ headings table (length marks) 0 choices → later ≡ without_outer heading marks → ArePlaces (length choices) later
-are_places table marks choices heading later is left =
-    subst (ArePlaces (length choices)) (sym left)
-    (without_places (length choices) heading marks
-    (subst (ArePlaces (length choices)) (sym is) (headings_places table (length marks) 0 (length choices) choices (omega arith))))
+pub are_places : (table : Table) (marks : List LoopMark) (choices : List Choice) (places : List (Option ℕ))
+    → places ≡ without_outer (headings table (length marks) 0 choices) marks → ArePlaces (length choices) places
+are_places table marks choices places is =
+    subst (ArePlaces (length choices)) (sym is)
+    (without_places (length choices) (headings table (length marks) 0 choices) marks
+    (headings_places table (length marks) 0 (length choices) choices (omega arith)))
 
-pub notes_right : (table : Table) (choices : List Choice) (heading later : List (Option ℕ)) (notes : List Note)
-    → heading ≡ headings table (length table.loops) 0 choices → later ≡ without_outer heading table.loops
-    → notes ≡ noted choices table.loops later → notes ≡ notes_of table choices
-notes_right table choices heading later notes is left made =
-    made ∙ ap (λ (l : List (Option ℕ)). noted choices table.loops l) (left ∙ ap (λ (l : List (Option ℕ)). without_outer l table.loops) is)
-    ∙ noted_right table choices
+pub notes_right : (table : Table) (choices : List Choice) (marks : List LoopMark) (places : List (Option ℕ)) → marks ≡ table.loops
+    → places ≡ without_outer (headings table (length table.loops) 0 choices) table.loops → noted choices marks places ≡ notes_of table choices
+notes_right table choices marks places same is = (λ i. noted choices (same i) (is i)) ∙ noted_right table choices
 
--- a note more, or none
-pub none_pushed : (line : ℕ) (choices : List Choice) (at : ℕ) (choice : Choice) (notes : List Note) (note : Option Note)
-    → slice_get choices at ≡ Some choice → note_list note ≡ form_notes line choice.form choice.causes → note ≡ None
-    → notes ≡ notes ++ choice_notes line (choice_in choices (Some at))
-none_pushed line choices at choice notes note there is none =
-    sym (append-nil notes)
-    ∙ ap (λ (l : List Note). notes ++ l) (ap note_list (sym none) ∙ is ∙ ap (λ (o : Option Choice). choice_notes line o) (sym there))
+-- what stands at a place that is there
+there_of : (choices : List Choice) (at : ℕ) (choice : Choice) → at < length choices → choice ≡ slice_index_or choices at choice
+    → slice_get choices at ≡ Some choice
+there_of [] at choice lt is = absurd (omega (arith, lt))
+there_of (first ∷ choices) zero choice lt is = ap Some (sym is)
+there_of (first ∷ choices) (suc at) choice lt is = there_of choices at choice (omega (arith, lt)) is
 
-pub one_pushed : (line : ℕ) (choices : List Choice) (at : ℕ) (choice : Choice) (notes later : List Note) (note : Option Note) (it : Note)
-    → slice_get choices at ≡ Some choice → note_list note ≡ form_notes line choice.form choice.causes → note ≡ Some it
-    → later ≡ notes ++ (it ∷ []) → later ≡ notes ++ choice_notes line (choice_in choices (Some at))
-one_pushed line choices at choice notes later note it there is some made =
-    made ∙ ap (λ (l : List Note). notes ++ l) (ap note_list (sym some) ∙ is ∙ ap (λ (o : Option Choice). choice_notes line o) (sym there))
+-- the note that is made of a choice at a place
+pub note_made : (line : ℕ) (choices : List Choice) (heading : Option ℕ) (at : ℕ) (choice : Choice) (made : Option Note) → heading ≡ Some at
+    → IfSome heading (λ place. place < length choices) → choice ≡ slice_index_or choices at choice
+    → note_list made ≡ form_notes line choice.form choice.causes → note_list made ≡ choice_notes line (choice_in choices heading)
+note_made line choices heading at choice made some there here is =
+    let lt : at < length choices = subst (λ (h : Option ℕ). IfSome h (λ place. place < length choices)) some there in
+    is ∙ ap (λ (o : Option Choice). choice_notes line o) (sym (there_of choices at choice lt here))
+    ∙ ap (λ (h : Option ℕ). choice_notes line (choice_in choices h)) (sym some)
 
-pub ruleset pushes = (none_pushed, one_pushed)
 pub ruleset heading = (heading_for_none)
-pub ruleset notes = (as_many_places, are_places, notes_right)

@@ -13,7 +13,6 @@ use std::alloc::{AllocError, Global};
 
 /// The notes of an object: one for each loop in which no other stands and at whose header a region
 /// begins that has a form, in the order of the loops. Linear in the loops and choices.
-#[tactic(auto, using(crate::proofs::LoopNotes::notes))]
 pub(crate) fn notes(
     alloc: Global,
     table: &RegionTable,
@@ -21,33 +20,33 @@ pub(crate) fn notes(
 ) -> Result<NoteList, AllocError>
     ensures { IfOk result (λ notes. notes ≡ notes_of (table_of table.now) choices.now) }
 {
-    let loops = table.loops.as_slice();
-    let mut heading = heading(alloc, table, choices)?;
-    leave_out_outer(loops, heading.as_mut_slice());
-    noted(alloc, loops, heading.as_slice(), choices)
+    let heading = heading(alloc, table, choices)?;
+    noted(alloc, table.loops.as_slice(), heading.as_slice(), choices)
 }
 
-/// For each loop the first choice of a region that heads it.
+/// For each loop in which no other stands the first choice of a region that heads it.
 #[tactic(auto, using(crate::proofs::LoopNotes::heading))]
 fn heading(
     alloc: Global,
     table: &RegionTable,
     choices: &[Choice],
 ) -> Result<Vec<Option<usize>>, AllocError>
-    ensures { IfOk result (λ found. found.items ≡ headings (table_of table.now) (length table.now.loops) 0 choices.now) }
+    ensures { IfOk result (λ found. found.items ≡ without_outer (headings (table_of table.now) (length table.now.loops) 0 choices.now) table.now.loops) }
 {
-    let mut found = vec![in alloc; None; table.loops.len()]?;
+    let loops = table.loops.as_slice();
+    let mut found = vec![in alloc; None; loops.len()]?;
     let mut at = choices.len();
     while at > 0 {
         at -= 1;
         set_heading(&mut found, headed_loop(table, choices[at].region), Some(at));
     }
+    leave_out_outer(loops, &mut found);
     Ok(found)
 }
 
 /// Leaves out the choices of loops in which others stand.
-fn leave_out_outer(loops: &[LoopMark], heading: &mut [Option<usize>])
-    ensures { heading.new ≡ without_outer heading.old loops.now }
+fn leave_out_outer(loops: &[LoopMark], heading: &mut Vec<Option<usize>>)
+    ensures { heading.new.items ≡ without_outer heading.old.items loops.now }
 {
     for mark in loops {
         set_heading(heading, mark.outer, None);
@@ -56,8 +55,8 @@ fn leave_out_outer(loops: &[LoopMark], heading: &mut [Option<usize>])
 
 /// Says which choice is of a loop, if there is such a loop.
 #[tactic(auto, using(crate::proofs::LoopNotes::heading))]
-fn set_heading(heading: &mut [Option<usize>], number: Option<u16>, choice: Option<usize>)
-    ensures { heading.new ≡ heading_set heading.old number choice }
+fn set_heading(heading: &mut Vec<Option<usize>>, number: Option<u16>, choice: Option<usize>)
+    ensures { heading.new.items ≡ heading_set heading.old.items number choice }
 {
     if let Some(number) = number {
         let number = number as usize;
@@ -96,7 +95,6 @@ fn headed_loop(table: &RegionTable, region: u32) -> Option<u16>
 }
 
 /// Puts the note of a loop behind others, where a region that heads it has a form.
-#[tactic(auto, using(crate::proofs::LoopNotes::pushes))]
 fn push_note(
     notes: &mut NoteList,
     line: u32,
@@ -108,10 +106,17 @@ fn push_note(
 {
     match heading {
         None => Ok(()),
-        Some(at) => match note(line, &choices[at]) {
-            None => Ok(()),
-            Some(note) => notes.push(note),
-        },
+        Some(at) => push_any(notes, note(line, &choices[at])),
+    }
+}
+
+/// Puts a note behind others, if there is one.
+fn push_any(notes: &mut NoteList, note: Option<Note>) -> Result<(), AllocError>
+    ensures { OnOk result (notes.new ≡ notes.old ++ note_list note) }
+{
+    match note {
+        None => Ok(()),
+        Some(note) => notes.push(note),
     }
 }
 

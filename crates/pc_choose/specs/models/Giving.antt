@@ -9,7 +9,7 @@ use Rattle.pc_assign.specs.Stored.{registers_in}
 use Rattle.pc_emit.specs.declared.form.RegionForm.{RegionForm as StoredForm}
 use Rattle.pc_emit.specs.declared.form.RegionForm.TheVariants as stored
 use Rattle.pc_emit.specs.Emitted.{RegionForm, Plain, Packed}
-use Rattle.pc_emit.specs.models.Packing.{LeavesFit}
+use Rattle.pc_choose.specs.models.Leaves.{LeavesKeep}
 use Rattle.pc_choose.specs.declared.choice.Form.TheVariants as kind
 use Rattle.pc_choose.specs.declared.giving.Attempt.{Attempt}
 use Rattle.pc_choose.specs.declared.giving.Attempt.TheVariants.{Fits, Refused}
@@ -31,7 +31,7 @@ HasNumbers (stored.Packed automaton registers) = length automaton < 2 ^ 32
 -- each region that a region with this tree leads to in a form is below a number
 abbrev pub FormLeadsBelow : ℕ → TableTree → RegionForm → Type 0
 FormLeadsBelow count tree Plain = NamesBelow count tree
-FormLeadsBelow count tree (Packed states registers) = AllByRecursion (λ state. LeavesFit (LeadsBelow count) state.row) states
+FormLeadsBelow count tree (Packed states registers) = AllByRecursion (λ state. LeavesKeep (LeadsBelow count) state.row) states
 
 -- the bytes of an object where all but a region has so many, and the region has a form
 abbrev pub bytes_of : Table → (region others : ℕ) → RegionForm → ℕ

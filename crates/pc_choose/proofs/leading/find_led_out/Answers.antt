@@ -1,13 +1,13 @@
 use Rattle.std.proofs.Common.{length, ◌∙◌}
 use Rattle.pc_automaton.specs.Automaton.{AutomatonState}
-use Rattle.pc_emit.specs.models.Packing.{LeavesFit}
+use Rattle.pc_choose.specs.models.Leaves.{LeavesKeep}
 use Rattle.pc_choose.specs.models.Marked.{LeadsBelow}
 use Rattle.pc_choose.proofs.Finding.{finds_state, state_at}
 use Rattle.pc_choose.proofs.leading.find_led_out.Goals as goal
 
 pub find_in_row-requires : goal.find_in_row-requires
 find_in_row-requires c =
-    state_at (λ (state : AutomatonState). LeavesFit (LeadsBelow (length c.loop-number.found.marks)) state.row) c.args.automaton.now c.loop-number.number
+    state_at (λ (state : AutomatonState). LeavesKeep (LeadsBelow (length c.loop-number.found.marks)) state.row) c.args.automaton.now c.loop-number.number
     c.state.result.now c.state.ensures
     (rw (c.loop-number.invariant.1) c.requires.there)
 

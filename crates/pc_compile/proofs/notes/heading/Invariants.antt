@@ -7,7 +7,7 @@ use Rattle.pc_compile.proofs.notes.heading.Given as goal
 abbrev pub invariant-loop-at : goal.invariant-loop-at
 invariant-loop-at l = record {
   within : l.at ≤ length l.choices;
-  found : l.found.items ≡ headings (table_of l.table) (length l.table.loops) l.at (drop l.at l.choices);
+  found : l.found.items ≡ headings (table_of l.table) (length l.loops) l.at (drop l.at l.choices);
 }
 
 abbrev pub decreases-loop-at : goal.decreases-loop-at

@@ -3,7 +3,7 @@ use Rattle.pc_check.specs.Checks.{resolved_of}
 use Rattle.pc_object.specs.ObjectText.{object_of}
 use Rattle.pc_table.specs.Table.{table_of}
 use Rattle.pc_emit.specs.Emitting.{forms_in}
-use Rattle.pc_choose.proofs.Emittable.{chosen_forms}
+use Rattle.pc_choose.proofs.Emittable.{are_forms}
 use Rattle.pc_compile.proofs.Compilations.{are_arrays, all_plain_is_short, is_compiled}
 use Rattle.pc_compile.proofs.program.compile_with.Goals as goal
 
@@ -14,8 +14,10 @@ choose-requires-clause-small g c =
 
 pub object_of-requires-clause-forms : goal.object_of-requires-clause-forms
 object_of-requires-clause-forms g c =
-    (chosen_forms (table_of c.in_ok-table.table) c.args.limits c.in_ok-chosen.chosen.choices (forms_in c.in_ok-chosen.chosen.forms)
-    c.in_ok-table.ensures.kept c.requires (choose-requires-clause-small g _) c.in_ok-chosen.ensures.chosen).0
+    are_forms (table_of c.in_ok-table.table) c.in_ok-table.ensures.kept c.args.limits c.requires
+    (all_plain_is_short (resolved_of c.args.checked.now) c.in_ok-flow.flow c.run_list.new.flow (table_of c.in_ok-table.table)
+    c.in_ok-flow.ensures.lowered c.run_list.ensures.keeps c.in_ok-table.ensures.cut c.in_ok-table.ensures.kept)
+    c.in_ok-chosen.chosen.choices (forms_in c.in_ok-chosen.chosen.forms) c.in_ok-chosen.ensures.chosen
 
 pub returns-clause-compiled : goal.returns-clause-compiled
 returns-clause-compiled g c =
