@@ -1,0 +1,13 @@
+pub mod Membership
+pub mod Alike
+pub mod Pairs
+pub mod ParameterLists
+pub mod FirstTags
+pub mod Sums
+pub mod ShiftRuns
+pub mod ShiftForms
+pub mod CanonicalTrees
+pub mod Columns
+pub mod Sorting
+pub mod FormsTell
+pub mod FormsKept

@@ -1,0 +1,5 @@
+pub mod Pairs
+pub mod Shift
+pub mod Canonical
+pub mod Key
+pub mod Laws

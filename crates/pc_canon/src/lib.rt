@@ -1,0 +1,7 @@
+//! Keys of windows: two windows have one key exactly where they are equal up to names, form variables
+//! and a shift of all tags.
+#![tactic(auto)]
+
+mod laws;
+
+pub use laws::{laws_of_canonical_forms, laws_of_shifts};
