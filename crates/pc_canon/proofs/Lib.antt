@@ -11,3 +11,5 @@ pub mod Columns
 pub mod Sorting
 pub mod FormsTell
 pub mod FormsKept
+pub mod Codes
+pub mod Keys

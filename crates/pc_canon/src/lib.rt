@@ -4,4 +4,4 @@
 
 mod laws;
 
-pub use laws::{laws_of_canonical_forms, laws_of_shifts};
+pub use laws::{laws_of_canonical_forms, laws_of_keys, laws_of_shifts};
