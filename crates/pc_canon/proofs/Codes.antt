@@ -15,8 +15,11 @@ use Rattle.pc_window.specs.declared.home.Home.{Home}
 use Rattle.pc_window.specs.Tree.{Tree, Pending, Undecided, Exit, Stop_exit, Trap_exit, Front, Issued, Split, Unfinished, whole}
 use Rattle.pc_window.specs.Names.{named, parameters_of}
 use Rattle.pc_window.specs.WindowRun.{Window}
+use Rattle.pc_canon.specs.Shift.{SameFront}
 use Rattle.pc_canon.specs.Canonical.{place_of, placed, placed_item, placed_homes, canonical_tree, canonical_front, tags_of, first_tag, Constant, Canonical, canonical}
-use Rattle.pc_canon.specs.Key.{op_number, trap_number, list_numbers, operand_numbers, item_numbers, home_numbers, tree_numbers, front_numbers, truth_number, constant_numbers, column_numbers, limit_numbers, loop_numbers, canonical_numbers, key_of}
+use Rattle.pc_canon.specs.Key.{op_number, trap_number, list_numbers, operand_numbers, item_numbers, home_numbers, tree_numbers, shape_numbers, truth_number, constant_numbers, column_numbers, limit_numbers, loop_numbers, canonical_numbers, key_of}
+use Rattle.pc_canon.proofs.FormsKept.{fronts_to}
+use Rattle.pc_canon.proofs.FormsTell.{whole_canonical}
 
 -- what is written in numbers is known by them, and by where they end
 abbrev pub IsCode : {A : Type 0} → (A → List ℤ) → Type 0
@@ -196,39 +199,43 @@ module _ (a b : ℕ) where
       ((λ z. Trap_exit (trap z) (at z)), heads.3)
   tree_code xs ys t u r s e = absurd (cc)
 
-  front_code : (xs ys : List ℕ) (f g : Front) (r s : List ℤ) → front_numbers (canonical_front a xs f) ++ r ≡ front_numbers (canonical_front b ys g) ++ s
+-- ---- fronts
+
+-- fronts with one shape have as many items and tests at the same places
+shape_code : (f g : Front) (r s : List ℤ) → shape_numbers f ++ r ≡ shape_numbers g ++ s → SameFront f g × (r ≡ s)
+shape_code (Issued t o i rest) (Issued t' o' i' rest') r s e =
+    shape_code rest rest' r s (one_head (pos 0) (pos 0) (shape_numbers rest ++ r) (shape_numbers rest' ++ s) e).1
+shape_code (Split t o c on_yes on_no) (Split t' o' c' on_yes' on_no') r s e =
+    let one = shape_numbers on_yes in
+    let other = shape_numbers on_no in
+    let one' = shape_numbers on_yes' in
+    let other' = shape_numbers on_no' in
+    let first = shape_code on_yes on_yes' (other ++ r) (other' ++ s)
+    (rejoined one other r one' other' s (one_head (pos 1) (pos 1) ((one ++ other) ++ r) ((one' ++ other') ++ s) e).1) in
+    let second = shape_code on_no on_no' r s first.1 in
+    ((first.0, second.0), second.1)
+shape_code (Unfinished rest) (Unfinished rest') r s e = (tt, (one_head (pos 2) (pos 2) r s e).1)
+shape_code f g r s e = absurd (cc)
+
+-- a canonical front has the shape of the front
+pub canonical_shape : (first : ℕ) (names : List ℕ) (f : Front) → shape_numbers (canonical_front first names f) ≡ shape_numbers f
+canonical_shape first names (Issued tag origin item rest) = ap (λ (l : List ℤ). pos 0 ∷ l) (canonical_shape first (named (dest_of item) names) rest)
+canonical_shape first names (Split tag origin on on_yes on_no) =
+    λ i. pos 1 ∷ (canonical_shape first names on_yes i ++ canonical_shape first names on_no i)
+canonical_shape first names (Unfinished rest) = refl
+
+module _ (a b : ℕ) (xs ys : List ℕ) (f g : Front) where
+  front_code : (r s : List ℤ)
+      → tree_numbers (whole (canonical_front a xs f)) ++ (shape_numbers (canonical_front a xs f) ++ r)
+      ≡ tree_numbers (whole (canonical_front b ys g)) ++ (shape_numbers (canonical_front b ys g) ++ s)
       → (canonical_front a xs f ≡ canonical_front b ys g) × (r ≡ s)
-  front_code xs ys (Issued t o i rest) (Issued t' o' i' rest') r s e =
-      let below = front_numbers (canonical_front a (named (dest_of i) xs) rest) in
-      let below' = front_numbers (canonical_front b (named (dest_of i') ys) rest') in
-      let items = item_numbers (placed_item (place_of xs) i) in
-      let items' = item_numbers (placed_item (place_of ys) i') in
-      let heads = three_heads (pos 0) (pos (t - a)) (pos o) (pos 0) (pos (t' - b)) (pos o') ((items ++ below) ++ r) ((items' ++ below') ++ s) e in
-      let tag = same_natural (t - a) (t' - b) heads.1 in
-      let origin = same_natural o o' heads.2 in
-      let item = item_code (place_of xs) (place_of ys) i i' (below ++ r) (below' ++ s) (rejoined items below r items' below' s heads.3) in
-      let front = front_code (named (dest_of i) xs) (named (dest_of i') ys) rest rest' r s item.1 in
-      ((λ z. Issued (tag z) (origin z) (item.0 z) (front.0 z)), front.1)
-  front_code xs ys (Split t o c on_yes on_no) (Split t' o' c' on_yes' on_no') r s e =
-      let one = front_numbers (canonical_front a xs on_yes) in
-      let other = front_numbers (canonical_front a xs on_no) in
-      let one' = front_numbers (canonical_front b ys on_yes') in
-      let other' = front_numbers (canonical_front b ys on_no') in
-      let on = operand_numbers (placed (place_of xs) c) in
-      let on' = operand_numbers (placed (place_of ys) c') in
-      let heads = three_heads (pos 1) (pos (t - a)) (pos o) (pos 1) (pos (t' - b)) (pos o') ((on ++ (one ++ other)) ++ r) ((on' ++ (one' ++ other')) ++ s) e in
-      let tag = same_natural (t - a) (t' - b) heads.1 in
-      let origin = same_natural o o' heads.2 in
-      let test = operand_code (placed (place_of xs) c) (placed (place_of ys) c') ((one ++ other) ++ r) ((one' ++ other') ++ s)
-      (rejoined on (one ++ other) r on' (one' ++ other') s heads.3) in
-      let first = front_code xs ys on_yes on_yes' (other ++ r) (other' ++ s) (rejoined one other r one' other' s test.1) in
-      let second = front_code xs ys on_no on_no' r s first.1 in
-      ((λ z. Split (tag z) (origin z) (test.0 z) (first.0 z) (second.0 z)), second.1)
-  front_code xs ys (Unfinished rest) (Unfinished rest') r s e =
-      let tree = tree_code xs ys rest rest' r s
-      (one_head (pos 2) (pos 2) (tree_numbers (canonical_tree a xs rest) ++ r) (tree_numbers (canonical_tree b ys rest') ++ s) e).1 in
-      ((λ z. Unfinished (tree.0 z)), tree.1)
-  front_code xs ys f g r s e = absurd (cc)
+  front_code r s e =
+      let written : tree_numbers (canonical_tree a xs (whole f)) ++ (shape_numbers f ++ r) ≡ tree_numbers (canonical_tree b ys (whole g)) ++ (shape_numbers g ++ s) =
+      (λ i. tree_numbers (sym (whole_canonical a xs f) i) ++ (sym (canonical_shape a xs f) i ++ r)) ∙ e
+      ∙ (λ i. tree_numbers (whole_canonical b ys g i) ++ (canonical_shape b ys g i ++ s)) in
+      let trees = tree_code a b xs ys (whole f) (whole g) (shape_numbers f ++ r) (shape_numbers g ++ s) written in
+      let shapes = shape_code f g r s trees.1 in
+      (fronts_to a b xs ys f g shapes.0 trees.0, shapes.1)
 
 -- ---- the rest of a key
 

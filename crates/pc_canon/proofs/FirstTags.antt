@@ -1,6 +1,7 @@
 -- No tag of a tree is below its first.
-use Rattle.std.proofs.Common.{ℕ, ◌≤◌, List, [], ◌∷◌, ◌++◌, arith}
-use Rattle.std.specs.Prelude.{min}
+use Rattle.std.proofs.Common.{◌≡◌, ℕ, ◌≤◌, List, [], ◌∷◌, ◌++◌, refl, ap, arith}
+use Rattle.std.specs.Prelude.{min, Option, Some, None, unwrap_or}
+use Rattle.pc_canon.specs.models.Written.{lesser, least_found}
 use Rattle.pc_window.specs.Tree.{Tree, Pending, Undecided, Exit, Stop_exit, Trap_exit}
 use Rattle.pc_canon.specs.Canonical.{tags_of, least_of, first_tag}
 
@@ -47,3 +48,19 @@ tags_from first (Trap_exit kind line) h = tt
 -- no tag of a tree is below its first
 pub first_is_least : (tree : Tree) → TagsFrom (first_tag (tags_of tree)) tree
 first_is_least tree = tags_from (first_tag (tags_of tree)) tree (first_all (tags_of tree))
+
+-- ---- the least tag, found on a walk
+
+pub least_found-append : (found : Option ℕ) (xs ys : List ℕ) → least_found found (xs ++ ys) ≡ least_found (least_found found xs) ys
+least_found-append found [] ys = refl
+least_found-append found (x ∷ xs) ys = least_found-append (Some (lesser found x)) xs ys
+
+least_found-some : (least : ℕ) (tags : List ℕ) → least_found (Some least) tags ≡ Some (least_of least tags)
+least_found-some least [] = refl
+least_found-some least (tag ∷ tags) = least_found-some (min least tag) tags
+
+pub first_found : (tags : List ℕ) → unwrap_or (least_found None tags) 0 ≡ first_tag tags
+first_found [] = refl
+first_found (tag ∷ tags) = ap (λ (found : Option ℕ). unwrap_or found 0) (least_found-some tag tags)
+
+pub ruleset least = (least_found-append, first_found)

@@ -17,7 +17,7 @@ use Rattle.pc_canon.specs.Pairs.{Pair, corresponds, ones, others, defined, Opera
 use Rattle.pc_canon.specs.Shift.{OneToOne, EachPair, FormsAlike, ItemsAlike, both_bin, both_copy, both_load, both_store, both_print, both_read, both_more, Maps, DestsAlike, TagsAlike, TreesAlike, both_then, both_either, both_exit, both_stop, both_trap, SameFront, Shifted}
 use Rattle.pc_canon.specs.Canonical.{place_of, placed, placed_item, placed_homes, canonical_tree, canonical_front, tags_of, least_of, first_tag, Constant, constant_in, forms_of_parameters, forms_of_definitions, with_factor, column, with_occurring, columns_of, above_forms, canonical}
 use Rattle.pc_canon.proofs.Membership.{has, Distinct, has_is, distinct_from}
-use Rattle.pc_canon.proofs.Columns.{column-above}
+use Rattle.pc_canon.proofs.FactorColumns.{column-above}
 use Rattle.pc_canon.proofs.Sorting.{gathered, gathered-same, down_from, below_gathered, down_from-has, down_from-distinct}
 use Rattle.pc_canon.proofs.Alike.{EachAlike, no_more, one_more}
 use Rattle.pc_canon.proofs.Pairs.{turned, turned_corresponds, paired, corresponds_paired}
@@ -230,7 +230,7 @@ done_as t t' o o' i i' r r' p q h k = cc
 split_as : (t t' o o' : ℕ) (a a' : Operand) (y y' n n' : Front) → t ≡ t' → o ≡ o' → a ≡ a' → y ≡ y' → n ≡ n' → Split t o a y n ≡ Split t' o' a' y' n'
 split_as t t' o o' a a' y y' n n' p q h k l = cc
 
-fronts_to : (a b : ℕ) (xs ys : List ℕ) (f g : Front) → SameFront f g → canonical_tree a xs (whole f) ≡ canonical_tree b ys (whole g) → canonical_front a xs f ≡ canonical_front b ys g
+pub fronts_to : (a b : ℕ) (xs ys : List ℕ) (f g : Front) → SameFront f g → canonical_tree a xs (whole f) ≡ canonical_tree b ys (whole g) → canonical_front a xs f ≡ canonical_front b ys g
 fronts_to a b xs ys (Issued t o i r) (Issued t' o' i' r') h e =
     let p = then_parts (t - a) (t' - b) o o' (placed_item (place_of xs) i) (placed_item (place_of ys) i') (canonical_tree a (named (dest_of i) xs) (whole r)) (canonical_tree b (named (dest_of i') ys) (whole r')) e in
     done_as (t - a) (t' - b) o o' (placed_item (place_of xs) i) (placed_item (place_of ys) i') (canonical_front a (named (dest_of i) xs) r) (canonical_front b (named (dest_of i') ys) r') p.0 p.1 p.2

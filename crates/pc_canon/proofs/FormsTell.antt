@@ -14,7 +14,7 @@ use Rattle.pc_canon.specs.Pairs.{Pair, ones, others}
 use Rattle.pc_canon.specs.Shift.{OneToOne, EachPair, FormsAlike, SameFront, ShiftedBy}
 use Rattle.pc_canon.specs.Canonical.{place_of, placed, placed_item, canonical_tree, canonical_front, tags_of, first_tag, Constant, constant_in, forms_of_parameters, forms_of_definitions, column, above_forms, Canonical, canonical, side_by_side, parameter_pairs}
 use Rattle.pc_canon.proofs.Membership.{has, has_is, distinct_to}
-use Rattle.pc_canon.proofs.Columns.{column-begins, with_factor-same, with_factor-none, column-above}
+use Rattle.pc_canon.proofs.FactorColumns.{column-begins, with_factor-same, with_factor-none, column-above}
 use Rattle.pc_canon.proofs.Sorting.{ordered, ordered-columns, ordered-distinct, ordered-all}
 use Rattle.pc_canon.proofs.Alike.{EachAlike, no_more, one_more}
 use Rattle.pc_canon.proofs.CanonicalTrees.{trees_from}

@@ -7,9 +7,13 @@ pub mod Sums
 pub mod ShiftRuns
 pub mod ShiftForms
 pub mod CanonicalTrees
-pub mod Columns
+pub mod FactorColumns
 pub mod Sorting
 pub mod FormsTell
 pub mod FormsKept
 pub mod Codes
 pub mod Keys
+pub mod Gathering
+pub mod Leveled
+pub mod WrittenKeys
+pub mod Factors

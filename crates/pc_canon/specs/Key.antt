@@ -10,7 +10,7 @@ use Rattle.pc_word.specs.declared.item.Operand.TheVariants.{Name, Lit}
 use Rattle.pc_word.specs.declared.item.TrapKind.{TrapKind}
 use Rattle.pc_word.specs.declared.item.TrapKind.TheVariants.{DivideByZero, OutOfBounds, EndOfInput}
 use Rattle.pc_window.specs.declared.home.Home.{Home}
-use Rattle.pc_window.specs.Tree.{Tree, Pending, Undecided, Exit, Stop_exit, Trap_exit, Front, Issued, Split, Unfinished}
+use Rattle.pc_window.specs.Tree.{Tree, Pending, Undecided, Exit, Stop_exit, Trap_exit, Front, Issued, Split, Unfinished, whole}
 use Rattle.pc_window.specs.WindowRun.{Window}
 use Rattle.pc_canon.specs.Canonical.{Constant, Canonical, canonical}
 
@@ -71,12 +71,11 @@ tree_numbers (Exit region tag homes) = pos 2 ∷ pos region ∷ pos tag ∷ list
 tree_numbers Stop_exit = pos 3 ∷ []
 tree_numbers (Trap_exit kind line) = pos 4 ∷ pos (trap_number kind) ∷ pos line ∷ []
 
--- a front, and the trees behind it, each with a number of its own in front
-abbrev pub front_numbers : Front → List ℤ
-front_numbers (Issued tag origin item rest) = pos 0 ∷ pos tag ∷ pos origin ∷ (item_numbers item ++ front_numbers rest)
-front_numbers (Split tag origin on on_yes on_no) =
-    pos 1 ∷ pos tag ∷ pos origin ∷ (operand_numbers on ++ (front_numbers on_yes ++ front_numbers on_no))
-front_numbers (Unfinished rest) = pos 2 ∷ tree_numbers rest
+-- how far a front goes: its items and tests in preorder, and the places where it ends
+abbrev pub shape_numbers : Front → List ℤ
+shape_numbers (Issued tag origin item rest) = pos 0 ∷ shape_numbers rest
+shape_numbers (Split tag origin on on_yes on_no) = pos 1 ∷ (shape_numbers on_yes ++ shape_numbers on_no)
+shape_numbers (Unfinished rest) = pos 2 ∷ []
 
 -- whether a form has terms
 abbrev pub truth_number : Bool → ℕ
@@ -103,10 +102,11 @@ loop_numbers (Some inside) = pos 1 ∷ pos inside ∷ []
 -- a canonical form
 abbrev pub canonical_numbers : Canonical → List ℤ
 canonical_numbers c =
-    front_numbers c.front
+    tree_numbers (whole c.front)
+    ++ (shape_numbers c.front
     ++ (list_numbers constant_numbers c.parameters
     ++ (list_numbers constant_numbers c.definitions
-    ++ (list_numbers column_numbers c.columns ++ (limit_numbers c.limits ++ loop_numbers c.inside))))
+    ++ (list_numbers column_numbers c.columns ++ (limit_numbers c.limits ++ loop_numbers c.inside)))))
 
 -- the key of a window
 abbrev pub key_of : Window → List ℤ

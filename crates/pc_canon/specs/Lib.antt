@@ -1,3 +1,4 @@
+pub mod models
 pub mod Pairs
 pub mod Shift
 pub mod Canonical
