@@ -1,9 +1,8 @@
 -- No two canonical forms are written in the same numbers: each is known by how its numbers begin, whatever stands behind them.
-use Rattle.std.proofs.Common.{◌≡◌, ℕ, suc, ◌-◌, List, [], ◌∷◌, ◌++◌, refl, sym, ◌∙◌, ap, arith}
-use Rattle.std.specs.Prelude.{ℤ, pos, Bool, true, false, map, Option, Some, None, slice_get}
+use Rattle.std.proofs.Common.{◌≡◌, ℕ, ◌-◌, List, [], ◌∷◌, ◌++◌, refl, sym, ◌∙◌, ap, arith}
+use Rattle.std.specs.Prelude.{ℤ, pos, Bool, true, false, Option, Some, None, slice_get}
 use Rattle.pc_word.specs.declared.item.Item.{Item}
 use Rattle.pc_word.specs.declared.item.Item.TheVariants.{Bin, Copy, Load, Store, Print, Read, More}
-use Rattle.pc_word.specs.declared.item.Limits.{Limits}
 use Rattle.pc_word.specs.declared.item.OpCode.{OpCode}
 use Rattle.pc_word.specs.declared.item.OpCode.TheVariants.{Add, Sub, Mul, Div, Rem, Shl, Shr, And, Or, Xor, Less, LessEq, Equal, Unequal, Below}
 use Rattle.pc_word.specs.declared.item.Operand.{Operand}
@@ -11,13 +10,12 @@ use Rattle.pc_word.specs.declared.item.Operand.TheVariants.{Name, Lit}
 use Rattle.pc_word.specs.declared.item.TrapKind.{TrapKind}
 use Rattle.pc_word.specs.declared.item.TrapKind.TheVariants.{DivideByZero, OutOfBounds, EndOfInput}
 use Rattle.pc_word.specs.Items.{dest_of}
-use Rattle.pc_window.specs.declared.home.Home.{Home}
 use Rattle.pc_window.specs.Tree.{Tree, Pending, Undecided, Exit, Stop_exit, Trap_exit, Front, Issued, Split, Unfinished, whole}
 use Rattle.pc_window.specs.Names.{named, parameters_of}
 use Rattle.pc_window.specs.WindowRun.{Window}
 use Rattle.pc_canon.specs.Shift.{SameFront}
-use Rattle.pc_canon.specs.Canonical.{place_of, placed, placed_item, placed_homes, canonical_tree, canonical_front, tags_of, first_tag, Constant, Canonical, canonical}
-use Rattle.pc_canon.specs.Key.{op_number, trap_number, list_numbers, operand_numbers, item_numbers, home_numbers, tree_numbers, shape_numbers, truth_number, constant_numbers, column_numbers, limit_numbers, loop_numbers, canonical_numbers, key_of}
+use Rattle.pc_canon.specs.Canonical.{place_of, placed, placed_item, placed_homes, canonical_tree, canonical_front, tags_of, first_tag, canonical}
+use Rattle.pc_canon.specs.Key.{op_number, trap_number, list_numbers, operand_numbers, item_numbers, home_numbers, tree_numbers, shape_numbers, truth_number, constant_numbers, column_numbers, limit_numbers, loop_numbers, key_of}
 use Rattle.pc_canon.proofs.FormsKept.{fronts_to}
 use Rattle.pc_canon.proofs.FormsTell.{whole_canonical}
 

@@ -1,11 +1,8 @@
 -- The columns of form variables, gathered a term at a time.
-use Rattle.std.proofs.Common.{◌≡◌, ℕ, zero, suc, ◌+◌, ◌<◌, ◌≤◌, List, [], ◌∷◌, ◌++◌, Option, Some, None, length, drop, refl, sym, ◌∙◌, ap, subst, arith}
+use Rattle.std.proofs.Common.{◌≡◌, ℕ, zero, suc, ◌+◌, ◌<◌, ◌≤◌, List, [], ◌∷◌, ◌++◌, Some, None, length, drop, refl, sym, ◌∙◌, ap, subst, arith}
 use Rattle.std.specs.Prelude.{ℤ, pos, Bool, true, false, if◌then◌else◌, insert, map, replicate, slice_get}
 use Rattle.pc_linear.specs.declared.term.Term.{Term}
-use Rattle.pc_linear.specs.Form.{Form, IsForm}
-use Rattle.pc_word.specs.Items.{dest_of}
-use Rattle.pc_window.specs.Tree.{Tree, Pending, Undecided, Exit, Stop_exit, Trap_exit, tree_size}
-use Rattle.pc_window.specs.Names.{named, definitions_of}
+use Rattle.pc_linear.specs.Form.{Form}
 use Rattle.pc_window.specs.Opening.{TermsBelow}
 use Rattle.pc_rebase.proofs.TermPlaces.{few_places, fewer_places}
 use Rattle.pc_canon.specs.Canonical.{Constant, constant_in, columns_of, stands_before, with_column, with_occurring}

@@ -1,9 +1,9 @@
 -- Windows have one key exactly where they are equal up to a shift.
-use Rattle.std.proofs.Common.{◌≡◌, List, ap}
-use Rattle.std.specs.Prelude.{◌↔◌, ℤ}
+use Rattle.std.proofs.Common.{◌≡◌, ap}
+use Rattle.std.specs.Prelude.{◌↔◌}
 use Rattle.pc_window.specs.WindowRun.{Window}
 use Rattle.pc_canon.specs.Shift.{ShiftedBy, Shifted}
-use Rattle.pc_canon.specs.Canonical.{canonical, parameter_pairs}
+use Rattle.pc_canon.specs.Canonical.{parameter_pairs}
 use Rattle.pc_canon.specs.Key.{canonical_numbers, key_of}
 use Rattle.pc_canon.proofs.Codes.{same_key}
 use Rattle.pc_canon.proofs.FormsKept.{forms_kept}

@@ -1,6 +1,6 @@
 -- Levels tell the places of names.
 use Rattle.std.proofs.Common.{◌≡◌, ◌≢◌, ℕ, zero, suc, ◌+◌, ◌-◌, ◌<◌, ◌≤◌, List, [], ◌∷◌, ◌++◌, length, drop, refl, sym, ◌∙◌, ap, subst, arith}
-use Rattle.std.specs.Prelude.{ℤ, pos, Bool, true, false, if◌then◌else◌, nat_eq, map, replicate, Option, Some, None, slice_index, slice_index_or, slice_set}
+use Rattle.std.specs.Prelude.{pos, Bool, true, false, if◌then◌else◌, nat_eq, replicate, Option, Some, None, slice_index, slice_index_or, slice_set}
 use Rattle.std.specs.List.{AllByRecursion}
 use Rattle.std.proofs.lemmas.Bool.{eqb-true, eq-eqb}
 use Rattle.pc_word.specs.declared.item.Item.{Item}
@@ -14,7 +14,7 @@ use Rattle.pc_window.specs.Tree.{Tree, Pending, Undecided, Exit, Stop_exit, Trap
 use Rattle.pc_window.specs.Names.{named}
 use Rattle.pc_window.specs.Opening.{OperandBelow, ItemBelow, StubBelow, TreeBelow}
 use Rattle.pc_canon.specs.Canonical.{place_of, placed, placed_item, placed_homes, canonical_tree}
-use Rattle.pc_canon.specs.Key.{list_numbers, operand_numbers, item_numbers, home_numbers, tree_numbers, trap_number}
+use Rattle.pc_canon.specs.Key.{list_numbers, operand_numbers, item_numbers, home_numbers, tree_numbers}
 use Rattle.pc_canon.specs.models.Written.{place_at, leveled, deeper, levels_of, written}
 
 -- these are the levels of the names of a list

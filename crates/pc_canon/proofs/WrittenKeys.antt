@@ -1,17 +1,16 @@
 -- What is written of a window is its key.
-use Rattle.std.proofs.Common.{◌≡◌, ℕ, ◌+◌, ◌<◌, ◌≤◌, List, [], ◌∷◌, ◌++◌, length, refl, sym, ◌∙◌, ap, subst, arith}
+use Rattle.std.proofs.Common.{◌≡◌, ℕ, ◌<◌, ◌≤◌, List, [], ◌∷◌, ◌++◌, length, refl, sym, ◌∙◌, ap, subst}
 use Rattle.std.specs.Prelude.{ℤ, Bool, true, false, ◌||◌, nat_eq, map, replicate}
 use Rattle.std.specs.List.{AllByRecursion}
 use Rattle.std.proofs.lemmas.Bool.{eqb-true}
 use Rattle.std.proofs.lemmas.Map.Steps.{length-le_from_distinct_below}
-use Rattle.pc_linear.specs.Form.{Form}
-use Rattle.pc_window.specs.Tree.{Tree, Front, whole}
+use Rattle.pc_window.specs.Tree.{Tree, whole}
 use Rattle.pc_window.specs.Names.{definitions_of, parameters_of}
 use Rattle.pc_window.specs.Opening.{TreeBelow}
 use Rattle.pc_window.specs.Rebasing.{is_in}
 use Rattle.pc_window.specs.WindowRun.{Window}
 use Rattle.pc_rebase.proofs.Listed.{parameters-below}
-use Rattle.pc_canon.specs.Canonical.{Constant, constant_in, canonical_tree, canonical_front, tags_of, first_tag, columns_of, forms_of_parameters, forms_of_definitions}
+use Rattle.pc_canon.specs.Canonical.{constant_in, canonical_front, tags_of, first_tag, columns_of, forms_of_parameters, forms_of_definitions}
 use Rattle.pc_canon.specs.Key.{list_numbers, tree_numbers, shape_numbers, constant_numbers, column_numbers, limit_numbers, loop_numbers, key_of}
 use Rattle.pc_canon.specs.models.Written.{levels_of, written, forms_numbers}
 use Rattle.pc_canon.proofs.Codes.{joined, canonical_shape}

@@ -34,12 +34,7 @@ pub(crate) fn add_form(
 
 /// Adds the terms of a form, from one on, to their columns.
 #[tactic(auto, using(crate::proofs::Gathering::terms))]
-fn add_terms(
-    form: &LinForm,
-    place: u32,
-    at: u16,
-    columns: &mut [Column],
-) -> Result<(), AllocError>
+fn add_terms(form: &LinForm, place: u32, at: u16, columns: &mut [Column]) -> Result<(), AllocError>
     requires form { IsForm form.now }
     requires below { TermsBelow (length columns.old) (drop at form.now.terms) }
     ensures { OnOk result (columns.new ≡ and_terms place (drop at form.now.terms) columns.old) }
@@ -75,11 +70,7 @@ pub(crate) fn in_order(alloc: Global, columns: &[Column]) -> Result<Vec<Column>,
 }
 
 /// Puts a column among others in order, unless it is empty.
-fn put_occurring(
-    alloc: Global,
-    column: &[i64],
-    sorted: &mut Vec<Column>,
-) -> Result<(), AllocError>
+fn put_occurring(alloc: Global, column: &[i64], sorted: &mut Vec<Column>) -> Result<(), AllocError>
     ensures { OnOk result (sorted.new.items ≡ with_occurring column.now sorted.old.items) }
 {
     if column.is_empty() {

@@ -8,11 +8,7 @@ use std::alloc::{AllocError, Global};
 /// The level of each name of a list, in a list by name: how many there are from it on, and 0 for the
 /// names that are not in the list.
 #[tactic(auto, using(crate::proofs::Leveled::levels))]
-pub(crate) fn levels_of(
-    alloc: Global,
-    names: &[u32],
-    count: usize,
-) -> Result<Vec<u32>, AllocError>
+pub(crate) fn levels_of(alloc: Global, names: &[u32], count: usize) -> Result<Vec<u32>, AllocError>
     requires below { AllByRecursion (λ name. name < count) names.now }
     requires few { length names.now < 2 ^ 32 }
     ensures { IfOk result (λ levels. levels.items ≡ levels_of names.now (replicate count 0)) }

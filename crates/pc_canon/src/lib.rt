@@ -4,11 +4,11 @@
 
 mod columns;
 mod forms;
-mod window_key;
 mod laws;
 mod levels;
 mod tags;
+mod window_key;
 mod writing;
 
-pub use window_key::{WindowKey, key};
 pub use laws::{laws_of_canonical_forms, laws_of_keys, laws_of_shifts};
+pub use window_key::{WindowKey, key};

@@ -1,5 +1,5 @@
-use Rattle.std.proofs.Common.{rules, ◌≡◌, ◌+◌, ◌++◌, length, List, sym, ap, subst, arith}
-use Rattle.std.specs.Prelude.{ℤ, map}
+use Rattle.std.proofs.Common.{rules, ◌≡◌, ◌+◌, ◌++◌, length, sym, ap, subst}
+use Rattle.std.specs.Prelude.{map}
 use Rattle.pc_window.specs.Tree.{Tree, Undecided}
 use Rattle.pc_window.specs.Names.{definitions_of}
 use Rattle.pc_window.specs.StoredWindow.{tree_in, forms_in}

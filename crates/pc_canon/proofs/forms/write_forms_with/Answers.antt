@@ -1,5 +1,5 @@
 use Rattle.std.proofs.Common.{rules, ◌≡◌, [], ◌++◌, ◌∙◌, length, List, refl, ap}
-use Rattle.std.specs.Prelude.{ℤ, map, replicate}
+use Rattle.std.specs.Prelude.{ℤ, map}
 use Rattle.pc_window.specs.Names.{definitions_of}
 use Rattle.pc_window.specs.StoredWindow.{tree_in, forms_in}
 use Rattle.pc_canon.specs.Canonical.{constant_in, columns_below}

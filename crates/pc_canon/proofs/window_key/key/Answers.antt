@@ -1,5 +1,5 @@
-use Rattle.std.proofs.Common.{rules, ◌≡◌, ◌<◌, [], ◌++◌, ◌∙◌, sym, ap, subst, length, List, arith}
-use Rattle.std.specs.Prelude.{ℕ, ℤ, map, replicate}
+use Rattle.std.proofs.Common.{rules, ◌≡◌, ◌<◌, ◌++◌, ◌∙◌, sym, ap, subst, length, List, arith}
+use Rattle.std.specs.Prelude.{ℕ, map, replicate}
 use Rattle.std.specs.List.{AllByRecursion}
 use Rattle.pc_window.specs.Tree.{Tree}
 use Rattle.pc_window.specs.Names.{definitions_of, parameters_of}
