@@ -13,10 +13,12 @@ use Rattle.pc_word.specs.Commit.{writes}
 use Rattle.pc_linear.specs.Form.{Form}
 use Rattle.pc_table.specs.TableKeeps.{reads_name, reads}
 use Rattle.pc_window.specs.declared.home.Home.{Home}
+use Rattle.pc_window.proofs.Live.{or_first, or_second}
 use Rattle.pc_window.specs.Tree.{Tree, Pending, Undecided, Exit, Stop_exit, Trap_exit}
 use Rattle.pc_window.specs.Names.{homes_use, uses, named, definitions_of}
 use Rattle.pc_canon.specs.Pairs.{Pair, corresponds, defined, OperandsAlike, HomesAlike}
-use Rattle.pc_canon.specs.Shift.{FormsAlike, ItemsAlike, both_bin, both_copy, both_load, both_store, both_print, both_read, both_more, Maps, DestsAlike, TreesAlike, both_then, both_either, both_exit, both_stop, both_trap}
+use Rattle.pc_canon.specs.Shift.{FormsAlike, ItemsAlike, both_bin, both_copy, both_load, both_store, both_print, both_read, both_more, Maps, DestsAlike, TreesAlike, both_then}
+use Rattle.pc_canon.specs.Shift.{both_either, both_exit, both_stop, both_trap}
 use Rattle.pc_canon.specs.Canonical.{place_of, placed, placed_item, placed_homes, canonical_tree, side_by_side}
 use Rattle.pc_canon.proofs.Membership.{has}
 use Rattle.pc_canon.proofs.Alike.{EachAlike, no_more, one_more}
@@ -62,19 +64,12 @@ lit_same m n e = cc
 abbrev Listed : List ℕ → (ℕ → Bool) → Type 0
 Listed names reads = (x : ℕ) → reads x ≡ true → has names x ≡ true
 
-operand_from : (xs ys : List ℕ) (a b : Operand) → Listed xs (λ x. reads_name a x) → Listed ys (λ y. reads_name b y) → placed (place_of xs) a ≡ placed (place_of ys) b → OperandsAlike (side_by_side xs ys) a b
+operand_from : (xs ys : List ℕ) (a b : Operand) → Listed xs (λ x. reads_name a x) → Listed ys (λ y. reads_name b y) → placed (place_of xs) a ≡ placed (place_of ys) b
+    → OperandsAlike (side_by_side xs ys) a b
 operand_from xs ys (Name x) (Name y) p q e = place_corresponds xs ys x y (p x (eq-eqb x x refl)) (q y (eq-eqb y y refl)) (name_same (place_of xs x) (place_of ys y) e)
 operand_from xs ys (Lit a) (Lit b) p q e = lit_same a b e
 operand_from xs ys (Name x) (Lit b) p q e = absurd (cc)
 operand_from xs ys (Lit a) (Name y) p q e = absurd (cc)
-
-or_first : (b c : Bool) → b ≡ true → (b || c) ≡ true
-or_first true c h = refl
-or_first false c h = absurd (cc)
-
-or_second : (b c : Bool) → c ≡ true → (b || c) ≡ true
-or_second true c h = refl
-or_second false c h = h
 
 listed_first : (xs : List ℕ) (P Q : ℕ → Bool) → Listed xs (λ x. P x || Q x) → Listed xs P
 listed_first xs P Q h x p = h x (or_first (P x) (Q x) p)
@@ -120,10 +115,12 @@ item_from xs ys i j p q e = absurd (cc)
 home_same : (a b : Home) (as' bs' : List Home) → a ∷ as' ≡ b ∷ bs' → (a.variable ≡ b.variable) × (a.value ≡ b.value) × (as' ≡ bs')
 home_same a b as' bs' e = let h : a ≡ b = cc in (ap (λ (z : Home). z.variable) h, ap (λ (z : Home). z.value) h, cc)
 
-homes_from : (xs ys : List ℕ) (hs ks : List Home) → Listed xs (λ x. homes_use hs x) → Listed ys (λ y. homes_use ks y) → placed_homes (place_of xs) hs ≡ placed_homes (place_of ys) ks → HomesAlike (side_by_side xs ys) hs ks
+homes_from : (xs ys : List ℕ) (hs ks : List Home) → Listed xs (λ x. homes_use hs x) → Listed ys (λ y. homes_use ks y) → placed_homes (place_of xs) hs ≡ placed_homes (place_of ys) ks
+    → HomesAlike (side_by_side xs ys) hs ks
 homes_from xs ys [] [] p q e = tt
 homes_from xs ys (a ∷ hs) (b ∷ ks) p q e =
-    let h = home_same (record { variable = a.variable; value = placed (place_of xs) a.value }) (record { variable = b.variable; value = placed (place_of ys) b.value }) (placed_homes (place_of xs) hs) (placed_homes (place_of ys) ks) e in (
+    let h = home_same (record { variable = a.variable; value = placed (place_of xs) a.value }) (record { variable = b.variable; value = placed (place_of ys) b.value })
+    (placed_homes (place_of xs) hs) (placed_homes (place_of ys) ks) e in (
       h.0,
       operand_from xs ys a.value b.value (listed_first xs (λ x. reads_name a.value x) (λ x. homes_use hs x) p) (listed_first ys (λ y. reads_name b.value y) (λ y. homes_use ks y) q) h.1,
       homes_from xs ys hs ks (listed_second xs (λ x. reads_name a.value x) (λ x. homes_use hs x) p) (listed_second ys (λ y. reads_name b.value y) (λ y. homes_use ks y) q) h.2,
@@ -171,7 +168,8 @@ listed_below xs (Some d) P Q h x q = shown (nat_eq d x) (Q x) (P x) (has xs x) q
     shown true q p c e h = refl
     shown false q p c e h = h (or_second p q e)
 
-named_forms : (R : Form → Form → Type 0) (forms forms' : ℕ → Form) (d d' : Option ℕ) (xs ys : List ℕ) → BothOrNeither d d' → EachAlike R (map forms (named d xs)) (map forms' (named d' ys)) → EachAlike R (map forms xs) (map forms' ys)
+named_forms : (R : Form → Form → Type 0) (forms forms' : ℕ → Form) (d d' : Option ℕ) (xs ys : List ℕ) → BothOrNeither d d' → EachAlike R (map forms (named d xs)) (map forms' (named d' ys))
+    → EachAlike R (map forms xs) (map forms' ys)
 named_forms R forms forms' (Some x) (Some y) xs ys both h = others_of h
   where
     others_of : {A B : Type 0} {R : A → B → Type 0} {a : A} {b : B} {xs : List A} {ys : List B} → EachAlike R (a ∷ xs) (b ∷ ys) → EachAlike R xs ys
@@ -180,7 +178,8 @@ named_forms R forms forms' None None xs ys both h = h
 named_forms R forms forms' (Some x) None xs ys both h = absurd both
 named_forms R forms forms' None (Some y) xs ys both h = absurd both
 
-named_dests : (maps : Maps) (forms forms' : ℕ → Form) (d d' : Option ℕ) (xs ys : List ℕ) → BothOrNeither d d' → EachAlike (FormsAlike maps.variables) (map forms (named d xs)) (map forms' (named d' ys)) → DestsAlike maps forms forms' d d'
+named_dests : (maps : Maps) (forms forms' : ℕ → Form) (d d' : Option ℕ) (xs ys : List ℕ) → BothOrNeither d d'
+    → EachAlike (FormsAlike maps.variables) (map forms (named d xs)) (map forms' (named d' ys)) → DestsAlike maps forms forms' d d'
 named_dests maps forms forms' (Some x) (Some y) xs ys both h = first_of_both h
   where
     first_of_both : {A B : Type 0} {R : A → B → Type 0} {a : A} {b : B} {xs : List A} {ys : List B} → EachAlike R (a ∷ xs) (b ∷ ys) → R a b
@@ -194,7 +193,8 @@ pub split_forms : (R : Form → Form → Type 0) (forms forms' : ℕ → Form) (
 split_forms R forms forms' [] [] more more' e h = (no_more, h)
 split_forms R forms forms' (x ∷ xs) (y ∷ ys) more more' e h = both_of (split_forms R forms forms' xs ys more more' (suc_same (length xs) (length ys) e)) h
   where
-    both_of : {A B C : Type 0} {R : A → B → Type 0} {a : A} {b : B} {xs zs : List A} {ys ws : List B} → (EachAlike R xs ys → EachAlike R zs ws × C) → EachAlike R (a ∷ xs) (b ∷ ys) → EachAlike R (a ∷ zs) (b ∷ ws) × C
+    both_of : {A B C : Type 0} {R : A → B → Type 0} {a : A} {b : B} {xs zs : List A} {ys ws : List B} → (EachAlike R xs ys → EachAlike R zs ws × C) → EachAlike R (a ∷ xs) (b ∷ ys)
+        → EachAlike R (a ∷ zs) (b ∷ ws) × C
     both_of f (one_more h t) = let r = f t in (one_more h r.0, r.1)
 split_forms R forms forms' [] (y ∷ ys) more more' e h = absurd (omega (arith, e))
 split_forms R forms forms' (x ∷ xs) [] more more' e h = absurd (omega (arith, e))
@@ -215,7 +215,14 @@ as_many_defined first names (Pending tag origin item rest) =
 as_many_defined first names (Undecided tag origin on on_yes on_no) =
     let p = as_many_defined first names on_yes in
     let q = as_many_defined first names on_no in
-    omega (arith, p, q, length-append (definitions_of on_yes) (definitions_of on_no), length-append (definitions_of (canonical_tree first names on_yes)) (definitions_of (canonical_tree first names on_no)))
+    omega (
+      arith,
+      p,
+      q,
+      length-append (definitions_of on_yes) (definitions_of on_no),
+      length-append (definitions_of (canonical_tree first names on_yes))
+          (definitions_of (canonical_tree first names on_no)),
+    )
 as_many_defined first names (Exit region tag homes) = refl
 as_many_defined first names Stop_exit = refl
 as_many_defined first names (Trap_exit kind line) = refl
@@ -227,7 +234,8 @@ pub trees_from : (vars : List Pair) (forms forms' : ℕ → Form) (a b : ℕ) (x
 trees_from vars forms forms' a b xs ys (Pending t o i r) (Pending t' o' i' r') p q m n f e =
     let h = then_same (t - a) (t' - b) o o' (placed_item (place_of xs) i) (placed_item (place_of ys) i') (canonical_tree a (named (dest_of i) xs) r) (canonical_tree b (named (dest_of i') ys) r') e in
     let maps : Maps = record { variables = vars; shift = b; other_shift = a } in
-    let items = item_from xs ys i i' (listed_first xs (λ x. reads i x) (λ x. not (writes (dest_of i) x) && uses r x) p) (listed_first ys (λ x. reads i' x) (λ x. not (writes (dest_of i') x) && uses r' x) q) h.2 in
+    let items = item_from xs ys i i' (listed_first xs (λ x. reads i x) (λ x. not (writes (dest_of i) x) && uses r x) p)
+    (listed_first ys (λ x. reads i' x) (λ x. not (writes (dest_of i') x) && uses r' x) q) h.2 in
     let both = both_or_neither items in
     let below = trees_from vars forms forms' a b (named (dest_of i) xs) (named (dest_of i') ys) r r'
     (listed_below xs (dest_of i) (λ x. reads i x) (λ x. uses r x) p) (listed_below ys (dest_of i') (λ x. reads i' x) (λ x. uses r' x) q)

@@ -15,7 +15,8 @@ use Rattle.pc_window.specs.Names.{named, parameters_of}
 use Rattle.pc_window.specs.WindowRun.{Window}
 use Rattle.pc_canon.specs.Shift.{SameFront}
 use Rattle.pc_canon.specs.Canonical.{place_of, placed, placed_item, placed_homes, canonical_tree, canonical_front, tags_of, first_tag, canonical}
-use Rattle.pc_canon.specs.Key.{op_number, trap_number, list_numbers, operand_numbers, item_numbers, home_numbers, tree_numbers, shape_numbers, truth_number, constant_numbers, column_numbers, limit_numbers, loop_numbers, key_of}
+use Rattle.pc_canon.specs.Key.{op_number, trap_number, list_numbers, operand_numbers, item_numbers, home_numbers, tree_numbers, shape_numbers, truth_number, constant_numbers}
+use Rattle.pc_canon.specs.Key.{column_numbers, limit_numbers, loop_numbers, key_of}
 use Rattle.pc_canon.proofs.FormsKept.{fronts_to}
 use Rattle.pc_canon.proofs.FormsTell.{whole_canonical}
 

@@ -61,15 +61,15 @@ max_left m n x h = omega (arith, h)
 max_right : (m n x : ℕ) → max m n ≤ x → n ≤ x
 max_right m n x h = omega (arith, h)
 
-other_variable : (x y : ℕ) → suc y ≤ x → nat_eq x y ≡ false
-other_variable x y h = grind arith
+above_variable : (x y : ℕ) → suc y ≤ x → nat_eq x y ≡ false
+above_variable x y h = grind arith
 
 -- a variable above those of terms has the factor 0
 factor_of-above : (terms : List Term) (x : ℕ) → above_terms terms ≤ x → factor_of terms x ≡ pos 0
 factor_of-above [] x h = refl
 factor_of-above (term ∷ terms) x h =
     ap (λ (b : Bool). (if b then term.factor else pos 0) +ℤ factor_of terms x)
-    (other_variable x term.variable (max_left (suc term.variable) (above_terms terms) x h))
+    (above_variable x term.variable (max_left (suc term.variable) (above_terms terms) x h))
     ∙ ap (λ (z : ℤ). pos 0 +ℤ z) (factor_of-above terms x (max_right (suc term.variable) (above_terms terms) x h))
 
 -- and an empty column

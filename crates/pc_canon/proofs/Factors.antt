@@ -160,10 +160,10 @@ below-more f m (suc more) h =
     next : suc more + m ≡ suc (more + m)
     next = omega arith
 
-no_column : (n x : ℕ) (none : List ℤ) → none ≡ [] → slice_index_or (replicate n none) x [] ≡ []
-no_column zero x none e = refl
-no_column (suc n) zero none e = e
-no_column (suc n) (suc x) none e = no_column n x none e
+none_there : (n x : ℕ) (none : List ℤ) → none ≡ [] → slice_index_or (replicate n none) x [] ≡ []
+none_there zero x none e = refl
+none_there (suc n) zero none e = e
+none_there (suc n) (suc x) none e = none_there n x none e
 
 replicate-length : (n : ℕ) (none : List ℤ) → length (replicate n none) ≡ n
 replicate-length zero none = refl
@@ -194,15 +194,15 @@ above-append m (f ∷ fs) gs h k =
     right a b h = omega (arith, h)
 
 -- columns that are gathered from none on are those of all variables
-pub all_gathered : (n : ℕ) (forms : List Form) (columns : List (List ℤ)) (none : List ℤ) → none ≡ [] → above_forms forms ≤ n
+pub gathered_from_none : (n : ℕ) (forms : List Form) (columns : List (List ℤ)) (none : List ℤ) → none ≡ [] → above_forms forms ≤ n
     → columns ≡ and_forms 0 forms (replicate n none) → columns_below (column_in columns) (length columns) ≡ columns_of forms
-all_gathered n forms columns none empty above is =
+gathered_from_none n forms columns none empty above is =
     let zeros = replicate n none in
     let long : length columns ≡ n = ap (λ (l : List (List ℤ)). length l) is ∙ and_forms-length 0 forms zeros ∙ replicate-length n none in
     let pointwise : (x : ℕ) → x < n → column_in columns x ≡ column 0 forms x =
     λ x lt. ap (λ (l : List (List ℤ)). column_in l x) is
     ∙ and_forms-column 0 forms zeros x (subst (λ (m : ℕ). x < m) (sym (replicate-length n none)) lt)
-    ∙ ap (λ (l : List ℤ). l ++ column 0 forms x) (no_column n x none empty) in
+    ∙ ap (λ (l : List ℤ). l ++ column 0 forms x) (none_there n x none empty) in
     let split : (n - above_forms forms) + above_forms forms ≡ n = omega (arith, above) in
     ap (columns_below (column_in columns)) long
     ∙ below-same (column_in columns) (column 0 forms) n pointwise

@@ -33,9 +33,9 @@ least_all : (least : ℕ) (tags : List ℕ) → AllFrom (least_of least tags) ta
 least_all least [] = tt
 least_all least (tag ∷ tags) = let h = least_below (min least tag) tags in (omega (arith, h), least_all (min least tag) tags)
 
-first_all : (tags : List ℕ) → AllFrom (first_tag tags) tags
-first_all [] = tt
-first_all (tag ∷ tags) = (least_below tag tags, least_all tag tags)
+first_below_all : (tags : List ℕ) → AllFrom (first_tag tags) tags
+first_below_all [] = tt
+first_below_all (tag ∷ tags) = (least_below tag tags, least_all tag tags)
 
 tags_from : (first : ℕ) (tree : Tree) → AllFrom first (tags_of tree) → TagsFrom first tree
 tags_from first (Pending tag origin item rest) h = (h.0, tags_from first rest h.1)
@@ -47,7 +47,7 @@ tags_from first (Trap_exit kind line) h = tt
 
 -- no tag of a tree is below its first
 pub first_is_least : (tree : Tree) → TagsFrom (first_tag (tags_of tree)) tree
-first_is_least tree = tags_from (first_tag (tags_of tree)) tree (first_all (tags_of tree))
+first_is_least tree = tags_from (first_tag (tags_of tree)) tree (first_below_all (tags_of tree))
 
 -- ---- the least tag, found on a walk
 

@@ -14,13 +14,15 @@ use Rattle.pc_window.specs.Tree.{Tree, Pending, Undecided, Exit, Front, Issued, 
 use Rattle.pc_window.specs.Names.{named, definitions_of, parameters_of, name_in, names_read, names_in_homes, without_name, free_uses, first_uses}
 use Rattle.pc_window.specs.WindowRun.{Window}
 use Rattle.pc_canon.specs.Pairs.{Pair, corresponds, ones, others, defined, OperandsAlike, HomesAlike}
-use Rattle.pc_canon.specs.Shift.{OneToOne, EachPair, FormsAlike, ItemsAlike, both_bin, both_copy, both_load, both_store, both_print, both_read, both_more, Maps, DestsAlike, TagsAlike, TreesAlike, both_then, both_either, both_exit, both_stop, both_trap, SameFront, Shifted}
-use Rattle.pc_canon.specs.Canonical.{place_of, placed, placed_item, placed_homes, canonical_tree, canonical_front, tags_of, least_of, first_tag, Constant, constant_in, forms_of_parameters, forms_of_definitions, with_factor, column, with_occurring, columns_of, above_forms, canonical}
+use Rattle.pc_canon.specs.Shift.{OneToOne, EachPair, FormsAlike, ItemsAlike, both_bin, both_copy, both_load, both_store, both_print, both_read, both_more, Maps, DestsAlike}
+use Rattle.pc_canon.specs.Shift.{TagsAlike, TreesAlike, both_then, both_either, both_exit, both_stop, both_trap, SameFront, Shifted}
+use Rattle.pc_canon.specs.Canonical.{place_of, placed, placed_item, placed_homes, canonical_tree, canonical_front, tags_of, least_of, first_tag, Constant, constant_in}
+use Rattle.pc_canon.specs.Canonical.{forms_of_parameters, forms_of_definitions, with_factor, column, with_occurring, columns_of, above_forms, canonical}
 use Rattle.pc_canon.proofs.Membership.{has, Distinct, has_is, distinct_from}
 use Rattle.pc_canon.proofs.FactorColumns.{column-above}
 use Rattle.pc_canon.proofs.Sorting.{gathered, gathered-same, down_from, below_gathered, down_from-has, down_from-distinct}
 use Rattle.pc_canon.proofs.Alike.{EachAlike, no_more, one_more}
-use Rattle.pc_canon.proofs.Pairs.{turned, turned_corresponds, paired, corresponds_paired}
+use Rattle.pc_canon.proofs.Pairs.{same_some, turned, turned_corresponds, paired, corresponds_paired}
 use Rattle.pc_canon.proofs.ShiftForms.{each_corresponds}
 use Rattle.pc_canon.proofs.CanonicalTrees.{BothOrNeither, both_or_neither}
 
@@ -34,9 +36,6 @@ bool_same true true p q = refl
 bool_same false false p q = refl
 bool_same true false p q = sym (p refl)
 bool_same false true p q = q refl
-
-same_some : (a b : ℕ) → Some a ≡ Some b → a ≡ b
-same_some a b e = cc
 
 one_way : (names : List Pair) (x y x' y' : ℕ) → Corr names x y → Corr names x' y' → x ≡ x' → y ≡ y'
 one_way names x y x' y' p q e =
@@ -99,7 +98,8 @@ uses_alike {names} (both_exit {homes} {homes'} tags h) = home_uses names homes h
 uses_alike both_stop = no_more
 uses_alike both_trap = no_more
 
-kept_step : (names : List Pair) (b b' : Bool) (x y : ℕ) (xs ys : List ℕ) → b ≡ b' → Corr names x y → EachAlike (Corr names) xs ys → EachAlike (Corr names) (if b then xs else (x ∷ xs)) (if b' then ys else (y ∷ ys))
+kept_step : (names : List Pair) (b b' : Bool) (x y : ℕ) (xs ys : List ℕ) → b ≡ b' → Corr names x y → EachAlike (Corr names) xs ys
+    → EachAlike (Corr names) (if b then xs else (x ∷ xs)) (if b' then ys else (y ∷ ys))
 kept_step names true true x y xs ys e h t = t
 kept_step names false false x y xs ys e h t = one_more h t
 kept_step names true false x y xs ys e h t = absurd (cc)
@@ -107,7 +107,8 @@ kept_step names false true x y xs ys e h t = absurd (cc)
 
 kept_uses : (names : List Pair) (x y : ℕ) {xs ys : List ℕ} → Corr names x y → EachAlike (Corr names) xs ys → EachAlike (Corr names) (without_name (Some x) xs) (without_name (Some y) ys)
 kept_uses names x y p no_more = no_more
-kept_uses names x y p (one_more {a} {b} {xs} {ys} h t) = kept_step names (nat_eq x a) (nat_eq y b) a b (without_name (Some x) xs) (without_name (Some y) ys) (same_test names x y a b p h) h (kept_uses names x y p t)
+kept_uses names x y p (one_more {a} {b} {xs} {ys} h t) = kept_step names (nat_eq x a) (nat_eq y b) a b (without_name (Some x) xs) (without_name (Some y) ys) (same_test names x y a b p h) h
+    (kept_uses names x y p t)
 
 first_uses_alike : (names : List Pair) {xs ys : List ℕ} → EachAlike (Corr names) xs ys → EachAlike (Corr names) (first_uses xs) (first_uses ys)
 first_uses_alike names no_more = no_more
@@ -149,11 +150,13 @@ operand_to names xs ys (Lit a) (Name y) c h = absurd h
 
 item_to : {names : List Pair} {i j : Item} (xs ys : List ℕ) → Agrees names xs ys → ItemsAlike names i j → placed_item (place_of xs) i ≡ placed_item (place_of ys) j
 item_to {names} xs ys c (both_bin {op} {left} {left'} {right} {right'} h k) =
-    ap (λ (o : Operand). Bin op 0 o (placed (place_of xs) right)) (operand_to names xs ys left left' c h) ∙ ap (λ (o : Operand). Bin op 0 (placed (place_of ys) left') o) (operand_to names xs ys right right' c k)
+    ap (λ (o : Operand). Bin op 0 o (placed (place_of xs) right)) (operand_to names xs ys left left' c h)
+    ∙ ap (λ (o : Operand). Bin op 0 (placed (place_of ys) left') o) (operand_to names xs ys right right' c k)
 item_to {names} xs ys c (both_copy {from} {from'} h) = ap (λ (o : Operand). Copy 0 o) (operand_to names xs ys from from' c h)
 item_to {names} xs ys c (both_load {array} {index} {index'} h) = ap (λ (o : Operand). Load 0 array o) (operand_to names xs ys index index' c h)
 item_to {names} xs ys c (both_store {array} {index} {index'} {value} {value'} h k) =
-    ap (λ (o : Operand). Store array o (placed (place_of xs) value)) (operand_to names xs ys index index' c h) ∙ ap (λ (o : Operand). Store array (placed (place_of ys) index') o) (operand_to names xs ys value value' c k)
+    ap (λ (o : Operand). Store array o (placed (place_of xs) value)) (operand_to names xs ys index index' c h)
+    ∙ ap (λ (o : Operand). Store array (placed (place_of ys) index') o) (operand_to names xs ys value value' c k)
 item_to {names} xs ys c (both_print {value} {value'} h) = ap (λ (o : Operand). Print o) (operand_to names xs ys value value' c h)
 item_to xs ys c both_read = refl
 item_to xs ys c both_more = refl
@@ -172,7 +175,8 @@ tag_to : (a b s s' t t' : ℕ) → a + s ≡ b + s' → t + s ≡ t' + s' → t 
 tag_to a b s s' t t' p q = omega (arith, p, q)
 
 -- trees that are alike have equal canonical trees
-trees_to : {maps : Maps} {f g : ℕ → Form} {names : List Pair} {t u : Tree} (a b : ℕ) (xs ys : List ℕ) → a + maps.shift ≡ b + maps.other_shift → Agrees names xs ys → TreesAlike maps f g names t u → canonical_tree a xs t ≡ canonical_tree b ys u
+trees_to : {maps : Maps} {f g : ℕ → Form} {names : List Pair} {t u : Tree} (a b : ℕ) (xs ys : List ℕ) → a + maps.shift ≡ b + maps.other_shift → Agrees names xs ys
+    → TreesAlike maps f g names t u → canonical_tree a xs t ≡ canonical_tree b ys u
 trees_to {maps} {names} a b xs ys e c (both_then {tag} {tag'} {origin} {item} {item'} {rest} {rest'} tags items dests below) =
     let r = trees_to a b (named (dest_of item) xs) (named (dest_of item') ys) e (agrees_named names xs ys (dest_of item) (dest_of item') (both_or_neither items) c) below in
     ap (λ (n : ℕ). Pending n origin (placed_item (place_of xs) item) (canonical_tree a (named (dest_of item) xs) rest)) (tag_to a b maps.shift maps.other_shift tag tag' e tags)
@@ -184,7 +188,8 @@ trees_to {maps} {names} a b xs ys e c (both_either {tag} {tag'} {origin} {on} {o
     ∙ ap (λ (t : Tree). Undecided (tag' - b) origin (placed (place_of ys) on') t (canonical_tree a xs on_no)) (trees_to a b xs ys e c yes_side)
     ∙ ap (λ (t : Tree). Undecided (tag' - b) origin (placed (place_of ys) on') (canonical_tree b ys on_yes') t) (trees_to a b xs ys e c no_side)
 trees_to {maps} {names} a b xs ys e c (both_exit {region} {tag} {tag'} {homes} {homes'} tags h) =
-    ap (λ (n : ℕ). Exit region n (placed_homes (place_of xs) homes)) (tag_to a b maps.shift maps.other_shift tag tag' e tags) ∙ ap (λ (l : List Home). Exit region (tag' - b) l) (homes_to names xs ys homes homes' c h)
+    ap (λ (n : ℕ). Exit region n (placed_homes (place_of xs) homes)) (tag_to a b maps.shift maps.other_shift tag tag' e tags)
+    ∙ ap (λ (l : List Home). Exit region (tag' - b) l) (homes_to names xs ys homes homes' c h)
 trees_to a b xs ys e c both_stop = refl
 trees_to a b xs ys e c both_trap = refl
 
@@ -232,11 +237,13 @@ split_as t t' o o' a a' y y' n n' p q h k l = cc
 
 pub fronts_to : (a b : ℕ) (xs ys : List ℕ) (f g : Front) → SameFront f g → canonical_tree a xs (whole f) ≡ canonical_tree b ys (whole g) → canonical_front a xs f ≡ canonical_front b ys g
 fronts_to a b xs ys (Issued t o i r) (Issued t' o' i' r') h e =
-    let p = then_parts (t - a) (t' - b) o o' (placed_item (place_of xs) i) (placed_item (place_of ys) i') (canonical_tree a (named (dest_of i) xs) (whole r)) (canonical_tree b (named (dest_of i') ys) (whole r')) e in
+    let p = then_parts (t - a) (t' - b) o o' (placed_item (place_of xs) i) (placed_item (place_of ys) i') (canonical_tree a (named (dest_of i) xs) (whole r))
+    (canonical_tree b (named (dest_of i') ys) (whole r')) e in
     done_as (t - a) (t' - b) o o' (placed_item (place_of xs) i) (placed_item (place_of ys) i') (canonical_front a (named (dest_of i) xs) r) (canonical_front b (named (dest_of i') ys) r') p.0 p.1 p.2
     (fronts_to a b (named (dest_of i) xs) (named (dest_of i') ys) r r' h p.3)
 fronts_to a b xs ys (Split t o c y n) (Split t' o' c' y' n') h e =
-    let p = either_parts (t - a) (t' - b) o o' (placed (place_of xs) c) (placed (place_of ys) c') (canonical_tree a xs (whole y)) (canonical_tree b ys (whole y')) (canonical_tree a xs (whole n)) (canonical_tree b ys (whole n')) e in
+    let p = either_parts (t - a) (t' - b) o o' (placed (place_of xs) c) (placed (place_of ys) c') (canonical_tree a xs (whole y)) (canonical_tree b ys (whole y'))
+    (canonical_tree a xs (whole n)) (canonical_tree b ys (whole n')) e in
     split_as (t - a) (t' - b) o o' (placed (place_of xs) c) (placed (place_of ys) c') (canonical_front a xs y) (canonical_front b ys y') (canonical_front a xs n) (canonical_front b ys n') p.0 p.1 p.2
     (fronts_to a b xs ys y y' h.0 p.3) (fronts_to a b xs ys n n' h.1 p.4)
 fronts_to a b xs ys (Unfinished r) (Unfinished r') h e = ap (λ (t : Tree). Unfinished t) e
@@ -266,12 +273,14 @@ map_append : (f : ℕ → Form) (xs ys : List ℕ) → map f (xs ++ ys) ≡ map 
 map_append f [] ys = refl
 map_append f (x ∷ xs) ys = ap (λ (l : List Form). f x ∷ l) (map_append f xs ys)
 
-defined_forms : {maps : Maps} {f g : ℕ → Form} {names : List Pair} {t u : Tree} → TreesAlike maps f g names t u → EachAlike (FormsAlike maps.variables) (map f (definitions_of t)) (map g (definitions_of u))
+defined_forms : {maps : Maps} {f g : ℕ → Form} {names : List Pair} {t u : Tree} → TreesAlike maps f g names t u
+    → EachAlike (FormsAlike maps.variables) (map f (definitions_of t)) (map g (definitions_of u))
 defined_forms {maps} {f} {g} (both_then {item} {item'} {rest} {rest'} tags items dests below) =
     dest_forms maps f g (dest_of item) (dest_of item') (definitions_of rest) (definitions_of rest') (both_or_neither items) dests (defined_forms below)
 defined_forms {maps} {f} {g} (both_either {on_yes} {on_yes'} {on_no} {on_no'} tags test yes_side no_side) =
     subst (λ (l : List Form). EachAlike (FormsAlike maps.variables) l (map g (definitions_of on_yes' ++ definitions_of on_no'))) (sym (map_append f (definitions_of on_yes) (definitions_of on_no)))
-    (subst (λ (l : List Form). EachAlike (FormsAlike maps.variables) (map f (definitions_of on_yes) ++ map f (definitions_of on_no)) l) (sym (map_append g (definitions_of on_yes') (definitions_of on_no')))
+    (subst (λ (l : List Form). EachAlike (FormsAlike maps.variables) (map f (definitions_of on_yes) ++ map f (definitions_of on_no)) l)
+    (sym (map_append g (definitions_of on_yes') (definitions_of on_no')))
     (alike_append (defined_forms yes_side) (defined_forms no_side)))
 defined_forms (both_exit tags h) = no_more
 defined_forms both_stop = no_more

@@ -12,7 +12,8 @@ use Rattle.pc_window.specs.Names.{named, parameters_of}
 use Rattle.pc_window.specs.WindowRun.{Window}
 use Rattle.pc_canon.specs.Pairs.{Pair, ones, others}
 use Rattle.pc_canon.specs.Shift.{OneToOne, EachPair, FormsAlike, SameFront, ShiftedBy}
-use Rattle.pc_canon.specs.Canonical.{place_of, placed, placed_item, canonical_tree, canonical_front, tags_of, first_tag, Constant, constant_in, forms_of_parameters, forms_of_definitions, column, above_forms, Canonical, canonical, side_by_side, parameter_pairs}
+use Rattle.pc_canon.specs.Canonical.{place_of, placed, placed_item, canonical_tree, canonical_front, tags_of, first_tag, Constant, constant_in, forms_of_parameters}
+use Rattle.pc_canon.specs.Canonical.{forms_of_definitions, column, above_forms, Canonical, canonical, side_by_side, parameter_pairs}
 use Rattle.pc_canon.proofs.Membership.{has, has_is, distinct_to}
 use Rattle.pc_canon.proofs.FactorColumns.{column-begins, with_factor-same, with_factor-none, column-above}
 use Rattle.pc_canon.proofs.Sorting.{ordered, ordered-columns, ordered-distinct, ordered-all}
@@ -24,7 +25,8 @@ use Rattle.pc_canon.proofs.FirstTags.{first_is_least}
 -- ---- fronts
 
 pub whole_canonical : (first : ℕ) (names : List ℕ) (front : Front) → whole (canonical_front first names front) ≡ canonical_tree first names (whole front)
-whole_canonical first names (Issued tag origin item rest) = ap (λ (t : Tree). Pending (tag - first) origin (placed_item (place_of names) item) t) (whole_canonical first (named (dest_of item) names) rest)
+whole_canonical first names (Issued tag origin item rest) = ap (λ (t : Tree). Pending (tag - first) origin (placed_item (place_of names) item) t)
+    (whole_canonical first (named (dest_of item) names) rest)
 whole_canonical first names (Split tag origin on on_yes on_no) =
     ap (λ (t : Tree). Undecided (tag - first) origin (placed (place_of names) on) t (whole (canonical_front first names on_no))) (whole_canonical first names on_yes)
     ∙ ap (λ (t : Tree). Undecided (tag - first) origin (placed (place_of names) on) (canonical_tree first names (whole on_yes)) t) (whole_canonical first names on_no)
@@ -41,7 +43,8 @@ fronts_from a b xs ys (Issued t o i r) (Issued t' o' i' r') e =
     fronts_from a b (named (dest_of i) xs) (named (dest_of i') ys) r r'
     (done_rest (t - a) (t' - b) o o' (placed_item (place_of xs) i) (placed_item (place_of ys) i') (canonical_front a (named (dest_of i) xs) r) (canonical_front b (named (dest_of i') ys) r') e)
 fronts_from a b xs ys (Split t o c y n) (Split t' o' c' y' n') e =
-    let h = split_rest (t - a) (t' - b) o o' (placed (place_of xs) c) (placed (place_of ys) c') (canonical_front a xs y) (canonical_front b ys y') (canonical_front a xs n) (canonical_front b ys n') e in
+    let h = split_rest (t - a) (t' - b) o o' (placed (place_of xs) c) (placed (place_of ys) c') (canonical_front a xs y) (canonical_front b ys y') (canonical_front a xs n)
+    (canonical_front b ys n') e in
     (fronts_from a b xs ys y y' h.0, fronts_from a b xs ys n n' h.1)
 fronts_from a b xs ys (Unfinished r) (Unfinished r') e = tt
 fronts_from a b xs ys f g e = absurd (cc)
@@ -113,7 +116,8 @@ split_alike R [] [] more more' e h = (no_more, h)
 split_alike R (f ∷ fs) (g ∷ gs) more more' e h =
     both_of (split_alike R fs gs more more' (cons_same (constant_in f) (constant_in g) (map constant_in fs) (map constant_in gs) e).1) h
   where
-    both_of : {A B C : Type 0} {R : A → B → Type 0} {a : A} {b : B} {xs zs : List A} {ys ws : List B} → (EachAlike R xs ys → EachAlike R zs ws × C) → EachAlike R (a ∷ xs) (b ∷ ys) → EachAlike R (a ∷ zs) (b ∷ ws) × C
+    both_of : {A B C : Type 0} {R : A → B → Type 0} {a : A} {b : B} {xs zs : List A} {ys ws : List B} → (EachAlike R xs ys → EachAlike R zs ws × C) → EachAlike R (a ∷ xs) (b ∷ ys)
+        → EachAlike R (a ∷ zs) (b ∷ ws) × C
     both_of f (one_more h t) = let r = f t in (one_more h r.0, r.1)
 split_alike R [] (g ∷ gs) more more' e h = absurd (cc)
 split_alike R (f ∷ fs) [] more more' e h = absurd (cc)

@@ -44,7 +44,8 @@ with_level levels names dest level h there is = record {
 
     at_most : (x : ℕ) (b : Bool) → nat_eq dest x ≡ b → slice_index (slice_set levels dest level) x ≤ suc (length names)
     at_most x true e =
-        let here : slice_index (slice_set levels dest level) x ≡ level = ap (λ (y : ℕ). slice_index (slice_set levels dest level) y) (sym (eqb-true dest x e)) ∙ index_set_same levels dest level there in
+        let here : slice_index (slice_set levels dest level) x ≡ level = ap (λ (y : ℕ). slice_index (slice_set levels dest level) y) (sym (eqb-true dest x e))
+        ∙ index_set_same levels dest level there in
         omega (arith, here, is)
     at_most x false e =
         let other = index_set_other levels dest x level (apart x e) in
@@ -53,7 +54,8 @@ with_level levels names dest level h there is = record {
 
     place : (x : ℕ) (b : Bool) → nat_eq dest x ≡ b → x < length levels → (if b then 0 else suc (place_of names x)) ≡ suc (length names) - slice_index (slice_set levels dest level) x
     place x true e below =
-        let here : slice_index (slice_set levels dest level) x ≡ level = ap (λ (y : ℕ). slice_index (slice_set levels dest level) y) (sym (eqb-true dest x e)) ∙ index_set_same levels dest level there in
+        let here : slice_index (slice_set levels dest level) x ≡ level = ap (λ (y : ℕ). slice_index (slice_set levels dest level) y) (sym (eqb-true dest x e))
+        ∙ index_set_same levels dest level there in
         omega (arith, here, is)
     place x false e below =
         let other = index_set_other levels dest x level (apart x e) in
@@ -143,7 +145,8 @@ tree-written first levels names depth (Pending tag origin item rest) are deep be
         (ap (λ (n : ℕ). n + 1) deep ∙ next)
         (subst (λ (n : ℕ). TreeBelow n rest) (sym (set_length levels dest (depth + 1))) below.1)
 tree-written first levels names depth (Undecided tag origin on one other) are deep below =
-    (λ i. pos 1 ∷ pos (tag - first) ∷ pos origin ∷ (operand_numbers (test i) ++ (tree-written first levels names depth one are deep below.1 i ++ tree-written first levels names depth other are deep below.2 i)))
+    (λ i. pos 1 ∷ pos (tag - first) ∷ pos origin ∷ (operand_numbers (test i) ++
+    (tree-written first levels names depth one are deep below.1 i ++ tree-written first levels names depth other are deep below.2 i)))
   where
     test : placed (place_at levels depth) on ≡ placed (place_of names) on
     test = ap (λ (n : ℕ). placed (place_at levels n) on) deep ∙ operand-written levels names are on below.0

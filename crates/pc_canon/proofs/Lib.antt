@@ -17,3 +17,4 @@ pub mod Gathering
 pub mod Leveled
 pub mod WrittenKeys
 pub mod Factors
+pub mod SixNames

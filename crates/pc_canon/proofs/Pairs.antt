@@ -2,6 +2,8 @@
 use Rattle.std.proofs.Common.{◌≡◌, ℕ, List, [], ◌∷◌, ◌⊎◌, inl, inr, refl, sym, ◌∙◌, ap, subst}
 use Rattle.std.specs.Prelude.{Bool, true, false, not, ◌&&◌, ◌||◌, if◌then◌else◌, nat_eq, Option, Some, None}
 use Rattle.std.proofs.lemmas.Bool.{eqb-true, eq-eqb}
+use Rattle.pc_word.proofs.Truth.{or_made_false}
+use Rattle.pc_window.proofs.Live.{or_first, or_second}
 use Rattle.pc_canon.specs.Pairs.{Pair, corresponds, ones, others}
 use Rattle.pc_canon.specs.Shift.{EachPair}
 use Rattle.pc_canon.proofs.Membership.{has, Distinct}
@@ -30,22 +32,6 @@ abbrev pub paired : List Pair → ℕ → Option ℕ
 paired [] x = None
 paired (pair ∷ pairs) x = if nat_eq pair.one x then Some pair.other else paired pairs x
 
-or_parts : (b c : Bool) → (b || c) ≡ false → (b ≡ false) × (c ≡ false)
-or_parts true c h = absurd (cc)
-or_parts false c h = (refl, h)
-
-or_false : (b c : Bool) → b ≡ false → c ≡ false → (b || c) ≡ false
-or_false true c p q = absurd (cc)
-or_false false c p q = q
-
-or_second : (b c : Bool) → c ≡ true → (b || c) ≡ true
-or_second true c h = refl
-or_second false c h = h
-
-or_first : (b c : Bool) → b ≡ true → (b || c) ≡ true
-or_first true c h = refl
-or_first false c h = absurd (cc)
-
 -- a choice by a test that was equal
 chosen : {A : Type 0} (b : Bool) (u v w : A) → (if b then u else v) ≡ w → ((b ≡ true) × (u ≡ w)) ⊎ ((b ≡ false) × (v ≡ w))
 chosen true u v w h = inl (refl, h)
@@ -59,14 +45,14 @@ choose_false : {A : Type 0} (b : Bool) (u v : A) → b ≡ false → (if b then 
 choose_false true u v h = absurd (cc)
 choose_false false u v h = refl
 
-same_some : (a b : ℕ) → Some a ≡ Some b → a ≡ b
+pub same_some : (a b : ℕ) → Some a ≡ Some b → a ≡ b
 same_some a b e = cc
 
 pub paired_none : (pairs : List Pair) (x : ℕ) → paired pairs x ≡ None → has (ones pairs) x ≡ false
 paired_none [] x h = refl
 paired_none (pair ∷ pairs) x h = elim (chosen (nat_eq pair.one x) (Some pair.other) (paired pairs x) None h) [
   | inl k ↦ absurd (cc)
-  | inr k ↦ or_false (nat_eq pair.one x) (has (ones pairs) x) k.0 (paired_none pairs x k.1)
+  | inr k ↦ or_made_false (nat_eq pair.one x) (has (ones pairs) x) k.0 (paired_none pairs x k.1)
 ]
 
 pub paired_has_one : (pairs : List Pair) (x z : ℕ) → paired pairs x ≡ Some z → has (ones pairs) x ≡ true

@@ -5,6 +5,9 @@ use Rattle.std.proofs.lemmas.Bool.{eqb-true, eq-eqb}
 use Rattle.pc_word.specs.declared.item.Item.{Item}
 use Rattle.pc_word.specs.declared.item.Operand.{Operand}
 use Rattle.pc_word.specs.declared.item.Operand.TheVariants.{Name, Lit}
+use Rattle.pc_word.proofs.Truth.{and_true, and_made, not_true}
+use Rattle.pc_window.proofs.Live.{or_first, or_second}
+use Rattle.pc_window.proofs.Uses.{or_is}
 use Rattle.pc_word.specs.Word.{holds}
 use Rattle.pc_word.specs.State.{State}
 use Rattle.pc_word.specs.Items.{operand_value, dest_of, value_of}
@@ -18,7 +21,8 @@ use Rattle.pc_window.specs.Names.{homes_use, uses}
 use Rattle.pc_window.specs.Hold.{Side, DefinedMeans, DefinedHold}
 use Rattle.pc_window.specs.WindowRun.{Window, FormsHold}
 use Rattle.pc_canon.specs.Pairs.{Pair, corresponds, others, defined, OperandsAlike, HomesAlike, Correspond}
-use Rattle.pc_canon.specs.Shift.{OneToOne, EachPair, FormsAlike, ItemsAlike, both_bin, both_copy, both_load, both_store, both_print, both_read, both_more, Maps, DestsAlike, TreesAlike, both_then, both_either, both_exit, both_stop, both_trap, ShiftedBy}
+use Rattle.pc_canon.specs.Shift.{OneToOne, EachPair, FormsAlike, ItemsAlike, both_bin, both_copy, both_load, both_store, both_print, both_read, both_more, Maps, DestsAlike}
+use Rattle.pc_canon.specs.Shift.{TreesAlike, both_then, both_either, both_exit, both_stop, both_trap, ShiftedBy}
 use Rattle.pc_canon.proofs.Membership.{distinct_from}
 use Rattle.pc_canon.proofs.Alike.{operands_alike}
 use Rattle.pc_canon.proofs.Sums.{means_alike, other_words, other_words_same}
@@ -30,41 +34,17 @@ use Rattle.pc_canon.proofs.ShiftRuns.{items_alike, dests_of, states_alike}
 abbrev Sought : List Pair → (ℕ → Bool) → ℕ → Type 0
 Sought names P y = (x : ℕ) × (P x ≡ true) × (corresponds names x y ≡ true)
 
-or_left : (a b : Bool) → a ≡ true → (a || b) ≡ true
-or_left true b h = refl
-or_left false b h = absurd (cc)
-
-or_right : (a b : Bool) → b ≡ true → (a || b) ≡ true
-or_right true b h = refl
-or_right false b h = h
-
-either_of : (a b : Bool) → (a || b) ≡ true → (a ≡ true) ⊎ (b ≡ true)
-either_of true b h = inl refl
-either_of false b h = inr h
-
-both_of : (a b : Bool) → (a && b) ≡ true → (a ≡ true) × (b ≡ true)
-both_of true b h = (refl, h)
-both_of false b h = absurd (cc)
-
-and_of : (a b : Bool) → a ≡ true → b ≡ true → (a && b) ≡ true
-and_of true b p q = q
-and_of false b p q = absurd (cc)
-
-not_true : (b : Bool) → not b ≡ true → b ≡ false
-not_true true h = absurd (cc)
-not_true false h = refl
-
 true_of_not : (b : Bool) → b ≡ false → not b ≡ true
 true_of_not true h = absurd (cc)
 true_of_not false h = refl
 
 sought_either : (names : List Pair) (P Q : ℕ → Bool) (y : ℕ) → Sought names P y ⊎ Sought names Q y → Sought names (λ x. P x || Q x) y
-sought_either names P Q y (inl h) = (h.0, or_left (P h.0) (Q h.0) h.1, h.2)
-sought_either names P Q y (inr h) = (h.0, or_right (P h.0) (Q h.0) h.1, h.2)
+sought_either names P Q y (inl h) = (h.0, or_first (P h.0) (Q h.0) h.1, h.2)
+sought_either names P Q y (inr h) = (h.0, or_second (P h.0) (Q h.0) h.1, h.2)
 
 -- what is found in one of two parts is found in both together
 sought_parts : (names : List Pair) (P P' Q Q' : ℕ → Bool) (y : ℕ) → (P' y ≡ true → Sought names P y) → (Q' y ≡ true → Sought names Q y) → (P' y || Q' y) ≡ true → Sought names (λ x. P x || Q x) y
-sought_parts names P P' Q Q' y p q h = elim (either_of (P' y) (Q' y) h) [
+sought_parts names P P' Q Q' y p q h = elim (or_is (P' y) (Q' y) h) [
   | inl k ↦ sought_either names P Q y (inl (p k))
   | inr k ↦ sought_either names P Q y (inr (q k))
 ]
@@ -78,11 +58,13 @@ operand_sought names (Lit a) (Lit b) y h is = absurd (cc)
 
 item_sought : {names : List Pair} {item other : Item} (y : ℕ) → ItemsAlike names item other → reads other y ≡ true → Sought names (λ x. reads item x) y
 item_sought {names} y (both_bin {left} {left'} {right} {right'} h k) is =
-    sought_parts names (λ x. reads_name left x) (λ x. reads_name left' x) (λ x. reads_name right x) (λ x. reads_name right' x) y (operand_sought names left left' y h) (operand_sought names right right' y k) is
+    sought_parts names (λ x. reads_name left x) (λ x. reads_name left' x) (λ x. reads_name right x) (λ x. reads_name right' x) y (operand_sought names left left' y h)
+    (operand_sought names right right' y k) is
 item_sought {names} y (both_copy {from} {from'} h) is = operand_sought names from from' y h is
 item_sought {names} y (both_load {index} {index'} h) is = operand_sought names index index' y h is
 item_sought {names} y (both_store {index} {index'} {value} {value'} h k) is =
-    sought_parts names (λ x. reads_name index x) (λ x. reads_name index' x) (λ x. reads_name value x) (λ x. reads_name value' x) y (operand_sought names index index' y h) (operand_sought names value value' y k) is
+    sought_parts names (λ x. reads_name index x) (λ x. reads_name index' x) (λ x. reads_name value x) (λ x. reads_name value' x) y (operand_sought names index index' y h)
+    (operand_sought names value value' y k) is
 item_sought {names} y (both_print {value} {value'} h) is = operand_sought names value value' y h is
 item_sought y both_read is = absurd (cc)
 item_sought y both_more is = absurd (cc)
@@ -105,7 +87,7 @@ below_defined : (names : List Pair) (P : ℕ → Bool) (d d' : Option ℕ) (y : 
     → writes d' y ≡ false → Sought (defined names d d') P y → Sought names (λ x. not (writes d x) && P x) y
 below_defined names P (Some a) (Some b) y e free h =
     let o = outer (nat_eq a h.0) (nat_eq b y) (corresponds names h.0 y) h.2 free in
-    (h.0, and_of (not (nat_eq a h.0)) (P h.0) (true_of_not (nat_eq a h.0) o.0) h.1, o.1)
+    (h.0, and_made (not (nat_eq a h.0)) (P h.0) (true_of_not (nat_eq a h.0) o.0) h.1, o.1)
 below_defined names P None None y e free h = h
 below_defined names P (Some a) None y e free h = elim e [ inl k ↦ absurd (cc) | inr k ↦ absurd (cc) ]
 below_defined names P None (Some b) y e free h = elim e [ inl k ↦ absurd (cc) | inr k ↦ absurd (cc) ]
@@ -116,7 +98,7 @@ parameter_sought : {maps : Maps} {forms forms' : ℕ → Form} {names : List Pai
 parameter_sought {names} y (both_then {item} {item'} {rest} {rest'} tags items dests below) is =
     sought_parts names (λ x. reads item x) (λ x. reads item' x) (λ x. not (writes (dest_of item) x) && uses rest x) (λ x. not (writes (dest_of item') x) && uses rest' x) y
     (item_sought y items)
-    (λ h. let k = both_of (not (writes (dest_of item') y)) (uses rest' y) h in
+    (λ h. let k = and_true (not (writes (dest_of item') y)) (uses rest' y) h in
     below_defined names (λ x. uses rest x) (dest_of item) (dest_of item') y (dests_of items) (not_true (writes (dest_of item') y) k.0) (parameter_sought y below k.1))
     is
 parameter_sought {names} y (both_either {on} {on'} {on_yes} {on_yes'} {on_no} {on_no'} tags test yes_side no_side) is =
@@ -147,7 +129,8 @@ each_corresponds (pair ∷ pairs) P x y h is =
 dest_holds : (variables : List Pair) (words words' : ℕ → ℤ) (forms forms' : ℕ → Form) (maps : Maps) (d d' : Option ℕ) (v v' : ℤ)
     → ((x : ℕ) × (z : ℕ) × (d ≡ Some x) × (d' ≡ Some z)) ⊎ ((d ≡ None) × (d' ≡ None))
     → OneToOne maps.variables → EachPair maps.variables (λ x y. words x ≡ words' y) → DestsAlike maps forms forms' d d' → v ≡ v' → DefinedMeans words forms d v → DefinedMeans words' forms' d' v'
-dest_holds variables words words' forms forms' maps (Some x) (Some y) v v' e distinct same alike value h = subst (λ (z : ℤ). Means words' (forms' y) z) value (means_alike maps.variables words words' (forms x) (forms' y) distinct same alike v h)
+dest_holds variables words words' forms forms' maps (Some x) (Some y) v v' e distinct same alike value h = subst (λ (z : ℤ). Means words' (forms' y) z) value
+    (means_alike maps.variables words words' (forms x) (forms' y) distinct same alike v h)
 dest_holds variables words words' forms forms' maps d None v v' e distinct same alike value h = tt
 dest_holds variables words words' forms forms' maps None (Some y) v v' e distinct same alike value h = elim e [ inl k ↦ absurd (cc) | inr k ↦ absurd (cc) ]
 

@@ -17,7 +17,8 @@ use Rattle.pc_table.specs.RegionRun.{place_at, lead_on}
 use Rattle.pc_window.specs.Tree.{Tree}
 use Rattle.pc_window.specs.WindowRun.{Window, Beyond, enter, window_step, tree_run, window_run}
 use Rattle.pc_canon.specs.Pairs.{Pair, corresponds, defined, Correspond}
-use Rattle.pc_canon.specs.Shift.{ItemsAlike, both_bin, both_copy, both_load, both_store, both_print, both_read, both_more, Maps, TreesAlike, both_then, both_either, both_exit, both_stop, both_trap, ShiftedBy}
+use Rattle.pc_canon.specs.Shift.{ItemsAlike, both_bin, both_copy, both_load, both_store, both_print, both_read, both_more, Maps, TreesAlike, both_then, both_either, both_exit}
+use Rattle.pc_canon.specs.Shift.{both_stop, both_trap, ShiftedBy}
 use Rattle.pc_canon.proofs.Alike.{operands_alike, home_states_alike}
 
 -- what an item does beside its destination
@@ -75,7 +76,8 @@ items_alike lengths s t c both_more =
     record { value = ap (λ (l : List ℤ). word_of_test (some_left l)) c.same_input; stores = refl; prints = refl; reads = refl }
 
 -- both define a name, or neither does
-pub dests_of : {names : List Pair} {item other : Item} → ItemsAlike names item other → ((x : ℕ) × (y : ℕ) × (dest_of item ≡ Some x) × (dest_of other ≡ Some y)) ⊎ ((dest_of item ≡ None) × (dest_of other ≡ None))
+pub dests_of : {names : List Pair} {item other : Item} → ItemsAlike names item other
+    → ((x : ℕ) × (y : ℕ) × (dest_of item ≡ Some x) × (dest_of other ≡ Some y)) ⊎ ((dest_of item ≡ None) × (dest_of other ≡ None))
 dests_of (both_bin {dest} {dest'} h k) = inl (dest, dest', refl, refl)
 dests_of (both_copy {dest} {dest'} h) = inl (dest, dest', refl, refl)
 dests_of (both_load {dest} {dest'} h) = inl (dest, dest', refl, refl)
@@ -146,12 +148,14 @@ same_sides true false f g f' g' e p q = absurd (cc)
 same_sides false true f g f' g' e p q = absurd (cc)
 
 enter_side : (table : Table) (b : Bool) (n : ℕ) (yes_side no_side : Tree) (s : State)
-    → run_from (window_step table) n (enter table (if b then yes_side else no_side) s) ≡ (if b then run_from (window_step table) n (enter table yes_side s) else run_from (window_step table) n (enter table no_side s))
+    → run_from (window_step table) n (enter table (if b then yes_side else no_side) s)
+    ≡ (if b then run_from (window_step table) n (enter table yes_side s) else run_from (window_step table) n (enter table no_side s))
 enter_side table true n yes_side no_side s = refl
 enter_side table false n yes_side no_side s = refl
 
 -- trees that are alike have the same run
-pub trees_alike : {maps : Maps} {forms forms' : ℕ → Form} {names : List Pair} {one other : Tree} (table : Table) (s t : State) (n : ℕ) → Correspond names s t → TreesAlike maps forms forms' names one other
+pub trees_alike : {maps : Maps} {forms forms' : ℕ → Form} {names : List Pair} {one other : Tree} (table : Table) (s t : State) (n : ℕ) → Correspond names s t
+    → TreesAlike maps forms forms' names one other
     → tree_run table one s n ≡ tree_run table other t n
 trees_alike table s t n c (both_exit {names} {region} {homes} {homes'} tags h) =
     ap (λ (u : State). run_from (window_step table) n (Beyond (place_at table (Next region) u))) (home_states_alike names s t homes homes' c h)

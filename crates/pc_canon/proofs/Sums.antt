@@ -4,6 +4,7 @@ use Rattle.std.specs.Prelude.{ℤ, pos, ◌+ℤ◌, ◌-ℤ◌, ◌*ℤ◌, Bool
 use Rattle.std.specs.Int.{w32, int_wrap}
 use Rattle.std.proofs.Math.IntN.{neg_ℤ, suc_ℤ, pred_ℤ, ℤ_ind, +ℤ_assoc, +ℤ_comm, +ℤ_idl, +ℤ_idr, +ℤ_one, -ℤ_one, suc_ℤ-+ℤ, pred_ℤ-+ℤ, suc_ℤ-*ℤ, pred_ℤ-*ℤ, zero-*ℤ}
 use Rattle.std.proofs.lemmas.Bool.{eqb-true, eq-eqb}
+use Rattle.pc_word.proofs.Truth.{or_false}
 use Rattle.pc_linear.specs.declared.term.Term.{Term}
 use Rattle.pc_linear.specs.Form.{Form, factor_in, factor_of, sum_of, number_of, ◌≈◌, Means, says}
 use Rattle.pc_canon.specs.Pairs.{Pair, ones, others}
@@ -122,10 +123,6 @@ extended-among (term ∷ terms) xs =
     let more = with_one (has xs term.variable) term.variable xs in
     (extended-has terms more term.variable (with_one-has_it (has xs term.variable) term.variable xs refl), extended-among terms more)
 
-or_false : (b c : Bool) → (b || c) ≡ false → c ≡ false
-or_false true c h = absurd (cc)
-or_false false c h = h
-
 with_one-sum : (b : Bool) (words f : ℕ → ℤ) (x : ℕ) (xs : List ℕ) → has xs x ≡ b → ((y : ℕ) → has xs y ≡ false → f y ≡ pos 0) → sum_over words f (with_one b x xs) ≡ sum_over words f xs
 with_one-sum true words f x xs e h = refl
 with_one-sum false words f x xs e h =
@@ -133,7 +130,7 @@ with_one-sum false words f x xs e h =
 
 with_one-none : (b : Bool) (f : ℕ → ℤ) (x : ℕ) (xs : List ℕ) → ((y : ℕ) → has xs y ≡ false → f y ≡ pos 0) → (y : ℕ) → has (with_one b x xs) y ≡ false → f y ≡ pos 0
 with_one-none true f x xs h y e = h y e
-with_one-none false f x xs h y e = h y (or_false (nat_eq x y) (has xs y) e)
+with_one-none false f x xs h y e = h y (or_false (nat_eq x y) (has xs y) e).1
 
 -- variables with factor 0 add nothing
 extended-sum : (words f : ℕ → ℤ) (terms : List Term) (xs : List ℕ) → ((y : ℕ) → has xs y ≡ false → f y ≡ pos 0) → sum_over words f (extended xs terms) ≡ sum_over words f xs
@@ -175,7 +172,8 @@ value_alike pairs words words' f g distinct same h =
     ap (λ (z : ℤ). int_wrap w32 (z +ℤ f.constant)) sums ∙ ap (λ (z : ℤ). int_wrap w32 (sum_of words' g.terms +ℤ z)) h.constants
 
 -- forms that are alike mean the same
-pub means_alike : (pairs : List Pair) (words words' : ℕ → ℤ) (f g : Form) → OneToOne pairs → EachPair pairs (λ x y. words x ≡ words' y) → FormsAlike pairs f g → (value : ℤ) → Means words f value → Means words' g value
+pub means_alike : (pairs : List Pair) (words words' : ℕ → ℤ) (f g : Form) → OneToOne pairs → EachPair pairs (λ x y. words x ≡ words' y) → FormsAlike pairs f g → (value : ℤ)
+    → Means words f value → Means words' g value
 means_alike pairs words words' f g distinct same h value m = by_terms f.terms g.terms f.constant g.constant h.both_terms h.constants (value_alike pairs words words' f g distinct same h) m
   where
     by_terms : (ts us : List Term) (c d : ℤ) → has_terms ts ≡ has_terms us → c ≡ d → (sum_of words ts +ℤ c) ≈ (sum_of words' us +ℤ d) → says words ts c value → says words' us d value
@@ -189,7 +187,8 @@ abbrev pub other_words : List Pair → (ℕ → ℤ) → ℕ → ℤ
 other_words [] words y = pos 0
 other_words (pair ∷ pairs) words y = if nat_eq y pair.other then words pair.one else other_words pairs words y
 
-skipped : (words g : ℕ → ℤ) (o : ℕ) (k : ℤ) (pairs : List Pair) → has (others pairs) o ≡ false → EachPair pairs (λ x y. words x ≡ g y) → EachPair pairs (λ x y. words x ≡ (if nat_eq y o then k else g y))
+skipped : (words g : ℕ → ℤ) (o : ℕ) (k : ℤ) (pairs : List Pair) → has (others pairs) o ≡ false → EachPair pairs (λ x y. words x ≡ g y)
+    → EachPair pairs (λ x y. words x ≡ (if nat_eq y o then k else g y))
 skipped words g o k [] h same = tt
 skipped words g o k (pair ∷ pairs) h same =
     (skip_one (nat_eq pair.other o) (has (others pairs) o) k (words pair.one) (g pair.other) h same.0, skipped words g o k pairs (skip_rest (nat_eq pair.other o) (has (others pairs) o) h) same.1)

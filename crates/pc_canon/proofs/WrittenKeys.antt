@@ -41,8 +41,8 @@ all_written n w tree =
     ++ (shape_numbers w.front
     ++ (forms_numbers (map w.forms (parameters_of tree)) (map w.forms (definitions_of tree)) ++ (limit_numbers w.limits ++ loop_numbers w.inside)))
 
-rejoined : (a b c rest : List ℤ) → a ++ (b ++ (c ++ rest)) ≡ (a ++ (b ++ c)) ++ rest
-rejoined a b c rest = ap (λ (l : List ℤ). a ++ l) (sym (joined b c rest)) ∙ sym (joined a (b ++ c) rest)
+joined_forms : (a b c rest : List ℤ) → a ++ (b ++ (c ++ rest)) ≡ (a ++ (b ++ c)) ++ rest
+joined_forms a b c rest = ap (λ (l : List ℤ). a ++ l) (sym (joined b c rest)) ∙ sym (joined a (b ++ c) rest)
 
 whole_written : (n : ℕ) (w : Window) → TreeBelow n (whole w.front) → all_written n w (whole w.front) ≡ key_of w
 whole_written n w below =
@@ -55,7 +55,7 @@ whole_written n w below =
     tree-written first levels names (length names) tree (levels_are n names (parameters-below n tree below)) refl (subst (λ (m : ℕ). TreeBelow m tree) (sym long) below)
     ∙ ap tree_numbers (sym (whole_canonical first names w.front)) in
     let rest = limit_numbers w.limits ++ loop_numbers w.inside in
-    let forms = sym (rejoined (list_numbers constant_numbers (map constant_in (forms_of_parameters w))) (list_numbers constant_numbers (map constant_in (forms_of_definitions w)))
+    let forms = sym (joined_forms (list_numbers constant_numbers (map constant_in (forms_of_parameters w))) (list_numbers constant_numbers (map constant_in (forms_of_definitions w)))
     (list_numbers column_numbers (columns_of (forms_of_parameters w ++ forms_of_definitions w))) rest) in
     λ i. trees i ++ (sym (canonical_shape first names w.front) i ++ forms i)
 

@@ -7,6 +7,8 @@ mod forms;
 mod laws;
 mod levels;
 mod tags;
+#[cfg(test)]
+mod tests;
 mod window_key;
 mod writing;
 

@@ -5,7 +5,7 @@ use Rattle.pc_window.specs.StoredWindow.{tree_in, forms_in}
 use Rattle.pc_canon.specs.Canonical.{constant_in, columns_below}
 use Rattle.pc_canon.specs.Key.{constant_numbers, list_numbers, column_numbers}
 use Rattle.pc_canon.specs.models.Gathered.{column_in, and_forms}
-use Rattle.pc_canon.proofs.Factors.{all_gathered, forms_above, above-append}
+use Rattle.pc_canon.proofs.Factors.{gathered_from_none, forms_above, above-append}
 use Rattle.pc_canon.proofs.Gathering.{all_forms_written}
 use Rattle.pc_canon.proofs.forms.write_forms_with.Goals as goal
 
@@ -30,4 +30,4 @@ returns c =
     let in_order : sorted ≡ columns_below (column_in columns) (length columns) = search rules in
     let above = above-append count parameters definitions (forms_above count forms names c.requires.variables.form) (forms_above count forms defined c.requires.variables.form) in
     all_forms_written parameters definitions old one c.write_columns.new.numbers.items sorted first last
-    (in_order ∙ all_gathered count (parameters ++ definitions) columns none refl above gathered)
+    (in_order ∙ gathered_from_none count (parameters ++ definitions) columns none refl above gathered)
