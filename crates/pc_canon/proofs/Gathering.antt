@@ -65,6 +65,8 @@ pub put_in : (one : List ℤ) (columns new : List (List ℤ)) (place : ℕ) → 
 put_in [] columns new place some is more = absurd (omega (arith, some))
 put_in (z ∷ zs) columns new place some is more = more ∙ ap (λ (n : ℕ). insert columns n (z ∷ zs)) is ∙ with_column-is (z ∷ zs) columns
 
+pub ruleset order = (place_for-le, put_in)
+
 -- ---- no columns
 
 pub replicate-more : (column : List ℤ) (n : ℕ) → replicate (n + 1) column ≡ replicate n column ++ column ∷ []

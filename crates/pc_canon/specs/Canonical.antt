@@ -88,13 +88,15 @@ pub record Constant : Type 0 where
   pub constant : ℤ
   pub terms : Bool
 
+-- what shows of a form by itself
 abbrev pub constant_in : Form → Constant
 constant_in form = record { constant = form.constant; terms = has_terms form.terms }
 
--- the forms of the parameters in the order of first use, and of the names that are defined in preorder
+-- the forms of the parameters, in the order of first use
 abbrev pub forms_of_parameters : Window → List Form
 forms_of_parameters w = map w.forms (parameters_of (whole w.front))
 
+-- the forms of the names that are defined, in preorder
 abbrev pub forms_of_definitions : Window → List Form
 forms_of_definitions w = map w.forms (definitions_of (whole w.front))
 
@@ -104,7 +106,7 @@ with_factor place (pos zero) more = more
 with_factor place (pos (suc n)) more = pos place ∷ pos (suc n) ∷ more
 with_factor place (negsuc n) more = pos place ∷ negsuc n ∷ more
 
--- the column of a form variable: the place of each form in which it has a factor, and that factor
+-- the column of a form variable in forms at places from a number on: the place of each form in which it has a factor, and that factor
 abbrev pub column : ℕ → List Form → ℕ → List ℤ
 column place [] x = []
 column place (form ∷ forms) x = with_factor place (factor_of form.terms x) (column (suc place) forms x)
@@ -128,11 +130,12 @@ abbrev pub columns_below : (ℕ → List ℤ) → ℕ → List (List ℤ)
 columns_below column_of zero = []
 columns_below column_of (suc x) = with_occurring (column_of x) (columns_below column_of x)
 
--- a number above all variables of terms, and of forms
+-- a number above all variables of terms
 abbrev pub above_terms : List Term → ℕ
 above_terms [] = 0
 above_terms (term ∷ terms) = max (suc term.variable) (above_terms terms)
 
+-- a number above all variables of forms
 abbrev pub above_forms : List Form → ℕ
 above_forms [] = 0
 above_forms (form ∷ forms) = max (above_terms form.terms) (above_forms forms)
@@ -168,6 +171,6 @@ abbrev pub side_by_side : List ℕ → List ℕ → List Pair
 side_by_side (x ∷ xs) (y ∷ ys) = (record { one = x; other = y }) ∷ side_by_side xs ys
 side_by_side _ _ = []
 
--- the parameters of two windows, each with the one that is as manyth in the order of first use
+-- the parameters of two windows, each with the one at the same place in the order of first use
 abbrev pub parameter_pairs : Window → Window → List Pair
 parameter_pairs w v = side_by_side (parameters_of (whole w.front)) (parameters_of (whole v.front))

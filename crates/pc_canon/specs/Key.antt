@@ -77,7 +77,7 @@ shape_numbers (Issued tag origin item rest) = pos 0 ∷ shape_numbers rest
 shape_numbers (Split tag origin on on_yes on_no) = pos 1 ∷ (shape_numbers on_yes ++ shape_numbers on_no)
 shape_numbers (Unfinished rest) = pos 2 ∷ []
 
--- whether a form has terms
+-- the number of a truth value
 abbrev pub truth_number : Bool → ℕ
 truth_number false = 0
 truth_number true = 1

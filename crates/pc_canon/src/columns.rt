@@ -70,6 +70,7 @@ pub(crate) fn in_order(alloc: Global, columns: &[Column]) -> Result<Vec<Column>,
 }
 
 /// Puts a column among others in order, unless it is empty.
+#[tactic(auto, using(crate::proofs::Gathering::order))]
 fn put_occurring(alloc: Global, column: &[i64], sorted: &mut Vec<Column>) -> Result<(), AllocError>
     ensures { OnOk result (sorted.new.items ≡ with_occurring column.now sorted.old.items) }
 {
