@@ -1,0 +1,167 @@
+-- The columns of form variables, gathered a term at a time.
+use Rattle.std.proofs.Common.{◌≡◌, ℕ, zero, suc, ◌+◌, ◌<◌, ◌≤◌, List, [], ◌∷◌, ◌++◌, Some, None, length, drop, refl, sym, ◌∙◌, ap, subst, arith}
+use Rattle.std.specs.Prelude.{ℤ, pos, Bool, true, false, if◌then◌else◌, insert, map, replicate, slice_get}
+use Rattle.pc_linear.specs.declared.term.Term.{Term}
+use Rattle.pc_linear.specs.Form.{Form}
+use Rattle.pc_window.specs.Opening.{TermsBelow}
+use Rattle.pc_rebase.proofs.TermPlaces.{few_places, fewer_places}
+use Rattle.pc_canon.specs.Canonical.{Constant, constant_in, columns_of, stands_before, with_column, with_occurring}
+use Rattle.pc_canon.specs.Key.{constant_numbers, column_numbers, list_numbers}
+use Rattle.pc_canon.specs.models.Gathered.{and_term, and_terms, with_factors, and_forms, place_for}
+use Rattle.pc_canon.specs.models.Written.{elements_numbers, forms_numbers}
+use Rattle.pc_canon.proofs.Codes.{joined}
+
+none_from : (ts : List Term) (at : ℕ) → slice_get ts at ≡ None → drop at ts ≡ []
+none_from [] zero h = refl
+none_from [] (suc at) h = refl
+none_from (t ∷ ts) zero h = absurd (cc)
+none_from (t ∷ ts) (suc at) h = none_from ts at h
+
+one_from : (ts : List Term) (at : ℕ) (t : Term) → slice_get ts at ≡ Some t → drop at ts ≡ t ∷ drop (at + 1) ts
+one_from [] at t h = absurd (cc)
+one_from (u ∷ ts) zero t h = let same : u ≡ t = (cc) in ap (λ (x : Term). x ∷ ts) same
+one_from (u ∷ ts) (suc at) t h =
+    let next : suc at + 1 ≡ suc (at + 1) = omega arith in
+    one_from ts at t h ∙ ap (λ (n : ℕ). t ∷ drop n (u ∷ ts)) (sym next)
+
+module _ (ts : List Term) (at : ℕ) where
+  pub no_terms_left : (place : ℕ) (columns : List (List ℤ)) → slice_get ts at ≡ None → columns ≡ and_terms place (drop at ts) columns
+  no_terms_left place columns none = ap (λ (us : List Term). and_terms place us columns) (sym (none_from ts at none))
+
+  pub term_added : (place : ℕ) (t : Term) (columns mid new : List (List ℤ)) → slice_get ts at ≡ Some t → mid ≡ and_term place t columns
+      → new ≡ and_terms place (drop (at + 1) ts) mid → new ≡ and_terms place (drop at ts) columns
+  term_added place t columns mid new is first rest =
+      rest ∙ ap (and_terms place (drop (at + 1) ts)) first ∙ ap (λ (us : List Term). and_terms place us columns) (sym (one_from ts at t is))
+
+  pub term_below : (n : ℕ) (t : Term) → slice_get ts at ≡ Some t → TermsBelow n (drop at ts) → t.variable < n
+  term_below n t is below = (subst (λ (us : List Term). TermsBelow n us) (one_from ts at t is) below).0
+
+  pub terms_below : (n : ℕ) (t : Term) → slice_get ts at ≡ Some t → TermsBelow n (drop at ts) → TermsBelow n (drop (at + 1) ts)
+  terms_below n t is below = (subst (λ (us : List Term). TermsBelow n us) (one_from ts at t is) below).1
+
+pub ruleset terms = (no_terms_left, term_added, term_below, terms_below, few_places, fewer_places)
+
+-- ---- columns in order
+
+pub place_for-le : (one : List ℤ) (columns : List (List ℤ)) → place_for one columns ≤ length columns
+place_for-le one [] = omega arith
+place_for-le one (other ∷ others) = by (stands_before other one) (place_for-le one others)
+  where
+    by : (b : Bool) → place_for one others ≤ length others → (if b then suc (place_for one others) else 0) ≤ suc (length others)
+    by true h = omega (arith, h)
+    by false h = omega arith
+
+pub with_column-is : (one : List ℤ) (columns : List (List ℤ)) → insert columns (place_for one columns) one ≡ with_column one columns
+with_column-is one [] = refl
+with_column-is one (other ∷ others) = by (stands_before other one) (with_column-is one others)
+  where
+    by : (b : Bool) → insert others (place_for one others) one ≡ with_column one others
+        → insert (other ∷ others) (if b then suc (place_for one others) else 0) one ≡ (if b then other ∷ with_column one others else one ∷ other ∷ others)
+    by true h = ap (λ (l : List (List ℤ)). other ∷ l) h
+    by false h = refl
+
+pub put_in : (one : List ℤ) (columns new : List (List ℤ)) (place : ℕ) → 0 < length one → place ≡ place_for one columns → new ≡ insert columns place one
+    → new ≡ with_occurring one columns
+put_in [] columns new place some is more = absurd (omega (arith, some))
+put_in (z ∷ zs) columns new place some is more = more ∙ ap (λ (n : ℕ). insert columns n (z ∷ zs)) is ∙ with_column-is (z ∷ zs) columns
+
+pub ruleset order = (place_for-le, put_in)
+
+-- ---- no columns
+
+pub replicate-more : (column : List ℤ) (n : ℕ) → replicate (n + 1) column ≡ replicate n column ++ column ∷ []
+replicate-more column n = ap (λ (m : ℕ). replicate m column) next ∙ at_end n
+  where
+    next : n + 1 ≡ suc n
+    next = omega arith
+
+    at_end : (n : ℕ) → column ∷ replicate n column ≡ replicate n column ++ column ∷ []
+    at_end zero = refl
+    at_end (suc n) = ap (λ (l : List (List ℤ)). column ∷ l) (at_end n)
+
+pub ruleset empty = (replicate-more)
+
+-- ---- the forms of names
+
+pub and_forms-append : (place : ℕ) (fs gs : List Form) (columns : List (List ℤ)) → and_forms place (fs ++ gs) columns ≡ and_forms (place + length fs) gs (and_forms place fs columns)
+and_forms-append place [] gs columns = ap (λ (n : ℕ). and_forms n gs columns) next
+  where
+    next : place ≡ place + 0
+    next = omega arith
+and_forms-append place (f ∷ fs) gs columns =
+    and_forms-append (place + 1) fs gs (with_factors place f.terms 0 columns) ∙ ap (λ (n : ℕ). and_forms n gs (and_forms (place + 1) fs (with_factors place f.terms 0 columns))) next
+  where
+    next : place + 1 + length fs ≡ place + suc (length fs)
+    next = omega arith
+
+pub elements-append : (xs ys : List Constant) → elements_numbers constant_numbers (xs ++ ys) ≡ elements_numbers constant_numbers xs ++ elements_numbers constant_numbers ys
+elements-append [] ys = refl
+elements-append (x ∷ xs) ys = ap (λ (l : List ℤ). pos 1 ∷ (constant_numbers x ++ l)) (elements-append xs ys)
+
+-- a list is its elements and the end
+pub list-elements : (xs : List Constant) → list_numbers constant_numbers xs ≡ elements_numbers constant_numbers xs ++ pos 0 ∷ []
+list-elements [] = refl
+list-elements (x ∷ xs) = ap (λ (l : List ℤ). pos 1 ∷ (constant_numbers x ++ l)) (list-elements xs)
+
+pub map-append : {A B : Type 0} (f : A → B) (xs ys : List A) → map f (xs ++ ys) ≡ map f xs ++ map f ys
+map-append f [] ys = refl
+map-append f (x ∷ xs) ys = ap (λ (l : List _). f x ∷ l) (map-append f xs ys)
+
+map-length : {A B : Type 0} (f : A → B) (xs : List A) → length (map f xs) ≡ length xs
+map-length f [] = refl
+map-length f (x ∷ xs) = ap suc (map-length f xs)
+
+module _ (forms : ℕ → Form) (place : ℕ) where
+  -- the forms of names of two trees
+  pub sides_gathered : (xs ys : List ℕ) (behind : ℕ) (columns mid new : List (List ℤ)) → behind ≡ place + length xs
+      → mid ≡ and_forms place (map forms xs) columns → new ≡ and_forms behind (map forms ys) mid → new ≡ and_forms place (map forms (xs ++ ys)) columns
+  sides_gathered xs ys behind columns mid new is first rest =
+      rest ∙ ap (λ (l : List (List ℤ)). and_forms behind (map forms ys) l) first
+      ∙ ap (λ (n : ℕ). and_forms n (map forms ys) (and_forms place (map forms xs) columns)) (is ∙ ap (λ (n : ℕ). place + n) (sym (map-length forms xs)))
+      ∙ sym (and_forms-append place (map forms xs) (map forms ys) columns)
+      ∙ ap (λ (fs : List Form). and_forms place fs columns) (sym (map-append forms xs ys))
+
+  pub sides_written : (xs ys : List ℕ) (old mid new : List ℤ) → mid ≡ old ++ elements_numbers constant_numbers (map constant_in (map forms xs))
+      → new ≡ mid ++ elements_numbers constant_numbers (map constant_in (map forms ys))
+      → new ≡ old ++ elements_numbers constant_numbers (map constant_in (map forms (xs ++ ys)))
+  sides_written xs ys old mid new first rest =
+      let a = map constant_in (map forms xs) in
+      let b = map constant_in (map forms ys) in
+      rest ∙ ap (λ (l : List ℤ). l ++ elements_numbers constant_numbers b) first
+      ∙ joined old (elements_numbers constant_numbers a) (elements_numbers constant_numbers b)
+      ∙ ap (λ (l : List ℤ). old ++ l) (sym (elements-append a b))
+      ∙ ap (λ (l : List Constant). old ++ elements_numbers constant_numbers l) (sym (map-append constant_in (map forms xs) (map forms ys)))
+      ∙ ap (λ (l : List Form). old ++ elements_numbers constant_numbers (map constant_in l)) (sym (map-append forms xs ys))
+
+-- ---- the forms of a window
+
+-- what is written of the forms, one part after the other
+pub constants_written : (parameters definitions : List Form) (old one two new : List ℤ) → one ≡ old ++ list_numbers constant_numbers (map constant_in parameters)
+    → two ≡ one ++ elements_numbers constant_numbers (map constant_in definitions) → new ≡ two ++ pos 0 ∷ []
+    → new ≡ old ++ (list_numbers constant_numbers (map constant_in parameters) ++ list_numbers constant_numbers (map constant_in definitions))
+constants_written parameters definitions old one two new p q r =
+    let a = list_numbers constant_numbers (map constant_in parameters) in
+    let b = elements_numbers constant_numbers (map constant_in definitions) in
+    r ∙ ap (λ (l : List ℤ). l ++ pos 0 ∷ []) q ∙ joined one b (pos 0 ∷ []) ∙ ap (λ (l : List ℤ). one ++ l) (sym (list-elements (map constant_in definitions)))
+    ∙ ap (λ (l : List ℤ). l ++ list_numbers constant_numbers (map constant_in definitions)) p
+    ∙ joined old a (list_numbers constant_numbers (map constant_in definitions))
+
+pub all_forms_written : (parameters definitions : List Form) (old one new : List ℤ) (sorted : List (List ℤ))
+    → one ≡ old ++ (list_numbers constant_numbers (map constant_in parameters) ++ list_numbers constant_numbers (map constant_in definitions))
+    → new ≡ one ++ list_numbers column_numbers sorted → sorted ≡ columns_of (parameters ++ definitions) → new ≡ old ++ forms_numbers parameters definitions
+all_forms_written parameters definitions old one new sorted p q is =
+    let a = list_numbers constant_numbers (map constant_in parameters) in
+    let b = list_numbers constant_numbers (map constant_in definitions) in
+    let c = list_numbers column_numbers (columns_of (parameters ++ definitions)) in
+    q ∙ ap (λ (l : List (List ℤ)). one ++ list_numbers column_numbers l) is ∙ ap (λ (l : List ℤ). l ++ c) p
+    ∙ joined old (a ++ b) c ∙ ap (λ (l : List ℤ). old ++ l) (joined a b c)
+
+-- the columns of parameters and then of definitions are those of both
+pub both_gathered : (parameters definitions : List Form) (place : ℕ) (zeros one two : List (List ℤ)) → place ≡ length parameters → one ≡ and_forms 0 parameters zeros
+    → two ≡ and_forms place definitions one → two ≡ and_forms 0 (parameters ++ definitions) zeros
+both_gathered parameters definitions place zeros one two is first second =
+    let from : place ≡ 0 + length parameters = omega (arith, is) in
+    second ∙ (λ i. and_forms (from i) definitions (first i)) ∙ sym (and_forms-append 0 parameters definitions zeros)
+
+pub names-length : (forms : ℕ → Form) (names : List ℕ) → length names ≡ length (map forms names)
+names-length forms names = sym (map-length forms names)

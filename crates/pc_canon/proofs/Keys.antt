@@ -1,0 +1,16 @@
+-- Windows have one key exactly where they are equal up to a shift.
+use Rattle.std.proofs.Common.{◌≡◌, ap}
+use Rattle.std.specs.Prelude.{◌↔◌}
+use Rattle.pc_window.specs.WindowRun.{Window}
+use Rattle.pc_canon.specs.Shift.{ShiftedBy, Shifted}
+use Rattle.pc_canon.specs.Canonical.{parameter_pairs}
+use Rattle.pc_canon.specs.Key.{canonical_numbers, key_of}
+use Rattle.pc_canon.proofs.Codes.{same_key}
+use Rattle.pc_canon.proofs.FormsKept.{forms_kept}
+use Rattle.pc_canon.proofs.FormsTell.{forms_tell}
+
+pub keys_pair : (w v : Window) → key_of w ≡ key_of v → ShiftedBy (parameter_pairs w v) w v
+keys_pair w v e = forms_tell w v (same_key w v e)
+
+pub keys_tell : (w v : Window) → (key_of w ≡ key_of v) ↔ Shifted w v
+keys_tell w v = ((λ e. (parameter_pairs w v, keys_pair w v e)), (λ h. ap canonical_numbers (forms_kept w v h)))

@@ -1,0 +1,7 @@
+use Rattle.std.proofs.Common.{◌≡◌, ◌++◌, drop}
+use Rattle.pc_canon.specs.Key.{column_numbers}
+use Rattle.pc_canon.proofs.columns.write_column.Given as goal
+
+-- what is written so far, and then what is left, is the whole
+abbrev pub invariant-loop-number : goal.invariant-loop-number
+invariant-loop-number l = l.numbers.items ++ column_numbers (drop l.number-index l.column) ≡ l.fn.numbers.items ++ column_numbers l.column

@@ -1,0 +1,6 @@
+pub mod models
+pub mod Pairs
+pub mod Shift
+pub mod Canonical
+pub mod Key
+pub mod Laws

@@ -1,0 +1,33 @@
+-- Columns of form variables in a list by variable.
+use Rattle.std.specs.Prelude.{ℕ, suc, ◌+◌, ℤ, pos, if◌then◌else◌, List, [], ◌∷◌, ◌++◌, slice_index_or, slice_set}
+use Rattle.pc_linear.specs.declared.term.Term.{Term}
+use Rattle.pc_linear.specs.Form.{Form, factor_of}
+use Rattle.pc_canon.specs.Canonical.{with_factor, stands_before}
+
+-- the column of a variable
+abbrev pub column_in : List (List ℤ) → ℕ → List ℤ
+column_in columns x = slice_index_or columns x []
+
+-- columns with one term more, of the form at a place
+abbrev pub and_term : ℕ → Term → List (List ℤ) → List (List ℤ)
+and_term place term columns = slice_set columns term.variable (column_in columns term.variable ++ pos place ∷ term.factor ∷ [])
+
+-- columns with the terms of the form at a place
+abbrev pub and_terms : ℕ → List Term → List (List ℤ) → List (List ℤ)
+and_terms place [] columns = columns
+and_terms place (term ∷ terms) columns = and_terms place terms (and_term place term columns)
+
+-- columns, from that of a variable on, with the factors of the form at a place
+abbrev pub with_factors : ℕ → List Term → ℕ → List (List ℤ) → List (List ℤ)
+with_factors place terms x [] = []
+with_factors place terms x (column ∷ columns) = (column ++ with_factor place (factor_of terms x) []) ∷ with_factors place terms (suc x) columns
+
+-- columns with the factors of forms, from a place on
+abbrev pub and_forms : ℕ → List Form → List (List ℤ) → List (List ℤ)
+and_forms place [] columns = columns
+and_forms place (form ∷ forms) columns = and_forms (place + 1) forms (with_factors place form.terms 0 columns)
+
+-- how many of the first columns stand before one
+abbrev pub place_for : List ℤ → List (List ℤ) → ℕ
+place_for one [] = 0
+place_for one (other ∷ others) = if stands_before other one then suc (place_for one others) else 0

@@ -1,0 +1,137 @@
+//! The forms of names in numbers.
+ghost use Rattle.std.specs.Prelude.{◌≡◌, ◌+◌, ◌<◌, ◌≤◌, ◌^◌, ◌∷◌, ◌++◌, [], ℕ, length, map, replicate, OnOk, IfOk};
+ghost use Rattle.pc_window.specs.Tree.{tree_size};
+ghost use Rattle.pc_window.specs.Names.{definitions_of};
+ghost use Rattle.pc_window.specs.Opening.{FormBelow, FormsBelow};
+ghost use Rattle.pc_window.specs.StoredWindow.{tree_in, forms_in, supply_in};
+ghost use Rattle.pc_canon.specs.Canonical.{constant_in, columns_of};
+ghost use Rattle.pc_canon.specs.Key.{constant_numbers, list_numbers, column_numbers};
+ghost use Rattle.pc_canon.specs.models.Gathered.{and_forms};
+ghost use Rattle.pc_canon.specs.models.Written.{elements_numbers, forms_numbers};
+
+use crate::columns::{Column, add_form, in_order, write_columns};
+use crate::writing::written_by;
+use pc_window::{NameTable, Window, WindowTree};
+use pc_word::Operand;
+use std::alloc::{AllocError, Global};
+
+/// Writes what shows of the forms of the parameters and of the names that are defined.
+pub(crate) fn write_forms(
+    alloc: Global,
+    window: &Window,
+    parameters: &[u32],
+    numbers: &mut Vec<i64>,
+) -> Result<(), AllocError>
+    requires variables { FormsBelow (supply_in window.now.names) }
+    requires few { length parameters.now + tree_size (tree_in window.now.tree) < 2 ^ 32 }
+    ensures { OnOk result (numbers.new.items ≡ numbers.old.items ++ forms_numbers (map (forms_in window.now.names.forms) parameters.now) (map (forms_in window.now.names.forms) (definitions_of (tree_in window.now.tree)))) }
+{
+    let mut columns = no_columns(alloc, window.names.next_variable)?;
+    write_forms_with(alloc, window, parameters, &mut columns, numbers)?;
+    Ok(())
+}
+
+/// The same, where these columns are empty: the form variables are gathered in them.
+fn write_forms_with(
+    alloc: Global,
+    window: &Window,
+    parameters: &[u32],
+    columns: &mut [Column],
+    numbers: &mut Vec<i64>,
+) -> Result<(), AllocError>
+    requires empty { columns.old ≡ replicate window.now.names.next_variable [] }
+    requires variables { FormsBelow (supply_in window.now.names) }
+    requires few { length parameters.now + tree_size (tree_in window.now.tree) < 2 ^ 32 }
+    ensures { OnOk result (numbers.new.items ≡ numbers.old.items ++ forms_numbers (map (forms_in window.now.names.forms) parameters.now) (map (forms_in window.now.names.forms) (definitions_of (tree_in window.now.tree)))) }
+{
+    write_constants(window, parameters, columns, numbers)?;
+    let sorted = in_order(alloc, columns)?;
+    write_columns(sorted.as_slice(), numbers)?;
+    Ok(())
+}
+
+/// Writes what shows of each form by itself, and gathers their columns.
+fn write_constants(
+    window: &Window,
+    parameters: &[u32],
+    columns: &mut [Column],
+    numbers: &mut Vec<i64>,
+) -> Result<(), AllocError>
+    requires below { (name : ℕ) → FormBelow (length columns.old) (forms_in window.now.names.forms name) }
+    requires few { length parameters.now + tree_size (tree_in window.now.tree) < 2 ^ 32 }
+    ensures columns { OnOk result (columns.new ≡ and_forms 0 (map (forms_in window.now.names.forms) parameters.now ++ map (forms_in window.now.names.forms) (definitions_of (tree_in window.now.tree))) columns.old) }
+    ensures numbers { OnOk result (numbers.new.items ≡ numbers.old.items ++ (list_numbers constant_numbers (map constant_in (map (forms_in window.now.names.forms) parameters.now)) ++ list_numbers constant_numbers (map constant_in (map (forms_in window.now.names.forms) (definitions_of (tree_in window.now.tree)))))) }
+{
+    write_parameters(&window.names, parameters, columns, numbers)?;
+    let place = parameters.len() as u32;
+    write_definitions(&window.tree, &window.names, place, columns, numbers)?;
+    numbers.push(0)?;
+    Ok(())
+}
+
+/// So many empty columns.
+#[tactic(auto, using(crate::proofs::Gathering::empty))]
+fn no_columns(alloc: Global, count: u32) -> Result<Vec<Column>, AllocError>
+    ensures { IfOk result (λ columns. columns.items ≡ replicate count []) }
+{
+    let mut columns = Vec::new(alloc);
+    for _variable in 0..count {
+        columns.push(Column::new(alloc))?;
+    }
+    Ok(columns)
+}
+
+/// Writes what shows of the forms of names, and gathers their columns.
+fn write_parameters(
+    table: &NameTable,
+    names: &[u32],
+    columns: &mut [Column],
+    numbers: &mut Vec<i64>,
+) -> Result<(), AllocError>
+    requires below { (name : ℕ) → FormBelow (length columns.old) (forms_in table.now.forms name) }
+    requires few { length names.now < 2 ^ 32 }
+    ensures columns { OnOk result (columns.new ≡ and_forms 0 (map (forms_in table.now.forms) names.now) columns.old) }
+    ensures numbers { OnOk result (numbers.new.items ≡ numbers.old.items ++ list_numbers constant_numbers (map constant_in (map (forms_in table.now.forms) names.now))) }
+{
+    for at in 0..names.len() {
+        let form = table.form(Operand::Name(names[at]));
+        add_form(&form, at as u32, columns, numbers)?;
+    }
+    Ok(numbers.push(0)?)
+}
+
+/// The same of the names that a tree defines, from a place on; and the place behind them.
+fn write_definitions(
+    tree: &WindowTree,
+    table: &NameTable,
+    place: u32,
+    columns: &mut [Column],
+    numbers: &mut Vec<i64>,
+) -> Result<u32, AllocError>
+    requires below { (name : ℕ) → FormBelow (length columns.old) (forms_in table.now.forms name) }
+    requires few { place + tree_size (tree_in tree.now) < 2 ^ 32 }
+    ensures within { IfOk result (λ behind. behind ≤ place + tree_size (tree_in tree.now)) }
+    ensures place { IfOk result (λ behind. behind ≡ place + length (definitions_of (tree_in tree.now))) }
+    ensures columns { OnOk result (columns.new ≡ and_forms place (map (forms_in table.now.forms) (definitions_of (tree_in tree.now))) columns.old) }
+    ensures numbers { OnOk result (numbers.new.items ≡ numbers.old.items ++ elements_numbers constant_numbers (map constant_in (map (forms_in table.now.forms) (definitions_of (tree_in tree.now))))) }
+{
+    match tree {
+        WindowTree::Step { item, rest, .. } => match written_by(*item) {
+            None => write_definitions(rest, table, place, columns, numbers),
+            Some(dest) => {
+                let form = table.form(Operand::Name(dest));
+                add_form(&form, place, columns, numbers)?;
+                write_definitions(rest, table, place + 1, columns, numbers)
+            }
+        },
+        WindowTree::Test { yes, no, .. } => {
+            let behind = write_definitions(yes, table, place, columns, numbers)?;
+            let last = write_definitions(no, table, behind, columns, numbers)?;
+            Ok(last)
+        }
+        WindowTree::Node { below } => write_definitions(below, table, place, columns, numbers),
+        WindowTree::Exit { .. } => Ok(place),
+        WindowTree::Stop => Ok(place),
+        WindowTree::Trap { .. } => Ok(place),
+    }
+}

@@ -1,0 +1,139 @@
+ghost use Rattle.std.specs.Prelude.{◌≡◌, ◌<◌, ◌^◌, length, IfOk};
+ghost use Rattle.pc_window.specs.Tree.{tree_size};
+ghost use Rattle.pc_window.specs.Opening.{TreeBelow, FormsBelow};
+ghost use Rattle.pc_window.specs.StoredWindow.{tree_in, supply_in};
+
+use super::*;
+use pc_linear::LinForm;
+use pc_window::{FormList, NameTable, Window, WindowError, WindowTree};
+use pc_word::{Item, Limits, OpCode, Operand};
+use std::alloc::{AllocError, Global};
+use std::test::Fail;
+
+/// Six names, each with a form variable alone.
+#[tactic(auto, using(crate::proofs::SixNames::names))]
+fn six_names(alloc: Global) -> Result<NameTable, AllocError>
+    ensures forms { IfOk result (λ names. FormsBelow (supply_in names)) }
+    ensures count { IfOk result (λ names. length names.forms ≡ 6) }
+{
+    let mut forms = FormList::new(alloc);
+    for variable in 0..6 {
+        forms.push(LinForm::variable(variable))?;
+    }
+    Ok(NameTable {
+        forms,
+        next_variable: 6,
+    })
+}
+
+/// `to = from + literal; print(to);` with these tags, where the front is the sum.
+fn sum_window(
+    alloc: Global,
+    from: u32,
+    to: u32,
+    literal: i32,
+    tag: u32,
+) -> Result<Window, AllocError>
+    requires from { from < 6 }
+    requires to { to < 6 }
+    ensures forms { IfOk result (λ window. FormsBelow (supply_in window.names)) }
+    ensures count { IfOk result (λ window. length window.names.forms < 2 ^ 31) }
+    ensures below { IfOk result (λ window. TreeBelow (length window.names.forms) (tree_in window.tree)) }
+    ensures small { IfOk result (λ window. tree_size (tree_in window.tree) < 2 ^ 31) }
+{
+    let names = six_names(alloc)?;
+    let print = WindowTree::Step {
+        tag,
+        origin: 1,
+        item: Item::Print {
+            value: Operand::Name(to),
+        },
+        rest: Box::new(alloc, WindowTree::Stop)?,
+    };
+    let below = Box::new(alloc, print)?;
+    let tree = WindowTree::Step {
+        tag,
+        origin: 0,
+        item: Item::Bin {
+            op: OpCode::Add,
+            dest: to,
+            left: Operand::Name(from),
+            right: Operand::Lit(literal),
+        },
+        rest: Box::new(alloc, WindowTree::Node { below })?,
+    };
+    let limits = Limits {
+        ops: 4,
+        tests: 1,
+        mem: 2,
+    };
+    Ok(Window {
+        tree,
+        names,
+        limits,
+        inside: None,
+    })
+}
+
+/// The key of such a window.
+fn sum_key(
+    alloc: Global,
+    from: u32,
+    to: u32,
+    literal: i32,
+    tag: u32,
+) -> Result<WindowKey, WindowError>
+    requires from { from < 6 }
+    requires to { to < 6 }
+{
+    let window = sum_window(alloc, from, to, literal, tag)?;
+    key(alloc, &window)
+}
+
+/// What is written of `v1 = v0 + 1; print(v1);` by hand: the sum of the first name and 1, the print of
+/// the last name that was defined, the end; the sum alone is the front; a parameter and a definition,
+/// each with the constant 0 and terms; the columns of their variables, the later one first; the
+/// limits, and no loop.
+const NUMBERS: &[i64] = &[
+    0, 0, 0, 0, 0, 0, 0, 1, 1, 0, 0, 1, 4, 0, 0, 3, 0, 2, 1, 0, 1, 0, 1, 0, 1, 0, 1, 1, 1, 1, 1, 0,
+    1, 1, 0, 1, 1, 0, 0, 4, 1, 2, 0,
+];
+
+/// Whether a key is this, with this parameter and this first tag.
+fn is_key(key: &WindowKey, numbers: &[i64], name: u32, tag: u32) -> bool {
+    key.numbers.as_slice() == numbers && key.names.as_slice() == [name].as_slice() && key.tag == tag
+}
+
+/// Whether windows that differ in their names and tags alone have one key.
+fn names_and_tags_do_not_show(alloc: Global) -> Result<bool, WindowError> {
+    let one = sum_key(alloc, 0, 1, 1, 0)?;
+    let other = sum_key(alloc, 3, 5, 1, 7)?;
+    Ok(is_key(&one, NUMBERS, 0, 0) && is_key(&other, NUMBERS, 3, 7))
+}
+
+/// Whether a window with another literal has another key.
+fn literals_show(alloc: Global) -> Result<bool, WindowError> {
+    let one = sum_key(alloc, 0, 1, 1, 0)?;
+    let other = sum_key(alloc, 0, 1, 2, 0)?;
+    Ok(one.numbers.as_slice() != other.numbers.as_slice())
+}
+
+#[test]
+fn windows_that_differ_in_names_and_tags_have_one_key(rt: HostRuntime) -> Result<(), Fail> {
+    let is_so = match names_and_tags_do_not_show(rt.alloc()) {
+        Ok(is_so) => is_so,
+        Err(_) => false,
+    };
+    assert!(&rt; is_so);
+    Ok(())
+}
+
+#[test]
+fn windows_that_differ_in_a_literal_have_two_keys(rt: HostRuntime) -> Result<(), Fail> {
+    let is_so = match literals_show(rt.alloc()) {
+        Ok(is_so) => is_so,
+        Err(_) => false,
+    };
+    assert!(&rt; is_so);
+    Ok(())
+}

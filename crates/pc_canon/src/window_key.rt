@@ -1,0 +1,80 @@
+//! Keys of windows.
+ghost use Rattle.std.specs.Prelude.{◌≡◌, ◌<◌, ◌^◌, ◌++◌, length, OnOk, IfOk};
+ghost use Rattle.pc_window.specs.Tree.{tree_size, whole};
+ghost use Rattle.pc_window.specs.Names.{parameters_of};
+ghost use Rattle.pc_window.specs.Opening.{TreeBelow, FormsBelow};
+ghost use Rattle.pc_window.specs.StoredWindow.{tree_in, supply_in, window_in};
+ghost use Rattle.pc_canon.specs.Canonical.{tags_of, first_tag};
+ghost use Rattle.pc_canon.specs.Key.{limit_numbers, loop_numbers, key_of};
+
+use crate::forms::write_forms;
+use crate::levels::levels_of;
+use crate::tags::first_tag;
+use crate::writing::{write_shape, write_tree};
+use pc_rebase::{NumberList, parameters_of};
+use pc_window::{Window, WindowError};
+use pc_word::Limits;
+use std::alloc::{AllocError, Global};
+
+/// The key of a window, and what the key does not tell.
+#[derive(Debug, Drop)]
+pub struct WindowKey {
+    /// The key itself. Two windows have equal keys exactly where they are equal up to their names,
+    /// their form variables and a shift of all tags.
+    pub numbers: Vec<i64>,
+    /// The parameters, in the order of first use: those of windows with equal keys correspond.
+    pub names: NumberList,
+    /// The least tag of items, tests and stubs, and 0 where there is none.
+    pub tag: u32,
+}
+
+/// The key of a window. It takes time linear in the window, its names and its form variables, but for
+/// the search of the parameters and the order of the columns of form variables, which are compared one
+/// by one.
+pub fn key(alloc: Global, window: &Window) -> Result<WindowKey, WindowError>
+    requires below { TreeBelow (length window.now.names.forms) (tree_in window.now.tree) }
+    requires few_names { length window.now.names.forms < 2 ^ 31 }
+    requires variables { FormsBelow (supply_in window.now.names) }
+    requires small { tree_size (tree_in window.now.tree) < 2 ^ 31 }
+    ensures numbers { IfOk result (λ key. key.numbers.items ≡ key_of (window_in window.now)) }
+    ensures names { IfOk result (λ key. key.names ≡ parameters_of (whole (window_in window.now).front)) }
+    ensures tag { IfOk result (λ key. key.tag ≡ first_tag (tags_of (whole (window_in window.now).front))) }
+{
+    let count = window.names.forms.len();
+    let names = parameters_of(alloc, &window.tree, count)?;
+    let tag = first_tag(&window.tree);
+    let mut levels = levels_of(alloc, names.as_slice(), count)?;
+    let depth = names.len() as u32;
+    let mut numbers = Vec::new(alloc);
+    write_tree(&window.tree, tag, depth, &mut levels, &mut numbers)?;
+    write_shape(&window.tree, &mut numbers)?;
+    write_forms(alloc, window, names.as_slice(), &mut numbers)?;
+    write_limits(window.limits, &mut numbers)?;
+    write_loop(window.inside, &mut numbers)?;
+    Ok(WindowKey {
+        numbers,
+        names,
+        tag,
+    })
+}
+
+/// Writes limits.
+fn write_limits(limits: Limits, numbers: &mut Vec<i64>) -> Result<(), AllocError>
+    ensures { OnOk result (numbers.new.items ≡ numbers.old.items ++ limit_numbers limits) }
+{
+    numbers.extend_from_slice(&[
+        i64::from(limits.ops),
+        i64::from(limits.tests),
+        i64::from(limits.mem),
+    ])
+}
+
+/// Writes the loop of a window.
+fn write_loop(inside: Option<u16>, numbers: &mut Vec<i64>) -> Result<(), AllocError>
+    ensures { OnOk result (numbers.new.items ≡ numbers.old.items ++ loop_numbers inside) }
+{
+    match inside {
+        None => Ok(numbers.push(0)?),
+        Some(inside) => numbers.extend_from_slice(&[1, i64::from(inside)]),
+    }
+}
