@@ -135,7 +135,7 @@ module _ (table : Table) (limits : Limits) (old : Progress) (is : IsChoosing tab
   free : forms_in old.chosen.forms region ≡ None
   free = next_is_free table limits old.found.order old.chosen.choices (forms_in old.chosen.forms) is.choosing region next
 
-  pub next_is_counted : plain_bytes (region_tree table region) ≤ old.bytes
+  next_is_counted : plain_bytes (region_tree table region) ≤ old.bytes
   next_is_counted =
       let within = plain_within table (forms_in old.chosen.forms) region there free in let counted = is.counted in omega (arith, within, counted)
 
@@ -205,3 +205,11 @@ all_chosen table limits it is none = record {
       let end = none_left it.found.order (length it.chosen.choices) none in
       omega (arith, few, end);
 }
+
+-- the region that is taken next is counted as a plain one
+pub next_counted : (table : RegionTable) (limits : Limits) (it : Progress) → IsChoosing (table_of table) limits it → (region : ℕ)
+    → slice_get it.found.order (length it.chosen.choices) ≡ Some region → region < length table.regions
+    → plain_bytes (region_tree (table_of table) region) ≤ it.bytes
+next_counted table limits it is region next there =
+    let regions = map_length table_region table.regions in
+    next_is_counted (table_of table) limits it is region next (omega (arith, regions, there))

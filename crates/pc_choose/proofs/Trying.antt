@@ -1,5 +1,5 @@
 -- What a search's states keep, and what comes of trying to pack a region.
-use Rattle.std.proofs.Common.{◌≡◌, ℕ, suc, ◌+◌, ◌^◌, ◌<◌, ◌≤◌, List, [], ◌∷◌, length, sym, ◌∙◌, ap, subst, arith}
+use Rattle.std.proofs.Common.{◌≡◌, ℕ, suc, ◌+◌, ◌^◌, ◌<◌, ◌≤◌, List, [], ◌∷◌, ◌++◌, length, sym, ◌∙◌, ap, subst, arith}
 use Rattle.std.specs.List.{AllByRecursion}
 use Rattle.pc_word.specs.declared.item.Limits.{Limits}
 use Rattle.pc_word.specs.Ranges.{AreLimits}
@@ -24,17 +24,14 @@ use Rattle.pc_pattern.proofs.Patterns.{patterns_are_automata}
 use Rattle.pc_pattern.proofs.NamedThere.{patterns_there, patterns_live}
 use Rattle.pc_emit.specs.Emitted.{Plain}
 use Rattle.pc_emit.specs.Bytes.{states_bytes, plain_bytes}
-use Rattle.pc_emit.specs.declared.form.RegionForm.{RegionForm as StoredForm}
 use Rattle.pc_emit.specs.declared.form.RegionForm.TheVariants as stored
 use Rattle.pc_choose.specs.declared.choice.Cause.{Cause}
 use Rattle.pc_choose.specs.declared.choice.Cause.TheVariants.{Rows, Live, Bytes}
-use Rattle.pc_choose.specs.declared.choice.Form.{Form}
 use Rattle.pc_choose.specs.declared.choice.Form.TheVariants as kind
-use Rattle.pc_choose.specs.declared.giving.Given.{Given}
 use Rattle.pc_choose.specs.declared.giving.Attempt.{Attempt}
 use Rattle.pc_choose.specs.declared.giving.Attempt.TheVariants.{Fits, Refused}
-use Rattle.pc_choose.specs.Choosing.{HasRegisters, IsRefused, Many_rows, High_pressure, Many_bytes, Gets, Gets_packed, Gets_plain}
-use Rattle.pc_choose.specs.models.Giving.{form_of, HasNumbers, bytes_of, IsAttempt, IsGiven}
+use Rattle.pc_choose.specs.Choosing.{HasRegisters, Many_rows, High_pressure, Many_bytes, Gets, Gets_packed, Gets_plain}
+use Rattle.pc_choose.specs.models.Giving.{bytes_of, IsAttempt, IsGiven}
 use Rattle.pc_choose.proofs.Places.{map_length}
 use Rattle.pc_choose.proofs.StateBytes.{states_short}
 
@@ -115,17 +112,17 @@ module _ (table : Table) (limits : Limits) (region others : ℕ) where
   }
 
   -- a region is plain where it is refused
-  pub given_plain : (given : Given) (cause : Cause) → IsRefused table limits region (bytes_of table region others) cause → given.form ≡ stored.Plain
-      → given.kind ≡ kind.Plain → given.causes ≡ cause ∷ [] → given.bytes ≡ others + plain_bytes (region_tree table region) → given.bytes ≤ most_object
-      → IsGiven table limits region others given
-  given_plain given cause refused form told causes bytes short = record {
+  pub given_plain : (causes none : List Cause) (cause : Cause) (attempt : Attempt) (bytes : ℕ) → causes ≡ none ++ cause ∷ [] → none ≡ []
+      → attempt ≡ Refused cause → IsAttempt table limits region others attempt
+      → bytes ≡ others + plain_bytes (region_tree table region) → bytes ≤ most_object
+      → IsGiven table limits region others (record { form = stored.Plain; kind = kind.Plain; causes = causes; bytes = bytes })
+  given_plain causes none cause attempt bytes told empty is tried counted short = record {
     gets =
-        subst (λ (f : StoredForm). Gets table limits region (bytes_of table region others) (form_of f) given.kind given.causes) (sym form)
-        (subst (λ (k : Form). Gets table limits region (bytes_of table region others) Plain k given.causes) (sym told)
-        (subst (λ (cs : List Cause). Gets table limits region (bytes_of table region others) Plain kind.Plain cs) (sym causes) (Gets_plain refused)));
-    counted = bytes ∙ ap (λ (f : StoredForm). bytes_of table region others (form_of f)) (sym form);
+        subst (λ (cs : List Cause). Gets table limits region (bytes_of table region others) Plain kind.Plain cs)
+        (sym (told ∙ ap (λ (cs : List Cause). cs ++ cause ∷ []) empty)) (Gets_plain (subst (IsAttempt table limits region others) is tried));
+    counted = counted;
     short = short;
-    numbers = subst HasNumbers (sym form) tt;
+    numbers = tt;
   }
 
 pub ruleset trying = (packed_begins, packed_short, packed_few, registers_given, tried_rows, tried_live, tried_bytes, tried_fits)

@@ -10,7 +10,7 @@ ghost use Rattle.pc_emit.specs.Emitting.{forms_in};
 ghost use Rattle.pc_choose.specs.Choosing.{AreChosen, choice_of};
 ghost use Rattle.pc_choose.specs.models.Progress.{IsChoosing};
 
-use crate::bytes::object_bytes;
+use crate::bytes::{object_bytes, plain_bytes};
 use crate::choice::{Choice, Chosen};
 use crate::error::ChooseError;
 use crate::found::Found;
@@ -97,8 +97,11 @@ fn take(
     ensures choosing { OnOk result (IsChoosing (table_of table.now) limits progress.new) }
     ensures taken { OnOk result (length progress.new.chosen.choices ≡ suc (length progress.old.chosen.choices)) }
 {
-    let given = form_for(alloc, table, region, limits, progress.bytes)?;
-    find_behind(region_tree(table, region), &given.form, &mut progress.found)?;
+    let tree = region_tree(table, region);
+    let plain = plain_bytes(tree);
+    let others = progress.bytes - plain;
+    let given = form_for(alloc, table, region, limits, others, plain)?;
+    find_behind(tree, &given.form, &mut progress.found)?;
     progress.bytes = given.bytes;
     put(region, given, &mut progress.chosen)?;
     Ok(())

@@ -1,5 +1,5 @@
 //! The form that a region gets: the first that is not refused.
-ghost use Rattle.std.specs.Prelude.{◌≡◌, ◌+◌, ◌-◌, ◌<◌, ◌≤◌, length, IfOk, IfSome};
+ghost use Rattle.std.specs.Prelude.{◌≡◌, ◌+◌, ◌<◌, ◌≤◌, ◌++◌, ◌∷◌, [], length, IfOk, OnOk};
 ghost use Rattle.pc_word.specs.Ranges.{AreLimits};
 ghost use Rattle.pc_word.specs.MachineLimits.{most_object, most_rows};
 ghost use Rattle.pc_table.specs.Table.{table_of, table_tree, region_tree};
@@ -10,7 +10,7 @@ ghost use Rattle.pc_choose.specs.declared.giving.Attempt.TheVariants.{Refused};
 ghost use Rattle.pc_choose.specs.declared.choice.Cause.TheVariants.{Rows, Live, Bytes};
 ghost use Rattle.pc_choose.specs.models.Giving.{IsAttempt, IsGiven};
 
-use crate::bytes::{plain_bytes, states_bytes};
+use crate::bytes::states_bytes;
 use crate::error::ChooseError;
 use crate::{Cause, CauseList, Form};
 use pc_assign::{AssignError, assign};
@@ -18,7 +18,7 @@ use pc_emit::RegionForm;
 use pc_pattern::{SearchError, search};
 use pc_table::{RegionTable, RegionTree};
 use pc_word::{Limits, MOST_OBJECT, MOST_ROWS};
-use std::alloc::Global;
+use std::alloc::{AllocError, Global};
 
 /// The registers that names may have.
 const MOST_LIVE: u32 = 127;
@@ -39,23 +39,24 @@ pub(crate) enum Attempt {
     Refused { cause: Cause },
 }
 
-/// The form that a region gets, where the object has so many bytes while the region is plain.
+/// The form that a region gets, where it has so many bytes if it is plain, and all else has so many.
+
 pub(crate) fn form_for(
     alloc: Global,
     table: &RegionTable,
     region: u32,
     limits: Limits,
-    bytes: u32,
+    others: u32,
+    plain: u32,
 ) -> Result<Given, ChooseError>
     requires kept { TableKeeps (table_of table.now) }
     requires limits { AreLimits limits }
     requires there { region < length table.now.regions }
-    requires counted { plain_bytes (region_tree (table_of table.now) region) ≤ bytes }
-    requires short { bytes ≤ most_object }
-    ensures { IfOk result (IsGiven (table_of table.now) limits region (bytes - plain_bytes (region_tree (table_of table.now) region))) }
+    requires counted { plain ≡ plain_bytes (region_tree (table_of table.now) region) }
+    requires short { others + plain ≤ most_object }
+    ensures { IfOk result (IsGiven (table_of table.now) limits region others) }
 {
     let mut causes = CauseList::new(alloc);
-    let others = bytes - plain_bytes(region_tree(table, region));
     match packed(alloc, table, region, limits, others)? {
         Attempt::Fits { form, bytes } => {
             return Ok(Given {
@@ -65,14 +66,22 @@ pub(crate) fn form_for(
                 bytes,
             });
         }
-        Attempt::Refused { cause } => causes.push(cause)?,
+        Attempt::Refused { cause } => tell(cause, &mut causes)?,
     }
     Ok(Given {
         form: RegionForm::Plain,
         kind: Form::Plain,
         causes,
-        bytes,
+        bytes: others + plain,
     })
+}
+
+/// Tells a cause behind the others.
+fn tell(cause: Cause, causes: &mut CauseList) -> Result<(), AllocError>
+    ensures { OnOk result (causes.new ≡ causes.old ++ cause ∷ []) }
+{
+    causes.push(cause)?;
+    Ok(())
 }
 
 /// The tree of a region.
