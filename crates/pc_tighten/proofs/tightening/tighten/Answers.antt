@@ -1,0 +1,9 @@
+use Rattle.pc_machine.specs.MachineCode.{rows_of}
+use Rattle.pc_tighten.specs.models.Drafts.{draft_rows}
+use Rattle.pc_tighten.proofs.Outcome.{tightened_rows}
+use Rattle.pc_tighten.proofs.tightening.tighten.Goals as goal
+
+pub returns : goal.returns
+returns c =
+    tightened_rows c.args.code.limits c.args.code.arrays (rows_of c.args.code.rows) (draft_rows c.in_ok-drafts.drafts.items) (draft_rows c.raise_all.new.rows.items) (rows_of c.in_ok-rows.rows)
+    c.in_ok-drafts.ensures c.in_ok-rows.ensures c.in_ok-raise_all.ensures c.requires

@@ -1,0 +1,9 @@
+pub mod Compact
+pub mod Moves
+pub mod Removals
+pub mod Pace
+pub mod Sizes
+pub mod Tightened
+pub mod models
+pub mod Removing
+pub mod Laws

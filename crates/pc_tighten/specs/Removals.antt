@@ -1,0 +1,42 @@
+-- A removal: a row that is a goto alone goes, and those that led to it are sent on.
+use Rattle.std.specs.Prelude.{◌≡◌, ◌≢◌, ℕ, zero, suc, pred, nat_eq, List, [], ◌∷◌, map, if◌then◌else◌, Some, slice_get}
+use Rattle.pc_machine.specs.MachineCode.{Leaf, Leads_to, Ends, Traps, CodeRow, RowCode}
+use Rattle.pc_word.specs.Row.{Then, Either, At_leaf}
+
+-- a row other than row 0 without item or test that leads to another row
+pub record MayGo (code : RowCode) (t u : ℕ) : Type 0 where
+  pub at_t : slice_get code.rows t ≡ Some (At_leaf (Leads_to u))
+  pub not_entry : t ≢ 0
+  pub not_itself : u ≢ t
+
+-- the number of another row once the row t is out
+abbrev pub shifted : ℕ → ℕ → ℕ
+shifted zero row = pred row
+shifted (suc t) zero = zero
+shifted (suc t) (suc row) = suc (shifted t row)
+
+-- the number of the row to which a leaf leads once t is out, and what led to t is sent on to u
+abbrev pub sent : ℕ → ℕ → ℕ → ℕ
+sent t u row = if nat_eq row t then shifted t u else shifted t row
+
+-- the leaf then
+abbrev pub sent_leaf : ℕ → ℕ → Leaf → Leaf
+sent_leaf t u (Leads_to row) = Leads_to (sent t u row)
+sent_leaf t u Ends = Ends
+sent_leaf t u (Traps kind line) = Traps kind line
+
+-- the row then
+abbrev pub sent_row : ℕ → ℕ → CodeRow → CodeRow
+sent_row t u (Then item rest) = Then item (sent_row t u rest)
+sent_row t u (Either on on_yes on_no) = Either on (sent_row t u on_yes) (sent_row t u on_no)
+sent_row t u (At_leaf leaf) = At_leaf (sent_leaf t u leaf)
+
+-- the rows but t
+abbrev pub without_row : ℕ → List CodeRow → List CodeRow
+without_row t [] = []
+without_row zero (row ∷ rows) = rows
+without_row (suc t) (row ∷ rows) = row ∷ without_row t rows
+
+-- the code once t is out
+abbrev pub removed : RowCode → ℕ → ℕ → RowCode
+removed code t u = record { limits = code.limits; arrays = code.arrays; rows = map (sent_row t u) (without_row t code.rows) }

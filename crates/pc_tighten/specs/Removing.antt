@@ -1,0 +1,57 @@
+-- Rows that go away, several at once.
+use Rattle.std.specs.Prelude.{◌≡◌, ◌≢◌, ◌⊎◌, ℕ, zero, suc, ◌<◌, ◌≤◌, Bool, true, false, if◌then◌else◌, List, [], ◌∷◌, map, Some, slice_get}
+use Rattle.pc_machine.specs.MachineCode.{Leaf, Leads_to, Ends, Traps, CodeRow, RowCode}
+use Rattle.pc_word.specs.Row.{Then, Either, At_leaf}
+use Rattle.pc_tighten.specs.Compact.{Compact}
+use Rattle.pc_tighten.specs.Tightened.{Tightens, EachIsReachable}
+
+-- the rows that are not marked
+abbrev pub kept : (ℕ → Bool) → List CodeRow → List CodeRow
+kept marks [] = []
+kept marks (row ∷ rows) = if marks 0 then kept (λ i. marks (suc i)) rows else row ∷ kept (λ i. marks (suc i)) rows
+
+-- how many numbers below this one are not marked
+abbrev pub rank : (ℕ → Bool) → ℕ → ℕ
+rank marks zero = 0
+rank marks (suc i) = if marks 0 then rank (λ k. marks (suc k)) i else suc (rank (λ k. marks (suc k)) i)
+
+-- a row whose leaves lead to the places of rows
+abbrev pub placed_leaf : (ℕ → ℕ) → Leaf → Leaf
+placed_leaf place (Leads_to row) = Leads_to (place row)
+placed_leaf place Ends = Ends
+placed_leaf place (Traps kind line) = Traps kind line
+
+abbrev pub placed : (ℕ → ℕ) → CodeRow → CodeRow
+placed place (Then item rest) = Then item (placed place rest)
+placed place (Either on on_yes on_no) = Either on (placed place on_yes) (placed place on_no)
+placed place (At_leaf leaf) = At_leaf (placed_leaf place leaf)
+
+-- the code without the rows that are marked
+abbrev pub without_marked : (ℕ → ℕ) → (ℕ → Bool) → RowCode → RowCode
+without_marked place marks code = record { limits = code.limits; arrays = code.arrays; rows = map (placed place) (kept marks code.rows) }
+
+-- rows go away, and where all rows are reachable a compact code stays compact
+pub record Shrinks (code after : RowCode) : Type 0 where
+  pub tightens : Tightens code after
+  pub compact : EachIsReachable code.rows → Compact code → Compact after
+
+-- a marked row: a goto alone to another row, which stands further down or is not marked, and has its place
+pub record IsMarked (rows : List CodeRow) (place : ℕ → ℕ) (marks : ℕ → Bool) (t : ℕ) : Type 0 where
+  pub target : ℕ
+  pub at : slice_get rows t ≡ Some (At_leaf (Leads_to target))
+  pub not_entry : t ≢ 0
+  pub not_itself : target ≢ t
+  pub later : (t < target) ⊎ (marks target ≡ false)
+  pub same_place : place t ≡ place target
+
+-- marks of rows below a number, and the place of each row among those that are not marked
+pub record AreMarks (rows : List CodeRow) (place : ℕ → ℕ) (marks : ℕ → Bool) (count : ℕ) : Type 0 where
+  pub each : (t : ℕ) → marks t ≡ true → IsMarked rows place marks t
+  pub within : (t : ℕ) → count ≤ t → marks t ≡ false
+  pub ranks : (t : ℕ) → marks t ≡ false → place t ≡ rank marks t
+
+-- a row other than row 0 that is a goto alone to another row
+pub record IsGotoAlone (rows : List CodeRow) (t u : ℕ) : Type 0 where
+  pub at : slice_get rows t ≡ Some (At_leaf (Leads_to u))
+  pub not_entry : t ≢ 0
+  pub not_itself : u ≢ t

@@ -1,0 +1,4 @@
+pub mod Drafts
+pub mod Listing
+pub mod Parents
+pub mod Raising
