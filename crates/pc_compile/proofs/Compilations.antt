@@ -21,9 +21,11 @@ use Rattle.pc_lower.specs.Lowered.{IsLowered}
 use Rattle.pc_lower.specs.SourceLoops.{SourceLoop}
 use Rattle.pc_lower.proofs.Bounds.{list-loops_sized}
 use Rattle.pc_lower.proofs.LoopMarks.{as_many_marks}
+use Rattle.pc_machine.specs.MachineCode.{CodeRow}
 use Rattle.pc_machine.specs.MachineRun.{machine_run}
 use Rattle.pc_machine.specs.WellFormed.{AreArrays}
 use Rattle.pc_word.specs.Ranges.{IsBetween, AreLimits}
+use Rattle.pc_object.specs.declared.object.Note.{Note}
 use Rattle.pc_object.specs.ObjectText.{CodeWithNotes}
 use Rattle.pc_pass.specs.Pass.{Keeps}
 use Rattle.pc_table.specs.Table.{Table}
@@ -34,7 +36,7 @@ use Rattle.pc_window.specs.Kept.{NeverFaults}
 use Rattle.pc_window.proofs.Paces.{NeverFaults-follows}
 use Rattle.pc_emit.specs.declared.form.RegionForm.{RegionForm as StoredForm}
 use Rattle.pc_emit.specs.Bytes.{object_bytes}
-use Rattle.pc_emit.specs.Emitting.{forms_in, emission_of}
+use Rattle.pc_emit.specs.Emitting.{forms_in, emission_of, AreEmitted}
 use Rattle.pc_emit.proofs.Emissions.{emitted_rows_do}
 use Rattle.pc_choose.specs.declared.choice.Choice.{Choice}
 use Rattle.pc_choose.specs.Choosing.{AreChosen}
@@ -138,3 +140,15 @@ is_compiled program limits first flow table forms choices object fine arrays low
       emitted = emitted;
       notes = refl;
     })
+
+-- an object with these arrays, rows and notes is that of a table in forms that were chosen
+pub made_object : (table : Table) (limits : Limits) (forms given : List (Option StoredForm)) (choices noted : List Choice) (arrays : List ℕ)
+    (rows : List CodeRow) (notes : List Note) → arrays ≡ table.arrays → notes ≡ notes_of table noted → noted ≡ choices
+    → AreEmitted table given limits rows → given ≡ forms → IsObjectOf table forms choices limits (object_with limits arrays rows notes)
+made_object table limits forms given choices noted arrays rows notes same_arrays are same emitted same_forms =
+    let right : notes ≡ notes_of table choices = are ∙ ap (λ (l : List Choice). notes_of table l) same in
+    record {
+      rows = rows;
+      is = λ i. object_with limits (same_arrays i) rows (right i);
+      emitted = subst (λ (l : List (Option StoredForm)). AreEmitted table l limits rows) same_forms emitted;
+    }

@@ -82,7 +82,7 @@ fn each_pass_is_applied_once(rt: HostRuntime) -> Result<(), Fail> {
     let mut passes: Vec<Box<dyn Pass>> = Vec::new(alloc);
     passes.push(Box::new(alloc, Counting { applied: 0 })?)?;
     passes.push(Box::new(alloc, Counting { applied: 7 })?)?;
-    let report = b"nodes 5\nrows 4\npass counting 1\npass counting 8\n";
+    let report = b"nodes 5\nrows 2\npass counting 1\npass counting 8\n";
     assert!(rt; reports(alloc, &mut passes, report)?);
     Ok(())
 }
