@@ -184,7 +184,8 @@ module _ (plan : Plan) (is : IsPlan plan) (rows : List CodeRow) (emitted : IsEmi
       can : CanPack (table_in plan) plan.limits (forms_at plan) states registers
       can = can_pack (is.forms.each region (Packed states registers) has)
         where
-          can_pack : CanHave (table_in plan) plan.limits (forms_at plan) (region_tree (table_in plan) region) (Packed states registers) → CanPack (table_in plan) plan.limits (forms_at plan) states registers
+          can_pack : CanHave (table_in plan) plan.limits (forms_at plan) (region_tree (table_in plan) region) (Packed states registers)
+              → CanPack (table_in plan) plan.limits (forms_at plan) states registers
           can_pack h = h
 
       below : (number name : ℕ) → register_of (registers number) name < 127
