@@ -1,7 +1,6 @@
 -- All rows of regions are reached, and keep the limits.
 use Rattle.std.proofs.Common.{◌≡◌, inl, inr, ℕ, zero, suc, ◌+◌, ◌-◌, ◌<◌, ◌≤◌, List, [], ◌∷◌, length, Option, Some, None, refl, sym, ◌∙◌, ap, subst, arith}
 use Rattle.std.specs.Prelude.{slice_get, slice_index}
-use Rattle.std.specs.List.{AllByRecursion}
 use Rattle.std.proofs.lemmas.List.{length-map}
 use Rattle.std.proofs.lemmas.Option.{slice_get_within}
 use Rattle.pc_word.specs.Row.{Then, Either, At_leaf}
@@ -11,11 +10,10 @@ use Rattle.pc_table.specs.Table.{TableTree, Does, Asks, Next, Stops_here, Traps_
 use Rattle.pc_table.specs.TableKeeps.{TreeIsThere, units}
 use Rattle.pc_window.specs.Unwinding.{or_zero}
 use Rattle.pc_automaton.specs.declared.automaton.AutomatonLeaf.{AutomatonLeaf}
-use Rattle.pc_automaton.specs.declared.automaton.AutomatonLeaf.TheVariants.{To, Out, Stop, Trap}
 use Rattle.pc_automaton.specs.Automaton.{AutomatonState, IsStateAmong, LeafLeads, Takes}
 use Rattle.pc_automaton.specs.There.{StateIsThere}
 use Rattle.pc_copies.specs.declared.moves.Move.{Move}
-use Rattle.pc_machine.specs.MachineCode.{Leaf, Leads_to, Ends, Traps, CodeRow}
+use Rattle.pc_machine.specs.MachineCode.{Leaf, Ends, CodeRow}
 use Rattle.pc_machine.specs.WellFormed.{IsLeaf, IsRow}
 use Rattle.pc_machine.specs.Reachable.{IsReachable, Entry}
 use Rattle.pc_pattern.specs.Pattern.{RowFits, EachIsLedTo}
@@ -27,8 +25,7 @@ use Rattle.pc_emit.specs.Emitted.{root_leaf, form_leaf, BeginsAt, by_leaf_alone,
 use Rattle.pc_emit.specs.Emitting.{CanHave, CanPack}
 use Rattle.pc_emit.specs.declared.plan.Plan.{Plan}
 use Rattle.pc_emit.specs.models.Layout.{rows_in, leaf_alone, front_rows, table_in, forms_at, emission_in, rows_end, IsPlan}
-use Rattle.pc_emit.specs.models.Making.{RowsReached}
-use Rattle.pc_emit.proofs.Entries.{form_within, region_target}
+use Rattle.pc_emit.proofs.Entries.{region_target}
 use Rattle.pc_emit.proofs.Passings.{within_more}
 use Rattle.pc_emit.proofs.PackedRuns.{with_leaves}
 use Rattle.pc_emit.proofs.Undisturbing.{stays_undisturbed}
@@ -187,7 +184,8 @@ module _ (plan : Plan) (is : IsPlan plan) (rows : List CodeRow) (emitted : IsEmi
       can : CanPack (table_in plan) plan.limits (forms_at plan) states registers
       can = can_pack (is.forms.each region (Packed states registers) has)
         where
-          can_pack : CanHave (table_in plan) plan.limits (forms_at plan) (region_tree (table_in plan) region) (Packed states registers) → CanPack (table_in plan) plan.limits (forms_at plan) states registers
+          can_pack : CanHave (table_in plan) plan.limits (forms_at plan) (region_tree (table_in plan) region) (Packed states registers)
+              → CanPack (table_in plan) plan.limits (forms_at plan) states registers
           can_pack h = h
 
       below : (number name : ℕ) → register_of (registers number) name < 127

@@ -1,18 +1,16 @@
 -- Rows of copies keep the limits, and are not long.
-use Rattle.std.proofs.Common.{◌≡◌, inl, inr, ℕ, suc, ◌+◌, ◌*◌, ◌<◌, ◌≤◌, List, [], ◌∷◌, ◌++◌, length, map, Some, refl, sym, ◌∙◌, ap, subst, arith}
-use Rattle.std.specs.Prelude.{Bool, true, false, if◌then◌else◌, nat_eq, slice_get}
-use Rattle.std.specs.List.{AllByRecursion, IsDistinct, filter_map, count_by}
+use Rattle.std.proofs.Common.{◌≡◌, inl, inr, ℕ, ◌+◌, ◌*◌, ◌<◌, ◌≤◌, List, [], ◌∷◌, length, map, refl, sym, ◌∙◌, ap, subst, arith}
+use Rattle.std.specs.List.{AllByRecursion, count_by}
 use Rattle.std.proofs.lemmas.List.{length-append, length-map}
 use Rattle.pc_word.specs.declared.item.Item.{Item}
-use Rattle.pc_word.specs.declared.item.Item.TheVariants.{Copy}
 use Rattle.pc_word.specs.declared.item.Operand.{Operand}
 use Rattle.pc_word.specs.declared.item.Operand.TheVariants.{Name, Lit}
 use Rattle.pc_word.specs.declared.item.Limits.{Limits}
-use Rattle.pc_word.specs.Items.{dest_of, is_effect, is_memory}
+use Rattle.pc_word.specs.Items.{is_effect, is_memory}
 use Rattle.pc_word.specs.Row.{items_of, tests_of, leaves_of, paths_of}
 use Rattle.pc_word.proofs.Lists.{count_more}
 use Rattle.pc_assign.specs.Pressure.{allowed}
-use Rattle.pc_machine.specs.MachineCode.{Leaf, CodeRow}
+use Rattle.pc_machine.specs.MachineCode.{Leaf}
 use Rattle.pc_machine.specs.WellFormed.{IsOperand, IsItem, IsLeaf, IsPath, IsRow}
 use Rattle.pc_object.specs.ObjectText.{operand_text, item_text, leaf_text, row_text}
 use Rattle.pc_copies.specs.declared.moves.Move.{Move}

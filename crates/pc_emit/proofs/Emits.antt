@@ -5,10 +5,9 @@ use Rattle.std.specs.List.{AllByRecursion}
 use Rattle.std.proofs.lemmas.List.{length-append, length-map}
 use Rattle.std.proofs.lemmas.Option.{slice_get_within, slice_get-get_or}
 use Rattle.pc_word.proofs.Truth.{decide_le}
-use Rattle.pc_word.proofs.Lists.{all_both}
 use Rattle.pc_word.specs.declared.item.Limits.{Limits}
 use Rattle.pc_word.specs.Row.{Row, Then, Either, At_leaf}
-use Rattle.pc_table.specs.Table.{TableTree, Does, Asks, Next, Stops_here, Traps_here, TableRegion, Table, tree_of, table_tree, table_region, table_regions, table_of, region_tree}
+use Rattle.pc_table.specs.Table.{TableTree, Does, Asks, Next, Stops_here, Traps_here, TableRegion, tree_of, table_tree, table_region, table_regions, table_of, region_tree}
 use Rattle.pc_table.specs.declared.table.RegionTable.{RegionTable}
 use Rattle.pc_table.specs.declared.table.Region.{Region}
 use Rattle.pc_table.specs.TableKeeps.{units}
@@ -20,7 +19,7 @@ use Rattle.pc_machine.specs.MachineCode.{Leaf, Leads_to, Ends, Traps, CodeRow, r
 use Rattle.pc_machine.specs.WellFormed.{IsLeaf, IsRow}
 use Rattle.pc_machine.specs.Reachable.{IsReachable}
 use Rattle.pc_emit.specs.declared.form.RegionForm.{RegionForm as StoredForm}
-use Rattle.pc_emit.specs.Bytes.{tree_bytes, leaf_bytes, row_bytes, states_bytes, form_bytes, regions_bytes, object_bytes}
+use Rattle.pc_emit.specs.Bytes.{tree_bytes, row_bytes, states_bytes, form_bytes, regions_bytes}
 use Rattle.pc_emit.specs.Emitted.{RegionForm, Plain, Packed, root_leaf, form_leaf, BeginsAt, at_first_row, by_leaf_alone, IsEmitted}
 use Rattle.pc_emit.specs.Emitting.{form_in, forms_in, CanHave, AreEmitted, AreForms}
 use Rattle.pc_emit.specs.declared.output.Output.{Output}

@@ -1,16 +1,14 @@
 -- Where regions begin and end.
-use Rattle.std.proofs.Common.{◌≡◌, ℕ, zero, suc, ◌+◌, ◌-◌, ◌<◌, ◌≤◌, List, [], ◌∷◌, length, Option, Some, None, refl, sym, ◌∙◌, ap, subst, arith}
+use Rattle.std.proofs.Common.{◌≡◌, ℕ, zero, suc, ◌+◌, ◌-◌, ◌<◌, ◌≤◌, List, length, Option, Some, None, refl, sym, ◌∙◌, ap, subst, arith}
 use Rattle.std.specs.Prelude.{slice_get, slice_index}
 use Rattle.std.proofs.lemmas.List.{length-map}
 use Rattle.std.proofs.lemmas.Option.{slice_get_within}
 use Rattle.pc_table.specs.Table.{TableTree, Does, Asks, Next, Stops_here, Traps_here, Table, table_region, region_tree}
 use Rattle.pc_table.specs.TableKeeps.{units}
 use Rattle.pc_machine.specs.MachineCode.{Leaf}
-use Rattle.pc_machine.specs.WellFormed.{IsLeaf}
-use Rattle.pc_object.specs.ObjectText.{leaf_text}
 use Rattle.pc_emit.specs.declared.form.RegionForm.{RegionForm as StoredForm}
 use Rattle.pc_emit.specs.Emitted.{RegionForm, Plain, Packed, root_leaf, form_leaf, LeadsToRegion}
-use Rattle.pc_emit.specs.Emitting.{form_in, CanHave, AreForms}
+use Rattle.pc_emit.specs.Emitting.{form_in, CanHave}
 use Rattle.pc_emit.specs.declared.plan.Plan.{Plan}
 use Rattle.pc_emit.specs.models.Layout.{rows_in, AreEntries, table_in, forms_at, emission_in, rows_end, IsPlan}
 use Rattle.pc_emit.specs.models.Making.{MayFollow}

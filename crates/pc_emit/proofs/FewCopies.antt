@@ -1,7 +1,7 @@
 -- Moves are done by at most twice as many copies.
-use Rattle.std.proofs.Common.{◌≡◌, inl, inr, ℕ, zero, suc, ◌+◌, ◌*◌, ◌≤◌, List, [], ◌∷◌, ◌++◌, length, map, Some, refl, sym, ap, subst, arith}
+use Rattle.std.proofs.Common.{◌≡◌, inl, inr, ℕ, zero, suc, ◌*◌, ◌≤◌, List, [], ◌∷◌, length, map, Some, refl, sym, ap, subst, arith}
 use Rattle.std.specs.Prelude.{Bool, true, false, if◌then◌else◌, nat_eq, slice_get}
-use Rattle.std.specs.List.{AllByRecursion, IsDistinct, filter_map, list_any}
+use Rattle.std.specs.List.{AllByRecursion, filter_map, list_any}
 use Rattle.std.proofs.lemmas.List.{length-append}
 use Rattle.std.proofs.lemmas.Map.Made.{length-le_from_is_member}
 use Rattle.std.proofs.lemmas.Cmp.{nat_eq_equiv}
@@ -10,7 +10,7 @@ use Rattle.pc_window.proofs.Live.{or_first, or_second}
 use Rattle.pc_window.proofs.Uses.{or_is, nat_eq-tells}
 use Rattle.pc_window.proofs.Grafts.{nat_eq-same}
 use Rattle.pc_copies.specs.declared.moves.Move.{Move}
-use Rattle.pc_copies.specs.Moves.{is_name, kept, copy_of, IsCycle, IsAmong, joined, copies_in, AreCopies}
+use Rattle.pc_copies.specs.Moves.{is_name, kept, copy_of, IsCycle, IsAmong, joined, AreCopies}
 
 -- no more moves are kept than there are
 kept_few : (moves : List Move) → length (kept moves) ≤ length moves

@@ -1,5 +1,5 @@
 -- The rows of packed states keep the limits.
-use Rattle.std.proofs.Common.{◌≡◌, ◌≢◌, ℕ, ◌+◌, ◌<◌, ◌≤◌, List, [], ◌∷◌, ◌++◌, length, map, refl, sym, ◌∙◌, ap, subst, arith}
+use Rattle.std.proofs.Common.{◌≡◌, ◌≢◌, ℕ, ◌<◌, ◌≤◌, List, [], ◌∷◌, ◌++◌, length, map, refl, sym, ◌∙◌, ap, subst, arith}
 use Rattle.std.specs.Prelude.{Bool, true, false, cond, nat_eq}
 use Rattle.std.specs.List.{AllByRecursion, IsDistinct, filter_map, count_by}
 use Rattle.std.proofs.lemmas.List.{length-append, length-map, map-append}

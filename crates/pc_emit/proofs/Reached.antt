@@ -1,6 +1,6 @@
 -- Leaves lead to each row of a region from row 0.
-use Rattle.std.proofs.Common.{◌≡◌, ◌⊎◌, inl, inr, ℕ, zero, suc, ◌+◌, ◌-◌, ◌<◌, ◌≤◌, List, [], ◌∷◌, ◌++◌, length, Option, Some, None, refl, sym, ◌∙◌, ap, subst, arith}
-use Rattle.std.specs.Prelude.{slice_get, slice_index, Contains}
+use Rattle.std.proofs.Common.{◌≡◌, ◌⊎◌, inl, inr, ℕ, zero, suc, ◌+◌, ◌-◌, ◌<◌, List, [], ◌∷◌, length, Option, Some, refl, sym, ◌∙◌, ap, subst, arith}
+use Rattle.std.specs.Prelude.{slice_get, Contains}
 use Rattle.std.specs.List.{flat_map}
 use Rattle.std.proofs.lemmas.List.Elements.{Contains-append_left, Contains-append_right, Contains-append_cases, Contains-push, Contains-push_cases}
 use Rattle.std.proofs.lemmas.Option.{slice_get_within}
@@ -15,14 +15,14 @@ use Rattle.pc_automaton.specs.declared.automaton.AutomatonLeaf.TheVariants.{To, 
 use Rattle.pc_automaton.specs.Automaton.{AutomatonState}
 use Rattle.pc_copies.specs.declared.moves.Move.{Move}
 use Rattle.pc_copies.specs.Laws.{copy_row}
-use Rattle.pc_machine.specs.MachineCode.{Leaf, Leads_to, Ends, Traps, CodeRow}
-use Rattle.pc_machine.specs.Reachable.{HasLeafTo, IsReachable, Entry, Behind}
+use Rattle.pc_machine.specs.MachineCode.{Leaf, Leads_to, CodeRow}
+use Rattle.pc_machine.specs.Reachable.{IsReachable, Entry, Behind}
 use Rattle.pc_pattern.specs.Pattern.{EachIsLedTo}
 use Rattle.pc_emit.specs.Registers.{in_register, register_of}
-use Rattle.pc_emit.specs.Emitted.{RegionForm, Plain, Packed, Emission, root_leaf, form_leaf, LeadsToRegion, Passes, passes_none, passes_row, Moves}
-use Rattle.pc_emit.specs.Emitted.{LeafStands, leads_to_state, leads_to_region, ends_here, traps_here, RowStands, item_stands, test_stands, leaf_stands, StateStands}
+use Rattle.pc_emit.specs.Emitted.{RegionForm, Plain, Packed, Emission, root_leaf, form_leaf, LeadsToRegion, Passes, passes_none, passes_row}
+use Rattle.pc_emit.specs.Emitted.{LeafStands, leads_to_state, leads_to_region, RowStands, item_stands, test_stands, leaf_stands, StateStands}
 use Rattle.pc_emit.specs.Emitted.{LeadsBehind, to_item, to_test, to_region, to_end, to_trap, TreeStands, item_row, test_row, no_row, no_end_row, no_trap_row}
-use Rattle.pc_emit.specs.Emitted.{RegionStands, BeginsAt, at_first_row, by_leaf_alone, IsEmitted}
+use Rattle.pc_emit.specs.Emitted.{BeginsAt, at_first_row, by_leaf_alone, IsEmitted}
 use Rattle.pc_emit.specs.Leading.{tree_leads, leaf_leads, states_lead, form_leads, IsMet, Met_first, Met_behind}
 use Rattle.pc_emit.specs.models.Making.{RowsReached}
 use Rattle.pc_emit.specs.models.Layout.{rows_in}

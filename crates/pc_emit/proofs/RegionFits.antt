@@ -1,9 +1,8 @@
 -- The rows of regions keep the limits.
-use Rattle.std.proofs.Common.{◌≡◌, inl, inr, ℕ, suc, ◌+◌, ◌<◌, ◌≤◌, List, [], ◌∷◌, ◌++◌, length, Option, Some, None, refl, sym, ◌∙◌, ap, subst, arith}
-use Rattle.std.specs.Prelude.{nat_eq, slice_get, slice_index}
-use Rattle.std.specs.List.{AllByRecursion, IsDistinct, filter_map}
+use Rattle.std.proofs.Common.{ℕ, [], ◌∷◌, arith}
+use Rattle.std.specs.Prelude.{nat_eq}
+use Rattle.std.specs.List.{IsDistinct, filter_map}
 use Rattle.std.proofs.lemmas.List.Sums.{count_by-le-length}
-use Rattle.std.proofs.lemmas.Option.{slice_get_within}
 use Rattle.pc_word.specs.declared.item.Item.{Item}
 use Rattle.pc_word.specs.declared.item.Item.TheVariants.{Bin, Copy, Load, Store, Print, Read, More}
 use Rattle.pc_word.specs.declared.item.Operand.{Operand}
@@ -12,10 +11,8 @@ use Rattle.pc_word.specs.declared.item.Limits.{Limits}
 use Rattle.pc_word.specs.Ranges.{AreLimits}
 use Rattle.pc_word.specs.Items.{dest_of, is_effect, is_memory}
 use Rattle.pc_word.specs.Row.{Then, Either, At_leaf}
-use Rattle.pc_word.proofs.Truth.{decide_le}
-use Rattle.pc_table.specs.Table.{TableTree, Does, Asks, Next, Stops_here, Traps_here}
-use Rattle.pc_table.specs.TableKeeps.{NamesVariable, ItemIsThere, TreeIsThere, units}
-use Rattle.pc_machine.specs.MachineCode.{Leaf, Leads_to, CodeRow}
+use Rattle.pc_table.specs.TableKeeps.{NamesVariable, ItemIsThere}
+use Rattle.pc_machine.specs.MachineCode.{Leaf}
 use Rattle.pc_machine.specs.WellFormed.{IsOperand, IsItem, IsLeaf, IsPath, IsRow}
 
 -- ---- rows of one item or test

@@ -1,7 +1,6 @@
 -- Rows in the making: those of regions, and those of copies, which will stand behind them all.
 use Rattle.std.specs.Prelude.{◌≡◌, ℕ, ◌+◌, ◌<◌, ◌≤◌, List, length, Some, slice_get}
 use Rattle.std.specs.List.{flat_map}
-use Rattle.pc_machine.specs.declared.tree.Tree.{Tree}
 use Rattle.pc_machine.specs.MachineCode.{Leaf, Leads_to, Ends, Traps, CodeRow, rows_of}
 use Rattle.pc_object.specs.ObjectText.{row_text}
 use Rattle.pc_assign.specs.Stored.{registers_in}

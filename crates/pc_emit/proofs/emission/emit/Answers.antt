@@ -1,5 +1,5 @@
 use Rattle.std.proofs.Common.{◌≡◌, sym, ◌∙◌, ap, subst}
-use Rattle.std.specs.Prelude.{ℕ, ◌+◌, ◌<◌, ◌^◌, List}
+use Rattle.std.specs.Prelude.{◌+◌, ◌<◌, ◌^◌, List}
 use Rattle.pc_table.specs.declared.table.Region.{Region}
 use Rattle.pc_emit.specs.models.Layout.{all_rows, entries_from}
 use Rattle.pc_emit.proofs.Emits.{begins_behind, are_entries, rows_below}

@@ -3,7 +3,6 @@ use Rattle.std.specs.Prelude.{slice_get}
 use Rattle.pc_automaton.specs.AutomatonRun.{state_parameters}
 use Rattle.pc_machine.specs.MachineCode.{rows_of}
 use Rattle.pc_object.specs.ObjectText.{leaf_text}
-use Rattle.pc_emit.specs.Registers.{argument_moves}
 use Rattle.pc_emit.specs.models.Output.{bytes_of, leaf_of, of_state}
 use Rattle.pc_emit.specs.models.Layout.{states_at, names_at}
 use Rattle.pc_emit.proofs.Packs.{many_arguments, state_there}

@@ -1,4 +1,4 @@
-use Rattle.std.proofs.Common.{rules, ◌≡◌, ◌+◌, length, sym, ◌∙◌, ap, arith}
+use Rattle.std.proofs.Common.{rules, ◌≡◌, ◌+◌, length, ◌∙◌, ap}
 use Rattle.pc_word.specs.Row.{Then, Either, At_leaf}
 use Rattle.pc_table.specs.Table.{table_tree, Does, Asks}
 use Rattle.pc_table.specs.TableKeeps.{units}
