@@ -1,7 +1,7 @@
 -- What the code tells of loops is what the notes say of them.
-use Rattle.std.proofs.Common.{◌≡◌, ◌≢◌, ◌⊎◌, inl, inr, ℕ, zero, suc, ◌+◌, ◌<◌, ◌≤◌, List, [], ◌∷◌, ◌++◌, length, length-append, append-nil, append_assoc, drop}
+use Rattle.std.proofs.Common.{◌≡◌, ◌≢◌, inl, inr, ℕ, zero, suc, ◌+◌, ◌<◌, ◌≤◌, List, [], ◌∷◌, ◌++◌, length, length-append, append_assoc}
 use Rattle.std.proofs.Common.{Option, Some, None, refl, sym, ◌∙◌, ap, subst, arith}
-use Rattle.std.specs.Prelude.{Bool, true, false, not, ◌&&◌, ◌||◌, nat_eq, if◌then◌else◌, IfSome, replicate, slice_get, slice_index_or, slice_set}
+use Rattle.std.specs.Prelude.{Bool, true, false, not, ◌||◌, nat_eq, if◌then◌else◌, IfSome, replicate, slice_get, slice_index_or, slice_set}
 use Rattle.std.specs.List.{list_any}
 use Rattle.std.proofs.lemmas.List.{length-replicate}
 use Rattle.std.proofs.lemmas.Option.{slice_get_within}
@@ -9,7 +9,6 @@ use Rattle.pc_word.specs.declared.loop_mark.LoopMark.{LoopMark}
 use Rattle.pc_word.proofs.Lists.{set_at, set_length}
 use Rattle.pc_table.specs.Table.{Table}
 use Rattle.pc_window.specs.Opening.{same_loop, headed_loop}
-use Rattle.pc_window.specs.Steps.{is_innermost}
 use Rattle.pc_choose.specs.declared.choice.Choice.{Choice}
 use Rattle.pc_object.specs.declared.object.Note.{Note}
 use Rattle.pc_compile.specs.Notes.{form_notes, choice_heading, choice_notes, loop_notes, notes_from, notes_of}

@@ -1,6 +1,6 @@
 -- The object of a table is short: with all regions plain by the graph's nodes, and in the forms that were chosen by what was
 -- counted.
-use Rattle.std.proofs.Common.{◌≡◌, ℕ, zero, suc, ◌+◌, ◌-◌, ◌*◌, ◌<◌, ◌≤◌, List, [], ◌∷◌, ◌++◌, length, length-append, Option, Some, None, refl, sym, ◌∙◌, ap, subst, arith}
+use Rattle.std.proofs.Common.{◌≡◌, ℕ, suc, ◌+◌, ◌-◌, ◌*◌, ◌≤◌, List, [], ◌∷◌, ◌++◌, length, length-append, Option, Some, None, refl, arith}
 use Rattle.std.specs.Prelude.{Bool, true, false, if◌then◌else◌, slice_get}
 use Rattle.std.specs.List.{AllByRecursion, flat_map}
 use Rattle.pc_word.specs.declared.item.Item.{Item}
@@ -15,7 +15,7 @@ use Rattle.pc_table.specs.Table.{TableTree, Does, Asks, Next, Stops_here, Traps_
 use Rattle.pc_table.specs.TableKeeps.{units}
 use Rattle.pc_window.specs.Steps.{is_innermost}
 use Rattle.pc_emit.specs.Emitted.{RegionForm}
-use Rattle.pc_emit.specs.Bytes.{operand_bytes, item_bytes, test_bytes, tree_bytes, regions_bytes, object_bytes}
+use Rattle.pc_emit.specs.Bytes.{operand_bytes, item_bytes, tree_bytes, regions_bytes, object_bytes}
 use Rattle.pc_choose.specs.declared.choice.Form.{Form}
 use Rattle.pc_choose.specs.declared.choice.Form.TheVariants as form
 use Rattle.pc_choose.specs.declared.choice.Cause.{Cause}

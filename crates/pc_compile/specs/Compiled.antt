@@ -1,5 +1,5 @@
 -- What the object of a program is, and when there is none.
-use Rattle.std.specs.Prelude.{◌≡◌, ℕ, ◌<◌, ◌≤◌, min, List, Option, length}
+use Rattle.std.specs.Prelude.{◌≡◌, ℕ, ◌<◌, ◌≤◌, min, List, Option}
 use Rattle.pc_word.specs.declared.item.Limits.{Limits}
 use Rattle.pc_word.specs.Run.{AgreeOnInputs}
 use Rattle.pc_word.specs.SourceLimits.{most_nodes}

@@ -1,4 +1,4 @@
-use Rattle.std.proofs.Common.{◌≡◌, List, ◌∙◌, sym, subst}
+use Rattle.std.proofs.Common.{◌≡◌, List, ◌∙◌, subst}
 use Rattle.std.specs.Prelude.{IfOk}
 use Rattle.pc_table.specs.Table.{table_of}
 use Rattle.pc_object.specs.declared.object.Note.{Note}
