@@ -125,4 +125,5 @@ module _ (table : Table) (limits : Limits) (region others : ℕ) where
     numbers = tt;
   }
 
-pub ruleset trying = (packed_begins, packed_short, packed_few, registers_given, tried_rows, tried_live, tried_bytes, tried_fits)
+-- what `packed` needs besides its answers
+pub ruleset trying = (packed_few, tried_rows)

@@ -40,7 +40,6 @@ pub(crate) enum Attempt {
 }
 
 /// The form that a region gets, where it has so many bytes if it is plain, and all else has so many.
-
 pub(crate) fn form_for(
     alloc: Global,
     table: &RegionTable,
