@@ -11,6 +11,7 @@ use Rattle.pc_tighten.proofs.Tightened.{tightening_keeps_form, tightening_is_no_
 
 pub is_tightened : {code after : RowCode} → WellFormed code → Tightens code after → Compact after → IsTightened code after
 is_tightened well steps compact = record {
+  tightens = steps;
   form = tightening_keeps_form steps well;
   limits = tightening_keeps_limits steps;
   arrays = tightening_keeps_arrays steps;

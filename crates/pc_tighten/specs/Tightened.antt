@@ -24,6 +24,8 @@ EachIsReachable rows = (i : ℕ) (row : CodeRow) → slice_get rows i ≡ Some r
 
 -- the code after the tightening of a code
 pub record IsTightened (before after : RowCode) : Type 0 where
+  -- by moves and removals alone
+  pub tightens : Tightens before after
   pub form : WellFormed after
   pub limits : after.limits ≡ before.limits
   pub arrays : after.arrays ≡ before.arrays
