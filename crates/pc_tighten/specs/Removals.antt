@@ -9,6 +9,16 @@ pub record MayGo (code : RowCode) (t u : ℕ) : Type 0 where
   pub not_entry : t ≢ 0
   pub not_itself : u ≢ t
 
+-- a row other than row 0 that is a goto alone to another row
+pub record IsGotoAlone (rows : List CodeRow) (t u : ℕ) : Type 0 where
+  pub at : slice_get rows t ≡ Some (At_leaf (Leads_to u))
+  pub not_entry : t ≢ 0
+  pub not_itself : u ≢ t
+
+-- no row but row 0 is a goto alone to another row
+abbrev pub HasNoGotoAlone : List CodeRow → Type 0
+HasNoGotoAlone rows = (t u : ℕ) → IsGotoAlone rows t u → ⊥
+
 -- the number of another row once the row t is out
 abbrev pub shifted : ℕ → ℕ → ℕ
 shifted zero row = pred row
