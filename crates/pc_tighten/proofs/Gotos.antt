@@ -24,7 +24,7 @@ use Rattle.pc_tighten.proofs.Tightened.{tightens_on, tightening_keeps_reachable}
 -- ---- how many stay below a number
 
 -- one number more
-pub rank_last : (marks : ℕ → Bool) (n : ℕ) → rank marks (suc n) ≡ (if marks n then rank marks n else suc (rank marks n))
+rank_last : (marks : ℕ → Bool) (n : ℕ) → rank marks (suc n) ≡ (if marks n then rank marks n else suc (rank marks n))
 rank_last marks zero = refl
 rank_last marks (suc n) = by_tests (marks 0) (marks (suc n)) (rank (λ k. marks (suc k)) (suc n)) (rank (λ k. marks (suc k)) n) (rank_last (λ k. marks (suc k)) n)
   where
@@ -392,7 +392,7 @@ round_removes rows new gotos it is are some now =
 pub round_ends : (rows : List CodeRow) (gotos : List (Option ℕ)) (it : Places) → gotos ≡ gotos_of rows → ArePlacesFrom gotos it 0 → it.gone ≡ 0 → HasRemoved rows rows false
 round_ends rows gotos it is are none = (refl, none_left rows it (subst (λ (l : List (Option ℕ)). ArePlacesFrom l it 0) is are).counted none)
 
-pub shrinks_on : {code next after : RowCode} → Shrinks code next → Shrinks next after → Shrinks code after
+shrinks_on : {code next after : RowCode} → Shrinks code next → Shrinks next after → Shrinks code after
 shrinks_on first second = record {
   tightens = tightens_on first.tightens second.tightens;
   compact = λ all compact. second.compact (tightening_keeps_reachable first.tightens all) (first.compact all compact);

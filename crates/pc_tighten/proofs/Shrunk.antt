@@ -208,7 +208,7 @@ shrinks_by (suc n) (t ∷ rest) code place marks size going others ranks =
     let h = going.0 in
     let u = h.target in
     let next = removed code t u in
-    let may : MayGo code t u = record { at_t = h.at; not_entry = h.not_entry; not_itself = h.not_itself } in
+    let may : MayGo code t u = record { at = h.at; not_entry = h.not_entry; not_itself = h.not_itself } in
     let later = λ (y : ℕ). place (unshift t y) in
     let left = λ (y : ℕ). marks (unshift t y) in
     let more = shrinks_by n (map (shifted t) rest) next later left (let a = length-map rest (shifted t) in omega arith)
