@@ -165,7 +165,7 @@ module _ (code : RowCode) (t u : ℕ) (may : MayGo code t u) (all : EachIsReacha
           alone = λ k other at apart. elim (same_or_apart k t) [
             | inl here ↦
                 let a = ap (λ (n : ℕ). slice_get code.rows n) here in
-                let b = may.at_t in
+                let b = may.at in
                 let is : At_leaf (Leads_to u) ≡ other = (cc) in
                 subst (λ (r : CodeRow). list_any (is_goto i) (leaves_of r) ≡ false) is (ap (λ (b : Bool). b || false) (nat_eq-apart u i elsewhere))
             | inr not_t ↦ sym (any-sent t u (is_goto (shifted t i)) (is_goto i) same other) ∙ none-else k other not_t apart at
@@ -242,7 +242,7 @@ module _ (code : RowCode) (t u : ℕ) (may : MayGo code t u) (all : EachIsReacha
 
     -- t is reached, so m leads to it
     leads_to_t : list_any (is_goto t) (leaves_of above) ≡ true
-    leads_to_t = by (all t (At_leaf (Leads_to u)) may.at_t) refl
+    leads_to_t = by (all t (At_leaf (Leads_to u)) may.at) refl
       where
         clash : (b : Bool) → b ≡ false → b ≡ true → ⊥
         clash true p q = absurd (cc)
@@ -260,7 +260,7 @@ module _ (code : RowCode) (t u : ℕ) (may : MayGo code t u) (all : EachIsReacha
               | inr not_m ↦ elim (same_or_apart k t) [
                 | inl itself ↦
                     let a = ap (λ (n : ℕ). slice_get code.rows n) itself in
-                    let b = may.at_t in
+                    let b = may.at in
                     let is : row ≡ At_leaf (Leads_to u) = (cc) in
                     absurd (clash (nat_eq u t || false) (ap (λ (v : Bool). v || false) (nat_eq-apart u t may.not_itself)) (subst
                     (λ (r : CodeRow). list_any (is_goto t) (leaves_of r) ≡ true) is to))
@@ -277,7 +277,7 @@ module _ (code : RowCode) (t u : ℕ) (may : MayGo code t u) (all : EachIsReacha
 
     pair_of_t : IsPair code t u (At_leaf (Leads_to u)) under
     pair_of_t = record {
-      at_m = may.at_t;
+      at_m = may.at;
       at_t = at_u;
       only = record {
         once = count_more (is_goto u) (Leads_to u) [] ∙ ap (λ (v : Bool). cond {A = ℕ} v 1 0 + 0) (nat_eq-refl u);
@@ -297,7 +297,7 @@ module _ (code : RowCode) (t u : ℕ) (may : MayGo code t u) (all : EachIsReacha
     stay-here = each (paths_to (shifted t u) (sent_row t u above))
       where
         first : AllByRecursion (λ path. EachStays code.limits (At_leaf (Leads_to u)) path [] under) (paths_to u (At_leaf (Leads_to u)))
-        first = compact t u (At_leaf (Leads_to u)) under (all t (At_leaf (Leads_to u)) may.at_t) pair_of_t
+        first = compact t u (At_leaf (Leads_to u)) under (all t (At_leaf (Leads_to u)) may.at) pair_of_t
 
         alone : EachStays code.limits (At_leaf (Leads_to u)) [] [] under
         alone = (elim (nat_eq u u) as (λ b. b ≡ true → AllByRecursion (λ path. EachStays code.limits (At_leaf (Leads_to u)) path [] under) (if b then [] ∷ [] else [])

@@ -18,6 +18,7 @@ pub mod Shrunk
 pub mod Sizes
 pub mod Drafting
 pub mod Places
+pub mod Gotos
 pub mod Listed
 pub mod Named
 pub mod Tightened

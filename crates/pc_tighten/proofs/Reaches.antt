@@ -133,7 +133,7 @@ module _ (code : RowCode) (t u : ℕ) (may : MayGo code t u) where
   removal_keeps_reached (Behind {from = k} {number = i} {row = row} reached at leads) = elim (same_or_apart k t) [
     | inl here ↦
         let is = ap (λ (n : ℕ). slice_get code.rows n) here in
-        let same : row ≡ At_leaf (Leads_to u) = (let a = may.at_t in cc) in
+        let same : row ≡ At_leaf (Leads_to u) = (let a = may.at in cc) in
         let to : u ≡ i = only (subst (λ (r : CodeRow). list_any (is_goto i) (leaves_of r) ≡ true) same (any_of_goto i row leads)) in
         let e : sent t u k ≡ sent t u i =
         ap (λ (n : ℕ). sent t u n) here ∙ ap (λ (b : Bool). if b then shifted t u else shifted t t) (nat_eq-refl t)

@@ -153,7 +153,7 @@ module _ (code : RowCode) (t u : ℕ) (may : MayGo code t u) where
     | inl same ↦
         let next : Cycle = record { row = u; state = here.state } in
         alone next
-        (ap (λ (i : ℕ). run_row code.arrays here.state (slice_get code.rows i)) same ∙ ap (λ r. run_row code.arrays here.state r) may.at_t)
+        (ap (λ (i : ℕ). run_row code.arrays here.state (slice_get code.rows i)) same ∙ ap (λ r. run_row code.arrays here.state r) may.at)
         (ap (λ (i : ℕ). let c : Cycle = record { row = i; state = here.state } in c) (sent_from ∙ sym sent_to ∙ ap (λ (i : ℕ). sent t u i) (sym same)))
         (both_step next may.not_itself)
   ]

@@ -74,15 +74,15 @@ module _ (code : RowCode) (well : WellFormed code) (t u : ℕ) (may : MayGo code
   left = length (without_row t code.rows)
 
   one_less : length code.rows ≡ suc left
-  one_less = without-length t (At_leaf (Leads_to u)) code.rows may.at_t
+  one_less = without-length t (At_leaf (Leads_to u)) code.rows may.at
 
   leads_inside : u < length code.rows
-  leads_inside = (all_at (IsRow code.limits (length code.arrays) (length code.rows)) code.rows t (At_leaf (Leads_to u)) well.rows may.at_t).leaves.0
+  leads_inside = (all_at (IsRow code.limits (length code.arrays) (length code.rows)) code.rows t (At_leaf (Leads_to u)) well.rows may.at).leaves.0
 
   stays_inside : (i : ℕ) → i < suc left → sent t u i < left
   stays_inside i low =
       let a = leads_inside in
-      let b = within t (At_leaf (Leads_to u)) code.rows may.at_t in
+      let b = within t (At_leaf (Leads_to u)) code.rows may.at in
       let c = one_less in
       sent-below t u i left may.not_itself (omega arith) (omega arith) low
 
@@ -109,7 +109,7 @@ module _ (code : RowCode) (well : WellFormed code) (t u : ℕ) (may : MayGo code
     limits = well.limits;
     arrays = well.arrays;
     entry = (
-        let a = within t (At_leaf (Leads_to u)) code.rows may.at_t in
+        let a = within t (At_leaf (Leads_to u)) code.rows may.at in
         let b = one_less in
         let c = same_length in
         let d = may.not_entry in

@@ -7,8 +7,8 @@ use Rattle.pc_machine.specs.Reachable.{IsReachable}
 use Rattle.pc_machine.specs.WellFormed.{WellFormed}
 use Rattle.pc_tighten.specs.Compact.{Compact}
 use Rattle.pc_tighten.specs.Moves.{MayMove}
-use Rattle.pc_tighten.specs.Removals.{MayGo, removed}
-use Rattle.pc_tighten.specs.Removing.{without_marked, Shrinks, AreMarks, IsGotoAlone}
+use Rattle.pc_tighten.specs.Removals.{MayGo, removed, IsGotoAlone, HasNoGotoAlone}
+use Rattle.pc_tighten.specs.Removing.{without_marked, Shrinks, AreMarks}
 use Rattle.pc_tighten.specs.Pace.{NeverFaults, IsNoSlower}
 use Rattle.pc_tighten.specs.Sizes.{Room, rows_room}
 use Rattle.pc_tighten.specs.Tightened.{Tightens, EachIsReachable}
@@ -47,5 +47,4 @@ MarkedRowsGo = (code : RowCode) (place : ℕ → ℕ) (marks : ℕ → Bool) (co
 
 -- where each row but row 0 that is a goto alone to another row leads further up, to such a row, there is none
 abbrev pub NoGotoIsLeft : Type 0
-NoGotoIsLeft = (rows : List CodeRow) → ((t u : ℕ) → IsGotoAlone rows t u → (u < t) × ((w : ℕ) × IsGotoAlone rows u w))
-    → (t u : ℕ) → IsGotoAlone rows t u → ⊥
+NoGotoIsLeft = (rows : List CodeRow) → ((t u : ℕ) → IsGotoAlone rows t u → (u < t) × ((w : ℕ) × IsGotoAlone rows u w)) → HasNoGotoAlone rows

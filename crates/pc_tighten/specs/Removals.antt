@@ -3,11 +3,19 @@ use Rattle.std.specs.Prelude.{◌≡◌, ◌≢◌, ℕ, zero, suc, pred, nat_eq
 use Rattle.pc_machine.specs.MachineCode.{Leaf, Leads_to, Ends, Traps, CodeRow, RowCode}
 use Rattle.pc_word.specs.Row.{Then, Either, At_leaf}
 
--- a row other than row 0 without item or test that leads to another row
-pub record MayGo (code : RowCode) (t u : ℕ) : Type 0 where
-  pub at_t : slice_get code.rows t ≡ Some (At_leaf (Leads_to u))
+-- a row other than row 0 that is a goto alone to another row
+pub record IsGotoAlone (rows : List CodeRow) (t u : ℕ) : Type 0 where
+  pub at : slice_get rows t ≡ Some (At_leaf (Leads_to u))
   pub not_entry : t ≢ 0
   pub not_itself : u ≢ t
+
+-- no row but row 0 is a goto alone to another row
+abbrev pub HasNoGotoAlone : List CodeRow → Type 0
+HasNoGotoAlone rows = (t u : ℕ) → IsGotoAlone rows t u → ⊥
+
+-- such a row may go
+abbrev pub MayGo : RowCode → ℕ → ℕ → Type 0
+MayGo code t u = IsGotoAlone code.rows t u
 
 -- the number of another row once the row t is out
 abbrev pub shifted : ℕ → ℕ → ℕ

@@ -49,9 +49,3 @@ pub record AreMarks (rows : List CodeRow) (place : ℕ → ℕ) (marks : ℕ →
   pub each : (t : ℕ) → marks t ≡ true → IsMarked rows place marks t
   pub within : (t : ℕ) → count ≤ t → marks t ≡ false
   pub ranks : (t : ℕ) → marks t ≡ false → place t ≡ rank marks t
-
--- a row other than row 0 that is a goto alone to another row
-pub record IsGotoAlone (rows : List CodeRow) (t u : ℕ) : Type 0 where
-  pub at : slice_get rows t ≡ Some (At_leaf (Leads_to u))
-  pub not_entry : t ≢ 0
-  pub not_itself : u ≢ t

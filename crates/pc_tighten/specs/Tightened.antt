@@ -7,7 +7,7 @@ use Rattle.pc_machine.specs.Reachable.{IsReachable}
 use Rattle.pc_machine.specs.WellFormed.{WellFormed}
 use Rattle.pc_tighten.specs.Compact.{Compact}
 use Rattle.pc_tighten.specs.Moves.{MayMove, moved}
-use Rattle.pc_tighten.specs.Removals.{MayGo, removed}
+use Rattle.pc_tighten.specs.Removals.{MayGo, removed, HasNoGotoAlone}
 use Rattle.pc_tighten.specs.Pace.{NeverFaults, IsNoSlower}
 use Rattle.pc_tighten.specs.Sizes.{Room, rows_room}
 
@@ -24,6 +24,8 @@ EachIsReachable rows = (i : ℕ) (row : CodeRow) → slice_get rows i ≡ Some r
 
 -- the code after the tightening of a code
 pub record IsTightened (before after : RowCode) : Type 0 where
+  -- by moves and removals alone
+  pub tightens : Tightens before after
   pub form : WellFormed after
   pub limits : after.limits ≡ before.limits
   pub arrays : after.arrays ≡ before.arrays
@@ -31,5 +33,7 @@ pub record IsTightened (before after : RowCode) : Type 0 where
   pub runs : (input : List ℤ) → NeverFaults (machine_run before input) → IsNoSlower (machine_run before input) (machine_run after input)
   -- its rows are written in no more room
   pub room : (room : Room) → rows_room room after.rows ≤ rows_room room before.rows
-  pub compact : Compact after
   pub reachable : EachIsReachable before.rows → EachIsReachable after.rows
+  -- where each row was reachable: a row that was not may go, and then one leaf alone may lead to the row behind it
+  pub compact : EachIsReachable before.rows → Compact after
+  pub no_goto_alone : HasNoGotoAlone after.rows

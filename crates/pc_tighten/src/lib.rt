@@ -1,6 +1,4 @@
-//! Rows made compact: items go up as many rows as they can.
-//!
-//! Rows that are left as a goto alone stay in the code. What taking them out keeps is said by laws.
+//! Rows made compact: items go up as many rows as they can, and rows that are left as a goto alone go.
 #![tactic(auto)]
 
 mod draft;
@@ -10,6 +8,7 @@ mod listing;
 mod parents;
 mod raising;
 mod reasons;
+mod removing;
 #[cfg(test)]
 mod tests;
 mod tightening;

@@ -123,15 +123,11 @@ const PRINT: Item = Item::Print {
 const READ: Item = Item::Read { dest: 15 };
 
 /// Codes, and the rows that are due.
-static CODES: [(&[(&[Item], End)], &[(&[Item], End)]); 10] = [
+static CODES: [(&[(&[Item], End)], &[(&[Item], End)]); 13] = [
     // two rows become one, and items climb
     (
         &[(&[], End::Goto(1)), (&[A], End::Goto(2)), (&[B], End::Stop)],
-        &[
-            (&[A, B], End::Goto(1)),
-            (&[], End::Goto(2)),
-            (&[], End::Stop),
-        ],
+        &[(&[A, B], End::Goto(1)), (&[], End::Stop)],
     ),
     // a row has room for three
     (
@@ -189,12 +185,42 @@ static CODES: [(&[(&[Item], End)], &[(&[Item], End)]); 10] = [
     // row 0 stays, also where one leaf alone leads to it
     (
         &[(&[A], End::Goto(1)), (&[B], End::Goto(0))],
-        &[(&[A, B], End::Goto(1)), (&[], End::Goto(0))],
+        &[(&[A, B], End::Goto(0))],
     ),
     // of prints, reads and questions for more a path has one
     (
         &[(&[PRINT], End::Goto(1)), (&[READ, B], End::Stop)],
         &[(&[PRINT, B], End::Goto(1)), (&[READ], End::Stop)],
+    ),
+    // two rows that are left empty go, and a leaf is sent past both
+    (
+        &[
+            (&[A], End::Goto(1)),
+            (&[B], End::Goto(2)),
+            (&[C], End::Goto(3)),
+            (&[D], End::Fork(0, 3)),
+        ],
+        &[(&[A, B, C], End::Goto(1)), (&[D], End::Fork(0, 1))],
+    ),
+    // gotos that lead further up go one after another
+    (
+        &[
+            (&[], End::Fork(3, 4)),
+            (&[], End::Stop),
+            (&[], End::Goto(1)),
+            (&[], End::Goto(2)),
+            (&[], End::Goto(0)),
+        ],
+        &[(&[], End::Fork(1, 0)), (&[], End::Stop)],
+    ),
+    // of gotos in a ring one is left, which leads to itself, and row 0 stays
+    (
+        &[
+            (&[], End::Goto(2)),
+            (&[], End::Goto(2)),
+            (&[], End::Goto(1)),
+        ],
+        &[(&[], End::Goto(1)), (&[], End::Goto(1))],
     ),
 ];
 

@@ -8,15 +8,15 @@ ghost use Rattle.pc_tighten.specs.models.Drafts.{draft_rows};
 use crate::draft::{Draft, drafted, rebuilt};
 use crate::error::TightenError;
 use crate::raising::raise_all;
-use pc_machine::{Code, TreeList};
+use crate::removing::remove_all;
+use pc_machine::{Code, Tree, TreeList};
 use std::alloc::{AllocError, Global};
 
 /// The code with each item brought up as many rows as it may go: from a row to which one leaf alone leads to the
-/// end of the path to that leaf, as in percolation scheduling (Nicolau 1985).
+/// end of the path to that leaf, as in percolation scheduling (Nicolau 1985). Rows that are then a goto alone to
+/// another row go, but for row 0: what led to them is sent on, and the rows behind them get lower numbers.
 ///
-/// The numbers of the rows and what their leaves lead to stay, also of a row that is left as a goto alone.
-///
-/// `Memory` is the only error.
+/// `Memory` is the only error. It also comes where there are 2^32 rows or more.
 pub fn tighten(alloc: Global, code: Code) -> Result<Code, TightenError>
     requires { WellFormed (code_of code) }
     ensures { IfOk result (λ after. IsTightened (code_of code) (code_of after)) }
@@ -28,11 +28,12 @@ pub fn tighten(alloc: Global, code: Code) -> Result<Code, TightenError>
     } = code;
     let mut drafts = drafts(alloc, rows)?;
     raise_all(alloc, limits, &mut drafts)?;
-    let rows = trees(alloc, drafts)?;
+    let mut rows = trees(alloc, drafts)?;
+    remove_all(alloc, &mut rows)?;
     Ok(Code {
         limits,
         arrays,
-        rows,
+        rows: TreeList::from_vec(rows),
     })
 }
 
@@ -49,10 +50,10 @@ fn drafts(alloc: Global, mut rows: TreeList) -> Result<Vec<Draft>, AllocError>
 }
 
 /// The trees of drafts.
-fn trees(alloc: Global, drafts: Vec<Draft>) -> Result<TreeList, AllocError>
-    ensures { IfOk result (λ rows. rows_of rows ≡ draft_rows drafts.items) }
+fn trees(alloc: Global, drafts: Vec<Draft>) -> Result<Vec<Tree>, AllocError>
+    ensures { IfOk result (λ rows. rows_of rows.items ≡ draft_rows drafts.items) }
 {
-    let mut rows = TreeList::new(alloc);
+    let mut rows = Vec::new(alloc);
     for draft in drafts {
         rows.push(rebuilt(alloc, draft)?)?;
     }

@@ -4,4 +4,4 @@ use Rattle.pc_tighten.specs.models.Drafts.{draft_rows}
 use Rattle.pc_tighten.proofs.tightening.trees.Given as goal
 
 abbrev pub invariant-loop-draft : goal.invariant-loop-draft
-invariant-loop-draft l = rows_of l.rows ≡ draft_rows l.yielded
+invariant-loop-draft l = rows_of l.rows.items ≡ draft_rows l.yielded
