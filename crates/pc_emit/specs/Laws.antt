@@ -16,8 +16,8 @@ use Rattle.pc_emit.specs.PackedForm.{IsForm}
 abbrev pub code_with : Limits → Emission → List CodeRow → RowCode
 code_with limits e rows = record { limits = limits; arrays = e.table.arrays; rows = rows }
 
--- where each region that has a form has one that it may have, and its rows stand in the code, the code shows what the table
--- shows, on every input of words on which that never faults
+-- where each region that has a form has one that it may have, its rows stand in the code, and the table's run faults on no
+-- input of words, the code shows what the table shows, on every such input
 abbrev pub EmittedRowsDoWhatTheirTableDoes : Type 0
 EmittedRowsDoWhatTheirTableDoes = (e : Emission) → TableKeeps e.table → (limits : Limits) (rows : List CodeRow) → IsEmitted e rows
     → ((region : ℕ) (form : RegionForm) → e.forms region ≡ Some form → IsForm e.table region form)
