@@ -178,6 +178,31 @@ fn a_pressure_of_128_is_refused(rt: HostRuntime) -> Result<(), Fail> {
     Ok(())
 }
 
+/// What `assign` gives for two states, the second of which has as many parameters, each of them passed 0.
+fn passed(alloc: Global, count: u32) -> Result<Option<Result<Assigned, AssignError>>, AllocError> {
+    let mut zeros = Vec::new(alloc);
+    let mut parameters = Vec::new(alloc);
+    for name in 0..count {
+        zeros.push(Operand::Lit(0))?;
+        parameters.push(name)?;
+    }
+    let row = passing(alloc, 1, zeros.as_slice())?;
+    let first = made(alloc, &[], row)?;
+    let last = defining_many(alloc, 0)?;
+    let second = made(alloc, parameters.as_slice(), last)?;
+    let states = listed(first, Some(second), StateList::new(alloc))?;
+    Ok(assigned(alloc, states))
+}
+
+#[test]
+fn a_state_with_128_parameters_is_refused(rt: HostRuntime) -> Result<(), Fail> {
+    let most = passed(rt.alloc(), 127)?;
+    assert!(&rt; are(&most, 1, &[(0, Some(0)), (126, Some(126))]));
+    let more = passed(rt.alloc(), 128)?;
+    assert!(&rt; is_refused(&more, 1, 128));
+    Ok(())
+}
+
 #[test]
 fn a_parameter_that_is_used_no_more_gives_its_register(rt: HostRuntime) -> Result<(), Fail> {
     let alloc = rt.alloc();
