@@ -10,6 +10,8 @@ mod file;
 mod host;
 mod laws;
 #[cfg(test)]
+mod packed_tests;
+#[cfg(test)]
 mod pass_tests;
 mod program;
 #[cfg(test)]

@@ -152,10 +152,18 @@ const PROGRAMS: [Program; 17] = [
     },
 ];
 
-/// Whether a source is compiled, and its object does what it is to.
-fn does(alloc: Global, program: &Program) -> Result<bool, Fail> {
+/// Lines that compile for rows of several widths.
+const WIDTHS: [&str; 4] = [
+    "a.c -o o.tv",
+    "a.c -o o.tv --ops 1 --tests 1 --mem 1",
+    "a.c -o o.tv --ops 2 --tests 2",
+    "a.c -o o.tv --ops 32 --tests 7 --mem 32",
+];
+
+/// Whether a source is compiled by a line, and its object does what it is to.
+fn does(alloc: Global, line: &str, program: &Program) -> Result<bool, Fail> {
     let mut shelf = shelf_with(alloc, "a.c", program.source, 0)?;
-    does_there(alloc, "a.c -o o.tv", "o.tv", program, &mut shelf)
+    does_there(alloc, line, "o.tv", program, &mut shelf)
 }
 
 /// The same over a shelf, by these two lines.
@@ -181,8 +189,10 @@ fn does_there(
 #[test]
 fn objects_do_what_their_sources_mean(rt: HostRuntime) -> Result<(), Fail> {
     let alloc = rt.alloc();
-    for (number, program) in PROGRAMS.iter().enumerate() {
-        assert!(rt; does(alloc, program)?, "program {number}");
+    for line in WIDTHS {
+        for (number, program) in PROGRAMS.iter().enumerate() {
+            assert!(rt; does(alloc, line, program)?, "program {number} by {line}");
+        }
     }
     Ok(())
 }
