@@ -92,7 +92,8 @@ copy_same a a' e = cc
 print_same : (a a' : Operand) → Print a ≡ Print a' → a ≡ a'
 print_same a a' e = cc
 
-item_from : (xs ys : List ℕ) (i j : Item) → Listed xs (λ x. reads i x) → Listed ys (λ y. reads j y) → placed_item (place_of xs) i ≡ placed_item (place_of ys) j → ItemsAlike (side_by_side xs ys) i j
+item_from : (xs ys : List ℕ) (i j : Item) → Listed xs (λ x. reads i x) → Listed ys (λ y. reads j y)
+    → placed_item (place_of xs) i ≡ placed_item (place_of ys) j → ItemsAlike (side_by_side xs ys) i j
 item_from xs ys (Bin op d l r) (Bin op' d' l' r') p q e =
     let h = bin_same op op' (placed (place_of xs) l) (placed (place_of xs) r) (placed (place_of ys) l') (placed (place_of ys) r') e in
     subst (λ (o : OpCode). ItemsAlike (side_by_side xs ys) (Bin op d l r) (Bin o d' l' r')) h.0
@@ -168,7 +169,8 @@ listed_below xs (Some d) P Q h x q = shown (nat_eq d x) (Q x) (P x) (has xs x) q
     shown true q p c e h = refl
     shown false q p c e h = h (or_second p q e)
 
-named_forms : (R : Form → Form → Type 0) (forms forms' : ℕ → Form) (d d' : Option ℕ) (xs ys : List ℕ) → BothOrNeither d d' → EachAlike R (map forms (named d xs)) (map forms' (named d' ys))
+named_forms : (R : Form → Form → Type 0) (forms forms' : ℕ → Form) (d d' : Option ℕ) (xs ys : List ℕ)
+    → BothOrNeither d d' → EachAlike R (map forms (named d xs)) (map forms' (named d' ys))
     → EachAlike R (map forms xs) (map forms' ys)
 named_forms R forms forms' (Some x) (Some y) xs ys both h = others_of h
   where
@@ -188,7 +190,8 @@ named_dests maps forms forms' None None xs ys both h = tt
 named_dests maps forms forms' (Some x) None xs ys both h = tt
 named_dests maps forms forms' None (Some y) xs ys both h = tt
 
-pub split_forms : (R : Form → Form → Type 0) (forms forms' : ℕ → Form) (xs ys more more' : List ℕ) → length xs ≡ length ys → EachAlike R (map forms (xs ++ more)) (map forms' (ys ++ more'))
+pub split_forms : (R : Form → Form → Type 0) (forms forms' : ℕ → Form) (xs ys more more' : List ℕ)
+    → length xs ≡ length ys → EachAlike R (map forms (xs ++ more)) (map forms' (ys ++ more'))
     → EachAlike R (map forms xs) (map forms' ys) × EachAlike R (map forms more) (map forms' more')
 split_forms R forms forms' [] [] more more' e h = (no_more, h)
 split_forms R forms forms' (x ∷ xs) (y ∷ ys) more more' e h = both_of (split_forms R forms forms' xs ys more more' (suc_same (length xs) (length ys) e)) h
@@ -228,7 +231,8 @@ as_many_defined first names Stop_exit = refl
 as_many_defined first names (Trap_exit kind line) = refl
 
 -- trees with equal canonical trees are alike
-pub trees_from : (vars : List Pair) (forms forms' : ℕ → Form) (a b : ℕ) (xs ys : List ℕ) (t u : Tree) → Listed xs (λ x. uses t x) → Listed ys (λ y. uses u y) → TagsFrom a t → TagsFrom b u
+pub trees_from : (vars : List Pair) (forms forms' : ℕ → Form) (a b : ℕ) (xs ys : List ℕ) (t u : Tree)
+    → Listed xs (λ x. uses t x) → Listed ys (λ y. uses u y) → TagsFrom a t → TagsFrom b u
     → EachAlike (FormsAlike vars) (map forms (definitions_of t)) (map forms' (definitions_of u)) → canonical_tree a xs t ≡ canonical_tree b ys u
     → TreesAlike (record { variables = vars; shift = b; other_shift = a }) forms forms' (side_by_side xs ys) t u
 trees_from vars forms forms' a b xs ys (Pending t o i r) (Pending t' o' i' r') p q m n f e =

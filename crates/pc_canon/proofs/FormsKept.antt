@@ -82,7 +82,8 @@ outer_step names true false c x y xs ys e h t = absurd (cc)
 outer_step names false true c x y xs ys e h t = absurd (cc)
 outer_step names false false c x y xs ys e h t = one_more (e ∙ h) t
 
-outer_uses : (names : List Pair) (d d' : Option ℕ) {xs ys : List ℕ} → BothOrNeither d d' → EachAlike (Corr (defined names d d')) xs ys → EachAlike (Corr names) (without_name d xs) (without_name d' ys)
+outer_uses : (names : List Pair) (d d' : Option ℕ) {xs ys : List ℕ} → BothOrNeither d d'
+    → EachAlike (Corr (defined names d d')) xs ys → EachAlike (Corr names) (without_name d xs) (without_name d' ys)
 outer_uses names d d' both no_more = no_more
 outer_uses names (Some a) (Some b) both (one_more {a = x} {b = y} {xs} {ys} h t) =
     outer_step names (nat_eq a x) (nat_eq b y) (corresponds names x y) x y (without_name (Some a) xs) (without_name (Some b) ys) refl h (outer_uses names (Some a) (Some b) both t)
@@ -262,7 +263,8 @@ param_forms vars names forms forms' each no_more = no_more
 param_forms vars names forms forms' each (one_more {a} {b} h t) =
     one_more (each_corresponds names (λ x y. FormsAlike vars (forms x) (forms' y)) a b each h) (param_forms vars names forms forms' each t)
 
-dest_forms : (maps : Maps) (f g : ℕ → Form) (d d' : Option ℕ) (xs ys : List ℕ) → BothOrNeither d d' → DestsAlike maps f g d d' → EachAlike (FormsAlike maps.variables) (map f xs) (map g ys)
+dest_forms : (maps : Maps) (f g : ℕ → Form) (d d' : Option ℕ) (xs ys : List ℕ) → BothOrNeither d d'
+    → DestsAlike maps f g d d' → EachAlike (FormsAlike maps.variables) (map f xs) (map g ys)
     → EachAlike (FormsAlike maps.variables) (map f (named d xs)) (map g (named d' ys))
 dest_forms maps f g (Some a) (Some b) xs ys both h t = one_more h t
 dest_forms maps f g None None xs ys both h t = t

@@ -111,7 +111,8 @@ constants_append : (fs gs : List Form) → map constant_in (fs ++ gs) ≡ map co
 constants_append [] gs = refl
 constants_append (f ∷ fs) gs = ap (λ (l : List Constant). constant_in f ∷ l) (constants_append fs gs)
 
-split_alike : (R : Form → Form → Type 0) (fs gs more more' : List Form) → map constant_in fs ≡ map constant_in gs → EachAlike R (fs ++ more) (gs ++ more') → EachAlike R fs gs × EachAlike R more more'
+split_alike : (R : Form → Form → Type 0) (fs gs more more' : List Form) → map constant_in fs ≡ map constant_in gs
+    → EachAlike R (fs ++ more) (gs ++ more') → EachAlike R fs gs × EachAlike R more more'
 split_alike R [] [] more more' e h = (no_more, h)
 split_alike R (f ∷ fs) (g ∷ gs) more more' e h =
     both_of (split_alike R fs gs more more' (cons_same (constant_in f) (constant_in g) (map constant_in fs) (map constant_in gs) e).1) h
@@ -123,7 +124,8 @@ split_alike R [] (g ∷ gs) more more' e h = absurd (cc)
 split_alike R (f ∷ fs) [] more more' e h = absurd (cc)
 
 -- lists of names whose forms are alike, pair by pair
-side_by_side_forms : (R : Form → Form → Type 0) (forms forms' : ℕ → Form) (xs ys : List ℕ) → EachAlike R (map forms xs) (map forms' ys) → EachPair (side_by_side xs ys) (λ x y. R (forms x) (forms' y))
+side_by_side_forms : (R : Form → Form → Type 0) (forms forms' : ℕ → Form) (xs ys : List ℕ)
+    → EachAlike R (map forms xs) (map forms' ys) → EachPair (side_by_side xs ys) (λ x y. R (forms x) (forms' y))
 side_by_side_forms R forms forms' [] ys h = tt
 side_by_side_forms R forms forms' (x ∷ xs) [] h = tt
 side_by_side_forms R forms forms' (x ∷ xs) (y ∷ ys) h = both_of h (side_by_side_forms R forms forms' xs ys)

@@ -43,7 +43,8 @@ sought_either names P Q y (inl h) = (h.0, or_first (P h.0) (Q h.0) h.1, h.2)
 sought_either names P Q y (inr h) = (h.0, or_second (P h.0) (Q h.0) h.1, h.2)
 
 -- what is found in one of two parts is found in both together
-sought_parts : (names : List Pair) (P P' Q Q' : ℕ → Bool) (y : ℕ) → (P' y ≡ true → Sought names P y) → (Q' y ≡ true → Sought names Q y) → (P' y || Q' y) ≡ true → Sought names (λ x. P x || Q x) y
+sought_parts : (names : List Pair) (P P' Q Q' : ℕ → Bool) (y : ℕ) → (P' y ≡ true → Sought names P y)
+    → (Q' y ≡ true → Sought names Q y) → (P' y || Q' y) ≡ true → Sought names (λ x. P x || Q x) y
 sought_parts names P P' Q Q' y p q h = elim (or_is (P' y) (Q' y) h) [
   | inl k ↦ sought_either names P Q y (inl (p k))
   | inr k ↦ sought_either names P Q y (inr (q k))
@@ -128,7 +129,8 @@ each_corresponds (pair ∷ pairs) P x y h is =
 
 dest_holds : (variables : List Pair) (words words' : ℕ → ℤ) (forms forms' : ℕ → Form) (maps : Maps) (d d' : Option ℕ) (v v' : ℤ)
     → ((x : ℕ) × (z : ℕ) × (d ≡ Some x) × (d' ≡ Some z)) ⊎ ((d ≡ None) × (d' ≡ None))
-    → OneToOne maps.variables → EachPair maps.variables (λ x y. words x ≡ words' y) → DestsAlike maps forms forms' d d' → v ≡ v' → DefinedMeans words forms d v → DefinedMeans words' forms' d' v'
+    → OneToOne maps.variables → EachPair maps.variables (λ x y. words x ≡ words' y)
+    → DestsAlike maps forms forms' d d' → v ≡ v' → DefinedMeans words forms d v → DefinedMeans words' forms' d' v'
 dest_holds variables words words' forms forms' maps (Some x) (Some y) v v' e distinct same alike value h = subst (λ (z : ℤ). Means words' (forms' y) z) value
     (means_alike maps.variables words words' (forms x) (forms' y) distinct same alike v h)
 dest_holds variables words words' forms forms' maps d None v v' e distinct same alike value h = tt

@@ -87,7 +87,8 @@ dests_of (both_read {dest} {dest'}) = inl (dest, dest', refl, refl)
 dests_of (both_more {dest} {dest'}) = inl (dest, dest', refl, refl)
 
 -- equal stores, reads and input lead to the same fault
-pub fault_alike : (lengths : List ℕ) (s t : State) (item other : Item) → s.input ≡ t.input → SameEffect lengths s t item other → fault_of lengths s (item ∷ []) ≡ fault_of lengths t (other ∷ [])
+pub fault_alike : (lengths : List ℕ) (s t : State) (item other : Item) → s.input ≡ t.input
+    → SameEffect lengths s t item other → fault_of lengths s (item ∷ []) ≡ fault_of lengths t (other ∷ [])
 fault_alike lengths s t item other input e =
     let fault : List Stored → ℕ → List ℤ → Option MachineFault = λ stores reads left.
     if list_any is_outside stores then Some StoreOutOfRange
@@ -180,5 +181,6 @@ trees_alike table s t zero c both_trap = refl
 trees_alike table s t (suc n) c both_trap = refl
 
 -- windows that are equal up to a shift have the same run, where corresponding parameters have the same values
-pub shifted_runs : (table : Table) (params : List Pair) (w v : Window) (s t : State) → ShiftedBy params w v → Correspond params s t → (n : ℕ) → window_run table w s n ≡ window_run table v t n
+pub shifted_runs : (table : Table) (params : List Pair) (w v : Window) (s t : State) → ShiftedBy params w v
+    → Correspond params s t → (n : ℕ) → window_run table w s n ≡ window_run table v t n
 shifted_runs table params w v s t h c n = trees_alike table s t n c h.1.trees

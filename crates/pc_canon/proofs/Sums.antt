@@ -2,7 +2,8 @@
 use Rattle.std.proofs.Common.{◌≡◌, ℕ, List, [], ◌∷◌, refl, sym, ◌∙◌, ap, subst}
 use Rattle.std.specs.Prelude.{ℤ, pos, ◌+ℤ◌, ◌-ℤ◌, ◌*ℤ◌, Bool, true, false, ◌||◌, if◌then◌else◌, nat_eq}
 use Rattle.std.specs.Int.{w32, int_wrap}
-use Rattle.std.proofs.Math.IntN.{neg_ℤ, suc_ℤ, pred_ℤ, ℤ_ind, +ℤ_assoc, +ℤ_comm, +ℤ_idl, +ℤ_idr, +ℤ_one, -ℤ_one, suc_ℤ-+ℤ, pred_ℤ-+ℤ, suc_ℤ-*ℤ, pred_ℤ-*ℤ, zero-*ℤ}
+use Rattle.std.proofs.Math.IntN.{neg_ℤ, suc_ℤ, pred_ℤ, ℤ_ind, +ℤ_assoc, +ℤ_comm, +ℤ_idl}
+use Rattle.std.proofs.Math.IntN.{+ℤ_idr, +ℤ_one, -ℤ_one, suc_ℤ-+ℤ, pred_ℤ-+ℤ, suc_ℤ-*ℤ, pred_ℤ-*ℤ, zero-*ℤ}
 use Rattle.std.proofs.lemmas.Bool.{eqb-true, eq-eqb}
 use Rattle.pc_word.proofs.Truth.{or_false}
 use Rattle.pc_linear.specs.declared.term.Term.{Term}
@@ -24,11 +25,13 @@ Spreads b c a = ((a +ℤ b) *ℤ c) ≡ ((a *ℤ c) +ℤ (b *ℤ c))
 
 spreads_suc : (a b c : ℤ) → Spreads b c a → Spreads b c (suc_ℤ a)
 spreads_suc a b c h =
-    ap (λ (z : ℤ). z *ℤ c) (suc_ℤ-+ℤ a b) ∙ suc_ℤ-*ℤ (a +ℤ b) c ∙ ap (λ (z : ℤ). z +ℤ c) h ∙ last_first (a *ℤ c) (b *ℤ c) c ∙ ap (λ (z : ℤ). z +ℤ (b *ℤ c)) (sym (suc_ℤ-*ℤ a c))
+    ap (λ (z : ℤ). z *ℤ c) (suc_ℤ-+ℤ a b) ∙ suc_ℤ-*ℤ (a +ℤ b) c ∙ ap (λ (z : ℤ). z +ℤ c) h
+    ∙ last_first (a *ℤ c) (b *ℤ c) c ∙ ap (λ (z : ℤ). z +ℤ (b *ℤ c)) (sym (suc_ℤ-*ℤ a c))
 
 spreads_pred : (a b c : ℤ) → Spreads b c a → Spreads b c (pred_ℤ a)
 spreads_pred a b c h =
-    ap (λ (z : ℤ). z *ℤ c) (pred_ℤ-+ℤ a b) ∙ pred_ℤ-*ℤ (a +ℤ b) c ∙ ap (λ (z : ℤ). z -ℤ c) h ∙ last_first (a *ℤ c) (b *ℤ c) (neg_ℤ c) ∙ ap (λ (z : ℤ). z +ℤ (b *ℤ c)) (sym (pred_ℤ-*ℤ a c))
+    ap (λ (z : ℤ). z *ℤ c) (pred_ℤ-+ℤ a b) ∙ pred_ℤ-*ℤ (a +ℤ b) c ∙ ap (λ (z : ℤ). z -ℤ c) h
+    ∙ last_first (a *ℤ c) (b *ℤ c) (neg_ℤ c) ∙ ap (λ (z : ℤ). z +ℤ (b *ℤ c)) (sym (pred_ℤ-*ℤ a c))
 
 spreads : (a b c : ℤ) → Spreads b c a
 spreads a b c = ℤ_ind (Spreads b c)
@@ -65,7 +68,8 @@ absent words term [] h = refl
 absent words term (x ∷ xs) h =
     absent_cons (nat_eq x term.variable) (has xs term.variable) term.factor (words x) (sum_over words (factor_in term) xs) h (λ k. absent words term xs k)
 
-present_cons : (b c : Bool) (k w w' rest : ℤ) → (b || c) ≡ true → (b ≡ true → (w ≡ w') × (rest ≡ pos 0)) → (c ≡ true → rest ≡ k *ℤ w') → ((if b then k else pos 0) *ℤ w) +ℤ rest ≡ k *ℤ w'
+present_cons : (b c : Bool) (k w w' rest : ℤ) → (b || c) ≡ true → (b ≡ true → (w ≡ w') × (rest ≡ pos 0))
+    → (c ≡ true → rest ≡ k *ℤ w') → ((if b then k else pos 0) *ℤ w) +ℤ rest ≡ k *ℤ w'
 present_cons true c k w w' rest h here next =
     ap (λ (z : ℤ). (k *ℤ w) +ℤ z) (here refl).1 ∙ +ℤ_idr (k *ℤ w) ∙ ap (λ (z : ℤ). k *ℤ z) (here refl).0
 present_cons false c k w w' rest h here next = ap (λ (z : ℤ). z +ℤ rest) (zero-*ℤ w) ∙ +ℤ_idl rest ∙ next h
@@ -123,7 +127,8 @@ extended-among (term ∷ terms) xs =
     let more = with_one (has xs term.variable) term.variable xs in
     (extended-has terms more term.variable (with_one-has_it (has xs term.variable) term.variable xs refl), extended-among terms more)
 
-with_one-sum : (b : Bool) (words f : ℕ → ℤ) (x : ℕ) (xs : List ℕ) → has xs x ≡ b → ((y : ℕ) → has xs y ≡ false → f y ≡ pos 0) → sum_over words f (with_one b x xs) ≡ sum_over words f xs
+with_one-sum : (b : Bool) (words f : ℕ → ℤ) (x : ℕ) (xs : List ℕ) → has xs x ≡ b
+    → ((y : ℕ) → has xs y ≡ false → f y ≡ pos 0) → sum_over words f (with_one b x xs) ≡ sum_over words f xs
 with_one-sum true words f x xs e h = refl
 with_one-sum false words f x xs e h =
     ap (λ (z : ℤ). (z *ℤ words x) +ℤ sum_over words f xs) (h x e) ∙ ap (λ (z : ℤ). z +ℤ sum_over words f xs) (zero-*ℤ (words x)) ∙ +ℤ_idl (sum_over words f xs)
@@ -148,7 +153,8 @@ among_sum words (term ∷ terms) xs distinct h =
     ∙ ap (λ (z : ℤ). (term.factor *ℤ words term.variable) +ℤ z) (among_sum words terms xs distinct h.1)
 
 -- and over any variables beside which all have factor 0
-covered : (words : ℕ → ℤ) (terms : List Term) (xs : List ℕ) → Distinct xs → ((y : ℕ) → has xs y ≡ false → factor_of terms y ≡ pos 0) → sum_over words (factor_of terms) xs ≡ sum_of words terms
+covered : (words : ℕ → ℤ) (terms : List Term) (xs : List ℕ) → Distinct xs
+    → ((y : ℕ) → has xs y ≡ false → factor_of terms y ≡ pos 0) → sum_over words (factor_of terms) xs ≡ sum_of words terms
 covered words terms xs distinct h =
     sym (extended-sum words (factor_of terms) terms xs h) ∙ among_sum words terms (extended xs terms) (extended-distinct terms xs distinct) (extended-among terms xs)
 
@@ -163,7 +169,8 @@ over_pairs words words' f g (pair ∷ pairs) h k =
     ∙ ap (λ (z : ℤ). (g pair.other *ℤ words' pair.other) +ℤ z) (over_pairs words words' f g pairs h.1 k.1)
 
 -- forms that are alike have one value, where corresponding variables have the same words
-pub value_alike : (pairs : List Pair) (words words' : ℕ → ℤ) (f g : Form) → OneToOne pairs → EachPair pairs (λ x y. words x ≡ words' y) → FormsAlike pairs f g → number_of words f ≈ number_of words' g
+pub value_alike : (pairs : List Pair) (words words' : ℕ → ℤ) (f g : Form) → OneToOne pairs
+    → EachPair pairs (λ x y. words x ≡ words' y) → FormsAlike pairs f g → number_of words f ≈ number_of words' g
 value_alike pairs words words' f g distinct same h =
     let sums : sum_of words f.terms ≡ sum_of words' g.terms =
     sym (covered words f.terms (ones pairs) (distinct_from (ones pairs) distinct.ones_differ) (λ x e. h.no_more x (sym (has_is (ones pairs) x) ∙ e)))
@@ -176,7 +183,8 @@ pub means_alike : (pairs : List Pair) (words words' : ℕ → ℤ) (f g : Form) 
     → Means words f value → Means words' g value
 means_alike pairs words words' f g distinct same h value m = by_terms f.terms g.terms f.constant g.constant h.both_terms h.constants (value_alike pairs words words' f g distinct same h) m
   where
-    by_terms : (ts us : List Term) (c d : ℤ) → has_terms ts ≡ has_terms us → c ≡ d → (sum_of words ts +ℤ c) ≈ (sum_of words' us +ℤ d) → says words ts c value → says words' us d value
+    by_terms : (ts us : List Term) (c d : ℤ) → has_terms ts ≡ has_terms us → c ≡ d
+        → (sum_of words ts +ℤ c) ≈ (sum_of words' us +ℤ d) → says words ts c value → says words' us d value
     by_terms [] [] c d both e w m = m ∙ e
     by_terms (t ∷ ts) (u ∷ us) c d both e w m = m ∙ w
     by_terms [] (u ∷ us) c d both e w m = absurd (cc)

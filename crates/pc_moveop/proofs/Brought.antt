@@ -29,7 +29,8 @@ still_there path t u n is at =
     subst (λ (o : Option NodeTree). IsSome o) (sym (ap (node_at path) is ∙ node_put path n (Leads_out Stop_exit) (nodes_in t) at)) refl
 
 -- the node has changed
-pub put_back : (path : List ℕ) (t u v n : NodeTree) (change : NodeTree → NodeTree) (hole : NodeTree) → node_at path t ≡ Some n → u ≡ with_node path hole t → v ≡ with_node path (change n) u
+pub put_back : (path : List ℕ) (t u v n : NodeTree) (change : NodeTree → NodeTree) (hole : NodeTree)
+    → node_at path t ≡ Some n → u ≡ with_node path hole t → v ≡ with_node path (change n) u
     → NodeChanges t v path change
 put_back path t u v n change hole at taken put = record { node = n; at = at; tree = put ∙ ap (with_node path (change n)) taken ∙ put_again path hole (change n) t }
 

@@ -110,7 +110,8 @@ renamed_as n m = record { tag = m.tag; origin = m.origin; item = with_dest n m.i
 module _ (forms forms' : ℕ → Form) (base : ℕ → Bool) (n : ℕ) where
   abbrev pub EntersNamed : NodeTree → (Coming → NodeTree) → Option Mover → Type 0
   EntersNamed from to None = Unit {0}
-  EntersNamed from to (Some m) = ClearWay forms m.item m.way → crosses_test m ≡ true → ReadsKnown base (with_dest n m.item) → IsNew base (dest_of (with_dest n m.item)) → Unwritten n (tree_of from)
+  EntersNamed from to (Some m) = ClearWay forms m.item m.way → crosses_test m ≡ true
+      → ReadsKnown base (with_dest n m.item) → IsNew base (dest_of (with_dest n m.item)) → Unwritten n (tree_of from)
       → GivesForm forms forms' (with_dest n m.item) (dest_of (with_dest n m.item))
       → Enters base forms forms' (dest_of (with_dest n m.item)) (Some (with_dest n m.item)) (node_front from) (node_front (to (renamed_as n m)))
 
@@ -188,7 +189,8 @@ gives_named names without x =
     dest_named names.next x (λ d. dest_of z ≡ d → GivesForm names.forms (given_supply names d (Some z)).forms z d) (λ e. gives_next names without z e) (λ e. refl) refl
 
 -- what may move enters the node above, where names are known and the next name and form variable are new
-pub enters : (names : Supply) (known : ℕ → Bool) (leaf place : ℕ) (t : NodeTree) (m : Mover) → mover_at leaf place t ≡ Some m → ClearWay names.forms m.item m.way → Scoped known (tree_of t)
+pub enters : (names : Supply) (known : ℕ → Bool) (leaf place : ℕ) (t : NodeTree) (m : Mover)
+    → mover_at leaf place t ≡ Some m → ClearWay names.forms m.item m.way → Scoped known (tree_of t)
     → known names.next ≡ false → Unwritten names.next (tree_of t) → ((y : ℕ) → Without names.next_variable (names.forms y))
     → Enters known names.forms (given_supply names (moved_name names.next m) (Some (moved_item names.next m))).forms (moved_name names.next m) (Some (moved_item names.next m))
     (node_front t) (node_front (landed (coming_of names.next m) leaf place t))

@@ -94,7 +94,8 @@ same_counts limits from to same h = record {
 
 -- and none hangs on itself where the other does not
 module _ (known : ℕ → Bool) (forms forms' : ℕ → Form) (same : SameKnownForms known forms forms') where
-  same_follow : (y : Item) → ReadsKnown known y → (from to : Front) → SameItems from to → Independent forms known from → AllItems (MayFollow forms y) from → AllItems (MayFollow forms' y) to
+  same_follow : (y : Item) → ReadsKnown known y → (from to : Front) → SameItems from to
+      → Independent forms known from → AllItems (MayFollow forms y) from → AllItems (MayFollow forms' y) to
   same_follow y reads from to (Same_item t o x rest rest' s) free h = (
     record {
       no_store_dependence = same_dependence known forms forms' same (touch_of y) (touch_of x) (touch_known known y reads) (touch_known known x free.0) h.0.no_store_dependence;

@@ -66,7 +66,8 @@ is_not : (b : Bool) → not b ≡ false → b ≡ true
 is_not true e = refl
 is_not false e = absurd (cc)
 
-pub clear_way : (forms : ℕ → Form) (x : Item) (way : List Passed) (conflict : Option ℕ) → FirstConflict forms x way conflict → conflict ≡ None → first_defined (operands_of x) way ≡ None
+pub clear_way : (forms : ℕ → Form) (x : Item) (way : List Passed) (conflict : Option ℕ)
+    → FirstConflict forms x way conflict → conflict ≡ None → first_defined (operands_of x) way ≡ None
     → (list_any is_test way && not (is_quiet x)) ≡ false → (list_any has_effect way && is_effect x) ≡ false → ClearWay forms x way
 clear_way forms x way conflict No_conflict none defined crosses effect = tt
 clear_way forms x way conflict (Passes_test rest found first) none defined crosses effect = (

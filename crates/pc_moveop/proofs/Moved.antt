@@ -51,7 +51,8 @@ other_form names (Some name) (Some item) x e = by_form (combined names.forms ite
 other_form names (Some name) None x e = refl
 other_form names None comes x e = refl
 
-pub same_forms : (names : Supply) (new : Option ℕ) (comes : Option Item) (known : ℕ → Bool) → known names.next ≡ false → SameKnownForms known names.forms (given_supply names new comes).forms
+pub same_forms : (names : Supply) (new : Option ℕ) (comes : Option Item) (known : ℕ → Bool)
+    → known names.next ≡ false → SameKnownForms known names.forms (given_supply names new comes).forms
 same_forms names new comes known unknown x is = other_form names new comes x (elim (nat_eq names.next x) as (λ b. nat_eq names.next x ≡ b → b ≡ false) [
   | false ↦ λ e. refl
   | true ↦ λ e. absurd (let same : names.next ≡ x = eqb-true names.next x e in let u : known x ≡ false = sym (ap known same) ∙ unknown in cc)
@@ -124,7 +125,8 @@ module _ (names after : Supply) (new : Option ℕ) (next : IsNext names.next new
   child_goes leaf f next_node n goes (Leads_to below) known at h =
       elim (nat_eq leaf 0) as (λ b. led_on (if b then Some below else None) next_node ≡ Some n
       → Goes names after new known (Leads_to below) (if b then Leads_to (f below) else Leads_to below)) [
-        | true ↦ λ e. (let k = goes below known e (record { scoped = h.scoped; unknown = h.unknown; free = h.free; below = h.below }) in record { moves = k.moves; below = k.below; forms_below = k.forms_below })
+        | true ↦ λ e. (let k = goes below known e (record { scoped = h.scoped; unknown = h.unknown; free = h.free; below = h.below }) in
+            record { moves = k.moves; below = k.below; forms_below = k.forms_below })
         | false ↦ λ e. absurd (cc)
       ] at
   child_goes leaf f next_node n goes (Leads_out out) known at h = absurd (cc)

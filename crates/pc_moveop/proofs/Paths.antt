@@ -36,7 +36,8 @@ whole_front (Leads_out out) = refl
 pub count_kept : (leaf : ℕ) (f : NodeTree → NodeTree) (t : NodeTree) → leaf_count (child_changed leaf f t) ≡ leaf_count t
 count_kept leaf f (Item_node tag origin x rest) = count_kept leaf f rest
 count_kept leaf f (Test_node tag origin on p q) =
-    elim (nat_lt leaf (leaf_count p)) as (λ b. leaf_count (if b then Test_node tag origin on (child_changed leaf f p) q else Test_node tag origin on p (child_changed (leaf - leaf_count p) f q)) ≡ leaf_count p + leaf_count q) [
+    elim (nat_lt leaf (leaf_count p)) as (λ b. leaf_count
+    (if b then Test_node tag origin on (child_changed leaf f p) q else Test_node tag origin on p (child_changed (leaf - leaf_count p) f q)) ≡ leaf_count p + leaf_count q) [
       | true ↦ ap (λ (n : ℕ). n + leaf_count q) (count_kept leaf f p)
       | false ↦ ap (λ (n : ℕ). leaf_count p + n) (count_kept (leaf - leaf_count p) f q)
     ]
@@ -100,7 +101,8 @@ child_grows : (leaf m : ℕ) (f : NodeTree → NodeTree) → ((c : NodeTree) →
     → (t : NodeTree) → tree_size (tree_of (child_changed leaf f t)) ≤ tree_size (tree_of t) + m
 child_grows leaf m f grows (Item_node tag origin x rest) = let h = child_grows leaf m f grows rest in omega arith
 child_grows leaf m f grows (Test_node tag origin on p q) =
-    elim (nat_lt leaf (leaf_count p)) as (λ b. tree_size (tree_of (if b then Test_node tag origin on (child_changed leaf f p) q else Test_node tag origin on p (child_changed (leaf - leaf_count p) f q)))
+    elim (nat_lt leaf (leaf_count p)) as
+    (λ b. tree_size (tree_of (if b then Test_node tag origin on (child_changed leaf f p) q else Test_node tag origin on p (child_changed (leaf - leaf_count p) f q)))
     ≤ suc (tree_size (tree_of p) + tree_size (tree_of q)) + m) [
       | true ↦ (let h = child_grows leaf m f grows p in omega arith)
       | false ↦ (let h = child_grows (leaf - leaf_count p) m f grows q in omega arith)

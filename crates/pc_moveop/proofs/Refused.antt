@@ -55,7 +55,8 @@ refused w parent c (Some m) why found is =
       first = h.conflict;
       is = is ∙ (λ i. refused_first (first_refusal (first_marked (h.first i) (h.second i) (operands_of (h.item i))) c.conflict (h.crosses i) (h.effect i) (h.item i))
           (no_room_at parent w.limits (h.item i) (node_front (nodes_in w.tree))))
-          ∙ ap (λ (d : Option ℕ). refused_first (first_refusal d c.conflict (crosses_test m) (list_any has_effect m.way) m.item) (no_room_at parent w.limits m.item (node_front (nodes_in w.tree)))) (marked m.item m.way);
+          ∙ ap (λ (d : Option ℕ). refused_first (first_refusal d c.conflict (crosses_test m) (list_any has_effect m.way) m.item)
+          (no_room_at parent w.limits m.item (node_front (nodes_in w.tree)))) (marked m.item m.way);
     }
 refused w parent c None why found is = absurd (found.is)
 

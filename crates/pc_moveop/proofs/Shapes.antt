@@ -56,7 +56,8 @@ less_in place (Item_node t o y rest) =
     ]
 less_in place (Test_node t o on p q) =
     elim (nat_eq place 0) as (λ b. OneLess
-    (λ d. if b then Test_node t o on p q else (if nat_lt (place - 1) (node_size p) then Test_node t o on (node_without d (place - 1) p) q else Test_node t o on p (node_without d (place - 1 - node_size p) q)))
+    (λ d. if b then Test_node t o on p q else
+    (if nat_lt (place - 1) (node_size p) then Test_node t o on (node_without d (place - 1) p) q else Test_node t o on p (node_without d (place - 1 - node_size p) q)))
     (suc (tree_size (tree_of p) + tree_size (tree_of q)))
     (if b then None else (if nat_lt (place - 1) (node_size p) then passing Passed_test (mover_in (place - 1) p) else passing Passed_test (mover_in (place - 1 - node_size p) q)))) [
       | true ↦ tt
@@ -133,7 +134,8 @@ child_many leaf f next n same (Leads_to below) at =
     ] at
 child_many leaf f next n same (Leads_out out) at = absurd (cc)
 
-node_many : (path : List ℕ) (n n' t : NodeTree) → node_at path t ≡ Some n → tree_size (tree_of n') ≡ tree_size (tree_of n) → tree_size (tree_of (with_node path n' t)) ≡ tree_size (tree_of t)
+node_many : (path : List ℕ) (n n' t : NodeTree) → node_at path t ≡ Some n
+    → tree_size (tree_of n') ≡ tree_size (tree_of n) → tree_size (tree_of (with_node path n' t)) ≡ tree_size (tree_of t)
 node_many [] n n' t at same = let here : n ≡ t = cc in same ∙ ap (λ (u : NodeTree). tree_size (tree_of u)) here
 node_many (leaf ∷ path) n n' t at same = child_many leaf (with_node path n') (node_at path) n (λ c e. node_many path n n' c e same) t at
 
@@ -244,7 +246,8 @@ moved_size w v parent leaf place h =
     let n = h.changes.node in
     let found : mover_at leaf place n ≡ Some h.mover = sym (ap (mover_behind leaf place) h.changes.at) ∙ h.is_mover in
     let many = (subst (AsMany (λ c. landed c leaf place n) (tree_size (tree_of n))) found (many_at leaf place n)) (coming_of (length w.names.forms) h.mover) in
-    ap tree_size (sym (tree_same v.tree)) ∙ ap (λ (u : NodeTree). tree_size (tree_of u)) h.changes.tree ∙ node_many parent n _ (nodes_in w.tree) h.changes.at many ∙ ap tree_size (tree_same w.tree)
+    ap tree_size (sym (tree_same v.tree)) ∙ ap (λ (u : NodeTree). tree_size (tree_of u)) h.changes.tree
+    ∙ node_many parent n _ (nodes_in w.tree) h.changes.at many ∙ ap tree_size (tree_same w.tree)
 
 pub moved_nodes : (w v : StoredWindow) (parent : List ℕ) (leaf place : ℕ) → HasMoved w v parent leaf place → NoEmptyNode (nodes_in w.tree) → NoEmptyNode (nodes_in v.tree)
 moved_nodes w v parent leaf place h = changed_nodes (nodes_in w.tree) (nodes_in v.tree) parent (landed (coming_of (length w.names.forms) h.mover) leaf place) h.changes

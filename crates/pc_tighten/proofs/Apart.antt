@@ -105,13 +105,16 @@ meets-apart : (s : Stored) (qs : List Stored) → list_any (meets_at s.array s.p
 meets-apart s qs e = all_imply (λ q. meets_at s.array s.place q ≡ false) (AreApart s) qs (λ q d. apart_from s.array s.place q d) (none_of (meets_at s.array s.place) qs e)
 
 -- a store is apart from those to other arrays, and meets none of them
-other_arrays : (lengths : List ℕ) (old : State) (s : Stored) (items : List Item) → AllByRecursion (λ y. stores s.array y ≡ false) items → AllByRecursion (AreApart s) (stores_of lengths old items)
+other_arrays : (lengths : List ℕ) (old : State) (s : Stored) (items : List Item)
+    → AllByRecursion (λ y. stores s.array y ≡ false) items → AllByRecursion (AreApart s) (stores_of lengths old items)
 other_arrays lengths old s [] h = tt
 other_arrays lengths old s (Bin op d left right ∷ items) h = other_arrays lengths old s items h.1
 other_arrays lengths old s (Copy d from ∷ items) h = other_arrays lengths old s items h.1
 other_arrays lengths old s (Load d a at ∷ items) h = other_arrays lengths old s items h.1
-other_arrays lengths old s (Store a at value ∷ items) h =
-    ((λ b i is. let e = nat_eq-sound s.array b (and_first (nat_eq s.array b) (writes s.place i) is) in rw (subst (λ (k : ℕ). nat_eq a k ≡ false) e h.0) refl), other_arrays lengths old s items h.1)
+other_arrays lengths old s (Store a at value ∷ items) h = (
+  (λ b i is. let e = nat_eq-sound s.array b (and_first (nat_eq s.array b) (writes s.place i) is) in rw (subst (λ (k : ℕ). nat_eq a k ≡ false) e h.0) refl),
+  other_arrays lengths old s items h.1,
+)
 other_arrays lengths old s (Print value ∷ items) h = other_arrays lengths old s items h.1
 other_arrays lengths old s (Read d ∷ items) h = other_arrays lengths old s items h.1
 other_arrays lengths old s (More d ∷ items) h = other_arrays lengths old s items h.1

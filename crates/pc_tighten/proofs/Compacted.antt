@@ -1,5 +1,6 @@
 -- Where all rows are reached, a removal leaves a compact code compact.
-use Rattle.std.proofs.Common.{◌≡◌, ℕ, zero, suc, ◌+◌, ◌≤◌, Bool, true, false, cond, List, [], ◌∷◌, ◌++◌, map, length, Some, refl, sym, ◌∙◌, ap, subst, inl, inr, append-nil, arith}
+use Rattle.std.proofs.Common.{◌≡◌, ℕ, zero, suc, ◌+◌, ◌≤◌, Bool, true, false, cond, List, [], ◌∷◌}
+use Rattle.std.proofs.Common.{◌++◌, map, length, Some, refl, sym, ◌∙◌, ap, subst, inl, inr, append-nil, arith}
 use Rattle.std.specs.Prelude.{◌≢◌, ◌||◌, if◌then◌else◌, nat_eq, slice_get}
 use Rattle.std.specs.List.{AllByRecursion, list_any, count_by}
 use Rattle.std.specs.Option.{option_map}
@@ -60,7 +61,8 @@ module _ (t u : ℕ) where
   leads-here : u ≢ t → (leaf : Leaf) → is_goto (shifted t u) (sent_leaf t u leaf) ≡ false → (is_goto u leaf ≡ false) × (is_goto t leaf ≡ false)
   leads-here a (Leads_to row) e = (
     elim (same_or_apart row u) [
-      | inl same ↦ absurd (clash (nat_eq (sent t u row) (shifted t u)) e (ap (λ (k : ℕ). nat_eq k (shifted t u)) (ap (λ (k : ℕ). sent t u k) same ∙ sent-other u a) ∙ nat_eq-refl (shifted t u)))
+      | inl same ↦ absurd (clash (nat_eq (sent t u row) (shifted t u)) e
+          (ap (λ (k : ℕ). nat_eq k (shifted t u)) (ap (λ (k : ℕ). sent t u k) same ∙ sent-other u a) ∙ nat_eq-refl (shifted t u)))
       | inr apart ↦ nat_eq-apart row u apart
     ],
     elim (same_or_apart row t) [
@@ -237,7 +239,8 @@ module _ (code : RowCode) (t u : ℕ) (may : MayGo code t u) (all : EachIsReacha
               | false ↦ λ d f g. (let h = g f in omega arith)
             ]) (count_more p leaf leaves) e (λ f. no_count p leaves f)
 
-    else-none : (k : ℕ) (other : CodeRow) → k ≢ t → k ≢ m → slice_get code.rows k ≡ Some other → (list_any (is_goto u) (leaves_of other) ≡ false) × (list_any (is_goto t) (leaves_of other) ≡ false)
+    else-none : (k : ℕ) (other : CodeRow) → k ≢ t → k ≢ m → slice_get code.rows k ≡ Some other
+        → (list_any (is_goto u) (leaves_of other) ≡ false) × (list_any (is_goto t) (leaves_of other) ≡ false)
     else-none k other a b at = none-now other (pair.only.alone (shifted t k) (sent_row t u other) (now-at k other a at) (λ e. b (shifted-injective t k m a m_stays e)))
 
     -- t is reached, so m leads to it

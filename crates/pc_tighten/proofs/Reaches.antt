@@ -96,7 +96,8 @@ module _ (t u : ℕ) where
   sent-leads i (Then item rest) h = sent-leads i rest h
   sent-leads i (Either on on_yes on_no) h =
       list_any-append (is_goto (sent t u i)) (leaves_of (sent_row t u on_yes)) (leaves_of (sent_row t u on_no))
-      ∙ either (list_any (is_goto i) (leaves_of on_yes)) refl (λ a. sent-leads i on_yes a) (λ b. sent-leads i on_no b) (sym (list_any-append (is_goto i) (leaves_of on_yes) (leaves_of on_no)) ∙ h)
+      ∙ either (list_any (is_goto i) (leaves_of on_yes)) refl (λ a. sent-leads i on_yes a)
+      (λ b. sent-leads i on_no b) (sym (list_any-append (is_goto i) (leaves_of on_yes) (leaves_of on_no)) ∙ h)
     where
       right : (a b : Bool) → b ≡ true → (a || b) ≡ true
       right true b e = refl

@@ -1,5 +1,6 @@
 -- Round after round, until the code is compact.
-use Rattle.std.proofs.Common.{◌≡◌, ℕ, suc, ◌+◌, ◌<◌, ◌≤◌, Bool, true, false, List, [], ◌∷◌, ◌++◌, map, length, take, drop, get_or, Option, Some, None, refl, sym, ◌∙◌, ap}
+use Rattle.std.proofs.Common.{◌≡◌, ℕ, suc, ◌+◌, ◌<◌, ◌≤◌, Bool, true, false, List, [], ◌∷◌}
+use Rattle.std.proofs.Common.{◌++◌, map, length, take, drop, get_or, Option, Some, None, refl, sym, ◌∙◌, ap}
 use Rattle.std.proofs.Common.{subst, append_assoc, inl, inr, length-append, arith}
 use Rattle.std.specs.Prelude.{◌||◌, slice_get}
 use Rattle.std.specs.List.{count_by, list_any}
@@ -146,7 +147,8 @@ draft_there rows i row at = by_entry (slice_get rows i) refl (sym (slice_get-map
     by_entry None there h = absurd (cc)
 
 -- where all rows of the list are settled the code is compact
-pub settled_compact : (limits : Limits) (arrays : List ℕ) (it : Parents) (old new : List Draft) → AreParents (draft_rows old) it → map leaves_of (draft_rows new) ≡ map leaves_of (draft_rows old)
+pub settled_compact : (limits : Limits) (arrays : List ℕ) (it : Parents) (old new : List Draft)
+    → AreParents (draft_rows old) it → map leaves_of (draft_rows new) ≡ map leaves_of (draft_rows old)
     → AreSettledIf limits it (IsAmongFirst it.listing.order.items (length it.listing.order.items)) new false → Compact (code_with limits arrays (draft_rows new))
 settled_compact limits arrays it old new are e settled m t above under reached pair =
     let one = draft_there new m above pair.at_m in

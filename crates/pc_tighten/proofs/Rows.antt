@@ -75,7 +75,8 @@ module _ (names : ℕ → ℤ) (t : ℕ) (x : Item) where
 -- ---- the paths to a row
 
 -- what holds of each path to t holds of the one that is taken, if it leads there
-pub path_taken_to : (names : ℕ → ℤ) (t : ℕ) (row : CodeRow) (P : List Item → Type 0) → AllByRecursion P (paths_to t row) → is_goto t (leaf_of names row) ≡ true → P (path_of names row)
+pub path_taken_to : (names : ℕ → ℤ) (t : ℕ) (row : CodeRow) (P : List Item → Type 0)
+    → AllByRecursion P (paths_to t row) → is_goto t (leaf_of names row) ≡ true → P (path_of names row)
 path_taken_to names t (Then item rest) P all h = path_taken_to names t rest (λ path. P (item ∷ path)) (all_of_map P (λ path. item ∷ path) (paths_to t rest) all) h
 path_taken_to names t (Either on on_yes on_no) P all h =
     (elim (holds (operand_value names on)) as (λ b. is_goto t (if b then leaf_of names on_yes else leaf_of names on_no) ≡ true → P (if b then path_of names on_yes else path_of names on_no)) [
@@ -93,12 +94,14 @@ some_path_to t (Then item rest) P all h =
     let found = some_path_to t rest (λ path. P (item ∷ path)) (all_of_map P (λ path. item ∷ path) (paths_to t rest) all) h in (item ∷ found.0, found.1)
 some_path_to t (Either on on_yes on_no) P all h =
     let both = sym (list_any-append (is_goto t) (leaves_of on_yes) (leaves_of on_no)) ∙ h in
-    (elim (list_any (is_goto t) (leaves_of on_yes)) as (λ b. list_any (is_goto t) (leaves_of on_yes) ≡ b → (b || list_any (is_goto t) (leaves_of on_no)) ≡ true → (path : List Item) × P path) [
+    (elim (list_any (is_goto t) (leaves_of on_yes)) as
+    (λ b. list_any (is_goto t) (leaves_of on_yes) ≡ b → (b || list_any (is_goto t) (leaves_of on_no)) ≡ true → (path : List Item) × P path) [
       | true ↦ λ e k. some_path_to t on_yes P (all_front P (paths_to t on_yes) (paths_to t on_no) all) e
       | false ↦ λ e k. some_path_to t on_no P (all_back P (paths_to t on_yes) (paths_to t on_no) all) k
     ]) refl both
 some_path_to t (At_leaf (Leads_to row)) P all h =
-    (elim (nat_eq row t) as (λ b. (b || false) ≡ true → AllByRecursion P (if b then [] ∷ [] else []) → (path : List Item) × P path) [ true ↦ λ e k. ([], k.0) | false ↦ λ e k. absurd (cc) ]) h all
+    (elim (nat_eq row t) as (λ b. (b || false) ≡ true → AllByRecursion P (if b then [] ∷ [] else []) → (path : List Item) × P path)
+    [ true ↦ λ e k. ([], k.0) | false ↦ λ e k. absurd (cc) ]) h all
 some_path_to t (At_leaf Ends) P all h = absurd (cc)
 some_path_to t (At_leaf (Traps kind line)) P all h = absurd (cc)
 

@@ -44,7 +44,8 @@ sent-paths t u (Either on on_yes on_no) = ap (λ (l : List (List Item)). l ++ pa
     ∙ ap (λ (l : List (List Item)). paths_of on_yes ++ l) (sent-paths t u on_no)
 sent-paths t u (At_leaf leaf) = refl
 
-sent-leaves : (t u n : ℕ) (row : CodeRow) → ((i : ℕ) → i < suc n → sent t u i < n) → AllByRecursion (IsLeaf (suc n)) (leaves_of row) → AllByRecursion (IsLeaf n) (leaves_of (sent_row t u row))
+sent-leaves : (t u n : ℕ) (row : CodeRow) → ((i : ℕ) → i < suc n → sent t u i < n)
+    → AllByRecursion (IsLeaf (suc n)) (leaves_of row) → AllByRecursion (IsLeaf n) (leaves_of (sent_row t u row))
 sent-leaves t u n (Then item rest) low h = sent-leaves t u n rest low h
 sent-leaves t u n (Either on on_yes on_no) low h =
     all_both (IsLeaf n) (leaves_of (sent_row t u on_yes)) (leaves_of (sent_row t u on_no))

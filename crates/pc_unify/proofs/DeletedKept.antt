@@ -67,7 +67,8 @@ module _ (forms : ℕ → Form) where
         | false ↦ λ h. Below known t o x (tree_of rest) (tree_of (node_deleted (place - 1) rest)) tt (node_goes (and_dest known x) (place - 1) rest h)
       ] e
   node_goes known place (Test_node t o on p q) e =
-      elim (nat_eq place 0) as (λ b. refusal_of_standing (if b then None else (if nat_lt (place - 1) (node_size p) then standing_at (place - 1) p else standing_at (place - 1 - node_size p) q)) ≡ None
+      elim (nat_eq place 0) as (λ b. refusal_of_standing
+      (if b then None else (if nat_lt (place - 1) (node_size p) then standing_at (place - 1) p else standing_at (place - 1 - node_size p) q)) ≡ None
       → Goes known (Test_node t o on p q) (if b then Test_node t o on p q
       else (if nat_lt (place - 1) (node_size p) then Test_node t o on (node_deleted (place - 1) p) q else Test_node t o on p (node_deleted (place - 1 - node_size p) q)))) [
         | true ↦ λ h. absurd (cc)
@@ -96,7 +97,8 @@ module _ (forms : ℕ → Form) where
       ] at
   child_goes leaf f next n goes (Leads_out out) known at = absurd (cc)
 
-  path_goes : (path : List ℕ) (place : ℕ) (n t : NodeTree) (known : ℕ → Bool) → node_at path t ≡ Some n → refusal_of_standing (standing_at place n) ≡ None → Goes known t (item_deleted path place t)
+  path_goes : (path : List ℕ) (place : ℕ) (n t : NodeTree) (known : ℕ → Bool) → node_at path t ≡ Some n
+      → refusal_of_standing (standing_at place n) ≡ None → Goes known t (item_deleted path place t)
   path_goes [] place n t known at e =
       let here : n ≡ t = cc in
       subst (λ (u : NodeTree). Goes known u (node_deleted place u)) here (node_goes known place n e)
@@ -143,7 +145,8 @@ path_below m (leaf ∷ path) place t h = child_below m leaf (item_deleted path p
 
 all_deleted : (P : Item → Type 0) (place : ℕ) (t : NodeTree) → AllItems P (node_front t) → AllItems P (node_front (node_deleted place t))
 all_deleted P place (Item_node t o x rest) h =
-    elim (nat_eq place 0) as (λ b. AllItems P (node_front (if b then rest else Item_node t o x (node_deleted (place - 1) rest)))) [ true ↦ h.1 | false ↦ (h.0, all_deleted P (place - 1) rest h.1) ]
+    elim (nat_eq place 0) as (λ b. AllItems P (node_front (if b then rest else Item_node t o x (node_deleted (place - 1) rest))))
+    [ true ↦ h.1 | false ↦ (h.0, all_deleted P (place - 1) rest h.1) ]
 all_deleted P place (Test_node t o on p q) h =
     elim (nat_eq place 0) as (λ b. AllItems P (node_front (if b then Test_node t o on p q
     else (if nat_lt (place - 1) (node_size p) then Test_node t o on (node_deleted (place - 1) p) q else Test_node t o on p (node_deleted (place - 1 - node_size p) q))))) [
@@ -237,7 +240,8 @@ front_closed leaf f (Leads_to below) =
     ]
 front_closed leaf f (Leads_out out) = Same_leaf _ _
 
-front_kept : (forms : ℕ → Form) (known : ℕ → Bool) (limits : Limits) (path : List ℕ) (place : ℕ) (t : NodeTree) → Independent forms known (node_front t) → WithinLimits limits (node_front t)
+front_kept : (forms : ℕ → Form) (known : ℕ → Bool) (limits : Limits) (path : List ℕ) (place : ℕ) (t : NodeTree)
+    → Independent forms known (node_front t) → WithinLimits limits (node_front t)
     → Independent forms known (node_front (item_deleted path place t)) × WithinLimits limits (node_front (item_deleted path place t))
 front_kept forms known limits [] place t free within =
     let m = no_more place t in
@@ -251,7 +255,8 @@ front_kept forms known limits (leaf ∷ path) place t free within =
 
 -- ---- the window
 
-pub deletion_keeps : (w v : StoredWindow) (path : List ℕ) (place : ℕ) → IsDeleted w v path place → refusal_in_node place (node_at path (nodes_in w.tree)) ≡ None → IsProper (window_in w) → Keeps w v
+pub deletion_keeps : (w v : StoredWindow) (path : List ℕ) (place : ℕ) → IsDeleted w v path place
+    → refusal_in_node place (node_at path (nodes_in w.tree)) ≡ None → IsProper (window_in w) → Keeps w v
 deletion_keeps w v path place deleted legal proper = by_node (node_at path (nodes_in w.tree)) refl legal
   where
     t : NodeTree
