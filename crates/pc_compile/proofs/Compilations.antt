@@ -3,6 +3,8 @@ use Rattle.std.proofs.Common.{◌≡◌, ℕ, ◌≤◌, true, List, [], ◌∷�
 use Rattle.std.specs.Prelude.{nat_le, All, ℤ}
 use Rattle.std.specs.List.{AllByRecursion, list_all}
 use Rattle.std.proofs.lemmas.Bool.Decides.{nat_tests}
+use Rattle.std.proofs.lemmas.Option.{slice_get_within}
+use Rattle.pc_word.specs.declared.item.Extent.{Extent}
 use Rattle.pc_word.specs.declared.item.Limits.{Limits}
 use Rattle.pc_word.specs.declared.loop_mark.LoopMark.{LoopMark}
 use Rattle.pc_word.specs.MachineLimits.{most_arrays, most_elements, most_length, most_object}
@@ -21,13 +23,14 @@ use Rattle.pc_lower.specs.Lowered.{IsLowered}
 use Rattle.pc_lower.specs.SourceLoops.{SourceLoop}
 use Rattle.pc_lower.proofs.Bounds.{list-loops_sized}
 use Rattle.pc_lower.proofs.LoopMarks.{as_many_marks}
-use Rattle.pc_machine.specs.MachineCode.{CodeRow}
+use Rattle.pc_machine.specs.MachineCode.{CodeRow, RowCode}
 use Rattle.pc_machine.specs.MachineRun.{machine_run}
-use Rattle.pc_machine.specs.WellFormed.{AreArrays}
+use Rattle.pc_machine.specs.WellFormed.{AreArrays, WellFormed}
 use Rattle.pc_word.specs.Ranges.{IsBetween, AreLimits}
 use Rattle.pc_object.specs.declared.object.Note.{Note}
-use Rattle.pc_object.specs.ObjectText.{CodeWithNotes}
+use Rattle.pc_object.specs.ObjectText.{CodeWithNotes, IsChoice}
 use Rattle.pc_pass.specs.Pass.{Keeps}
+use Rattle.pc_tighten.specs.Tightened.{EachIsReachable, IsTightened}
 use Rattle.pc_table.specs.Table.{Table}
 use Rattle.pc_table.specs.TableKeeps.{TableKeeps}
 use Rattle.pc_table.specs.RegionRun.{table_run}
@@ -42,12 +45,12 @@ use Rattle.pc_choose.specs.declared.choice.Choice.{Choice}
 use Rattle.pc_choose.specs.Choosing.{AreChosen}
 use Rattle.pc_choose.proofs.Emittable.{are_forms, form_is}
 use Rattle.pc_compile.specs.Notes.{notes_of}
-use Rattle.pc_compile.specs.Compiled.{IsCompiled}
+use Rattle.pc_compile.specs.Compiled.{code_with, IsCompiled}
 use Rattle.pc_compile.specs.models.Counts.{all_units}
-use Rattle.pc_compile.specs.models.Made.{IsObjectOf, object_with}
+use Rattle.pc_compile.specs.models.Made.{IsObjectOf}
 use Rattle.pc_compile.proofs.Origins.{few_units, few_regions}
 use Rattle.pc_compile.proofs.FewLoops.{list-counted}
-use Rattle.pc_compile.proofs.Short.{plain_is_short, few_notes, known_notes, object_is_short}
+use Rattle.pc_compile.proofs.Short.{plain_is_short, few_notes, known_notes, text_room, no_longer, object_is_short}
 
 -- lengths that were checked are lengths of the machine
 lengths_between : (arrays : List ℕ) → list_all is_length arrays ≡ true → AllByRecursion (IsBetween 1 most_length) arrays
@@ -77,7 +80,7 @@ module _ (program : ResolvedProgram) (first flow : FlowGraph) (table : Table) (l
   few_units_in_all : all_units table.regions ≤ most_nodes
   few_units_in_all = let units = few_units flow table cut in let few = few_nodes in omega (arith, units, few)
 
-  few_regions_in_all : length table.regions ≤ most_nodes
+  pub few_regions_in_all : length table.regions ≤ most_nodes
   few_regions_in_all = let regions = few_regions flow table cut in let few = few_nodes in omega (arith, regions, few)
 
   pub few_loops_in_all : length table.loops ≤ most_nodes
@@ -102,53 +105,74 @@ never_faults program runs agree input words =
 
 -- the object that is made of the cut of a graph, which passes made of the program's, in the forms that were chosen, is the
 -- program's
-pub is_compiled : (program : ResolvedProgram) (limits : Limits) (first flow : FlowGraph) (table : Table) (forms : List (Option StoredForm))
-    (choices : List Choice) (object : CodeWithNotes) → AreLimits limits → AreArrays program.arrays
+pub is_compiled : (program : ResolvedProgram) (limits : Limits) (extent : Extent) (first flow : FlowGraph) (table : Table) (forms : List (Option StoredForm))
+    (choices : List Choice) (object : CodeWithNotes) → AreLimits limits
     → IsLowered program first → Keeps first flow → IsCutOf flow table → TableKeeps table → AgreeOnInputs (table_run table) (flow_run flow)
-    → AreChosen table limits choices (forms_in forms) → IsObjectOf table forms choices limits object
-    → IsCompiled program limits flow table choices object
-is_compiled program limits first flow table forms choices object fine arrays lowered kept cut keeps cut_agrees chosen made =
+    → AreChosen table limits extent choices (forms_in forms) → IsObjectOf table forms choices limits object
+    → IsCompiled program limits extent flow table choices object
+is_compiled program limits extent first flow table forms choices object fine lowered kept cut keeps cut_agrees chosen made =
     let emitted = made.emitted in
+    let tightened = made.tightened in
     let e = emission_of table forms emitted.entries limits.ops in
-    let code = (object_with limits table.arrays made.rows (notes_of table choices)).code in
+    let loose = code_with limits table.arrays made.loose in
     let same_arrays = cut.arrays ∙ kept.same_arrays ∙ lowered.arrays in
     let plain = all_plain_is_short program first flow table lowered kept cut keeps in
-    let may = are_forms table keeps limits fine plain choices (forms_in forms) chosen in
-    let each = form_is table keeps limits fine plain choices (forms_in forms) chosen in
+    let may = are_forms table keeps limits extent fine plain choices (forms_in forms) chosen in
+    let each = form_is table keeps limits extent fine plain choices (forms_in forms) chosen in
     let of_flow = AgreeOnInputs-trans (flow_run flow) (flow_run first) (source_run program) kept.agrees lowered.agree in
     let of_table = AgreeOnInputs-trans (table_run table) (flow_run flow) (source_run program) cut_agrees of_flow in
-    let of_rows = emitted_rows_do e keeps limits made.rows emitted.are each (never_faults program (table_run table) of_table) in
-    let of_code = AgreeOnInputs-trans (machine_run code) (table_run table) (source_run program) of_rows of_table in
+    let of_rows = emitted_rows_do e keeps limits made.loose emitted.are each (never_faults program (table_run table) of_table) in
+    let of_loose = AgreeOnInputs-trans (machine_run loose) (table_run table) (source_run program) of_rows of_table in
+    let of_object : AgreeOnInputs (machine_run loose) (machine_run object.code) =
+    λ input words. (tightened.runs input (never_faults program (machine_run loose) of_loose input words)).agree in
     let few = few_notes table choices in
     let loops = few_loops_in_all program first flow table lowered kept cut in
-    subst (IsCompiled program limits flow table choices) (sym made.is) (record {
-      agree = AgreeOnInputs-sym (machine_run code) (source_run program) of_code;
+    let as_many = ap (λ (l : List Note). length l) made.notes in
+    let short = no_longer object.code.rows made.loose (tightened.room text_room) in
+    let counted = emitted.short in
+    let reachable : EachIsReachable made.loose =
+    λ i row there. emitted.reached i (slice_get_within made.loose i row there) in
+    record {
+      agree = AgreeOnInputs-trans (source_run program) (machine_run loose) (machine_run object.code)
+          (AgreeOnInputs-sym (machine_run loose) (source_run program) of_loose) of_object;
       is_object = record {
-        code = record { limits = fine; arrays = subst AreArrays (sym same_arrays) arrays; entry = emitted.some; rows = emitted.fit };
-        choices = known_notes table choices;
-        few_notes = omega (arith, few, loops);
-        few_bytes = object_is_short table (forms_in forms) choices limits made.rows emitted.short may.short;
+        code = tightened.form;
+        choices = subst (AllByRecursion IsChoice) (sym made.notes) (known_notes table choices);
+        few_notes = omega (arith, as_many, few, loops);
+        few_bytes = object_is_short table (forms_in forms) choices object tightened.arrays made.notes (omega (arith, short, counted)) may.short;
       };
-      limited = refl;
-      arrays = same_arrays;
+      limited = tightened.limits;
+      arrays = tightened.arrays ∙ same_arrays;
       first = first;
       lowered = lowered;
       kept = kept;
       cut = cut;
       forms = forms;
       chosen = chosen;
+      loose = made.loose;
       emitted = emitted;
-      notes = refl;
-    })
-
--- an object with these arrays, rows and notes is that of a table in forms that were chosen
-pub made_object : (table : Table) (limits : Limits) (forms given : List (Option StoredForm)) (choices noted : List Choice) (arrays : List ℕ)
-    (rows : List CodeRow) (notes : List Note) → arrays ≡ table.arrays → notes ≡ notes_of table noted → noted ≡ choices
-    → AreEmitted table given limits rows → given ≡ forms → IsObjectOf table forms choices limits (object_with limits arrays rows notes)
-made_object table limits forms given choices noted arrays rows notes same_arrays are same emitted same_forms =
-    let right : notes ≡ notes_of table choices = are ∙ ap (λ (l : List Choice). notes_of table l) same in
-    record {
-      rows = rows;
-      is = λ i. object_with limits (same_arrays i) rows (right i);
-      emitted = subst (λ (l : List (Option StoredForm)). AreEmitted table l limits rows) same_forms emitted;
+      tightened = tightened;
+      reached = tightened.reachable reachable;
+      compact = tightened.compact reachable;
+      no_goto_alone = tightened.no_goto_alone;
+      notes = made.notes;
     }
+
+-- rows that were emitted may be tightened
+pub loose_is_well_formed : (table : Table) (forms : List (Option StoredForm)) (limits : Limits) (arrays : List ℕ) (rows : List CodeRow) → AreLimits limits
+    → AreArrays table.arrays → arrays ≡ table.arrays → AreEmitted table forms limits rows → WellFormed (code_with limits arrays rows)
+loose_is_well_formed table forms limits arrays rows fine sized same emitted =
+    subst (λ (l : List ℕ). WellFormed (code_with limits l rows)) (sym same)
+    (record { limits = fine; arrays = sized; entry = emitted.some; rows = emitted.fit })
+
+-- a code that was tightened, with these notes, is the object of a table in forms that were chosen
+pub made_object : (table : Table) (limits : Limits) (forms given : List (Option StoredForm)) (choices noted : List Choice) (arrays : List ℕ)
+    (rows : List CodeRow) (code : RowCode) (notes : List Note) → arrays ≡ table.arrays → notes ≡ notes_of table noted → noted ≡ choices
+    → AreEmitted table given limits rows → given ≡ forms → IsTightened (code_with limits arrays rows) code
+    → IsObjectOf table forms choices limits (record { code = code; notes = notes })
+made_object table limits forms given choices noted arrays rows code notes same_arrays are same emitted same_forms tightened = record {
+  loose = rows;
+  emitted = subst (λ (l : List (Option StoredForm)). AreEmitted table l limits rows) same_forms emitted;
+  tightened = subst (λ (l : List ℕ). IsTightened (code_with limits l rows) code) same_arrays tightened;
+  notes = are ∙ ap (λ (l : List Choice). notes_of table l) same;
+}

@@ -1,13 +1,12 @@
 -- The object of a table is short: with all regions plain by the graph's nodes, and in the forms that were chosen by what was
 -- counted.
-use Rattle.std.proofs.Common.{◌≡◌, ℕ, suc, ◌+◌, ◌-◌, ◌*◌, ◌≤◌, List, [], ◌∷◌, ◌++◌, length, length-append, Option, Some, None, refl, arith}
+use Rattle.std.proofs.Common.{◌≡◌, ℕ, suc, ◌+◌, ◌-◌, ◌*◌, ◌≤◌, List, [], ◌∷◌, ◌++◌, length, length-append, Option, Some, None, refl, ap, arith}
 use Rattle.std.specs.Prelude.{Bool, true, false, if◌then◌else◌, slice_get}
 use Rattle.std.specs.List.{AllByRecursion, flat_map}
 use Rattle.pc_word.specs.declared.item.Item.{Item}
 use Rattle.pc_word.specs.declared.item.Item.TheVariants.{Bin, Copy, Load, Store, Print, Read, More}
 use Rattle.pc_word.specs.declared.item.Operand.{Operand}
 use Rattle.pc_word.specs.declared.item.Operand.TheVariants.{Name, Lit}
-use Rattle.pc_word.specs.declared.item.Limits.{Limits}
 use Rattle.pc_word.specs.declared.loop_mark.LoopMark.{LoopMark}
 use Rattle.pc_word.specs.MachineLimits.{most_object}
 use Rattle.pc_word.proofs.Lists.{all_both}
@@ -22,11 +21,13 @@ use Rattle.pc_choose.specs.declared.choice.Cause.{Cause}
 use Rattle.pc_choose.specs.declared.choice.Cause.TheVariants.{Rows, Live, Bytes}
 use Rattle.pc_choose.specs.declared.choice.Choice.{Choice}
 use Rattle.pc_machine.specs.MachineCode.{CodeRow}
+use Rattle.pc_word.specs.Row.{Then, Either, At_leaf}
 use Rattle.pc_object.specs.declared.object.Note.{Note}
-use Rattle.pc_object.specs.ObjectText.{u16_text, u32_text, row_text, note_text, notes_text, header_text, object_text, IsChoice}
-use Rattle.pc_compile.specs.Notes.{cause_notes, form_notes, choice_notes, choice_heading, loop_notes, notes_from, notes_of}
+use Rattle.pc_object.specs.ObjectText.{CodeWithNotes, u16_text, u32_text, operand_text, item_text, leaf_text, row_text, note_text, notes_text}
+use Rattle.pc_object.specs.ObjectText.{header_text, object_text, IsChoice}
+use Rattle.pc_tighten.specs.Sizes.{Room, row_room, rows_room}
+use Rattle.pc_compile.specs.Notes.{caused_note, packed_note, plain_notes, form_notes, choice_notes, choice_heading, loop_notes, notes_from, notes_of}
 use Rattle.pc_compile.specs.models.Counts.{all_units}
-use Rattle.pc_compile.specs.models.Made.{object_with}
 
 -- ---- all regions plain
 
@@ -64,23 +65,32 @@ plain_is_short table regions units loops arrays = let few = regions_few 0 table.
 
 -- ---- notes
 
-one_of_cause : (line : ℕ) (cause : Option Cause) → length (cause_notes line cause) ≤ 1
-one_of_cause line None = omega arith
-one_of_cause line (Some cause) = omega arith
+known_of_cause : (line first : ℕ) (cause : Cause) → first ≤ 5 → (caused_note line first cause).choice ≤ 7
+known_of_cause line first (Rows number limit) le = omega (arith, le)
+known_of_cause line first (Live number limit) le = omega (arith, le)
+known_of_cause line first (Bytes number limit) le = omega (arith, le)
 
-known_of_cause : (line : ℕ) (cause : Option Cause) → AllByRecursion IsChoice (cause_notes line cause)
-known_of_cause line None = tt
-known_of_cause line (Some (Rows number limit)) = (omega arith, tt)
-known_of_cause line (Some (Live number limit)) = (omega arith, tt)
-known_of_cause line (Some (Bytes number limit)) = (omega arith, tt)
+known_packed : (line : ℕ) (cause : Option Cause) → (packed_note line cause).choice ≤ 7
+known_packed line None = omega arith
+known_packed line (Some cause) = known_of_cause line 1 cause (omega arith)
+
+one_plain : (line : ℕ) (cause : Option Cause) → length (plain_notes line cause) ≤ 1
+one_plain line None = omega arith
+one_plain line (Some cause) = omega arith
+
+known_plain : (line : ℕ) (cause : Option Cause) → AllByRecursion IsChoice (plain_notes line cause)
+known_plain line None = tt
+known_plain line (Some cause) = (known_of_cause line 5 cause (omega arith), tt)
 
 one_note : (line : ℕ) (kind : Form) (causes : List Cause) → length (form_notes line kind causes) ≤ 1
+one_note line (form.Pipelined states rows) causes = omega arith
 one_note line form.Packed causes = omega arith
-one_note line form.Plain causes = one_of_cause line (slice_get causes (length causes - 1))
+one_note line form.Plain causes = one_plain line (slice_get causes (length causes - 1))
 
 known_note : (line : ℕ) (kind : Form) (causes : List Cause) → AllByRecursion IsChoice (form_notes line kind causes)
-known_note line form.Packed causes = (omega arith, tt)
-known_note line form.Plain causes = known_of_cause line (slice_get causes (length causes - 1))
+known_note line (form.Pipelined states rows) causes = (omega arith, tt)
+known_note line form.Packed causes = (known_packed line (slice_get causes 0), tt)
+known_note line form.Plain causes = known_plain line (slice_get causes (length causes - 1))
 
 one_of_choice : (line : ℕ) (choice : Option Choice) → length (choice_notes line choice) ≤ 1
 one_of_choice line None = omega arith
@@ -148,18 +158,54 @@ all_lengths_length (n ∷ lengths) =
     let others = all_lengths_length lengths in
     omega (arith, both, others)
 
+-- the room that the text of a code takes
+pub text_room : Room
+text_room = record {
+  of_item = λ item. length (item_text item);
+  of_test = λ on. 1 + length (operand_text on);
+  of_leaf = λ leaf. length (leaf_text leaf);
+  alike = λ i j. refl;
+}
+
+row_length : (row : CodeRow) → length (row_text row) ≡ row_room text_room row
+row_length (Then item rest) = let both = length-append (item_text item) (row_text rest) in let below = row_length rest in omega (arith, both, below)
+row_length (Either on on_yes on_no) =
+    let all = length-append (operand_text on) (row_text on_yes ++ row_text on_no) in
+    let both = length-append (row_text on_yes) (row_text on_no) in
+    let yes = row_length on_yes in
+    let no = row_length on_no in
+    omega (arith, all, both, yes, no)
+row_length (At_leaf leaf) = refl
+
+rows_length : (rows : List CodeRow) → length (flat_map row_text rows) ≡ rows_room text_room rows
+rows_length [] = refl
+rows_length (row ∷ rows) =
+    let both = length-append (row_text row) (flat_map row_text rows) in
+    let one = row_length row in
+    let others = rows_length rows in
+    omega (arith, both, one, others)
+
+-- rows that take no more room have no longer a text
+pub no_longer : (rows before : List CodeRow) → rows_room text_room rows ≤ rows_room text_room before
+    → length (flat_map row_text rows) ≤ length (flat_map row_text before)
+no_longer rows before less = let one = rows_length rows in let other = rows_length before in omega (arith, one, other, less)
+
 -- an object whose rows are no longer than was counted for them
-pub object_is_short : (table : Table) (forms : ℕ → Option RegionForm) (choices : List Choice) (limits : Limits) (rows : List CodeRow)
-    → length (flat_map row_text rows) ≤ regions_bytes forms 0 table.regions → object_bytes table forms ≤ most_object
-    → length (object_text (object_with limits table.arrays rows (notes_of table choices))) ≤ most_object
-object_is_short table forms choices limits rows short counted =
-    let notes = notes_of table choices in
-    let code = (object_with limits table.arrays rows notes).code in
-    let header = length-append (flat_map u32_text table.arrays) (u32_text (length rows)) in
-    let arrays = all_lengths_length table.arrays in
+pub object_is_short : (table : Table) (forms : ℕ → Option RegionForm) (choices : List Choice) (object : CodeWithNotes)
+    → object.code.arrays ≡ table.arrays → object.notes ≡ notes_of table choices
+    → length (flat_map row_text object.code.rows) ≤ regions_bytes forms 0 table.regions → object_bytes table forms ≤ most_object
+    → length (object_text object) ≤ most_object
+object_is_short table forms choices object same noted short counted =
+    let code = object.code in
+    let rows = code.rows in
+    let notes = object.notes in
+    let as_many = ap (λ (l : List ℕ). length l) same in
+    let as_noted = ap (λ (l : List Note). length l) noted in
+    let header = length-append (flat_map u32_text code.arrays) (u32_text (length rows)) in
+    let arrays = all_lengths_length code.arrays in
     let of_notes = length-append (u16_text (length notes)) (flat_map note_text notes) in
-    let noted = all_notes_length notes in
+    let told = all_notes_length notes in
     let few = few_notes table choices in
     let all = length-append (header_text code) (flat_map row_text rows ++ notes_text notes) in
     let behind = length-append (flat_map row_text rows) (notes_text notes) in
-    omega (arith, short, counted, header, arrays, of_notes, noted, few, all, behind)
+    omega (arith, short, counted, as_many, as_noted, header, arrays, of_notes, told, few, all, behind)

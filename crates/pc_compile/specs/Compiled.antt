@@ -1,5 +1,6 @@
 -- What the object of a program is, and when there is none.
 use Rattle.std.specs.Prelude.{◌≡◌, ℕ, ◌<◌, ◌≤◌, min, List, Option}
+use Rattle.pc_word.specs.declared.item.Extent.{Extent}
 use Rattle.pc_word.specs.declared.item.Limits.{Limits}
 use Rattle.pc_word.specs.Run.{AgreeOnInputs}
 use Rattle.pc_word.specs.SourceLimits.{most_nodes}
@@ -10,7 +11,11 @@ use Rattle.pc_lower.specs.Lowered.{IsLowered}
 use Rattle.pc_pass.specs.Pass.{Keeps}
 use Rattle.pc_table.specs.Table.{Table}
 use Rattle.pc_regions.specs.Cut.{IsCutOf}
+use Rattle.pc_machine.specs.MachineCode.{CodeRow, RowCode}
 use Rattle.pc_machine.specs.MachineRun.{machine_run}
+use Rattle.pc_tighten.specs.Compact.{Compact}
+use Rattle.pc_tighten.specs.Removals.{HasNoGotoAlone}
+use Rattle.pc_tighten.specs.Tightened.{EachIsReachable, IsTightened}
 use Rattle.pc_object.specs.ObjectText.{CodeWithNotes, IsObject}
 use Rattle.pc_emit.specs.declared.form.RegionForm.{RegionForm}
 use Rattle.pc_emit.specs.Emitting.{forms_in, AreEmitted}
@@ -20,11 +25,15 @@ use Rattle.pc_compile.specs.Notes.{notes_of}
 use Rattle.pc_compile.specs.declared.error.CompileError.{CompileError}
 use Rattle.pc_compile.specs.declared.error.CompileError.TheVariants.{TooLarge, Memory}
 
+-- a code of rows, with limits and arrays
+abbrev pub code_with : Limits → (arrays : List ℕ) → List CodeRow → RowCode
+code_with limits arrays rows = record { limits = limits; arrays = arrays; rows = rows }
+
 -- The object does what the program does, for every input of words, and may be written; it has the given limits and the
 -- program's arrays. The table is the cut of the graph, which passes made of the program's. Each region that is led to from
--- region 0 got the first form that was not refused; the rows are those of the regions in their forms, and leaves lead to each
--- from row 0; and the notes tell the forms of the loops.
-pub record IsCompiled (program : ResolvedProgram) (limits : Limits) (flow : FlowGraph) (table : Table) (choices : List Choice) (object : CodeWithNotes)
+-- region 0 got the first form that was not refused. The code is that of the regions' rows in their forms, tightened: it is
+-- compact, leaves lead to each row from row 0, and no row but row 0 is a goto alone. The notes tell the forms of the loops.
+pub record IsCompiled (program : ResolvedProgram) (limits : Limits) (extent : Extent) (flow : FlowGraph) (table : Table) (choices : List Choice) (object : CodeWithNotes)
     : Type 0 where
   pub agree : AgreeOnInputs (source_run program) (machine_run object.code)
   pub is_object : IsObject object
@@ -35,8 +44,13 @@ pub record IsCompiled (program : ResolvedProgram) (limits : Limits) (flow : Flow
   pub kept : Keeps first flow
   pub cut : IsCutOf flow table
   pub forms : List (Option RegionForm)
-  pub chosen : AreChosen table limits choices (forms_in forms)
-  pub emitted : AreEmitted table forms limits object.code.rows
+  pub chosen : AreChosen table limits extent choices (forms_in forms)
+  pub loose : List CodeRow
+  pub emitted : AreEmitted table forms limits loose
+  pub tightened : IsTightened (code_with limits table.arrays loose) object.code
+  pub reached : EachIsReachable object.code.rows
+  pub compact : Compact object.code
+  pub no_goto_alone : HasNoGotoAlone object.code.rows
   pub notes : object.notes ≡ notes_of table choices
 
 -- Why a program of a size has no object: its flow graph would have too many nodes, and they are told, as far as a number

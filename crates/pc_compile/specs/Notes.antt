@@ -1,11 +1,11 @@
 -- The notes of an object: which form the code of each innermost loop got, and what decided it.
-use Rattle.std.specs.Prelude.{ℕ, suc, ◌-◌, if◌then◌else◌, List, [], ◌∷◌, ◌++◌, length, Option, Some, None, slice_get}
+use Rattle.std.specs.Prelude.{ℕ, suc, ◌+◌, ◌-◌, if◌then◌else◌, List, [], ◌∷◌, ◌++◌, length, Option, Some, None, slice_get}
 use Rattle.pc_word.specs.declared.loop_mark.LoopMark.{LoopMark}
 use Rattle.pc_table.specs.Table.{Table}
 use Rattle.pc_window.specs.Opening.{same_loop, headed_loop}
 use Rattle.pc_window.specs.Steps.{is_innermost}
 use Rattle.pc_choose.specs.declared.choice.Form.{Form}
-use Rattle.pc_choose.specs.declared.choice.Form.TheVariants.{Packed, Plain}
+use Rattle.pc_choose.specs.declared.choice.Form.TheVariants.{Pipelined, Packed, Plain}
 use Rattle.pc_choose.specs.declared.choice.Cause.{Cause}
 use Rattle.pc_choose.specs.declared.choice.Cause.TheVariants.{Rows, Live, Bytes}
 use Rattle.pc_choose.specs.declared.choice.Choice.{Choice}
@@ -15,22 +15,28 @@ use Rattle.pc_object.specs.declared.object.Note.{Note}
 abbrev pub note_at : (line choice number limit : ℕ) → Note
 note_at line choice number limit = record { choice = choice; line = line; number = number; limit = limit }
 
--- why a loop's region is plain
-abbrev pub plain_note : (line : ℕ) → Cause → Note
-plain_note line (Rows number limit) = note_at line 5 number limit
-plain_note line (Live number limit) = note_at line 6 number limit
-plain_note line (Bytes number limit) = note_at line 7 number limit
+-- the note of a form that was not given for a cause: the first of three choices is that of too many rows
+abbrev pub caused_note : (line first : ℕ) → Cause → Note
+caused_note line first (Rows number limit) = note_at line first number limit
+caused_note line first (Live number limit) = note_at line (1 + first) number limit
+caused_note line first (Bytes number limit) = note_at line (2 + first) number limit
 
--- the note of the cause for which a region is plain, if there is one
-abbrev pub cause_notes : (line : ℕ) → Option Cause → List Note
-cause_notes line None = []
-cause_notes line (Some cause) = plain_note line cause ∷ []
+-- the note of a packed region: why it is not pipelined, or that its window holds one turn of one
+abbrev pub packed_note : (line : ℕ) → Option Cause → Note
+packed_note line None = note_at line 4 1 1
+packed_note line (Some cause) = caused_note line 1 cause
 
--- the note of a form that was refused for these causes before: a packed one has window number 1 of 1, and a plain one the last
--- cause, for which it was not packed
+-- the note of a plain region: why it is not packed
+abbrev pub plain_notes : (line : ℕ) → Option Cause → List Note
+plain_notes line None = []
+plain_notes line (Some cause) = caused_note line 5 cause ∷ []
+
+-- the note of a form, where the forms before it were refused for these causes: a pipelined one has so many states, of at most so
+-- many rows; the first cause is that for which one is not pipelined, and the last that for which it is not packed
 abbrev pub form_notes : (line : ℕ) → Form → List Cause → List Note
-form_notes line Packed causes = note_at line 4 1 1 ∷ []
-form_notes line Plain causes = cause_notes line (slice_get causes (length causes - 1))
+form_notes line (Pipelined states rows) causes = note_at line 0 states rows ∷ []
+form_notes line Packed causes = packed_note line (slice_get causes 0) ∷ []
+form_notes line Plain causes = plain_notes line (slice_get causes (length causes - 1))
 
 -- the first choice of a region that heads a loop
 abbrev pub choice_heading : Table → List Choice → (loop : ℕ) → Option Choice

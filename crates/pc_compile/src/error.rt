@@ -9,6 +9,7 @@ use pc_live::LiveError;
 use pc_lower::LowerError;
 use pc_pass::PassMemory;
 use pc_regions::RegionError;
+use pc_tighten::TightenError;
 use std::alloc::AllocError;
 use thiserror::Error;
 
@@ -79,6 +80,14 @@ impl From<EmitError> for CompileError {
     ghost from_gives = { λ _ error. error ≡ Memory };
 
     fn from(_error: EmitError) -> CompileError {
+        CompileError::Memory
+    }
+}
+
+impl From<TightenError> for CompileError {
+    ghost from_gives = { λ _ error. error ≡ Memory };
+
+    fn from(_error: TightenError) -> CompileError {
         CompileError::Memory
     }
 }

@@ -2,7 +2,7 @@
 ghost use Rattle.std.specs.Prelude.{◌≡◌, ◌<◌, ◌++◌, length, slice_get, IfOk, IfSome, OnOk};
 ghost use Rattle.pc_table.specs.Table.{table_of};
 ghost use Rattle.pc_window.specs.Opening.{headed_loop};
-ghost use Rattle.pc_compile.specs.Notes.{plain_note, form_notes, choice_notes, notes_of};
+ghost use Rattle.pc_compile.specs.Notes.{caused_note, packed_note, form_notes, choice_notes, notes_of};
 ghost use Rattle.pc_compile.specs.models.Heading.{heading_set, headings, without_outer, choice_in, noted, note_list, ArePlaces};
 
 use pc_choose::{Cause, Choice, Form};
@@ -124,28 +124,46 @@ fn push_any(notes: &mut NoteList, note: Option<Note>) -> Result<(), AllocError>
 fn note(line: u32, choice: &Choice) -> Option<Note>
     ensures { note_list result ≡ form_notes line choice.now.form choice.now.causes }
 {
+    let causes = choice.causes.as_slice();
     match choice.form {
-        Form::Packed => Some(Note {
-            choice: 4,
+        Form::Pipelined { states, rows } => Some(Note {
+            choice: 0,
             line,
-            number: 1,
-            limit: 1,
+            number: states,
+            limit: rows,
         }),
-        Form::Plain => match choice.causes.as_slice().last() {
+        Form::Packed => Some(packed_note(line, causes.first())),
+        Form::Plain => match causes.last() {
             None => None,
-            Some(cause) => Some(plain_note(line, *cause)),
+            Some(cause) => Some(caused_note(line, 5, *cause)),
         },
     }
 }
 
-/// Why a loop's region is plain.
-fn plain_note(line: u32, cause: Cause) -> Note
-    ensures { result ≡ plain_note line cause }
+/// The note of a packed region, which is not pipelined for this cause, if there is one.
+fn packed_note(line: u32, cause: Option<&Cause>) -> Note
+    ensures { result ≡ packed_note line (option_map (λ cause. cause.now) cause) }
+{
+    match cause {
+        None => Note {
+            choice: 4,
+            line,
+            number: 1,
+            limit: 1,
+        },
+        Some(cause) => caused_note(line, 1, *cause),
+    }
+}
+
+/// The note of a form that was not given for a cause; the first of three choices is that of too many rows.
+fn caused_note(line: u32, first: u8, cause: Cause) -> Note
+    requires { first ≤ 5 }
+    ensures { result ≡ caused_note line first cause }
 {
     let (choice, number, limit) = match cause {
-        Cause::Rows { number, limit } => (5, number, limit),
-        Cause::Live { number, limit } => (6, number, limit),
-        Cause::Bytes { number, limit } => (7, number, limit),
+        Cause::Rows { number, limit } => (first, number, limit),
+        Cause::Live { number, limit } => (1 + first, number, limit),
+        Cause::Bytes { number, limit } => (2 + first, number, limit),
     };
     Note {
         choice,

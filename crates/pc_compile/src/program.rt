@@ -2,7 +2,8 @@
 ghost use Rattle.std.specs.Prelude.{◌≡◌, length, map, IfOk, IfErr, OnOk};
 ghost use Rattle.pc_check.specs.Checks.{resolved_of};
 ghost use Rattle.pc_check.specs.Sizes.{resolved_size};
-ghost use Rattle.pc_word.specs.Ranges.{AreLimits};
+ghost use Rattle.pc_word.specs.Ranges.{AreLimits, IsExtent};
+ghost use Rattle.pc_machine.specs.WellFormed.{AreArrays};
 ghost use Rattle.pc_object.specs.ObjectText.{object_of};
 ghost use Rattle.pc_pass.specs.Pass.{EachRose};
 ghost use Rattle.pc_table.specs.Table.{table_of};
@@ -25,7 +26,8 @@ use pc_object::Object;
 use pc_pass::{Pass, run_list};
 use pc_regions::regions;
 use pc_table::RegionTable;
-use pc_word::{LengthList, Limits};
+use pc_tighten::tighten;
+use pc_word::{Extent, LengthList, Limits};
 use std::alloc::Global;
 
 /// A program's flow graph behind passes, the graph's regions, the forms that those got which are led
@@ -39,23 +41,26 @@ pub struct Compiled {
 }
 
 /// The object of a checked program, under limits of rows that the machine has, behind passes over its flow
-/// graph, each of which is applied once. The graph is cut into regions then; each of them that is led to is
-/// packed where that is not refused, and else has a row for each item and test. It fails where the graph
-/// would have more than 16,384 nodes, and where memory runs out; then some of the passes may have been
-/// applied.
+/// graph, each of which is applied once. The graph is cut into regions then. Each of them that is led to gets the
+/// first form that is not refused: an innermost loop is pipelined over as many turns as the extent's window and
+/// within its rows; a region is packed; or it has a row for each item and test. The rows are tightened at last. It
+/// fails where the graph would have more than 16,384 nodes, and where memory runs out; then some of the passes
+/// may have been applied.
 pub fn compile(
     alloc: Global,
     checked: &Checked,
     passes: &mut Vec<Box<dyn Pass>>,
     limits: Limits,
+    extent: Extent,
 ) -> Result<Compiled, CompileError>
-    requires { AreLimits limits }
-    ensures compiled { IfOk result (λ it. IsCompiled (resolved_of checked.now) limits it.flow (table_of it.table) it.choices (object_of it.object)) }
+    requires limits { AreLimits limits }
+    requires extent { IsExtent extent }
+    ensures compiled { IfOk result (λ it. IsCompiled (resolved_of checked.now) limits extent it.flow (table_of it.table) it.choices (object_of it.object)) }
     ensures uncompiled { IfErr result (λ error. IsUncompiled (resolved_size (resolved_of checked.now)) error) }
     ensures named { map (λ b. label b) passes.new.items ≡ map (λ b. label b) passes.old.items }
     ensures ran { OnOk result (EachRose (map (λ b. runs b) passes.old.items) (map (λ b. runs b) passes.new.items)) }
 {
-    compile_with(alloc, checked, passes, limits)
+    compile_with(alloc, checked, passes, limits, extent)
 }
 
 /// The same for passes of one type, boxed ones among them.
@@ -64,9 +69,11 @@ pub fn compile_with<P: Pass>(
     checked: &Checked,
     passes: &mut Vec<P>,
     limits: Limits,
+    extent: Extent,
 ) -> Result<Compiled, CompileError>
-    requires { AreLimits limits }
-    ensures compiled { IfOk result (λ it. IsCompiled (resolved_of checked.now) limits it.flow (table_of it.table) it.choices (object_of it.object)) }
+    requires limits { AreLimits limits }
+    requires extent { IsExtent extent }
+    ensures compiled { IfOk result (λ it. IsCompiled (resolved_of checked.now) limits extent it.flow (table_of it.table) it.choices (object_of it.object)) }
     ensures uncompiled { IfErr result (λ error. IsUncompiled (resolved_size (resolved_of checked.now)) error) }
     ensures named { map P.label passes.new.items ≡ map P.label passes.old.items }
     ensures ran { OnOk result (EachRose (map P.runs passes.old.items) (map P.runs passes.new.items)) }
@@ -75,7 +82,7 @@ pub fn compile_with<P: Pass>(
     run_list(passes, &mut flow)?;
     let liveness = live(alloc, &flow)?;
     let table = regions(alloc, &flow, &liveness)?;
-    let chosen = choose(alloc, &table, limits)?;
+    let chosen = choose(alloc, &table, limits, extent)?;
     let object = object_of(alloc, &table, &chosen, limits)?;
     Ok(Compiled {
         flow,
@@ -94,6 +101,7 @@ fn object_of(
 ) -> Result<Object, CompileError>
     requires kept { TableKeeps (table_of table.now) }
     requires limits { AreLimits limits }
+    requires arrays { AreArrays (table_of table.now).arrays }
     requires count { length chosen.now.forms ≡ length table.now.regions }
     requires forms { AreForms (table_of table.now) limits (forms_in chosen.now.forms) }
     ensures object { IfOk result (λ object. IsObjectOf (table_of table.now) chosen.now.forms chosen.now.choices limits (object_of object)) }
@@ -102,10 +110,13 @@ fn object_of(
     let arrays = LengthList::from_slice(alloc, table.arrays.as_slice())?;
     let rows = emit(alloc, table, chosen.forms.as_slice(), limits)?;
     let notes = notes(alloc, table, chosen.choices.as_slice())?;
-    let code = Code {
-        limits,
-        arrays,
-        rows,
-    };
+    let code = tighten(
+        alloc,
+        Code {
+            limits,
+            arrays,
+            rows,
+        },
+    )?;
     Ok(Object { code, notes })
 }

@@ -1,8 +1,11 @@
 -- From a checked text to the object that translates it.
 use Rattle.std.proofs.Common.{◌≡◌, ℕ, ◌<◌, List, length, sym, ◌∙◌, ap, subst, arith}
 use Rattle.std.specs.Prelude.{min}
+use Rattle.std.specs.List.{get_or}
+use Rattle.std.proofs.lemmas.Option.{slice_get-get_or}
 use Rattle.pc_word.specs.SourceLimits.{most_nodes}
 use Rattle.pc_word.specs.Run.{AgreeOnInputs}
+use Rattle.pc_word.specs.declared.item.Extent.{Extent}
 use Rattle.pc_word.specs.declared.item.Limits.{Limits}
 use Rattle.pc_syntax.specs.Source.{ResolvedProgram}
 use Rattle.pc_check.specs.Sizes.{size, resolved_size}
@@ -13,7 +16,11 @@ use Rattle.pc_choose.specs.declared.choice.Choice.{Choice}
 use Rattle.pc_compile.specs.Compiled.{IsCompiled, IsUncompiled}
 use Rattle.pc_compile.specs.declared.error.CompileError.{CompileError}
 use Rattle.pc_compile.specs.declared.error.CompileError.TheVariants.{TooLarge, Memory}
+use Rattle.pc_word.specs.Row.{At_leaf}
+use Rattle.pc_machine.specs.MachineCode.{Ends, CodeRow}
 use Rattle.pc_machine.specs.MachineRun.{machine_run}
+use Rattle.pc_machine.specs.Reachable.{IsReachable}
+use Rattle.pc_tighten.specs.Tightened.{EachIsReachable}
 use Rattle.pc_meaning.specs.SourceRun.{source_run}
 use Rattle.pc_object.specs.Numbers.{HasWords}
 use Rattle.pc_object.specs.ObjectText.{CodeWithNotes, object_text}
@@ -27,11 +34,15 @@ use Rattle.pc_tool.specs.models.Translating.{IsChecked, IsTranslation, RefusesTe
 pub sized : (text : List ℕ) (checked : ResolvedProgram) (h : IsChecked text checked) → resolved_size checked ≡ size h.program
 sized text checked h = ap resolved_size (sym h.is_resolved) ∙ size-resolved h.program
 
+-- rows that are all reachable are so by their numbers
+reachable : (rows : List CodeRow) → EachIsReachable rows → (row : ℕ) → row < length rows → IsReachable rows row
+reachable rows each row less = each row (get_or rows row (At_leaf Ends)) (slice_get-get_or rows row (At_leaf Ends) less)
+
 -- the object of a checked text translates it
-pub translates : (limits : Limits) (text : List ℕ) (checked : ResolvedProgram) (flow : FlowGraph) (table : Table) (choices : List Choice)
+pub translates : (limits : Limits) (extent : Extent) (text : List ℕ) (checked : ResolvedProgram) (flow : FlowGraph) (table : Table) (choices : List Choice)
     (object : CodeWithNotes) (h : IsChecked text checked)
-    → IsCompiled checked limits flow table choices object → HasWords object → Translates limits text h.program object
-translates limits text checked flow table choices object h compiled words =
+    → IsCompiled checked limits extent flow table choices object → HasWords object → Translates limits text h.program object
+translates limits extent text checked flow table choices object h compiled words =
     let same = sized text checked h in
     let few = compiled.lowered.few in
     record {
@@ -39,19 +50,20 @@ translates limits text checked flow table choices object h compiled words =
       loads = record { is_object = compiled.is_object; has_words = words };
       limited = compiled.limited;
       arrays = compiled.arrays ∙ ap (λ (program : ResolvedProgram). program.arrays) (sym h.is_resolved);
-      reached = compiled.emitted.reached;
+      reached = reachable object.code.rows compiled.reached;
+      compact = compiled.compact;
       same = subst (λ (program : ResolvedProgram). AgreeOnInputs (source_run program) (machine_run object.code)) (sym h.is_resolved) compiled.agree;
     }
 
 -- so does what is made of it: its bytes, and what is reported of it
-pub is_translation : (limits : Limits) (text : List ℕ) (checked : ResolvedProgram) (flow : FlowGraph) (table : Table) (choices : List Choice)
+pub is_translation : (limits : Limits) (extent : Extent) (text : List ℕ) (checked : ResolvedProgram) (flow : FlowGraph) (table : Table) (choices : List Choice)
     (object : CodeWithNotes) (it : Translation) → IsChecked text checked
-    → IsCompiled checked limits flow table choices object → HasWords object → it.bytes.items ≡ object_text object → it.nodes ≡ length flow.nodes
+    → IsCompiled checked limits extent flow table choices object → HasWords object → it.bytes.items ≡ object_text object → it.nodes ≡ length flow.nodes
     → it.rows ≡ length object.code.rows → it.notes ≡ object.notes → IsTranslation limits text it
-is_translation limits text checked flow table choices object it h compiled words bytes nodes rows notes = record {
+is_translation limits extent text checked flow table choices object it h compiled words bytes nodes rows notes = record {
   program = h.program;
   object = object;
-  translates = translates limits text checked flow table choices object h compiled words;
+  translates = translates limits extent text checked flow table choices object h compiled words;
   bytes = bytes;
   nodes = nodes ∙ compiled.kept.as_many ∙ compiled.lowered.counted ∙ sized text checked h;
   rows = rows;

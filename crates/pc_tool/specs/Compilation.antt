@@ -6,6 +6,7 @@ use Rattle.pc_syntax.specs.Source.{SourceProgram}
 use Rattle.pc_check.specs.Resolution.{resolved}
 use Rattle.pc_check.specs.Sizes.{size}
 use Rattle.pc_machine.specs.Reachable.{IsReachable}
+use Rattle.pc_tighten.specs.Compact.{Compact}
 use Rattle.pc_object.specs.ObjectText.{CodeWithNotes, object_text}
 use Rattle.pc_outside.specs.Shelf.{Shelved, HoldsFile}
 use Rattle.pc_command.specs.Requests.{CompileRequest}
@@ -16,14 +17,15 @@ use Rattle.pc_tool.specs.Objects.{Loads}
 use Rattle.pc_tool.specs.Outside.{Streamed}
 use Rattle.pc_tool.specs.Source.{IsSource}
 
--- The text is the source of this program; the object loads under the limits, with the program's arrays, and leaves lead to
--- each of its rows from row 0; for every input of words it does what the source means.
+-- The text is the source of this program; the object loads under the limits, with the program's arrays, leaves lead to each of
+-- its rows from row 0, and it is compact; for every input of words it does what the source means.
 pub record Translates (limits : Limits) (text : List ℕ) (program : SourceProgram) (object : CodeWithNotes) : Type 0 where
   pub source : IsSource text program
   pub loads : Loads object
   pub limited : object.code.limits ≡ limits
   pub arrays : object.code.arrays ≡ (resolved program).arrays
   pub reached : (row : ℕ) → row < length object.code.rows → IsReachable object.code.rows row
+  pub compact : Compact object.code
   pub same : Same program object.code
 
 -- the source that is asked for was translated; its object is held now, and all else is as before

@@ -11,7 +11,7 @@ ghost use Rattle.pc_object.specs.ObjectText.{IsChoice};
 ghost use Rattle.pc_pass.specs.Pass.{EachRose};
 ghost use Rattle.pc_report.specs.Report.{pass_of, report_lines};
 ghost use Rattle.pc_tool.specs.models.Compiling.{HasTranslation, ReportEnds, reported};
-ghost use Rattle.pc_word.specs.Ranges.{AreLimits};
+ghost use Rattle.pc_word.specs.Ranges.{AreLimits, IsExtent};
 ghost use Rattle.pc_word.specs.SourceLimits.{most_source};
 
 use crate::refusal::Refusal;
@@ -53,7 +53,8 @@ fn compile_source<'a, P: Pass, H: Shelf, O: Sink>(
     shelf: &mut H,
     out: &mut O,
 ) -> Option<ToolFault<'a>>
-    requires { AreLimits command.limits }
+    requires limits { AreLimits command.limits }
+    requires extent { IsExtent command.extent }
     ensures ends { CompilerEnds (counts_of P.label P.changed passes.new.items) (H.state shelf.old) (H.state shelf.new) (streamed (O.taken out.old) (O.faults out.old))
         (streamed (O.taken out.new) (O.faults out.new)) (Some (compile_request command.entry)) result }
     ensures named { map P.label passes.new.items ≡ map P.label passes.old.items }
@@ -77,13 +78,14 @@ fn compile_text<'a, P: Pass, H: Shelf, O: Sink>(
 ) -> Option<ToolFault<'a>>
     requires few_bytes { length text.now ≤ most_source }
     requires limits { AreLimits command.limits }
+    requires extent { IsExtent command.extent }
     requires source { HasSource (H.state shelf.old).held (source_place command.source) text.now }
     ensures ends { CompilerEnds (counts_of P.label P.changed passes.new.items) (H.state shelf.old) (H.state shelf.new) (streamed (O.taken out.old) (O.faults out.old))
         (streamed (O.taken out.new) (O.faults out.new)) (Some (compile_request command.entry)) result }
     ensures named { map P.label passes.new.items ≡ map P.label passes.old.items }
     ensures ran { result ≡ None → EachRose (map P.runs passes.old.items) (map P.runs passes.new.items) }
 {
-    match translate(alloc, text, passes, command.limits) {
+    match translate(alloc, text, passes, command.limits, command.extent) {
         Ok(translation) => {
             let passes = passes.as_slice();
             write_object(alloc, &translation, command, passes, shelf, out)

@@ -3,7 +3,7 @@ ghost use Rattle.std.specs.Prelude.{◌≡◌, ◌≤◌, length, map, MatchResu
 ghost use Rattle.pc_pass.specs.Pass.{EachRose};
 ghost use Rattle.pc_check.specs.Checks.{resolved_of};
 ghost use Rattle.pc_tool.specs.models.Translating.{IsChecked, IsTranslation, RefusesText};
-ghost use Rattle.pc_word.specs.Ranges.{AreLimits};
+ghost use Rattle.pc_word.specs.Ranges.{AreLimits, IsExtent};
 ghost use Rattle.pc_word.specs.SourceLimits.{most_source};
 
 use crate::refusal::Refusal;
@@ -13,7 +13,7 @@ use pc_lexer::tokens;
 use pc_object::{NoteList, Object, encode};
 use pc_parser::parse;
 use pc_pass::Pass;
-use pc_word::Limits;
+use pc_word::{Extent, Limits};
 use std::alloc::Global;
 
 /// An object's bytes, and what is reported of it: the nodes of the flow graph, the rows of the code, and the
@@ -32,15 +32,17 @@ pub(crate) fn translate<P: Pass>(
     text: &[u8],
     passes: &mut Vec<P>,
     limits: Limits,
+    extent: Extent,
 ) -> Result<Translation, Refusal>
     requires few_bytes { length text.now ≤ most_source }
     requires limits { AreLimits limits }
+    requires extent { IsExtent extent }
     ensures translation { MatchResult result (λ it. IsTranslation limits text.now it) (λ refusal. RefusesText refusal text.now) }
     ensures named { map P.label passes.new.items ≡ map P.label passes.old.items }
     ensures ran { OnOk result (EachRose (map P.runs passes.old.items) (map P.runs passes.new.items)) }
 {
     let checked = read_program(alloc, text)?;
-    let Compiled { flow, object, .. } = compile_with(alloc, &checked, passes, limits)?;
+    let Compiled { flow, object, .. } = compile_with(alloc, &checked, passes, limits, extent)?;
     let bytes = encode(alloc, &object)?;
     let Object { code, notes } = object;
     Ok(Translation {
