@@ -41,7 +41,7 @@ reachable rows each row less = each row (get_or rows row (At_leaf Ends)) (slice_
 -- the object of a checked text translates it
 pub translates : (limits : Limits) (extent : Extent) (text : List ℕ) (checked : ResolvedProgram) (flow : FlowGraph) (table : Table) (choices : List Choice)
     (object : CodeWithNotes) (h : IsChecked text checked)
-    → IsCompiled checked limits extent flow table choices object → HasWords object → Translates limits text h.program object
+    → IsCompiled checked limits extent flow table choices object → HasWords object → Translates limits extent text h.program object
 translates limits extent text checked flow table choices object h compiled words =
     let same = sized text checked h in
     let few = compiled.lowered.few in
@@ -53,13 +53,19 @@ translates limits extent text checked flow table choices object h compiled words
       reached = reachable object.code.rows compiled.reached;
       compact = compiled.compact;
       same = subst (λ (program : ResolvedProgram). AgreeOnInputs (source_run program) (machine_run object.code)) (sym h.is_resolved) compiled.agree;
+      scheduled = record {
+        flow = flow;
+        table = table;
+        choices = choices;
+        compiled = subst (λ (program : ResolvedProgram). IsCompiled program limits extent flow table choices object) (sym h.is_resolved) compiled;
+      };
     }
 
 -- so does what is made of it: its bytes, and what is reported of it
 pub is_translation : (limits : Limits) (extent : Extent) (text : List ℕ) (checked : ResolvedProgram) (flow : FlowGraph) (table : Table) (choices : List Choice)
     (object : CodeWithNotes) (it : Translation) → IsChecked text checked
     → IsCompiled checked limits extent flow table choices object → HasWords object → it.bytes.items ≡ object_text object → it.nodes ≡ length flow.nodes
-    → it.rows ≡ length object.code.rows → it.notes ≡ object.notes → IsTranslation limits text it
+    → it.rows ≡ length object.code.rows → it.notes ≡ object.notes → IsTranslation limits extent text it
 is_translation limits extent text checked flow table choices object it h compiled words bytes nodes rows notes = record {
   program = h.program;
   object = object;

@@ -1,4 +1,5 @@
 pub mod models
+pub mod Scheduled
 pub mod Compilation
 pub mod Compiler
 pub mod CompilerLaws

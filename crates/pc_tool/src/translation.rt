@@ -37,7 +37,7 @@ pub(crate) fn translate<P: Pass>(
     requires few_bytes { length text.now ≤ most_source }
     requires limits { AreLimits limits }
     requires extent { IsExtent extent }
-    ensures translation { MatchResult result (λ it. IsTranslation limits text.now it) (λ refusal. RefusesText refusal text.now) }
+    ensures translation { MatchResult result (λ it. IsTranslation limits extent text.now it) (λ refusal. RefusesText refusal text.now) }
     ensures named { map P.label passes.new.items ≡ map P.label passes.old.items }
     ensures ran { OnOk result (EachRose (map P.runs passes.old.items) (map P.runs passes.new.items)) }
 {

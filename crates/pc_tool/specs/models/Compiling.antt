@@ -32,7 +32,7 @@ pub data FailsToRead (source : SourcePlace) (old new : Shelved) : (fault : ToolF
 pub record HasTranslation (held : Option Files) (request : CompileRequest) (it : Translation) : Type 0 where
   pub text : List ℕ
   pub in_source : HasSource held request.source text
-  pub is : IsTranslation request.limits text it
+  pub is : IsTranslation request.limits request.extent text it
 
 -- what is reported of a translation and of the passes
 abbrev pub reported : Translation → List PassCount → Report

@@ -1,5 +1,6 @@
 -- The way from a text to its object, as the private calls see it.
 use Rattle.std.specs.Prelude.{◌≡◌, ℕ, List, [], length}
+use Rattle.pc_word.specs.declared.item.Extent.{Extent}
 use Rattle.pc_word.specs.declared.item.Limits.{Limits}
 use Rattle.pc_syntax.specs.Source.{SourceProgram, ResolvedProgram}
 use Rattle.pc_check.specs.Faults.{faults}
@@ -21,10 +22,10 @@ pub record IsChecked (text : List ℕ) (checked : ResolvedProgram) : Type 0 wher
   pub is_resolved : resolved program ≡ checked
 
 -- the bytes are the text of an object that translates the source, and the numbers are those that are reported of it
-pub record IsTranslation (limits : Limits) (text : List ℕ) (it : Translation) : Type 0 where
+pub record IsTranslation (limits : Limits) (extent : Extent) (text : List ℕ) (it : Translation) : Type 0 where
   pub program : SourceProgram
   pub object : CodeWithNotes
-  pub translates : Translates limits text program object
+  pub translates : Translates limits extent text program object
   pub bytes : it.bytes.items ≡ object_text object
   pub nodes : it.nodes ≡ size program
   pub rows : it.rows ≡ length object.code.rows

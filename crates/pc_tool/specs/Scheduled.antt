@@ -1,0 +1,18 @@
+-- What stands behind an object beyond what it does: how it was scheduled.
+use Rattle.std.specs.Prelude.{List}
+use Rattle.pc_word.specs.declared.item.Extent.{Extent}
+use Rattle.pc_word.specs.declared.item.Limits.{Limits}
+use Rattle.pc_syntax.specs.Source.{ResolvedProgram}
+use Rattle.pc_flow.specs.FlowGraph.{FlowGraph}
+use Rattle.pc_table.specs.Table.{Table}
+use Rattle.pc_object.specs.ObjectText.{CodeWithNotes}
+use Rattle.pc_choose.specs.declared.choice.Choice.{Choice}
+use Rattle.pc_compile.specs.Compiled.{IsCompiled}
+
+-- the object is what is compiled of a program within these limits and this extent, over some graph that the passes left, the regions
+-- of the graph's cut, and what was chosen for each of them
+pub record IsScheduled (program : ResolvedProgram) (limits : Limits) (extent : Extent) (object : CodeWithNotes) : Type 0 where
+  pub flow : FlowGraph
+  pub table : Table
+  pub choices : List Choice
+  pub compiled : IsCompiled program limits extent flow table choices object
