@@ -12,7 +12,7 @@ ghost use Rattle.pc_choose.specs.models.Giving.{bytes_of, IsGiven};
 
 use crate::error::ChooseError;
 use crate::heading::may_pipeline;
-use crate::trying::{Attempt, attempt};
+use crate::trying::{Attempt, try_form};
 use crate::{Cause, CauseList, Form};
 use pc_emit::RegionForm;
 use pc_table::{RegionTable, RegionTree};
@@ -58,7 +58,7 @@ pub(crate) fn form_for(
     if !may_pipeline(table, extent, region) {
         return packed_or_plain(alloc, table, region, limits, causes, others, plain);
     }
-    match attempt(alloc, table, region, limits, extent, others)? {
+    match try_form(alloc, table, region, limits, extent, others)? {
         Attempt::Fits {
             automaton,
             registers,
@@ -105,7 +105,7 @@ fn packed_or_plain(
     ensures { (extent : Extent) → PassesOver (table_of table.now) limits extent region (bytes_of (table_of table.now) region others) causes
         → IfOk result (IsGiven (table_of table.now) limits extent region others) }
 {
-    match attempt(alloc, table, region, limits, PACKED, others)? {
+    match try_form(alloc, table, region, limits, PACKED, others)? {
         Attempt::Fits {
             automaton,
             registers,

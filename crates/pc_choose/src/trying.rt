@@ -39,8 +39,8 @@ pub(crate) enum Attempt {
 }
 
 /// Tries the form that a search of this extent finds for a region, where all but it has so many bytes.
-#[tactic(auto, using(crate::proofs::Trying::trying))]
-pub(crate) fn attempt(
+#[tactic(auto, using(crate::proofs::Attempts::trying))]
+pub(crate) fn try_form(
     alloc: Global,
     table: &RegionTable,
     region: u32,
