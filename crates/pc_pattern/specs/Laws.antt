@@ -1,10 +1,9 @@
 -- The laws of searches. Each is the contract of a function of laws.rt, which does nothing.
 use Rattle.std.specs.Prelude.{◌≡◌, ℕ, ◌≤◌, true, nat_eq, List, [], ◌∷◌, Some, slice_get}
 use Rattle.std.specs.List.{AllByRecursion, list_any}
-use Rattle.pc_word.specs.declared.item.Limits.{Limits}
 use Rattle.pc_word.specs.declared.item.TrapKind.{TrapKind}
 use Rattle.pc_word.specs.Row.{At_leaf}
-use Rattle.pc_table.specs.Table.{Traps_here, Table, region_tree, region_live}
+use Rattle.pc_table.specs.Table.{Traps_here, region_tree, region_live}
 use Rattle.pc_table.specs.TableKeeps.{TableKeeps}
 use Rattle.pc_window.specs.WindowRun.{Window}
 use Rattle.pc_window.specs.Kept.{Left}
@@ -12,8 +11,8 @@ use Rattle.pc_window.specs.Steps.{Positive}
 use Rattle.pc_automaton.specs.declared.automaton.AutomatonLeaf.TheVariants.{Trap}
 use Rattle.pc_automaton.specs.Automaton.{AutomatonState, IsAutomaton}
 use Rattle.pc_automaton.specs.There.{StateIsThere}
-use Rattle.pc_pattern.specs.Searches.{Search, IsPattern, HasNoPattern}
-use Rattle.pc_pattern.specs.Pattern.{packed, RowFits, NoneIsEmpty, RunsAsTheRegion}
+use Rattle.pc_pattern.specs.Searches.{Rules, Search, IsPattern, HasNoPattern}
+use Rattle.pc_pattern.specs.Pattern.{RowFits, NoneIsEmpty, RunsAsTheRegion}
 
 -- the states of a closed search do what the region does
 abbrev pub PatternsRunAsTheRegion : Type 0

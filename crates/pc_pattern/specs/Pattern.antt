@@ -1,20 +1,26 @@
 -- What a search finds: the automaton of a region, and what it keeps.
-use Rattle.std.specs.Prelude.{◌≡◌, ℕ, suc, ◌<◌, ◌≤◌, List, length, Contains, Some, slice_get}
-use Rattle.std.specs.List.{AllByRecursion, count_by}
+use Rattle.std.specs.Prelude.{◌≡◌, ℕ, suc, ◌<◌, ◌≤◌, ℤ, true, nat_eq, List, length, map, Contains, Some, slice_get, Vec}
+use Rattle.std.specs.declared.alloc.Global.{Global}
+use Rattle.std.specs.List.{AllByRecursion, count_by, list_any}
 use Rattle.pc_word.specs.declared.item.Limits.{Limits}
 use Rattle.pc_word.specs.declared.item.Operand.{Operand}
 use Rattle.pc_word.specs.State.{State}
 use Rattle.pc_word.specs.Items.{is_memory, is_effect}
 use Rattle.pc_word.specs.Row.{Row, items_of, tests_of, leaves_of, paths_of}
-use Rattle.pc_table.specs.Table.{Table, Next}
+use Rattle.pc_table.specs.Table.{Table, Next, region_live}
 use Rattle.pc_table.specs.RegionRun.{region_run}
 use Rattle.pc_window.specs.Kept.{NeverFaults, HasItems}
 use Rattle.pc_automaton.specs.declared.automaton.AutomatonLeaf.TheVariants.{To}
-use Rattle.pc_automaton.specs.Automaton.{AutomatonState}
+use Rattle.pc_automaton.specs.Automaton.{AutomatonState, IsAutomaton}
+use Rattle.pc_automaton.specs.There.{StateIsThere}
 use Rattle.pc_automaton.specs.RunsAsRegion.{RunsAlike, LeadsUntested}
 use Rattle.pc_pattern.specs.declared.error.SearchError.{SearchError}
 use Rattle.pc_pattern.specs.declared.error.SearchError.TheVariants.{Memory, NoPattern}
-use Rattle.pc_pattern.specs.Searches.{Rules, IsPattern, HasNoPattern}
+use Rattle.pc_pattern.specs.Searches.{Rules, IsPattern, HasKeys}
+
+-- the rules of a search within these limits, with this window number
+abbrev pub rules_for : Table → Limits → (number : ℕ) → Rules
+rules_for table limits number = record { table = table; limits = limits; number = number }
 
 -- a row is within limits over its whole tree, and on each path at most one item is a print, read or more
 pub record RowFits {L : Type 0} (limits : Limits) (row : Row L) : Type 0 where
@@ -66,4 +72,4 @@ pub record IsFound (rules : Rules) (region rows : ℕ) (states : List AutomatonS
 -- why there is none: want of memory, or more members than so many, with their keys
 abbrev pub IsNotFound : Rules → (region rows : ℕ) → SearchError → Type 0
 IsNotFound rules region rows Memory = Unit {0}
-IsNotFound rules region rows (NoPattern reached) = HasKeys rules region rows (map (λ (key : Vec ℤ). key.items) reached)
+IsNotFound rules region rows (NoPattern reached) = HasKeys rules region rows (map (λ (key : Vec ℤ Global). key.items) reached)

@@ -15,27 +15,35 @@ abbrev pub IsSingle : Window → Type 0
 IsSingle w = w.front ≡ front_of (whole w.front)
 
 pub renumbered_single : (w : Window) → IsSingle w → IsSingle (renumbered w)
-renumbered_single w single = unfolding renumbered in single
+unfolding renumbered
+renumbered_single w single = single
 
 -- it is equal to the one before up to a shift, and its parameters correspond in the order of first use
 pub renumbered_shifts : (w : Window) → IsProper w → IsSingle w → ShiftedBy (parameter_pairs w (renumbered w)) w (renumbered w)
-renumbered_shifts w proper single = unfolding renumbered in keys_pair w w refl
+unfolding renumbered
+renumbered_shifts w proper single = keys_pair w w refl
 
 pub renumbered_proper : (w : Window) → IsProper w → IsSingle w → IsProper (renumbered w)
-renumbered_proper w proper single = unfolding renumbered in proper
+unfolding renumbered
+renumbered_proper w proper single = proper
 
 pub renumbered_limits : (w : Window) → (renumbered w).limits ≡ w.limits
-renumbered_limits w = unfolding renumbered in refl
+unfolding renumbered
+renumbered_limits w = refl
 
 pub renumbered_size : (w : Window) → tree_size (whole (renumbered w).front) ≡ tree_size (whole w.front)
-renumbered_size w = unfolding renumbered in refl
+unfolding renumbered
+renumbered_size w = refl
 
 pub renumbered_parts : (table : Table) (most : ℕ) (w : Window) → PartsAreThere table most (whole w.front) → PartsAreThere table most (whole (renumbered w).front)
-renumbered_parts table most w parts = unfolding renumbered in parts
+unfolding renumbered
+renumbered_parts table most w parts = parts
 
 -- no more names and form variables than before
 pub renumbered_names : (w : Window) → IsProper w → (renumbered w).next ≤ w.next
-renumbered_names w proper = unfolding renumbered in omega arith
+unfolding renumbered
+renumbered_names w proper = omega arith
 
 pub renumbered_variables : (w : Window) → IsProper w → (renumbered w).next_variable ≤ w.next_variable
-renumbered_variables w proper = unfolding renumbered in omega arith
+unfolding renumbered
+renumbered_variables w proper = omega arith
