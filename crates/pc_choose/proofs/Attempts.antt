@@ -32,6 +32,10 @@ use Rattle.pc_choose.proofs.StateBytes.{states_short}
 
 -- ---- what the states of a search keep
 
+-- states that have a low pressure, one and all
+low_all : (automaton : List StoredState) → LowBefore (states_in automaton) (length automaton) → LowBefore (states_in automaton) (length (states_in automaton))
+low_all automaton low = subst (λ (n : ℕ). LowBefore (states_in automaton) n) (sym (map_length state_in automaton)) low
+
 module _ (rules : Rules) (keeps : TableKeeps rules.table) (region rows : ℕ) where
   pub found_begins : (states : List AutomatonState) → IsFound rules region rows states → BeginsWithVariables states
   found_begins states found = record {
@@ -53,10 +57,6 @@ pub found_few : (rules : Rules) (region rows : ℕ) → rows ≤ most_rows → (
     → length automaton < 2 ^ 32
 found_few rules region rows most automaton found =
     let few = found.few in let same = map_length state_in automaton in omega (arith, few, same, most)
-
--- each of them has a low pressure
-low_all : (automaton : List StoredState) → LowBefore (states_in automaton) (length automaton) → LowBefore (states_in automaton) (length (states_in automaton))
-low_all automaton low = subst (λ (n : ℕ). LowBefore (states_in automaton) n) (sym (map_length state_in automaton)) low
 
 -- ---- what comes of trying
 

@@ -4,6 +4,7 @@ pub mod Finding
 pub mod Counting
 pub mod StateBytes
 pub mod Attempts
+pub mod FormsGiven
 pub mod Taken
 pub mod Progress
 pub mod Standing

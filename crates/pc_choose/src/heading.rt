@@ -1,8 +1,9 @@
 //! The regions whose forms may be pipelined.
-ghost use Rattle.std.specs.Prelude.{◌≡◌, is_some};
+ghost use Rattle.std.specs.Prelude.{◌≡◌, Some, is_some};
+ghost use Rattle.std.specs.List.{list_any};
 ghost use Rattle.pc_table.specs.Table.{table_of};
 ghost use Rattle.pc_window.specs.Opening.{same_loop};
-ghost use Rattle.pc_window.specs.Steps.{is_innermost, loop_of};
+ghost use Rattle.pc_window.specs.Steps.{loop_of};
 ghost use Rattle.pc_choose.specs.Choosing.{may_pipeline};
 
 use pc_table::RegionTable;
@@ -24,16 +25,16 @@ fn heads_innermost(table: &RegionTable, region: u32) -> bool
         None => false,
         Some(region) => match region.heads {
             None => false,
-            Some(inside) => is_innermost(table.loops.as_slice(), inside),
+            Some(inside) => !has_inner(table.loops.as_slice(), inside),
         },
     }
 }
 
-/// Whether no loop stands in a loop.
-fn is_innermost(loops: &[LoopMark], inside: u16) -> bool
-    ensures { result ≡ is_innermost loops.now inside }
+/// Whether a loop stands in a loop.
+fn has_inner(loops: &[LoopMark], outer: u16) -> bool
+    ensures { result ≡ list_any (λ mark. same_loop mark.outer (Some outer)) loops.now }
 {
-    !loops.iter().any(|mark| same_loop(mark.outer, Some(inside)))
+    loops.iter().any(|mark| same_loop(mark.outer, Some(outer)))
 }
 
 /// Whether two loops are there and the same.
