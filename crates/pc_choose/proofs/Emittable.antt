@@ -3,8 +3,8 @@ use Rattle.std.proofs.Common.{◌≡◌, ℕ, ◌<◌, ◌≤◌, List, Option, 
 use Rattle.std.specs.Prelude.{Bool, true, false, slice_get}
 use Rattle.std.proofs.lemmas.Option.{slice_get_within}
 use Rattle.pc_word.specs.declared.item.Limits.{Limits}
+use Rattle.pc_word.specs.declared.item.Extent.{Extent}
 use Rattle.pc_word.specs.MachineLimits.{most_object, most_rows}
-use Rattle.pc_word.specs.Ranges.{AreLimits}
 use Rattle.pc_table.specs.Table.{Table, region_tree}
 use Rattle.pc_table.specs.TableKeeps.{TableKeeps}
 use Rattle.pc_automaton.specs.Automaton.{AutomatonState, IsAutomaton}
@@ -19,32 +19,23 @@ use Rattle.pc_emit.specs.PackedForm.{IsPackedForm, IsForm}
 use Rattle.pc_emit.specs.Leading.{states_lead, form_leads}
 use Rattle.pc_emit.specs.Bytes.{object_bytes}
 use Rattle.pc_choose.specs.declared.choice.Choice.{Choice}
-use Rattle.pc_choose.specs.declared.choice.Cause.{Cause}
-use Rattle.pc_choose.specs.declared.choice.Form.{Form}
-use Rattle.pc_choose.specs.Choosing.{bytes_with, HasRegisters, Gets, Gets_packed, AreChosen}
+use Rattle.pc_choose.specs.Choosing.{bytes_with, packs, HasRegisters, AreChosen}
+use Rattle.pc_pattern.specs.Searches.{Rules}
+use Rattle.pc_pattern.specs.Pattern.{rules_for}
 use Rattle.pc_pattern.proofs.Traps.{traps_have_one_state}
 use Rattle.pc_choose.proofs.Places.{found_within, listed}
 use Rattle.pc_choose.proofs.Taken.{taken_of_form}
 use Rattle.pc_choose.proofs.BareTraps.{trap_not_plain}
-use Rattle.pc_choose.proofs.Trying.{packed_automaton, packed_there, packed_begins}
+use Rattle.pc_choose.proofs.Attempts.{found_begins, form_found}
 use Rattle.pc_choose.proofs.Standing.{IsIn, place_of, Stands, chosen_stands, names_have, state_has}
 
 -- ---- packed forms
 
--- states that a form was given with have registers
-given_registers : (table : Table) (limits : Limits) (region : ℕ) (bytes : RegionForm → ℕ) (states : List AutomatonState) (registers : ℕ → ℕ → Option ℕ)
-    (kind : Form) (causes : List Cause) → Gets table limits region bytes (Packed states registers) kind causes
-    → HasRegisters table limits region states registers
-given_registers table limits region bytes states registers kind causes (Gets_packed has short) = has
-
-module _ (table : Table) (keeps : TableKeeps table) (limits : Limits) (ranges : AreLimits limits) (region : ℕ) (states : List AutomatonState)
-    (registers : ℕ → ℕ → Option ℕ) (has : HasRegisters table limits region states registers) where
-  automaton : IsAutomaton states
-  automaton = packed_automaton table keeps limits ranges region states has.found
-
+module _ (rules : Rules) (keeps : TableKeeps rules.table) (region rows : ℕ) (states : List AutomatonState) (registers : ℕ → ℕ → Option ℕ)
+    (has : HasRegisters rules region rows states registers) where
   apart : (number : ℕ) (state : AutomatonState) → slice_get states number ≡ Some state → IsApart (registers number) state
   apart number state here =
-      live_apart states registers automaton (packed_begins table keeps limits ranges region states has.found) has.assigned number state here
+      live_apart states registers has.found.automaton (found_begins rules keeps region rows states has.found) has.assigned number state here
 
   -- all registers are allowed
   below : (number name register : ℕ) → registers number name ≡ Some register → register < allowed
@@ -65,41 +56,41 @@ module _ (table : Table) (keeps : TableKeeps table) (limits : Limits) (ranges : 
           let none : registers number name ≡ None = has.assigned.none number name (past states number out) in absurd (cc)
 
   -- it is a form that the region may have
-  pub is_packed_form : IsPackedForm table region states registers
+  pub is_packed_form : IsPackedForm rules.table region states registers
   is_packed_form =
-      let some = automaton.some in
+      let some = has.found.automaton.some in
       let first = found_within states 0 (omega (arith, some)) in
       record {
-        automaton = automaton;
+        automaton = has.found.automaton;
         first = first.0;
         is_first = first.1;
         runs = has.found.runs.alike first.0 first.1;
         untested = has.found.runs.untested first.0 first.1;
         variables = variables_stay states registers has.assigned first.0 first.1;
         apart = apart;
-        there = packed_there table keeps limits ranges region states has.found;
+        there = has.found.there;
       }
 
   -- and may be emitted
-  pub can_pack : (forms : ℕ → Option RegionForm) → ((to : ℕ) → IsIn (states_lead states) to → HasForm table forms to)
-      → CanPack table limits forms states registers
+  pub can_pack : (forms : ℕ → Option RegionForm) → ((to : ℕ) → IsIn (states_lead states) to → HasForm rules.table forms to)
+      → CanPack rules.table rules.limits forms states registers
   can_pack forms each = record {
-    automaton = automaton;
+    automaton = has.found.automaton;
     apart = apart;
     below = below;
-    there = packed_there table keeps limits ranges region states has.found;
-    out = state_has table forms states each;
+    there = has.found.there;
+    out = state_has rules.table forms states each;
     fit = has.found.fits;
     led = has.found.led;
   }
 
 -- ---- the whole
 
-module _ (table : Table) (keeps : TableKeeps table) (limits : Limits) (ranges : AreLimits limits)
+module _ (table : Table) (keeps : TableKeeps table) (limits : Limits) (extent : Extent)
     (small : object_bytes table (λ region. None) ≤ most_object) (choices : List Choice) (forms : ℕ → Option RegionForm)
-    (chosen : AreChosen table limits choices forms) where
-  stands : Stands table keeps limits ranges small chosen.found choices forms
-  stands = chosen_stands table keeps limits ranges small chosen.found choices forms chosen.choosing
+    (chosen : AreChosen table limits extent choices forms) where
+  stands : Stands table keeps limits extent small chosen.found choices forms
+  stands = chosen_stands table keeps limits extent small chosen.found choices forms chosen.choosing
 
   -- each region that was found has a form
   has_form : (region : ℕ) → IsIn chosen.found region → HasForm table forms region
@@ -119,28 +110,27 @@ module _ (table : Table) (keeps : TableKeeps table) (limits : Limits) (ranges : 
   form_can region Plain has = names_have table forms (region_tree table region) (leads_have region Plain has)
   form_can region (Packed states registers) has =
       let given = stands.given region (Packed states registers) has in
-      can_pack table keeps limits ranges region states registers
-      (given_registers table limits region (bytes_with table given.had region) states registers given.kind given.causes given.gets)
-      forms (leads_have region (Packed states registers) has)
+      let found = form_found table limits extent region (bytes_with table given.had region) states registers given.kind given.causes given.gets in
+      can_pack (rules_for table limits found.0) keeps region found.1 states registers found.2 forms (leads_have region (Packed states registers) has)
 
   pub form_is : (region : ℕ) (form : RegionForm) → forms region ≡ Some form → IsForm table region form
   form_is region Plain has = tt
   form_is region (Packed states registers) has =
       let given = stands.given region (Packed states registers) has in
-      is_packed_form table keeps limits ranges region states registers
-      (given_registers table limits region (bytes_with table given.had region) states registers given.kind given.causes given.gets)
+      let found = form_found table limits extent region (bytes_with table given.had region) states registers given.kind given.causes given.gets in
+      is_packed_form (rules_for table limits found.0) keeps region found.1 states registers found.2
 
   pub are_forms : AreForms table limits forms
   are_forms = record {
     first = has_form 0 (listed chosen.found 0 0 stands.first);
     each = form_can;
     met = λ region form has.
-        let taken = taken_of_form table limits chosen.found choices forms chosen.choosing region form has in
+        let taken = taken_of_form table limits extent chosen.found choices forms chosen.choosing region form has in
         stands.met region (listed chosen.found taken.place region taken.there);
     traps = λ region line kind is has.
         let given = stands.given region Plain has in
-        let one = traps_have_one_state table limits region line kind is most_rows (omega arith) in
-        trap_not_plain table limits region line kind is one.0 (λ states found. one.1 states found.pattern) given.had given.there given.free given.short
+        let one = traps_have_one_state (packs table limits) region line kind is most_rows (omega arith) in
+        trap_not_plain table limits extent region line kind is one.0 (λ states found. one.1 states found.pattern) given.had given.there given.free given.short
         given.kind given.causes given.gets;
     short = stands.short;
   }

@@ -3,7 +3,8 @@ pub mod Marks
 pub mod Finding
 pub mod Counting
 pub mod StateBytes
-pub mod Trying
+pub mod Attempts
+pub mod FormsGiven
 pub mod Taken
 pub mod Progress
 pub mod Standing

@@ -1,8 +1,9 @@
 -- Regions are taken in the order that their forms fix.
-use Rattle.std.proofs.Common.{◌≡◌, ℕ, zero, suc, ◌+◌, ◌-◌, ◌≤◌, inl, inr, List, [], ◌∷◌, ◌++◌, length, map, Option, Some, None, refl, sym, ◌∙◌, ap, arith, zero-add}
+use Rattle.std.proofs.Common.{◌≡◌, ℕ, zero, suc, ◌+◌, ◌-◌, ◌≤◌, inl, inr, Bool, true, false, List, [], ◌∷◌, ◌++◌, length, map, Option, Some, None, refl, sym, ◌∙◌, ap, arith, zero-add}
 use Rattle.std.specs.Prelude.{slice_get}
 use Rattle.std.proofs.lemmas.Option.{slice_get_past}
 use Rattle.pc_word.specs.declared.item.Limits.{Limits}
+use Rattle.pc_word.specs.declared.item.Extent.{Extent}
 use Rattle.pc_word.proofs.Truth.{decide_le}
 use Rattle.pc_table.specs.Table.{Table, region_tree}
 use Rattle.pc_emit.specs.Emitted.{RegionForm, Plain, Packed}
@@ -10,8 +11,8 @@ use Rattle.pc_emit.specs.Leading.{form_leads}
 use Rattle.pc_choose.specs.declared.choice.Choice.{Choice}
 use Rattle.pc_choose.specs.declared.choice.Cause.{Cause}
 use Rattle.pc_choose.specs.declared.choice.Form.{Form}
-use Rattle.pc_choose.specs.declared.choice.Form.TheVariants as kind
-use Rattle.pc_choose.specs.Choosing.{bytes_with, with_regions, choice_of, Gets, Gets_packed, Gets_plain, Choosing, Begins, Takes, AreChosen}
+use Rattle.pc_choose.specs.Choosing.{bytes_with, with_regions, choice_of, Gets, Gets_pipelined, Gets_packed, Gets_plain, Choosing, Begins, Takes, AreChosen}
+use Rattle.pc_choose.specs.Laws.{has_automaton}
 use Rattle.pc_choose.proofs.Places.{get_more, length_more, map_length}
 use Rattle.pc_choose.proofs.Counting.{with_form-same, form_stays}
 use Rattle.pc_choose.proofs.Taken.{with_regions_keep, next_is_free}
@@ -35,23 +36,25 @@ map_more f (y ∷ xs) x = ap (λ zs. f y ∷ zs) (map_more f xs x)
 
 -- ---- the kinds of forms
 
-kind_of : RegionForm → Form
-kind_of Plain = kind.Plain
-kind_of (Packed states registers) = kind.Packed
+-- whether a form is packed
+is_packed : RegionForm → Bool
+is_packed Plain = false
+is_packed (Packed states registers) = true
 
-abbrev kind_at : Option RegionForm → Form
-kind_at (Some form) = kind_of form
-kind_at None = kind.Plain
+abbrev packed_at : Option RegionForm → Bool
+packed_at (Some form) = is_packed form
+packed_at None = false
 
-gets_kind : (table : Table) (limits : Limits) (region : ℕ) (bytes : RegionForm → ℕ) (form : RegionForm) (kind : Form) (causes : List Cause)
-    → Gets table limits region bytes form kind causes → kind ≡ kind_of form
-unfolding kind_of
-gets_kind table limits region bytes form kind causes (Gets_packed has short) = refl
-gets_kind table limits region bytes form kind causes (Gets_plain refused) = refl
+gets_kind : (table : Table) (limits : Limits) (extent : Extent) (region : ℕ) (bytes : RegionForm → ℕ) (form : RegionForm) (kind : Form) (causes : List Cause)
+    → Gets table limits extent region bytes form kind causes → has_automaton kind ≡ is_packed form
+unfolding is_packed
+gets_kind table limits extent region bytes form kind causes (Gets_pipelined may has short) = refl
+gets_kind table limits extent region bytes form kind causes (Gets_packed passed has short) = refl
+gets_kind table limits extent region bytes form kind causes (Gets_plain passed refused) = refl
 
 -- ---- the order
 
-module _ (table : Table) (limits : Limits) (forms : ℕ → Option RegionForm) where
+module _ (table : Table) (limits : Limits) (extent : Extent) (forms : ℕ → Option RegionForm) where
   -- what a region leads to
   abbrev leads_of : Option RegionForm → ℕ → List ℕ
   leads_of (Some form) region = form_leads (region_tree table region) form
@@ -71,10 +74,10 @@ module _ (table : Table) (limits : Limits) (forms : ℕ → Option RegionForm) w
   record Follows (found : List ℕ) (choices : List Choice) : Type 0 where
     order : found ≡ grown (length choices)
     regions : (at region : ℕ) → slice_get (map (λ choice. choice.region) choices) at ≡ Some region → slice_get found at ≡ Some region
-    kinds : map (λ choice. choice.form) choices ≡ map (λ choice. kind_at (forms choice.region)) choices
+    kinds : map (λ choice. has_automaton choice.form) choices ≡ map (λ choice. packed_at (forms choice.region)) choices
 
   takes_follows : (found : List ℕ) (choices : List Choice) (last : ℕ) (chosen : RegionForm) (kind : Form) (causes : List Cause)
-      → slice_get found (length choices) ≡ Some last → forms last ≡ Some chosen → kind ≡ kind_of chosen → Follows found choices
+      → slice_get found (length choices) ≡ Some last → forms last ≡ Some chosen → has_automaton kind ≡ is_packed chosen → Follows found choices
       → Follows (with_regions found (form_leads (region_tree table last) chosen)) (choices ++ choice_of last kind causes ∷ [])
   takes_follows found choices last chosen kind causes next has is follows = record {
     order =
@@ -92,20 +95,20 @@ module _ (table : Table) (limits : Limits) (forms : ℕ → Option RegionForm) w
               (ap (slice_get found) place ∙ next ∙ ap Some h.1)
         ];
     kinds =
-        map_more (λ (choice : Choice). choice.form) choices (choice_of last kind causes)
-        ∙ ap (λ (ks : List Form). ks ++ kind ∷ []) follows.kinds
-        ∙ ap (λ (k : Form). map (λ (choice : Choice). kind_at (forms choice.region)) choices ++ k ∷ []) (is ∙ sym (ap kind_at has))
-        ∙ sym (map_more (λ (choice : Choice). kind_at (forms choice.region)) choices (choice_of last kind causes));
+        map_more (λ (choice : Choice). has_automaton choice.form) choices (choice_of last kind causes)
+        ∙ ap (λ (ks : List Bool). ks ++ has_automaton kind ∷ []) follows.kinds
+        ∙ ap (λ (k : Bool). map (λ (choice : Choice). packed_at (forms choice.region)) choices ++ k ∷ []) (is ∙ sym (ap packed_at has))
+        ∙ sym (map_more (λ (choice : Choice). packed_at (forms choice.region)) choices (choice_of last kind causes));
   }
 
   -- so it is whatever was chosen, while all forms are among the last ones
-  choosing_follows : (found : List ℕ) (choices : List Choice) (had : ℕ → Option RegionForm) → Choosing table limits found choices had
+  choosing_follows : (found : List ℕ) (choices : List Choice) (had : ℕ → Option RegionForm) → Choosing table limits extent found choices had
       → ((region : ℕ) (form : RegionForm) → had region ≡ Some form → forms region ≡ Some form) → Follows found choices
   choosing_follows found choices had Begins among = record { order = refl; regions = λ at region e. absurd (cc); kinds = refl }
   choosing_follows found choices had (Takes {found = before} {choices = earlier} {forms = old} {region = last} {chosen = chosen} {kind = kind} {causes = causes} choosing next gets) among =
-      let free = next_is_free table limits before earlier old choosing last next in
+      let free = next_is_free table limits extent before earlier old choosing last next in
       takes_follows before earlier last chosen kind causes next (among last chosen (with_form-same old last chosen))
-      (gets_kind table limits last (bytes_with table old last) chosen kind causes gets)
+      (gets_kind table limits extent last (bytes_with table old last) chosen kind causes gets)
       (choosing_follows before earlier old choosing (λ region form has. among region form (form_stays old last region chosen form free has)))
 
   -- where all that were found were taken, no more are found
@@ -123,8 +126,8 @@ module _ (table : Table) (limits : Limits) (forms : ℕ → Option RegionForm) w
       let same = ap (λ (k : ℕ). length (grown k)) rest ∙ ap length (grown_stays n (m - n) full) in
       omega (arith, full, end, same)
 
-  -- the regions are taken in one order, and get one kind of form
-  module _ (choices others : List Choice) (one : AreChosen table limits choices forms) (other : AreChosen table limits others forms) where
+  -- the regions are taken in one order, and are plain or not in one way
+  module _ (choices others : List Choice) (one : AreChosen table limits extent choices forms) (other : AreChosen table limits extent others forms) where
     follows : Follows one.found choices
     follows = choosing_follows one.found choices forms one.choosing (λ region form has. has)
 
@@ -146,11 +149,11 @@ module _ (table : Table) (limits : Limits) (forms : ℕ → Option RegionForm) w
         ∙ follows.order ∙ ap grown as_many ∙ sym other_follows.order
         ∙ sym (same_at (map (λ (choice : Choice). choice.region) others) other.found (map_length (λ (choice : Choice). choice.region) others ∙ other.all) other_follows.regions)
 
-    pub one_kind : map (λ choice. choice.form) choices ≡ map (λ choice. choice.form) others
+    pub one_kind : map (λ choice. has_automaton choice.form) choices ≡ map (λ choice. has_automaton choice.form) others
     one_kind =
-        follows.kinds ∙ kinds_of choices ∙ ap (map (λ (region : ℕ). kind_at (forms region))) one_order ∙ sym (kinds_of others) ∙ sym other_follows.kinds
+        follows.kinds ∙ kinds_of choices ∙ ap (map (λ (region : ℕ). packed_at (forms region))) one_order ∙ sym (kinds_of others) ∙ sym other_follows.kinds
       where
-        kinds_of : (list : List Choice) → map (λ (choice : Choice). kind_at (forms choice.region)) list
-            ≡ map (λ (region : ℕ). kind_at (forms region)) (map (λ (choice : Choice). choice.region) list)
+        kinds_of : (list : List Choice) → map (λ (choice : Choice). packed_at (forms choice.region)) list
+            ≡ map (λ (region : ℕ). packed_at (forms region)) (map (λ (choice : Choice). choice.region) list)
         kinds_of [] = refl
-        kinds_of (choice ∷ list) = ap (λ (ks : List Form). kind_at (forms choice.region) ∷ ks) (kinds_of list)
+        kinds_of (choice ∷ list) = ap (λ (ks : List Bool). packed_at (forms choice.region) ∷ ks) (kinds_of list)

@@ -6,8 +6,8 @@ use Rattle.std.proofs.lemmas.List.{length-replicate}
 use Rattle.std.proofs.lemmas.Option.{slice_get_within}
 use Rattle.std.proofs.lemmas.Bool.Decides.{nat_tests}
 use Rattle.pc_word.specs.declared.item.Limits.{Limits}
+use Rattle.pc_word.specs.declared.item.Extent.{Extent}
 use Rattle.pc_word.specs.MachineLimits.{most_object}
-use Rattle.pc_word.specs.Ranges.{AreLimits}
 use Rattle.pc_word.specs.Row.{Row, Then, Either, At_leaf, leaves_of}
 use Rattle.pc_word.proofs.Lists.{all_front, all_back, all_imply, set_length}
 use Rattle.pc_table.specs.Table.{TableTree, Does, Asks, Next, Stops_here, Traps_here, TableRegion, Table, tree_of, region_tree, table_region, table_of}
@@ -18,7 +18,7 @@ use Rattle.pc_automaton.specs.declared.automaton.AutomatonLeaf.TheVariants.{To, 
 use Rattle.pc_automaton.specs.There.{LeafIsThere, StateIsThere}
 use Rattle.pc_emit.specs.declared.form.RegionForm.{RegionForm as StoredForm}
 use Rattle.pc_emit.specs.declared.form.RegionForm.TheVariants as stored
-use Rattle.pc_emit.specs.Emitted.{RegionForm}
+use Rattle.pc_emit.specs.Emitted.{RegionForm, Plain, Packed}
 use Rattle.pc_emit.specs.Emitting.{form_in, forms_in}
 use Rattle.pc_emit.specs.Leading.{form_leads}
 use Rattle.pc_emit.specs.Bytes.{plain_bytes, object_bytes}
@@ -28,14 +28,14 @@ use Rattle.pc_choose.specs.declared.giving.Given.{Given}
 use Rattle.pc_choose.specs.declared.choice.Choice.{Choice}
 use Rattle.pc_choose.specs.declared.choice.Cause.{Cause}
 use Rattle.pc_choose.specs.declared.choice.Form.{Form}
-use Rattle.pc_choose.specs.Choosing.{with_form, bytes_with, choice_of, Gets, Gets_packed, Gets_plain, Choosing, Begins, Takes, AreChosen}
+use Rattle.pc_choose.specs.Choosing.{with_form, bytes_with, choice_of, Gets, Choosing, Begins, Takes, AreChosen}
 use Rattle.pc_choose.specs.models.Marked.{IsMarked, Finds, NamesBelow, LeadsBelow}
 use Rattle.pc_choose.specs.models.Giving.{form_of, FormLeadsBelow, bytes_of, IsGiven}
 use Rattle.pc_choose.specs.models.Progress.{IsChoosing}
 use Rattle.pc_choose.proofs.Places.{set_there, set_elsewhere, same_number, map_length, none_left}
 use Rattle.pc_choose.proofs.Marks.{no_more_found, found_there}
 use Rattle.pc_choose.proofs.Counting.{plain_within, counts_alike}
-use Rattle.pc_choose.proofs.Trying.{packed_there}
+use Rattle.pc_choose.proofs.Attempts.{form_found}
 use Rattle.pc_choose.proofs.Taken.{next_is_free, taken_few}
 
 -- ---- what a form leads to is there
@@ -69,14 +69,14 @@ leaves_below table (Either on on_yes on_no) there = (
 )
 leaves_below table (At_leaf leaf) there = leaf_below table leaf there.0
 
-pub leads_below : (table : Table) → TableKeeps table → (limits : Limits) → AreLimits limits → (region : ℕ) (bytes : RegionForm → ℕ) (form : RegionForm)
-    (kind : Form) (causes : List Cause) → Gets table limits region bytes form kind causes
+pub leads_below : (table : Table) → TableKeeps table → (limits : Limits) (extent : Extent) (region : ℕ) (bytes : RegionForm → ℕ) (form : RegionForm)
+    (kind : Form) (causes : List Cause) → Gets table limits extent region bytes form kind causes
     → FormLeadsBelow (length table.regions) (region_tree table region) form
-leads_below table keeps limits ranges region bytes form kind causes (Gets_packed {states = states} has short) =
+leads_below table keeps limits extent region bytes Plain kind causes gets = tree_names_below table keeps region
+leads_below table keeps limits extent region bytes (Packed states registers) kind causes gets =
     all_imply (StateIsThere table) (λ state. LeavesKeep (LeadsBelow (length table.regions)) state.row) states
     (λ state there. leaves_below table state.row there.leaves)
-    (packed_there table keeps limits ranges region states has.found)
-leads_below table keeps limits ranges region bytes form kind causes (Gets_plain refused) = tree_names_below table keeps region
+    (form_found table limits extent region bytes states registers kind causes gets).2.found.there
 
 -- ---- forms in memory
 
@@ -112,16 +112,16 @@ no_forms_in count = λ i region. none_in count region i
 
 -- ---- region 0 is found
 
-pub progress_begins : (table : Table) (limits : Limits) (it : Progress) → it.found.order ≡ 0 ∷ [] → length it.found.marks ≡ length table.regions
+pub progress_begins : (table : Table) (limits : Limits) (extent : Extent) (it : Progress) → it.found.order ≡ 0 ∷ [] → length it.found.marks ≡ length table.regions
     → it.chosen.choices ≡ [] → it.chosen.forms ≡ replicate (length table.regions) None → it.bytes ≡ object_bytes table (λ region. None)
-    → object_bytes table (λ region. None) ≤ most_object → IsChoosing table limits it
-progress_begins table limits it order marks choices forms bytes small =
+    → object_bytes table (λ region. None) ≤ most_object → IsChoosing table limits extent it
+progress_begins table limits extent it order marks choices forms bytes small =
     let none : forms_in it.chosen.forms ≡ (λ region. None) = ap forms_in forms ∙ no_forms_in (length table.regions) in
     record {
       choosing =
-          subst (λ (f : ℕ → Option RegionForm). Choosing table limits it.found.order it.chosen.choices f) (sym none)
-          (subst (λ (c : List Choice). Choosing table limits it.found.order c (λ region. None)) (sym choices)
-          (subst (λ (o : List ℕ). Choosing table limits o [] (λ region. None)) (sym order) Begins));
+          subst (λ (f : ℕ → Option RegionForm). Choosing table limits extent it.found.order it.chosen.choices f) (sym none)
+          (subst (λ (c : List Choice). Choosing table limits extent it.found.order c (λ region. None)) (sym choices)
+          (subst (λ (o : List ℕ). Choosing table limits extent o [] (λ region. None)) (sym order) Begins));
       counted = bytes ∙ ap (λ (f : ℕ → Option RegionForm). object_bytes table f) (sym none);
       short = subst (λ (n : ℕ). n ≤ most_object) (sym bytes) small;
       forms = let nothing : Option StoredForm = None in ap length forms ∙ length-replicate (length table.regions) nothing;
@@ -130,10 +130,10 @@ progress_begins table limits it order marks choices forms bytes small =
 
 -- ---- a region is taken
 
-module _ (table : Table) (limits : Limits) (old : Progress) (is : IsChoosing table limits old) (region : ℕ)
+module _ (table : Table) (limits : Limits) (extent : Extent) (old : Progress) (is : IsChoosing table limits extent old) (region : ℕ)
     (next : slice_get old.found.order (length old.chosen.choices) ≡ Some region) (there : region < length table.regions) where
   free : forms_in old.chosen.forms region ≡ None
-  free = next_is_free table limits old.found.order old.chosen.choices (forms_in old.chosen.forms) is.choosing region next
+  free = next_is_free table limits extent old.found.order old.chosen.choices (forms_in old.chosen.forms) is.choosing region next
 
   next_is_counted : plain_bytes (region_tree table region) ≤ old.bytes
   next_is_counted =
@@ -144,7 +144,7 @@ module _ (table : Table) (limits : Limits) (old : Progress) (is : IsChoosing tab
       ap (λ (n : ℕ). bytes_of table region (n - plain_bytes (region_tree table region))) is.counted
       ∙ counts_alike table (forms_in old.chosen.forms) region there free
 
-  module _ (new : Progress) (given : Given) (gives : IsGiven table limits region (old.bytes - plain_bytes (region_tree table region)) given)
+  module _ (new : Progress) (given : Given) (gives : IsGiven table limits extent region (old.bytes - plain_bytes (region_tree table region)) given)
       (finds : Finds (form_leads (region_tree table region) (form_of given.form)) old.found new.found) (bytes : new.bytes ≡ given.bytes)
       (choices : new.chosen.choices ≡ old.chosen.choices ++ choice_of region given.kind given.causes ∷ [])
       (forms : new.chosen.forms ≡ slice_set old.chosen.forms region (Some given.form)) where
@@ -153,17 +153,17 @@ module _ (table : Table) (limits : Limits) (old : Progress) (is : IsChoosing tab
         let few = is.forms in
         ap forms_in forms ∙ forms_with old.chosen.forms region given.form (omega (arith, few, there))
 
-    chosen_now : Choosing table limits new.found.order new.chosen.choices (forms_in new.chosen.forms)
+    chosen_now : Choosing table limits extent new.found.order new.chosen.choices (forms_in new.chosen.forms)
     chosen_now =
-        let gets = subst (λ (b : RegionForm → ℕ). Gets table limits region b (form_of given.form) given.kind given.causes) counts gives.gets in
+        let gets = subst (λ (b : RegionForm → ℕ). Gets table limits extent region b (form_of given.form) given.kind given.causes) counts gives.gets in
         let takes = Takes is.choosing next gets in
-        let found = subst (λ (f : List ℕ). Choosing table limits f (old.chosen.choices ++ choice_of region given.kind given.causes ∷ [])
+        let found = subst (λ (f : List ℕ). Choosing table limits extent f (old.chosen.choices ++ choice_of region given.kind given.causes ∷ [])
         (with_form (forms_in old.chosen.forms) region (form_of given.form))) (sym finds.order) takes in
-        let chosen = subst (λ (c : List Choice). Choosing table limits new.found.order c (with_form (forms_in old.chosen.forms) region (form_of given.form)))
+        let chosen = subst (λ (c : List Choice). Choosing table limits extent new.found.order c (with_form (forms_in old.chosen.forms) region (form_of given.form)))
         (sym choices) found in
-        subst (λ (f : ℕ → Option RegionForm). Choosing table limits new.found.order new.chosen.choices f) (sym forms_now) chosen
+        subst (λ (f : ℕ → Option RegionForm). Choosing table limits extent new.found.order new.chosen.choices f) (sym forms_now) chosen
 
-    pub takes_next : IsChoosing table limits new
+    pub takes_next : IsChoosing table limits extent new
     takes_next = record {
       choosing = chosen_now;
       counted = bytes ∙ gives.counted ∙ ap (λ (b : RegionForm → ℕ). b (form_of given.form)) counts
@@ -176,18 +176,18 @@ module _ (table : Table) (limits : Limits) (old : Progress) (is : IsChoosing tab
 -- ---- regions that are found
 
 -- a region that was found is there
-pub next_there : (table : RegionTable) (limits : Limits) (it : Progress) → IsChoosing (table_of table) limits it → IsMarked it.found → (at region : ℕ)
+pub next_there : (table : RegionTable) (limits : Limits) (extent : Extent) (it : Progress) → IsChoosing (table_of table) limits extent it → IsMarked it.found → (at region : ℕ)
     → slice_get it.found.order at ≡ Some region → region < length table.regions
-next_there table limits it is marked at region here =
+next_there table limits extent it is marked at region here =
     let lt = found_there it.found at region marked here in
     let marks = is.marks in
     let regions = map_length table_region table.regions in
     omega (arith, lt, marks, regions)
 
 -- while one is left, fewer were taken than there are
-pub taken_fewer : (table : RegionTable) (limits : Limits) (it : Progress) → IsChoosing (table_of table) limits it → IsMarked it.found → (region : ℕ)
+pub taken_fewer : (table : RegionTable) (limits : Limits) (extent : Extent) (it : Progress) → IsChoosing (table_of table) limits extent it → IsMarked it.found → (region : ℕ)
     → slice_get it.found.order (length it.chosen.choices) ≡ Some region → length it.chosen.choices < length table.regions
-taken_fewer table limits it is marked region next =
+taken_fewer table limits extent it is marked region next =
     let lt = slice_get_within it.found.order (length it.chosen.choices) region next in
     let few = no_more_found it.found marked in
     let marks = is.marks in
@@ -195,21 +195,21 @@ taken_fewer table limits it is marked region next =
     omega (arith, lt, few, marks, regions)
 
 -- where none is left, forms were chosen
-pub all_chosen : (table : Table) (limits : Limits) (it : Progress) → IsChoosing table limits it
-    → slice_get it.found.order (length it.chosen.choices) ≡ None → AreChosen table limits it.chosen.choices (forms_in it.chosen.forms)
-all_chosen table limits it is none = record {
+pub all_chosen : (table : Table) (limits : Limits) (extent : Extent) (it : Progress) → IsChoosing table limits extent it
+    → slice_get it.found.order (length it.chosen.choices) ≡ None → AreChosen table limits extent it.chosen.choices (forms_in it.chosen.forms)
+all_chosen table limits extent it is none = record {
   found = it.found.order;
   choosing = is.choosing;
   all =
-      let few = taken_few table limits it.found.order it.chosen.choices (forms_in it.chosen.forms) is.choosing in
+      let few = taken_few table limits extent it.found.order it.chosen.choices (forms_in it.chosen.forms) is.choosing in
       let end = none_left it.found.order (length it.chosen.choices) none in
       omega (arith, few, end);
 }
 
 -- the region that is taken next is counted as a plain one
-pub next_counted : (table : RegionTable) (limits : Limits) (it : Progress) → IsChoosing (table_of table) limits it → (region : ℕ)
+pub next_counted : (table : RegionTable) (limits : Limits) (extent : Extent) (it : Progress) → IsChoosing (table_of table) limits extent it → (region : ℕ)
     → slice_get it.found.order (length it.chosen.choices) ≡ Some region → region < length table.regions
     → plain_bytes (region_tree (table_of table) region) ≤ it.bytes
-next_counted table limits it is region next there =
+next_counted table limits extent it is region next there =
     let regions = map_length table_region table.regions in
-    next_is_counted (table_of table) limits it is region next (omega (arith, regions, there))
+    next_is_counted (table_of table) limits extent it is region next (omega (arith, regions, there))

@@ -6,8 +6,8 @@ use Rattle.std.proofs.lemmas.List.Folds.{list_any-append}
 use Rattle.std.proofs.lemmas.Map.Views.{Contains-from_any}
 use Rattle.std.proofs.lemmas.Option.{slice_get_within}
 use Rattle.pc_word.specs.declared.item.Limits.{Limits}
+use Rattle.pc_word.specs.declared.item.Extent.{Extent}
 use Rattle.pc_word.specs.MachineLimits.{most_object}
-use Rattle.pc_word.specs.Ranges.{AreLimits}
 use Rattle.pc_word.specs.Row.{Row, Then, Either, At_leaf, leaves_of}
 use Rattle.pc_word.proofs.Lists.{all_both}
 use Rattle.pc_word.proofs.Truth.{decide_le}
@@ -25,7 +25,7 @@ use Rattle.pc_choose.specs.models.Leaves.{LeavesKeep}
 use Rattle.pc_choose.specs.declared.choice.Choice.{Choice}
 use Rattle.pc_choose.specs.declared.choice.Cause.{Cause}
 use Rattle.pc_choose.specs.declared.choice.Form.{Form}
-use Rattle.pc_choose.specs.Choosing.{with_form, bytes_with, with_region, with_regions, choice_of, Gets, Gets_packed, Gets_plain, Choosing, Begins, Takes}
+use Rattle.pc_choose.specs.Choosing.{with_form, bytes_with, with_region, with_regions, choice_of, Gets, Gets_pipelined, Gets_packed, Gets_plain, Choosing, Begins, Takes}
 use Rattle.pc_choose.specs.models.Marked.{NamesBelow, LeadsBelow}
 use Rattle.pc_choose.specs.models.Giving.{FormLeadsBelow}
 use Rattle.pc_choose.proofs.Places.{length_more, listed, found_within, same_number, own_number}
@@ -197,7 +197,7 @@ state_has table forms (first ∷ states) each (suc number) state e =
 
 -- ---- while forms are chosen
 
-module _ (table : Table) (keeps : TableKeeps table) (limits : Limits) (ranges : AreLimits limits)
+module _ (table : Table) (keeps : TableKeeps table) (limits : Limits) (extent : Extent)
     (small : object_bytes table (λ region. None) ≤ most_object) where
   -- what a region's form was given by
   pub record WasGiven (region : ℕ) (form : RegionForm) : Type 0 where
@@ -207,7 +207,7 @@ module _ (table : Table) (keeps : TableKeeps table) (limits : Limits) (ranges : 
     pub kind : Form
     pub causes : List Cause
     pub there : region < length table.regions
-    pub gets : Gets table limits region (bytes_with table had region) form kind causes
+    pub gets : Gets table limits extent region (bytes_with table had region) form kind causes
 
   -- what is kept from region to region
   pub record Stands (found : List ℕ) (choices : List Choice) (forms : ℕ → Option RegionForm) : Type 0 where
@@ -241,21 +241,22 @@ module _ (table : Table) (keeps : TableKeeps table) (limits : Limits) (ranges : 
 
   -- the bytes stay few enough
   gets_short : (forms : ℕ → Option RegionForm) (region : ℕ) (chosen : RegionForm) (kind : Form) (causes : List Cause) → region < length table.regions
-      → forms region ≡ None → object_bytes table forms ≤ most_object → Gets table limits region (bytes_with table forms region) chosen kind causes
+      → forms region ≡ None → object_bytes table forms ≤ most_object → Gets table limits extent region (bytes_with table forms region) chosen kind causes
       → object_bytes table (with_form forms region chosen) ≤ most_object
-  gets_short forms region chosen kind causes there free short (Gets_packed has few) = few
-  gets_short forms region chosen kind causes there free short (Gets_plain refused) =
+  gets_short forms region chosen kind causes there free short (Gets_pipelined may has few) = few
+  gets_short forms region chosen kind causes there free short (Gets_packed passed has few) = few
+  gets_short forms region chosen kind causes there free short (Gets_plain passed refused) =
       subst (λ (n : ℕ). n ≤ most_object) (sym (plain_counts table forms region there free)) short
 
   module _ (found : List ℕ) (choices : List Choice) (forms : ℕ → Option RegionForm) (last : ℕ) (chosen : RegionForm) (kind : Form) (causes : List Cause)
-      (choosing : Choosing table limits found choices forms) (next : slice_get found (length choices) ≡ Some last)
-      (gets : Gets table limits last (bytes_with table forms last) chosen kind causes) (stands : Stands found choices forms) where
+      (choosing : Choosing table limits extent found choices forms) (next : slice_get found (length choices) ≡ Some last)
+      (gets : Gets table limits extent last (bytes_with table forms last) chosen kind causes) (stands : Stands found choices forms) where
     -- the region that is taken is there, and has no form yet
     last_there : last < length table.regions
     last_there = stands.there last (listed found (length choices) last next)
 
     last_free : forms last ≡ None
-    last_free = next_is_free table limits found choices forms choosing last next
+    last_free = next_is_free table limits extent found choices forms choosing last next
 
     -- regions that are found, and forms, behind it
     abbrev leads : List ℕ
@@ -272,7 +273,7 @@ module _ (table : Table) (keeps : TableKeeps table) (limits : Limits) (ranges : 
       | inl old ↦ stands.there region old
       | inr new ↦
           led_below (length table.regions) (region_tree table last) chosen
-          (leads_below table keeps limits ranges last (bytes_with table forms last) chosen kind causes gets) region new
+          (leads_below table keeps limits extent last (bytes_with table forms last) chosen kind causes gets) region new
     ]
 
     taken_now : (at region : ℕ) → at < suc (length choices) → slice_get now at ≡ Some region → (form : RegionForm) × (with_it region ≡ Some form)
@@ -297,7 +298,7 @@ module _ (table : Table) (keeps : TableKeeps table) (limits : Limits) (ranges : 
             let was = stands.taken at region less (old_at less) in (was.0, form_stays forms last region chosen was.0 last_free was.1)
 
     given_now : (region : ℕ) (form : RegionForm) → with_it region ≡ Some form → WasGiven region form
-    given_now region form has = by (form_among table limits forms last region chosen form has)
+    given_now region form has = by (form_among table limits extent forms last region chosen form has)
       where
         by : ((region ≡ last) × (chosen ≡ form)) ⊎ (forms region ≡ Some form) → WasGiven region form
         by (inl h) =
@@ -314,7 +315,7 @@ module _ (table : Table) (keeps : TableKeeps table) (limits : Limits) (ranges : 
         by (inr h) = stands.given region form h
 
     behind_now : (from region : ℕ) (form : RegionForm) → with_it from ≡ Some form → IsIn (form_leads (region_tree table from) form) region → IsIn now region
-    behind_now from region form has h = by (form_among table limits forms last from chosen form has)
+    behind_now from region form has h = by (form_among table limits extent forms last from chosen form has)
       where
         by : ((from ≡ last) × (chosen ≡ form)) ⊎ (forms from ≡ Some form) → IsIn now region
         by (inl k) =
@@ -350,7 +351,7 @@ module _ (table : Table) (keeps : TableKeeps table) (limits : Limits) (ranges : 
         }
 
   -- what is kept, whatever was chosen
-  pub chosen_stands : (found : List ℕ) (choices : List Choice) (forms : ℕ → Option RegionForm) → Choosing table limits found choices forms
+  pub chosen_stands : (found : List ℕ) (choices : List Choice) (forms : ℕ → Option RegionForm) → Choosing table limits extent found choices forms
       → Stands found choices forms
   chosen_stands found choices forms Begins = begins_stands
   chosen_stands found choices forms (Takes {found = before} {choices = had} {forms = old} {region = last} {chosen = chosen} {kind = kind} {causes = causes} choosing next gets) =

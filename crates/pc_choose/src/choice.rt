@@ -3,6 +3,9 @@ use crate::{CauseList, ChoiceList, FormList};
 /// A kind of form, in the order in which they are tried.
 #[derive(Clone, Copy, Debug, PartialEq, Eq)]
 pub enum Form {
+    /// A row for each state of an automaton in which turns of a loop overlap. It has so many states,
+    /// and might have had so many rows.
+    Pipelined { states: u32, rows: u32 },
     /// A row for each state of an automaton.
     Packed,
     /// A row for each item and test. It is never refused.

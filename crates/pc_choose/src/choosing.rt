@@ -1,8 +1,10 @@
 //! Choosing forms, region by region.
 ghost use Rattle.std.specs.Prelude.{◌≡◌, ◌<◌, ◌≤◌, ◌++◌, ◌∷◌, [], suc, Some, None, length, replicate, slice_get, slice_set, IfOk, OnOk};
 ghost use Rattle.pc_word.specs.declared.item.Limits.{Limits};
-ghost use Rattle.pc_word.specs.Ranges.{AreLimits};
+ghost use Rattle.pc_word.specs.declared.item.Extent.{Extent};
+ghost use Rattle.pc_word.specs.Ranges.{AreLimits, IsExtent};
 ghost use Rattle.pc_word.specs.MachineLimits.{most_object};
+ghost use Rattle.pc_word.specs.SourceLimits.{most_nodes};
 ghost use Rattle.pc_table.specs.Table.{table_of};
 ghost use Rattle.pc_table.specs.TableKeeps.{TableKeeps};
 ghost use Rattle.pc_emit.specs.Bytes.{object_bytes};
@@ -19,7 +21,7 @@ use crate::leading::find_behind;
 use crate::{ChoiceList, FormList};
 use pc_emit::RegionForm;
 use pc_table::RegionTable;
-use pc_word::Limits;
+use pc_word::{Extent, Limits};
 use std::alloc::{AllocError, Global};
 
 /// The regions that were found, what was chosen for the first of them, and the bytes of the object
@@ -34,18 +36,25 @@ pub(crate) struct Progress {
 /// Chooses a form for each region that is led to from region 0, in the order in which they are found:
 /// the first that is not refused.
 ///
-/// It takes a search for each of them. The object of the table with all its regions plain is short
-/// enough, so that a region may always be plain.
-pub fn choose(alloc: Global, table: &RegionTable, limits: Limits) -> Result<Chosen, ChooseError>
+/// It takes a search for each of them, and one more for the header of an innermost loop. The object of
+/// the table with all its regions plain is short enough, so that a region may always be plain.
+pub fn choose(
+    alloc: Global,
+    table: &RegionTable,
+    limits: Limits,
+    extent: Extent,
+) -> Result<Chosen, ChooseError>
     requires kept { TableKeeps (table_of table.now) }
+    requires few { length table.now.regions ≤ most_nodes }
     requires limits { AreLimits limits }
+    requires extent { IsExtent extent }
     requires small { object_bytes (table_of table.now) (λ region. None) ≤ most_object }
-    ensures chosen { IfOk result (λ it. AreChosen (table_of table.now) limits it.choices (forms_in it.forms)) }
+    ensures chosen { IfOk result (λ it. AreChosen (table_of table.now) limits extent it.choices (forms_in it.forms)) }
     ensures count { IfOk result (λ it. length it.forms ≡ length table.now.regions) }
 {
     let mut progress = begun(alloc, table)?;
     while let Some(region) = progress.found.region(progress.chosen.choices.len()) {
-        take(alloc, table, limits, region, &mut progress)?;
+        take(alloc, table, limits, extent, region, &mut progress)?;
     }
     Ok(progress.chosen)
 }
@@ -54,7 +63,7 @@ pub fn choose(alloc: Global, table: &RegionTable, limits: Limits) -> Result<Chos
 fn begun(alloc: Global, table: &RegionTable) -> Result<Progress, AllocError>
     requires kept { TableKeeps (table_of table.now) }
     requires small { object_bytes (table_of table.now) (λ region. None) ≤ most_object }
-    ensures { IfOk result (λ progress. (limits : Limits) → IsChoosing (table_of table.now) limits progress) }
+    ensures { IfOk result (λ progress. (limits : Limits) (extent : Extent) → IsChoosing (table_of table.now) limits extent progress) }
 {
     let count = table.regions.len();
     let mut found = Found::new(alloc, count)?;
@@ -86,21 +95,24 @@ fn take(
     alloc: Global,
     table: &RegionTable,
     limits: Limits,
+    extent: Extent,
     region: u32,
     progress: &mut Progress,
 ) -> Result<(), ChooseError>
     requires kept { TableKeeps (table_of table.now) }
+    requires few { length table.now.regions ≤ most_nodes }
     requires limits { AreLimits limits }
-    requires choosing { IsChoosing (table_of table.now) limits progress.old }
+    requires extent { IsExtent extent }
+    requires choosing { IsChoosing (table_of table.now) limits extent progress.old }
     requires there { region < length table.now.regions }
     requires next { slice_get progress.old.found.order (length progress.old.chosen.choices) ≡ Some region }
-    ensures choosing { OnOk result (IsChoosing (table_of table.now) limits progress.new) }
+    ensures choosing { OnOk result (IsChoosing (table_of table.now) limits extent progress.new) }
     ensures taken { OnOk result (length progress.new.chosen.choices ≡ suc (length progress.old.chosen.choices)) }
 {
     let tree = region_tree(table, region);
     let plain = plain_bytes(tree);
     let others = progress.bytes - plain;
-    let given = form_for(alloc, table, region, limits, others, plain)?;
+    let given = form_for(alloc, table, region, limits, extent, others, plain)?;
     find_behind(tree, &given.form, &mut progress.found)?;
     progress.bytes = given.bytes;
     put(region, given, &mut progress.chosen)?;

@@ -8,10 +8,12 @@ mod choosing;
 mod error;
 mod found;
 mod giving;
+mod heading;
 mod laws;
 mod leading;
 #[cfg(test)]
 mod tests;
+mod trying;
 
 pub use choice::{Cause, Choice, Chosen, Form};
 pub use choosing::choose;

@@ -1,10 +1,11 @@
 ghost use Rattle.std.specs.Prelude.{◌≡◌, IfOk};
+ghost use Rattle.pc_word.specs.Ranges.{IsExtent};
 ghost use Rattle.pc_table.specs.Table.{table_tree, table_of};
 ghost use Rattle.pc_choose.specs.models.Summing.{zero_tree, sum_tree, summing_table};
 
 use super::*;
 use pc_table::{Region, RegionList, RegionTable, RegionTree, VarList};
-use pc_word::{Item, LengthList, Limits, LoopList, LoopMark, OpCode, Operand};
+use pc_word::{Extent, Item, LengthList, Limits, LoopList, LoopMark, OpCode, Operand};
 use std::alloc::{AllocError, Global};
 use std::test::Fail;
 
@@ -97,27 +98,71 @@ fn summing(alloc: Global) -> Result<RegionTable, AllocError>
     })
 }
 
-/// Whether these regions were taken in this order, and each of them is packed without a cause.
-fn are_packed(chosen: &Chosen, regions: &[u32]) -> bool {
-    if chosen.choices.len() != regions.len() {
-        return false;
-    }
-    chosen.choices.as_slice().iter().zip(regions).all(|(choice, region)| {
-        choice.region == *region && choice.form == Form::Packed && choice.causes.is_empty()
-    })
-}
-
-#[test]
+/// What is chosen for the loop and what stands before it, where searches have this extent.
 #[tactic(auto, using(crate::proofs::SummingKept::kept))]
-fn a_loop_and_what_stands_before_it_are_packed(rt: HostRuntime) -> Result<(), Fail> {
-    let table = summing(rt.alloc())?;
+fn chosen_within(alloc: Global, extent: Extent) -> Result<Chosen, ChooseError>
+    requires { IsExtent extent }
+{
+    let table = summing(alloc)?;
     let limits = Limits {
         ops: 4,
         tests: 1,
         mem: 1,
     };
-    let packed = match choose(rt.alloc(), &table, limits) {
-        Ok(chosen) => are_packed(&chosen, &[0, 1]),
+    choose(alloc, &table, limits, extent)
+}
+
+/// Whether the region with this number was taken at the same place and got a form, after these causes.
+fn got(chosen: &Chosen, region: u32, form: Form, causes: &[Cause]) -> bool {
+    match chosen.choices.get(region as usize) {
+        None => false,
+        Some(choice) => {
+            choice.region == region && choice.form == form && choice.causes.as_slice() == causes
+        }
+    }
+}
+
+#[test]
+fn nothing_is_pipelined_where_a_window_holds_one_turn(rt: HostRuntime) -> Result<(), Fail> {
+    let extent = Extent {
+        window: 1,
+        rows: 512,
+    };
+    let packed = match chosen_within(rt.alloc(), extent) {
+        Ok(chosen) => got(&chosen, 0, Form::Packed, &[]) && got(&chosen, 1, Form::Packed, &[]),
+        Err(ChooseError::Memory) => false,
+    };
+    assert!(&rt; packed);
+    Ok(())
+}
+
+#[test]
+fn a_loop_is_pipelined_and_what_stands_before_it_is_packed(rt: HostRuntime) -> Result<(), Fail> {
+    let extent = Extent {
+        window: 2,
+        rows: 16,
+    };
+    let form = Form::Pipelined {
+        states: 2,
+        rows: 16,
+    };
+    let pipelined = match chosen_within(rt.alloc(), extent) {
+        Ok(chosen) => got(&chosen, 0, Form::Packed, &[]) && got(&chosen, 1, form, &[]),
+        Err(ChooseError::Memory) => false,
+    };
+    assert!(&rt; pipelined);
+    Ok(())
+}
+
+#[test]
+fn a_loop_is_packed_where_its_schedule_has_too_few_rows(rt: HostRuntime) -> Result<(), Fail> {
+    let extent = Extent { window: 2, rows: 1 };
+    let cause = Cause::Rows {
+        number: 2,
+        limit: 1,
+    };
+    let packed = match chosen_within(rt.alloc(), extent) {
+        Ok(chosen) => got(&chosen, 0, Form::Packed, &[]) && got(&chosen, 1, Form::Packed, &[cause]),
         Err(ChooseError::Memory) => false,
     };
     assert!(&rt; packed);

@@ -29,10 +29,12 @@ use Rattle.pc_automaton.specs.declared.automaton.AutomatonLeaf.{AutomatonLeaf}
 use Rattle.pc_automaton.specs.declared.automaton.AutomatonLeaf.TheVariants.{To, Out, Stop, Trap}
 use Rattle.pc_automaton.specs.Automaton.{AutomatonState, is_parameter, LeafIsKnown, LeavesAreKnown, Takes, LeafLeads, IsStateAmong}
 use Rattle.pc_automaton.specs.Automaton.{IsAutomaton}
-use Rattle.pc_pattern.specs.Pairs.{Pair, corresponds, ones, others, themselves, defined, operands_for, OperandsAlike, ArgumentsAlike, HomesAlike}
+use Rattle.pc_canon.specs.Pairs.{Pair, corresponds, ones, others, themselves, defined, operands_for, OperandsAlike, ArgumentsAlike, HomesAlike}
 use Rattle.pc_pattern.specs.NamedRow.{RowsNamed, named_item, named_test, named_leaf, LeavesAlike}
-use Rattle.pc_pattern.specs.Searches.{Rules, IsClosed, bare_leaf, Leads, to_same, to_member, to_bare, to_region, to_end, to_trap, StateFor, Automates}
-use Rattle.pc_pattern.proofs.ParameterLists.{parameters_listed}
+use Rattle.pc_pattern.specs.Searches.{Rules, IsClosed, bare_leaf, Leads, to_member, to_bare, to_region, to_end, to_trap, StateFor, Automates}
+use Rattle.pc_canon.proofs.ParameterLists.{parameters_listed}
+use Rattle.pc_canon.specs.Canonical.{parameter_pairs}
+use Rattle.pc_pattern.proofs.Shifts.{shifted_many}
 use Rattle.pc_pattern.proofs.Members.{members_proper, begins_with, state_of}
 
 -- ---- what items and tests read
@@ -164,9 +166,7 @@ alike_known names known f (Trap kind line) (Out region other) h = absurd h
 leaf_known : {rules : Rules} {members : List Window} {names : List Pair} {left : Left} {leaf : AutomatonLeaf} (known : ℕ → Bool)
     → OthersKnown names known
     → Leads rules members names left leaf → LeafIsKnown known leaf
-leaf_known {names} known f (to_same {arguments} brought member pairs brings items at alike params given) =
-    arguments_known names known f (operands_for (ones pairs)) arguments given
-leaf_known {names} known f (to_member {arguments} brought brings items at given) =
+leaf_known {names} known f (to_member {arguments} brought member brings items at shifted given) =
     arguments_known names known f (operands_for (parameters_of (whole brought.front))) arguments given
 leaf_known {names} known f (to_bare {other} brought leaf brings bare alike) = alike_known names known f leaf other alike
 leaf_known {names} known f (to_region {homes} {homes'} alike) = homes_known names known f homes homes' alike
@@ -206,10 +206,6 @@ as_many_operands : (xs : List ℕ) → length (operands_for xs) ≡ length xs
 as_many_operands [] = refl
 as_many_operands (x ∷ xs) = ap (λ (n : ℕ). suc n) (as_many_operands xs)
 
-as_many_sides : (pairs : List Pair) → length (ones pairs) ≡ length (others pairs)
-as_many_sides [] = refl
-as_many_sides (pair ∷ pairs) = ap (λ (n : ℕ). suc n) (as_many_sides pairs)
-
 bare_leads : (states : List AutomatonState) (names : List Pair) (tree : Tree) (leaf other : AutomatonLeaf) → bare_leaf tree ≡ Some leaf
     → LeavesAlike names leaf other
     → LeafLeads states other
@@ -235,14 +231,10 @@ module _ (rules : Rules) (members : List Window) (states : List AutomatonState) 
       subst (λ (o : Option AutomatonState). Takes o count) (sym e.1) (many ∙ sym (ap (λ (l : List ℕ). length l) e.2.parameters))
 
   leaf_leads : {names : List Pair} {left : Left} {leaf : AutomatonLeaf} → Leads rules members names left leaf → LeafLeads states leaf
-  leaf_leads {names} (to_same {number} {arguments} brought member pairs brings items at alike params given) =
+  leaf_leads {names} (to_member {number} {arguments} brought member brings items at shifted given) =
       takes_arguments number (length arguments) member at
-      (as_many_alike names (operands_for (ones pairs)) arguments given ∙ as_many_operands (ones pairs) ∙ as_many_sides pairs
-      ∙ ap (λ (l : List ℕ). length l) params)
-  leaf_leads {names} (to_member {number} {arguments} brought brings items at given) =
-      takes_arguments number (length arguments) brought at
       (as_many_alike names (operands_for (parameters_of (whole brought.front))) arguments given
-      ∙ as_many_operands (parameters_of (whole brought.front)))
+      ∙ as_many_operands (parameters_of (whole brought.front)) ∙ shifted_many brought member (parameter_pairs brought member, shifted))
   leaf_leads {names} (to_bare {other} brought leaf brings bare alike) = bare_leads states names (whole brought.front) leaf other bare alike
   leaf_leads (to_region alike) = tt
   leaf_leads to_end = tt

@@ -27,15 +27,19 @@ use Rattle.pc_automaton.specs.declared.automaton.AutomatonLeaf.{AutomatonLeaf}
 use Rattle.pc_automaton.specs.declared.automaton.AutomatonLeaf.TheVariants.{To, Out, Stop, Trap}
 use Rattle.pc_automaton.specs.Automaton.{AutomatonState, names_written}
 use Rattle.pc_automaton.specs.AutomatonRun.{In_region, At_state, passed_state, state_parameters, leaf_step, outcome_step, state_step, automaton_step}
-use Rattle.pc_pattern.specs.Pairs.{Pair, ones, others, operands_for, ArgumentsAlike, Correspond}
+use Rattle.pc_canon.specs.Pairs.{Pair, ones, others, operands_for, ArgumentsAlike, Correspond}
 use Rattle.pc_pattern.specs.NamedRow.{RowsNamed, named_item, named_test, named_leaf, LeavesAlike}
-use Rattle.pc_pattern.specs.Searches.{Rules, RowFor, bare_leaf, Leads, to_same, to_member, to_bare, to_region, to_end, to_trap, StateFor, Automates}
+use Rattle.pc_pattern.specs.Searches.{Rules, RowFor, bare_leaf, Leads, to_member, to_bare, to_region, to_end, to_trap, StateFor, Automates}
 use Rattle.pc_pattern.proofs.NamedRows.{WritesOnce, OutcomesNamed, both_fault, both_commit, named_rows_do}
 use Rattle.pc_pattern.proofs.WritesOnce.{cut_once, each_once, distinct_back}
-use Rattle.pc_pattern.proofs.Alike.{home_states_alike}
-use Rattle.pc_pattern.proofs.Passing.{state_corresponds, passed_runs, passed_forms, states_same, themselves_same}
+use Rattle.pc_canon.specs.Canonical.{parameter_pairs}
+use Rattle.pc_canon.proofs.Alike.{home_states_alike}
+use Rattle.pc_canon.proofs.ShiftRuns.{shifted_runs}
+use Rattle.pc_canon.proofs.ShiftForms.{shifted_forms}
+use Rattle.pc_pattern.proofs.Passing.{state_corresponds, states_same, themselves_same}
 use Rattle.pc_pattern.proofs.Places.{left_is_region}
-use Rattle.pc_pattern.proofs.Keeping.{SameKeeps, brings_on_keeps, rest_kept_on, never_left}
+use Rattle.pc_pattern.proofs.Keeping.{brings_on_keeps, rest_kept_on, never_left}
+use Rattle.pc_pattern.proofs.Shifts.{shifted_items, parameter_sides}
 
 -- ---- rows and their leaves
 
@@ -83,7 +87,7 @@ not_bare (Trap_exit kind line) none bare = absurd (cc)
 
 -- ---- leaves
 
-module _ (rules : Rules) (keeps : TableKeeps rules.table) (same_keeps : SameKeeps rules) (members : List Window) (states : List AutomatonState) where
+module _ (rules : Rules) (keeps : TableKeeps rules.table) (members : List Window) (states : List AutomatonState) where
   -- the run after a leaf
   abbrev after_leaf : List ℤ → State → AutomatonLeaf → Run
   after_leaf out new leaf n = seen_of (leaf_step rules.table states out new leaf) (run_from (automaton_step rules.table states) n)
@@ -260,24 +264,19 @@ module _ (rules : Rules) (keeps : TableKeeps rules.table) (same_keeps : SameKeep
       → (w : Window) (s : State) (out : List ℤ) (new new' : State)
       → Correspond names new new' → NeverFaults (window_run rules.table w s) → LeftKept rules.table w s out new left → LeftIs IsProper left
       → Leads rules members names left leaf → Goes_on w s out new' leaf
-  goes names auto w s out new new' c never kept proper (to_same {rest} {number}
-      {arguments} brought member pairs brings items at alike params args_alike) =
+  goes names auto w s out new new' c never kept proper (to_member {rest} {number} {arguments} brought member brings items at shifted given) =
       let k = rest_kept_on rules.table w rest brought s new out kept never (brings_on_keeps rules keeps rest brought brings proper).1 in
       let e = auto.each number member at in
+      let pairs = parameter_pairs brought member in
+      let side = parameter_sides brought member (pairs, shifted) in
       let t = passed_state new (others pairs) (operands_for (ones pairs)) in
       let d = state_corresponds new pairs in
       leads_ahead names member w number s new new' out (others pairs) (operands_for (ones pairs)) arguments c
-      (ap (λ (o : Option AutomatonState). state_parameters o) e.1 ∙ e.2.parameters ∙ sym params) at args_alike
-      (same_keeps.items pairs brought member alike (not_bare (whole brought.front) items))
-      (rest_from w brought member s new t out (same_keeps.runs pairs brought member new t alike d) (same_keeps.forms pairs brought member new t alike d) k)
-  goes names auto w s out new new' c never kept proper (to_member {rest} {number} {arguments} brought brings items at args_alike) =
-      let k = rest_kept_on rules.table w rest brought s new out kept never (brings_on_keeps rules keeps rest brought brings proper).1 in
-      let e = auto.each number brought at in
-      let ps = parameters_of (whole brought.front) in
-      let t = passed_state new ps (operands_for ps) in
-      leads_ahead names brought w number s new new' out ps (operands_for ps) arguments c
-      (ap (λ (o : Option AutomatonState). state_parameters o) e.1 ∙ e.2.parameters) at args_alike (not_bare (whole brought.front) items)
-      (rest_from w brought brought s new t out (passed_runs rules.table brought new) (passed_forms rules.table brought new) k)
+      (ap (λ (o : Option AutomatonState). state_parameters o) e.1 ∙ e.2.parameters ∙ sym side.1) at
+      (subst (λ (l : List ℕ). ArgumentsAlike names (operands_for l) arguments) (sym side.0) given)
+      (shifted_items pairs brought member shifted (not_bare (whole brought.front) items))
+      (rest_from w brought member s new t out (shifted_runs rules.table pairs brought member new t shifted d)
+      (shifted_forms rules.table pairs brought member new t shifted d) k)
   goes names auto w s out new new' c never kept proper (to_bare {rest} {other} brought leaf brings bare alike) =
       let k = rest_kept_on rules.table w rest brought s new out kept never (brings_on_keeps rules keeps rest brought brings proper).1 in
       along (along_bare w brought s out new leaf (after_leaf out new' other) k bare (leaf_same names leaf other out new new' c alike))

@@ -10,6 +10,8 @@ use Rattle.pc_window.specs.WindowRun.{Window}
 use Rattle.pc_window.specs.Kept.{Left}
 use Rattle.pc_window.specs.Steps.{Cuts, Tidies}
 use Rattle.pc_window.proofs.FirstJumps.{filled_one, unwinding_one}
+use Rattle.pc_canon.specs.Shift.{Shifted}
+use Rattle.pc_renumber.specs.Renumbering.{renumbered}
 use Rattle.pc_automaton.specs.declared.automaton.AutomatonLeaf.{AutomatonLeaf}
 use Rattle.pc_automaton.specs.Automaton.{AutomatonState}
 use Rattle.pc_pattern.specs.Searches.{Rules, RowFor, Settles, BringsOn, bare_leaf, IsMember, IsNoMember, Looks, looks_new, looks_known, looks_bare}
@@ -34,25 +36,25 @@ module _ (rules : Rules) where
       let same = filled_one (uses (whole w.front)) w p.filled q.filled p.fills q.fills in
       p.cuts ∙ sym (subst (λ (u : Window). Cuts rules.table u b) (sym same) q.cuts)
 
-  known_or_new : (members : List Window) (a b : Window) → a ≡ b → IsNoMember rules members a → IsMember rules members b → ⊥
+  known_or_new : (members : List Window) (a b : Window) → a ≡ b → IsNoMember members a → IsMember members b → ⊥
   known_or_new members a b same new known =
-      new known.0 known.1 known.3 known.2 (subst (λ (u : Window). rules.Same known.3 u known.1) (sym same) known.4)
+      new known.0 known.1 known.2 (subst (λ (u : Window). Shifted u known.1) (sym same) known.3)
 
   bare_or_not : (a b : Window) (leaf : AutomatonLeaf) → a ≡ b → bare_leaf (whole a.front) ≡ None → bare_leaf (whole b.front) ≡ Some leaf → ⊥
   bare_or_not a b leaf same items bare = let e : None ≡ Some leaf = sym items ∙ ap (λ (u : Window). bare_leaf (whole u.front)) same ∙ bare in cc
 
   looks_one : {members more more' : List Window} {left : Left} → Looks rules members left more → Looks rules members left more' → more ≡ more'
-  looks_one {members} (looks_new {rest} {brought = a} p items new) (looks_new {brought = b} q items' new') =
-      ap (λ (u : Window). members ++ (u ∷ [])) (brings_one rest a b p q)
-  looks_one {members} (looks_new {rest} {brought = a} p items new) (looks_known {brought = b} q items' known) =
+  looks_one {members} (looks_new {rest} {brought = a} p items new renumbers) (looks_new {brought = b} q items' new' renumbers') =
+      ap (λ (u : Window). members ++ (u ∷ [])) (renumbers ∙ ap renumbered (brings_one rest a b p q) ∙ sym renumbers')
+  looks_one {members} (looks_new {rest} {brought = a} p items new renumbers) (looks_known {brought = b} q items' known) =
       absurd (known_or_new members a b (brings_one rest a b p q) new known)
-  looks_one {members} (looks_new {rest} {brought = a} p items new) (looks_bare {brought = b} {leaf} q bare) =
+  looks_one {members} (looks_new {rest} {brought = a} p items new renumbers) (looks_bare {brought = b} {leaf} q bare) =
       absurd (bare_or_not a b leaf (brings_one rest a b p q) items bare)
-  looks_one {members} (looks_known {rest} {brought = a} p items known) (looks_new {brought = b} q items' new) =
+  looks_one {members} (looks_known {rest} {brought = a} p items known) (looks_new {brought = b} q items' new renumbers) =
       absurd (known_or_new members b a (sym (brings_one rest a b p q)) new known)
   looks_one (looks_known p items known) (looks_known q items' known') = refl
   looks_one (looks_known p items known) (looks_bare q bare) = refl
-  looks_one {members} (looks_bare {rest} {brought = a} {leaf} p bare) (looks_new {brought = b} q items new) =
+  looks_one {members} (looks_bare {rest} {brought = a} {leaf} p bare) (looks_new {brought = b} q items new renumbers) =
       absurd (bare_or_not b a leaf (sym (brings_one rest a b p q)) items bare)
   looks_one (looks_bare p bare) (looks_known q items known) = refl
   looks_one (looks_bare p bare) (looks_bare q bare') = refl
@@ -108,7 +110,7 @@ length_one_more : (ws : List Window) (v : Window) → length ws ≤ length (ws +
 length_one_more ws v = omega (arith, length-append ws (v ∷ []))
 
 looks_grows : {rules : Rules} {members more : List Window} {left : Left} → Looks rules members left more → length members ≤ length more
-looks_grows {members} (looks_new {brought} p items new) = length_one_more members brought
+looks_grows {members} (looks_new {member} p items new renumbers) = length_one_more members member
 looks_grows (looks_known p items known) = omega arith
 looks_grows (looks_bare p bare) = omega arith
 looks_grows looks_out = omega arith

@@ -1,4 +1,4 @@
--- Where the first row of packed code leads that has neither item nor test.
+-- Where the first row leads that a search finds, if it has neither item nor test.
 use Rattle.std.proofs.Common.{◌≡◌, ℕ, List, Option, Some, refl, sym, ◌∙◌, ap, subst}
 use Rattle.std.specs.Prelude.{slice_get}
 use Rattle.pc_word.specs.declared.item.Limits.{Limits}
@@ -15,17 +15,15 @@ use Rattle.pc_window.specs.Unwinding.{Unwinds, unwinds_no_more, unwinds_once}
 use Rattle.pc_window.specs.Tidying.{tidied}
 use Rattle.pc_window.specs.Kept.{Left, Gone, Finished, Trapped_at, IsBare, HasFront, HasItems}
 use Rattle.pc_window.specs.Steps.{Positive, UnwindsTo, grafted_of, with_tree, opened_window, cut_row}
-use Rattle.pc_window.proofs.Bare.{bare_untested}
-use Rattle.pc_window.proofs.CutRows.{whole_front_of}
 use Rattle.pc_window.proofs.Settling.{fills_front, cuts_front}
 use Rattle.pc_automaton.specs.declared.automaton.AutomatonLeaf.{AutomatonLeaf}
 use Rattle.pc_automaton.specs.Automaton.{AutomatonState}
 use Rattle.pc_automaton.specs.RunsAsRegion.{LeadsUntested}
-use Rattle.pc_pattern.specs.Pairs.{Pair, themselves}
+use Rattle.pc_canon.specs.Pairs.{Pair, themselves}
 use Rattle.pc_window.specs.Names.{parameters_of}
 use Rattle.pc_pattern.specs.NamedRow.{RowsNamed, named_leaf}
 use Rattle.pc_pattern.specs.Searches.{Rules, IsClosed, Leads, to_region, to_end, to_trap, StateFor, Automates}
-use Rattle.pc_pattern.specs.Pattern.{packed}
+use Rattle.pc_pattern.proofs.Ends.{ends_in, tidied_ends, unwound_untested}
 use Rattle.pc_pattern.proofs.Members.{bare_fills, matched_items, begins_with}
 
 -- ---- leaves
@@ -46,16 +44,6 @@ module _ (rules : Rules) (members : List Window) (table : Table) (region : ℕ) 
   trap_leads : (kind : TrapKind) (line : ℕ) {names : List Pair} {row : Row AutomatonLeaf} → RowsNamed (Leads rules members) names (At_leaf (Trapped_at kind line)) row
       → LeadsUntested table region row
   trap_leads kind line (named_leaf to_trap) = tt
-
--- ---- with window number 1 nothing is unwound
-
-unwinds_none : (table : Table) (loop : Option ℕ) (g k : Grafted) → Unwinds table loop 1 g k → k ≡ g
-unwinds_none table loop g k (unwinds_no_more h none) = refl
-unwinds_none table loop g k (unwinds_once a b c once more) = absurd (cc)
-
-pub unwound_same : (table : Table) (w v : Window) → UnwindsTo table 1 w v → whole v.front ≡ whole w.front
-unwound_same table w v h =
-    ap (λ (u : Window). whole u.front) h.is ∙ whole_front_of h.unwound.tree ∙ ap (λ (g : Grafted). g.tree) (unwinds_none table w.inside (grafted_of w) h.unwound h.unwinds)
 
 -- ---- the first row
 
@@ -91,18 +79,17 @@ module _ (rules : Rules) (members : List Window) (region : ℕ) (w : Window) (fi
 same_state : (a b : AutomatonState) → Some a ≡ Some b → a ≡ b
 same_state a b e = cc
 
-pub first_untested : (table : Table) → TableKeeps table → (limits : Limits) → Positive limits → (region : ℕ) (members : List Window) (states : List AutomatonState)
-    → IsClosed (packed table limits) region members → Automates (packed table limits) members states → (first : AutomatonState) → slice_get states 0 ≡ Some first
-    → LeadsUntested table region first.row
-first_untested table keeps limits room region members states closed auto first here =
-    let b = begins_with (packed table limits) keeps room region closed.1 in
+pub first_untested : (rules : Rules) → TableKeeps rules.table → Positive rules.limits → (region : ℕ) (members : List Window) (states : List AutomatonState)
+    → IsClosed rules region members → Automates rules members states → (first : AutomatonState) → slice_get states 0 ≡ Some first
+    → LeadsUntested rules.table region first.row
+first_untested rules keeps room region members states closed auto first here =
+    let b = begins_with rules keeps room region closed.1 in
     let e = auto.each 0 b.first (ap (λ (ws : List Window). slice_get ws 0) b.at) in
-    let opened = opened_window table limits region in
-    let tree = tidied (whole b.settles.unwound.front) in
-    let same : whole b.settles.unwound.front ≡ whole opened.front =
-    unwound_same table b.opened b.settles.unwound b.settles.unwinds ∙ ap (λ (w : Window). whole w.front) b.opens in
-    first_leads (packed table limits) members region b.first first
-    (subst (λ (x : AutomatonState). StateFor (packed table limits) members b.first x) (same_state e.0 first (sym e.1 ∙ here)) e.2)
+    let unwound = b.settles.unwound in
+    let tree = tidied (whole unwound.front) in
+    let unwinds = subst (λ (w : Window). UnwindsTo rules.table rules.number w unwound) b.opens b.settles.unwinds in
+    first_leads rules members region b.first first
+    (subst (λ (x : AutomatonState). StateFor rules members b.first x) (same_state e.0 first (sym e.1 ∙ here)) e.2)
     tree (ap (λ (w : Window). w.front) b.settles.tidies)
-    (λ to tag homes is. By_one (bare_untested table limits region to tag homes (with_tree opened (tidied (whole opened.front))) refl
-    (whole_front_of (tidied (whole opened.front)) ∙ sym (ap tidied same) ∙ is)))
+    (λ to tag homes is. unwound_untested rules.table rules.limits rules.number region to unwound unwinds
+    (sym (tidied_ends (whole unwound.front)) ∙ ap ends_in is))

@@ -6,24 +6,13 @@ use Rattle.pc_word.specs.State.{State}
 use Rattle.pc_word.proofs.Runs.{Follows-trans, Answers-after}
 use Rattle.pc_table.specs.Table.{Table}
 use Rattle.pc_table.specs.TableKeeps.{TableKeeps}
-use Rattle.pc_window.specs.Tree.{whole}
-use Rattle.pc_window.specs.WindowRun.{Window, window_run, FormsHold}
-use Rattle.pc_window.specs.Kept.{KeepsPace, GainsUnit, NeverFaults, KeptIn, WindowKeeps, RestKept, IsBare}
+use Rattle.pc_window.specs.WindowRun.{Window, window_run}
+use Rattle.pc_window.specs.Kept.{KeepsPace, GainsUnit, NeverFaults, KeptIn, WindowKeeps, RestKept}
 use Rattle.pc_window.specs.Steps.{IsProper}
 use Rattle.pc_window.proofs.Paces.{answer_of_answer, NeverFaults-follows}
 use Rattle.pc_window.proofs.Proper.{unwinds_proper, tidies_proper, rebases_proper}
 use Rattle.pc_window.proofs.Settling.{unwinds_keep, tidies_keep, rebases_keep}
-use Rattle.pc_pattern.specs.Pairs.{Pair, Correspond}
 use Rattle.pc_pattern.specs.Searches.{Rules, Settles, BringsOn}
-
--- what is owed where windows are taken for the same: they have the same run where corresponding parameters have the same
--- values, the forms of the other hold where those of the one do, and the other has an item or test where the one has
-pub record SameKeeps (rules : Rules) : Type 0 where
-  pub runs : (pairs : List Pair) (w v : Window) (s t : State) → rules.Same pairs w v → Correspond pairs s t
-      → (n : ℕ) → window_run rules.table w s n ≡ window_run rules.table v t n
-  pub forms : (pairs : List Pair) (w v : Window) (s t : State) → rules.Same pairs w v → Correspond pairs s t
-      → FormsHold rules.table w s → FormsHold rules.table v t
-  pub items : (pairs : List Pair) (w v : Window) → rules.Same pairs w v → (IsBare (whole w.front) → ⊥) → IsBare (whole v.front) → ⊥
 
 -- runs after the same list follow if the runs do
 Follows-after : (out : List ℤ) (X Y : Run) → Follows X Y → Follows (λ n. after_printing out (X n)) (λ n. after_printing out (Y n))

@@ -31,12 +31,15 @@ use Rattle.pc_automaton.specs.declared.automaton.AutomatonLeaf.{AutomatonLeaf}
 use Rattle.pc_automaton.specs.Automaton.{AutomatonState}
 use Rattle.pc_automaton.specs.AutomatonRun.{automaton_run}
 use Rattle.pc_automaton.specs.RunsAsRegion.{RunsAlike}
-use Rattle.pc_pattern.specs.Pairs.{Pair}
+use Rattle.pc_canon.specs.Pairs.{Pair}
 use Rattle.pc_pattern.specs.NamedRow.{RowsNamed, named_item, named_test, named_leaf}
 use Rattle.pc_pattern.specs.Searches.{Rules, Settles, bare_leaf, Looks, looks_new, looks_known, looks_bare, looks_out, looks_end, looks_trap}
-use Rattle.pc_pattern.specs.Searches.{Search, begins, takes, looks, IsClosed, Leads, to_same, to_member, to_bare, to_region, to_end, to_trap}
+use Rattle.pc_pattern.specs.Searches.{Search, begins, takes, looks, IsClosed, Leads, to_member, to_bare, to_region, to_end, to_trap}
 use Rattle.pc_pattern.specs.Searches.{StateFor, Automates}
-use Rattle.pc_pattern.proofs.Keeping.{SameKeeps, settles_keep, brings_on_keeps, never_kept}
+use Rattle.pc_canon.specs.Canonical.{parameter_pairs}
+use Rattle.pc_pattern.proofs.Shifts.{shifted_goes_on}
+use Rattle.pc_pattern.proofs.Brought.{member_rooted, member_proper, member_shifted}
+use Rattle.pc_pattern.proofs.Keeping.{settles_keep, brings_on_keeps, never_kept}
 use Rattle.pc_pattern.proofs.Closing.{state_agrees}
 
 -- ---- what holds of each member
@@ -104,8 +107,8 @@ module _ (rules : Rules) (keeps : TableKeeps rules.table) (room : Positive rules
 
   rooted_more : {members more : List Window} {left : Left} → Looks rules members left more → AllByRecursion Rooted members
       → AllByRecursion Rooted more
-  rooted_more {members} (looks_new {brought} brings items new) h =
-      one_more Rooted members brought h (tidies_roots brings.settles.unwound brought brings.settles.tidies)
+  rooted_more {members} (looks_new {rest} {brought} {member} brings items new renumbers) h =
+      one_more Rooted members member h (member_rooted rules rest brought member brings renumbers)
   rooted_more (looks_known brings items known) h = h
   rooted_more (looks_bare brings bare) h = h
   rooted_more looks_out h = h
@@ -121,8 +124,9 @@ module _ (rules : Rules) (keeps : TableKeeps rules.table) (room : Positive rules
 
   proper_more : {members more : List Window} {left : Left} → Looks rules members left more → LeftIs IsProper left → AllByRecursion IsProper members
       → AllByRecursion IsProper more
-  proper_more {members} (looks_new {rest} {brought} brings items new) p h =
-      one_more IsProper members brought h (brings_on_keeps rules keeps rest brought brings p).0
+  proper_more {members} (looks_new {rest} {brought} {member} brings items new renumbers) p h =
+      one_more IsProper members member h
+      (member_proper rules rest brought member brings renumbers (brings_on_keeps rules keeps rest brought brings p).0)
   proper_more (looks_known brings items known) p h = h
   proper_more (looks_bare brings bare) p h = h
   proper_more looks_out p h = h
@@ -154,28 +158,33 @@ module _ (rules : Rules) (keeps : TableKeeps rules.table) (room : Positive rules
     pub at : members ≡ first ∷ others
     pub others_go_on : AllByRecursion GoesOn others
 
-  begins_more : {members more : List Window} {left : Left} → Looks rules members left more → BeginsWith members → BeginsWith more
-  begins_more (looks_new {brought} brings items new) h = record {
-    opened = h.opened;
-    first = h.first;
-    others = h.others ++ (brought ∷ []);
-    opens = h.opens;
-    settles = h.settles;
-    at = ap (λ (ws : List Window). ws ++ (brought ∷ [])) h.at;
-    others_go_on = one_more GoesOn h.others brought h.others_go_on items;
-  }
-  begins_more (looks_known brings items known) h = h
-  begins_more (looks_bare brings bare) h = h
-  begins_more looks_out h = h
-  begins_more looks_end h = h
-  begins_more looks_trap h = h
+  begins_more : {members more : List Window} {left : Left} → Looks rules members left more → LeftIs IsProper left → BeginsWith members
+      → BeginsWith more
+  begins_more (looks_new {rest} {brought} {member} brings items new renumbers) p h =
+      let proper = (brings_on_keeps rules keeps rest brought brings p).0 in
+      let shifted = member_shifted rules rest brought member brings renumbers proper in
+      record {
+        opened = h.opened;
+        first = h.first;
+        others = h.others ++ (member ∷ []);
+        opens = h.opens;
+        settles = h.settles;
+        at = ap (λ (ws : List Window). ws ++ (member ∷ [])) h.at;
+        others_go_on = one_more GoesOn h.others member h.others_go_on
+            (shifted_goes_on (parameter_pairs brought member) brought member shifted items);
+      }
+  begins_more (looks_known brings items known) p h = h
+  begins_more (looks_bare brings bare) p h = h
+  begins_more looks_out p h = h
+  begins_more looks_end p h = h
+  begins_more looks_trap p h = h
 
   pub begins_with : {steps number : ℕ} {members : List Window} {lefts : List Left} → Search rules region steps members number lefts
       → BeginsWith members
   begins_with (begins {opened} {first} opens settles) =
       record { opened = opened; first = first; others = []; opens = opens; settles = settles; at = refl; others_go_on = tt }
   begins_with (takes search at row) = begins_with search
-  begins_with (looks search adds) = begins_more adds (begins_with search)
+  begins_with (looks search adds) = begins_more adds (members_proper search).1.0 (begins_with search)
 
   -- an element that is found is one
   same_found : {X : Type 0} (a b : X) → Some a ≡ Some b → a ≡ b
@@ -193,10 +202,10 @@ module _ (rules : Rules) (keeps : TableKeeps rules.table) (room : Positive rules
       (subst (λ (r : Row Left). HasItems r) row.cuts cut))
 
   -- where a search is closed, its automaton does what the region does, in every state from which the region's run never faults
-  pub closed_runs : SameKeeps rules → (members : List Window) (states : List AutomatonState) → IsClosed rules region members → Automates rules members states
+  pub closed_runs : (members : List Window) (states : List AutomatonState) → IsClosed rules region members → Automates rules members states
       → (first : AutomatonState) → slice_get states 0 ≡ Some first → (s : State) → NeverFaults (region_run rules.table (Next region) s)
       → RunsAlike rules.table region states first s
-  closed_runs same_keeps members states closed auto first here s never =
+  closed_runs members states closed auto first here s never =
       let b = begins_with closed.1 in
       let o = opens_alike rules.table keeps rules.limits region b.opened b.opens s in
       let p = opens_proper rules.table rules.limits region b.opened room b.opens in
@@ -204,7 +213,7 @@ module _ (rules : Rules) (keeps : TableKeeps rules.table) (room : Positive rules
       NeverFaults-follows (window_run rules.table b.opened s) (region_run rules.table (Next region) s) o.agree.forth never in
       let k = (settles_keep rules keeps b.opened b.first b.settles p).1 s o.forms never_opened in
       let at : slice_get members 0 ≡ Some b.first = ap (λ (ws : List Window). slice_get ws 0) b.at in
-      let r = state_agrees rules keeps same_keeps members states auto (λ number w here. all_at Rooted members number w (members_rooted closed.1) here)
+      let r = state_agrees rules keeps members states auto (λ number w here. all_at Rooted members number w (members_rooted closed.1) here)
       (λ number w here. all_at IsProper members number w (members_proper closed.1).0 here) 0 b.first s at k.forms (never_kept rules.table b.opened b.first s k never_opened) in
       let X = region_run rules.table (Next region) s in
       let level : (n : ℕ) → Answers (X n) (window_run rules.table b.first s n) (X n).end =
@@ -274,10 +283,8 @@ slice_get_more (v ∷ ws) more (suc number) w at = slice_get_more ws more number
 
 leads_more : {rules : Rules} {members : List Window} {names : List Pair} {left : Left} {leaf : AutomatonLeaf} (more : List Window)
     → Leads rules members names left leaf → Leads rules (members ++ more) names left leaf
-leads_more {members} more (to_same {number} brought member pairs brings items at alike params arguments) =
-    to_same brought member pairs brings items (slice_get_more members more number member at) alike params arguments
-leads_more {members} more (to_member {number} brought brings items at arguments) =
-    to_member brought brings items (slice_get_more members more number brought at) arguments
+leads_more {members} more (to_member {number} brought member brings items at shifted arguments) =
+    to_member brought member brings items (slice_get_more members more number member at) shifted arguments
 leads_more more (to_bare brought leaf brings bare alike) = to_bare brought leaf brings bare alike
 leads_more more (to_region alike) = to_region alike
 leads_more more to_end = to_end

@@ -16,7 +16,7 @@ use Rattle.pc_window.specs.Names.{IsNew, and_dest}
 use Rattle.pc_window.specs.Rename.{with_dest}
 use Rattle.pc_window.proofs.Live.{or_first, or_second}
 use Rattle.pc_window.proofs.Undisturbed.{new-known}
-use Rattle.pc_pattern.specs.Pairs.{Pair, corresponds, defined, Correspond}
+use Rattle.pc_canon.specs.Pairs.{Pair, corresponds, defined, Correspond}
 use Rattle.pc_pattern.specs.NamedRow.{RowsNamed, named_item, named_test, named_leaf}
 
 -- no name is written twice on a path, nor one of these

@@ -22,8 +22,9 @@ use Rattle.pc_window.proofs.Filling.{filling_limits}
 use Rattle.pc_window.proofs.LegalRows.{rows_are_legal}
 use Rattle.pc_window.proofs.Proper.{fills_proper}
 use Rattle.pc_window.specs.Names.{uses}
+use Rattle.pc_renumber.proofs.Renumbered.{renumbered_limits}
 use Rattle.pc_automaton.specs.Automaton.{AutomatonState}
-use Rattle.pc_pattern.specs.Pairs.{Pair}
+use Rattle.pc_canon.specs.Pairs.{Pair}
 use Rattle.pc_pattern.specs.NamedRow.{RowsNamed, named_item, named_test, named_leaf}
 use Rattle.pc_pattern.specs.Searches.{Rules, Settles, BringsOn, Looks, looks_new, looks_known, looks_bare, looks_out, looks_end, looks_trap, Search}
 use Rattle.pc_pattern.specs.Searches.{begins, takes, looks, IsClosed, Automates}
@@ -184,8 +185,9 @@ module _ (rules : Rules) (region : ℕ) where
 
   limited_more : {members more : List Window} {left : Left} → Looks rules members left more → LeftIs Limited left → AllByRecursion Limited members
       → AllByRecursion Limited more
-  limited_more {members} (looks_new {rest} {brought} brings items new) p h =
-      all_both Limited members (brought ∷ []) h (brings_limits rules rest brought brings ∙ p, tt)
+  limited_more {members} (looks_new {rest} {brought} {member} brings items new renumbers) p h =
+      all_both Limited members (member ∷ []) h
+      (ap (λ (u : Window). u.limits) renumbers ∙ renumbered_limits brought ∙ brings_limits rules rest brought brings ∙ p, tt)
   limited_more (looks_known brings items known) p h = h
   limited_more (looks_bare brings bare) p h = h
   limited_more looks_out p h = h

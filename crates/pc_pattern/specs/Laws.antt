@@ -1,10 +1,9 @@
--- The laws of packed code. Each is the contract of a function of laws.rt, which does nothing.
+-- The laws of searches. Each is the contract of a function of laws.rt, which does nothing.
 use Rattle.std.specs.Prelude.{◌≡◌, ℕ, ◌≤◌, true, nat_eq, List, [], ◌∷◌, Some, slice_get}
 use Rattle.std.specs.List.{AllByRecursion, list_any}
-use Rattle.pc_word.specs.declared.item.Limits.{Limits}
 use Rattle.pc_word.specs.declared.item.TrapKind.{TrapKind}
 use Rattle.pc_word.specs.Row.{At_leaf}
-use Rattle.pc_table.specs.Table.{Traps_here, Table, region_tree, region_live}
+use Rattle.pc_table.specs.Table.{Traps_here, region_tree, region_live}
 use Rattle.pc_table.specs.TableKeeps.{TableKeeps}
 use Rattle.pc_window.specs.WindowRun.{Window}
 use Rattle.pc_window.specs.Kept.{Left}
@@ -12,50 +11,49 @@ use Rattle.pc_window.specs.Steps.{Positive}
 use Rattle.pc_automaton.specs.declared.automaton.AutomatonLeaf.TheVariants.{Trap}
 use Rattle.pc_automaton.specs.Automaton.{AutomatonState, IsAutomaton}
 use Rattle.pc_automaton.specs.There.{StateIsThere}
-use Rattle.pc_pattern.specs.Searches.{Search, IsPattern, HasNoPattern}
-use Rattle.pc_pattern.specs.Pattern.{packed, RowFits, NoneIsEmpty, RunsAsTheRegion}
+use Rattle.pc_pattern.specs.Searches.{Rules, Search, IsPattern, HasNoPattern}
+use Rattle.pc_pattern.specs.Pattern.{RowFits, NoneIsEmpty, RunsAsTheRegion}
 
 -- the states of a closed search do what the region does
 abbrev pub PatternsRunAsTheRegion : Type 0
-PatternsRunAsTheRegion = (table : Table) → TableKeeps table → (limits : Limits) → Positive limits → (region rows : ℕ) (states : List AutomatonState)
-    → IsPattern (packed table limits) region rows states → RunsAsTheRegion table region states
+PatternsRunAsTheRegion = (rules : Rules) → TableKeeps rules.table → Positive rules.limits → (region rows : ℕ) (states : List AutomatonState)
+    → IsPattern rules region rows states → RunsAsTheRegion rules.table region states
 
 -- and each but the first has an item or a test
 abbrev pub PatternsHaveNoEmptyStates : Type 0
-PatternsHaveNoEmptyStates = (table : Table) → TableKeeps table → (limits : Limits) → Positive limits
-    → (region rows : ℕ) (states : List AutomatonState)
-    → IsPattern (packed table limits) region rows states → NoneIsEmpty states
+PatternsHaveNoEmptyStates = (rules : Rules) → TableKeeps rules.table → Positive rules.limits → (region rows : ℕ) (states : List AutomatonState)
+    → IsPattern rules region rows states → NoneIsEmpty states
 
 -- and the row of each keeps the limits and the machine's rule for prints and reads
 abbrev pub PatternsFit : Type 0
-PatternsFit = (table : Table) → TableKeeps table → (limits : Limits) → Positive limits → (region rows : ℕ) (states : List AutomatonState)
-    → IsPattern (packed table limits) region rows states → AllByRecursion (λ state. RowFits limits state.row) states
+PatternsFit = (rules : Rules) → TableKeeps rules.table → Positive rules.limits → (region rows : ℕ) (states : List AutomatonState)
+    → IsPattern rules region rows states → AllByRecursion (λ state. RowFits rules.limits state.row) states
 
 -- and they are those of an automaton
 abbrev pub PatternsAreAutomata : Type 0
-PatternsAreAutomata = (table : Table) → TableKeeps table → (limits : Limits) → Positive limits → (region rows : ℕ) (states : List AutomatonState)
-    → IsPattern (packed table limits) region rows states → IsAutomaton states
+PatternsAreAutomata = (rules : Rules) → TableKeeps rules.table → Positive rules.limits → (region rows : ℕ) (states : List AutomatonState)
+    → IsPattern rules region rows states → IsAutomaton states
 
 -- and what they name is there in the table
 abbrev pub PatternsNameWhatIsThere : Type 0
-PatternsNameWhatIsThere = (table : Table) → TableKeeps table → (limits : Limits) → Positive limits → (region rows : ℕ) (states : List AutomatonState)
-    → IsPattern (packed table limits) region rows states → AllByRecursion (StateIsThere table) states
+PatternsNameWhatIsThere = (rules : Rules) → TableKeeps rules.table → Positive rules.limits → (region rows : ℕ) (states : List AutomatonState)
+    → IsPattern rules region rows states → AllByRecursion (StateIsThere rules.table) states
 
 -- the first is passed variables that are live at the region's head
 abbrev pub PatternsBeginWithLiveVariables : Type 0
-PatternsBeginWithLiveVariables = (table : Table) → TableKeeps table → (limits : Limits) → Positive limits → (region rows : ℕ) (states : List AutomatonState)
-    → IsPattern (packed table limits) region rows states → (first : AutomatonState) → slice_get states 0 ≡ Some first
-    → AllByRecursion (λ variable. list_any (nat_eq variable) (region_live table region) ≡ true) first.parameters
+PatternsBeginWithLiveVariables = (rules : Rules) → TableKeeps rules.table → Positive rules.limits → (region rows : ℕ) (states : List AutomatonState)
+    → IsPattern rules region rows states → (first : AutomatonState) → slice_get states 0 ≡ Some first
+    → AllByRecursion (λ variable. list_any (nat_eq variable) (region_live rules.table region) ≡ true) first.parameters
 
 -- a search has one answer: where it is closed within so many members, it comes to have no more
 abbrev pub SearchesHaveOneAnswer : Type 0
-SearchesHaveOneAnswer = (table : Table) (limits : Limits) (region rows : ℕ) (states : List AutomatonState)
-    → IsPattern (packed table limits) region rows states → HasNoPattern (packed table limits) region rows → ⊥
+SearchesHaveOneAnswer = (rules : Rules) (region rows : ℕ) (states : List AutomatonState)
+    → IsPattern rules region rows states → HasNoPattern rules region rows → ⊥
 
 -- after as many steps, two searches have come to the same
 abbrev pub SearchesAreOne : Type 0
-SearchesAreOne = (table : Table) (limits : Limits) (region steps : ℕ) (members others : List Window) (taken taken' : ℕ) (lefts lefts' : List Left)
-    → Search (packed table limits) region steps members taken lefts → Search (packed table limits) region steps others taken' lefts'
+SearchesAreOne = (rules : Rules) (region steps : ℕ) (members others : List Window) (taken taken' : ℕ) (lefts lefts' : List Left)
+    → Search rules region steps members taken lefts → Search rules region steps others taken' lefts'
     → (members ≡ others) × (taken ≡ taken') × (lefts ≡ lefts')
 
 -- the state that is a trap alone
@@ -64,7 +62,7 @@ trap_state kind line = record { parameters = []; row = At_leaf (Trap kind line) 
 
 -- from a region that is a trap alone a search comes to one state, which is that trap
 abbrev pub TrapsHaveOneState : Type 0
-TrapsHaveOneState = (table : Table) (limits : Limits) (region line : ℕ) (kind : TrapKind) → region_tree table region ≡ Traps_here kind line
+TrapsHaveOneState = (rules : Rules) (region line : ℕ) (kind : TrapKind) → region_tree rules.table region ≡ Traps_here kind line
     → (rows : ℕ) → 1 ≤ rows
-    → (HasNoPattern (packed table limits) region rows → ⊥)
-    × ((states : List AutomatonState) → IsPattern (packed table limits) region rows states → states ≡ trap_state kind line ∷ [])
+    → (HasNoPattern rules region rows → ⊥)
+    × ((states : List AutomatonState) → IsPattern rules region rows states → states ≡ trap_state kind line ∷ [])

@@ -1,5 +1,3 @@
-pub mod models
-pub mod Pairs
 pub mod NamedRow
 pub mod Searches
 pub mod Pattern

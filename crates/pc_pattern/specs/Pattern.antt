@@ -1,24 +1,26 @@
--- Packed code: the automaton of a region that is not unwound, in which no two windows are taken for the same.
-use Rattle.std.specs.Prelude.{◌≡◌, ℕ, suc, ◌<◌, ◌≤◌, List, length, Contains, Some, slice_get}
-use Rattle.std.specs.List.{AllByRecursion, count_by}
+-- What a search finds: the automaton of a region, and what it keeps.
+use Rattle.std.specs.Prelude.{◌≡◌, ℕ, suc, ◌<◌, ◌≤◌, ℤ, true, nat_eq, List, length, map, Contains, Some, slice_get, Vec}
+use Rattle.std.specs.declared.alloc.Global.{Global}
+use Rattle.std.specs.List.{AllByRecursion, count_by, list_any}
 use Rattle.pc_word.specs.declared.item.Limits.{Limits}
 use Rattle.pc_word.specs.declared.item.Operand.{Operand}
 use Rattle.pc_word.specs.State.{State}
 use Rattle.pc_word.specs.Items.{is_memory, is_effect}
 use Rattle.pc_word.specs.Row.{Row, items_of, tests_of, leaves_of, paths_of}
-use Rattle.pc_table.specs.Table.{Table, Next}
+use Rattle.pc_table.specs.Table.{Table, Next, region_live}
 use Rattle.pc_table.specs.RegionRun.{region_run}
 use Rattle.pc_window.specs.Kept.{NeverFaults, HasItems}
 use Rattle.pc_automaton.specs.declared.automaton.AutomatonLeaf.TheVariants.{To}
-use Rattle.pc_automaton.specs.Automaton.{AutomatonState}
+use Rattle.pc_automaton.specs.Automaton.{AutomatonState, IsAutomaton}
+use Rattle.pc_automaton.specs.There.{StateIsThere}
 use Rattle.pc_automaton.specs.RunsAsRegion.{RunsAlike, LeadsUntested}
 use Rattle.pc_pattern.specs.declared.error.SearchError.{SearchError}
 use Rattle.pc_pattern.specs.declared.error.SearchError.TheVariants.{Memory, NoPattern}
-use Rattle.pc_pattern.specs.Searches.{Rules, IsPattern, HasNoPattern}
+use Rattle.pc_pattern.specs.Searches.{Rules, IsPattern, HasKeys}
 
--- nothing is unwound with window number 1, and no two windows are taken for the same
-abbrev pub packed : Table → Limits → Rules
-packed table limits = record { table = table; limits = limits; number = 1; Same = λ pairs w v. ⊥ }
+-- the rules of a search within these limits, with this window number
+abbrev pub rules_for : Table → Limits → (number : ℕ) → Rules
+rules_for table limits number = record { table = table; limits = limits; number = number }
 
 -- a row is within limits over its whole tree, and on each path at most one item is a print, read or more
 pub record RowFits {L : Type 0} (limits : Limits) (row : Row L) : Type 0 where
@@ -50,16 +52,24 @@ pub record IsLedTo (states : List AutomatonState) (to : ℕ) : Type 0 where
 abbrev pub EachIsLedTo : List AutomatonState → Type 0
 EachIsLedTo states = (at : ℕ) → suc at < length states → IsLedTo states (suc at)
 
--- the packed code of a region, of at most so many states
-pub record IsPacked (table : Table) (limits : Limits) (region rows : ℕ) (states : List AutomatonState) : Type 0 where
-  pub pattern : IsPattern (packed table limits) region rows states
+-- the first state is passed variables that are live at the region's head
+abbrev pub BeginsLive : Table → (region : ℕ) → List AutomatonState → Type 0
+BeginsLive table region states = (first : AutomatonState) → slice_get states 0 ≡ Some first
+    → AllByRecursion (λ variable. list_any (nat_eq variable) (region_live table region) ≡ true) first.parameters
+
+-- what a search finds within so many rows: the automaton of the closed members, which does what the region does
+pub record IsFound (rules : Rules) (region rows : ℕ) (states : List AutomatonState) : Type 0 where
+  pub pattern : IsPattern rules region rows states
   pub few : length states ≤ rows
-  pub runs : RunsAsTheRegion table region states
-  pub fits : AllByRecursion (λ state. RowFits limits state.row) states
+  pub automaton : IsAutomaton states
+  pub runs : RunsAsTheRegion rules.table region states
+  pub fits : AllByRecursion (λ state. RowFits rules.limits state.row) states
   pub no_empty : NoneIsEmpty states
   pub led : EachIsLedTo states
+  pub there : AllByRecursion (StateIsThere rules.table) states
+  pub live : BeginsLive rules.table region states
 
--- why there is none: want of memory, or more windows than so many
-abbrev pub IsUnpacked : Table → Limits → ℕ → ℕ → SearchError → Type 0
-IsUnpacked table limits region rows Memory = Unit {0}
-IsUnpacked table limits region rows (NoPattern reached) = (reached ≡ suc rows) × HasNoPattern (packed table limits) region rows
+-- why there is none: want of memory, or more members than so many, with their keys
+abbrev pub IsNotFound : Rules → (region rows : ℕ) → SearchError → Type 0
+IsNotFound rules region rows Memory = Unit {0}
+IsNotFound rules region rows (NoPattern reached) = HasKeys rules region rows (map (λ (key : Vec ℤ Global). key.items) reached)

@@ -1,5 +1,5 @@
 -- The windows that a search from a region comes to, and the automaton that they are.
-use Rattle.std.specs.Prelude.{◌≡◌, ℕ, suc, ◌≤◌, List, [], ◌∷◌, ◌++◌, length, nat_eq, Option, Some, None, slice_get}
+use Rattle.std.specs.Prelude.{◌≡◌, ℕ, suc, ◌≤◌, ℤ, List, [], ◌∷◌, ◌++◌, length, map, nat_eq, Option, Some, None, slice_get}
 use Rattle.std.specs.List.{IsDistinct}
 use Rattle.pc_word.specs.declared.item.Limits.{Limits}
 use Rattle.pc_word.specs.declared.item.Operand.{Operand}
@@ -12,19 +12,21 @@ use Rattle.pc_window.specs.WindowRun.{Window}
 use Rattle.pc_window.specs.Names.{parameters_of}
 use Rattle.pc_window.specs.Kept.{Left, Rest, Gone, Finished, Trapped_at}
 use Rattle.pc_window.specs.Steps.{Opens, FillsTo, Cuts, Rebases, UnwindsTo, Tidies}
+use Rattle.pc_canon.specs.Pairs.{Pair, themselves, operands_for, ArgumentsAlike, HomesAlike}
+use Rattle.pc_canon.specs.Shift.{ShiftedBy, Shifted}
+use Rattle.pc_canon.specs.Canonical.{parameter_pairs}
+use Rattle.pc_canon.specs.Key.{key_of}
+use Rattle.pc_renumber.specs.Renumbering.{Renumbers}
 use Rattle.pc_automaton.specs.declared.automaton.AutomatonLeaf.{AutomatonLeaf}
 use Rattle.pc_automaton.specs.declared.automaton.AutomatonLeaf.TheVariants.{To, Out, Stop, Trap}
 use Rattle.pc_automaton.specs.Automaton.{AutomatonState, names_written}
-use Rattle.pc_pattern.specs.Pairs.{Pair, ones, others, themselves, operands_for, ArgumentsAlike, HomesAlike}
 use Rattle.pc_pattern.specs.NamedRow.{RowsNamed, LeavesAlike}
 
--- what a search goes by: the regions, the limits of fronts, the window number, and, where these parameters correspond, which
--- windows are taken for the same
-pub record Rules : Type 1 where
+-- what a search goes by: the regions, the limits of fronts, and the window number: how many turns of its loop a window may hold
+pub record Rules : Type 0 where
   pub table : Table
   pub limits : Limits
   pub number : ℕ
-  pub Same : List Pair → Window → Window → Type 0
 
 -- ---- the steps
 
@@ -56,21 +58,20 @@ bare_leaf (Trap_exit kind line) = Some (Trap kind line)
 
 -- ---- the search
 
--- some member is the same as a window
-abbrev pub IsMember : Rules → List Window → Window → Type 0
-IsMember rules members w = (number : ℕ) × (member : Window) × (slice_get members number ≡ Some member) × (pairs : List Pair)
-    × rules.Same pairs w member
+-- a window is equal to some member up to a shift
+abbrev pub IsMember : List Window → Window → Type 0
+IsMember members w = (number : ℕ) × (member : Window) × (slice_get members number ≡ Some member) × Shifted w member
 
--- no member is the same as a window
-abbrev pub IsNoMember : Rules → List Window → Window → Type 0
-IsNoMember rules members w = (number : ℕ) (member : Window) (pairs : List Pair) → slice_get members number ≡ Some member → rules.Same pairs w member
-    → ⊥
+-- a window is equal to no member up to a shift
+abbrev pub IsNoMember : List Window → Window → Type 0
+IsNoMember members w = (number : ℕ) (member : Window) → slice_get members number ≡ Some member → Shifted w member → ⊥
 
--- a leaf adds the window that is left there, brought on, where something is left to do in it and no member is the same
+-- a leaf adds the window that is left there, brought on and renumbered, where something is left to do in it and it is equal to no
+-- member up to a shift
 pub data Looks (rules : Rules) (members : List Window) : Left → List Window → Type 0 where
-  looks_new : {rest brought : Window} → BringsOn rules rest brought → bare_leaf (whole brought.front) ≡ None → IsNoMember rules members brought
-      → Looks rules members (Rest rest) (members ++ (brought ∷ []))
-  looks_known : {rest brought : Window} → BringsOn rules rest brought → bare_leaf (whole brought.front) ≡ None → IsMember rules members brought
+  looks_new : {rest brought member : Window} → BringsOn rules rest brought → bare_leaf (whole brought.front) ≡ None → IsNoMember members brought
+      → Renumbers brought member → Looks rules members (Rest rest) (members ++ (member ∷ []))
+  looks_known : {rest brought : Window} → BringsOn rules rest brought → bare_leaf (whole brought.front) ≡ None → IsMember members brought
       → Looks rules members (Rest rest) members
   looks_bare : {rest brought : Window} {leaf : AutomatonLeaf} → BringsOn rules rest brought → bare_leaf (whole brought.front) ≡ Some leaf
       → Looks rules members (Rest rest) members
@@ -101,16 +102,12 @@ IsReached rules region members = (steps : ℕ) × (number : ℕ) × (lefts : Lis
 -- ---- the automaton of some members
 
 -- what is left at a leaf of a row, and the leaf that it becomes, where these names of the row and of the automaton's row
--- correspond: a member that is the same, with the corresponding parameters; a member that it is itself, with its own; or what
--- it is already
+-- correspond: a member that is equal up to a shift, with the parameters that correspond to its own, in the order of first use; or
+-- what it is already
 pub data Leads (rules : Rules) (members : List Window) : List Pair → Left → AutomatonLeaf → Type 0 where
-  to_same : {names : List Pair} {rest : Window} {number : ℕ} {arguments : List Operand} (brought member : Window) (pairs : List Pair)
+  to_member : {names : List Pair} {rest : Window} {number : ℕ} {arguments : List Operand} (brought member : Window)
       → BringsOn rules rest brought → bare_leaf (whole brought.front) ≡ None
-      → slice_get members number ≡ Some member → rules.Same pairs brought member → others pairs ≡ parameters_of (whole member.front)
-      → ArgumentsAlike names (operands_for (ones pairs)) arguments → Leads rules members names (Rest rest) (To number arguments)
-  to_member : {names : List Pair} {rest : Window} {number : ℕ} {arguments : List Operand} (brought : Window)
-      → BringsOn rules rest brought → bare_leaf (whole brought.front) ≡ None
-      → slice_get members number ≡ Some brought
+      → slice_get members number ≡ Some member → ShiftedBy (parameter_pairs brought member) brought member
       → ArgumentsAlike names (operands_for (parameters_of (whole brought.front))) arguments
       → Leads rules members names (Rest rest) (To number arguments)
   to_bare : {names : List Pair} {rest : Window} {other : AutomatonLeaf} (brought : Window) (leaf : AutomatonLeaf)
@@ -150,3 +147,13 @@ pub record HasNoPattern (rules : Rules) (region rows : ℕ) : Type 0 where
   pub members : List Window
   pub reached : IsReached rules region members
   pub many : length members ≡ suc rows
+
+-- no two numbers of a list are those of one element
+abbrev pub AreDifferent : {A : Type 0} → List A → Type 0
+AreDifferent {A} xs = (i j : ℕ) (x : A) → slice_get xs i ≡ Some x → slice_get xs j ≡ Some x → i ≡ j
+
+-- the search comes to have more members than so many: one more, with these keys, no two of which are equal
+pub record HasKeys (rules : Rules) (region rows : ℕ) (keys : List (List ℤ)) : Type 0 where
+  pub none : HasNoPattern rules region rows
+  pub keys_of : keys ≡ map key_of none.members
+  pub differ : AreDifferent keys

@@ -3,18 +3,23 @@ ghost use Rattle.std.specs.Prelude.{◌≡◌};
 ghost use Rattle.pc_pattern.specs.declared.error.SearchError.TheVariants.{Memory};
 
 use pc_window::WindowError;
+use pc_word::Seq;
 use std::alloc::AllocError;
 use thiserror::Error;
 
+/// Keys of windows, each the numbers in which the window is written but for its names, its form
+/// variables and its first tag.
+pub type KeyList = Seq<Vec<i64>>;
+
 /// Why no packed code was found.
-#[derive(Clone, Copy, Debug, PartialEq, Eq, Error)]
+#[derive(Debug, Drop, Error)]
 pub enum SearchError {
     /// Memory ran out.
     #[error("out of memory")]
     Memory,
-    /// The search came to so many windows, which is one more than there may be rows.
+    /// The search came to windows with these keys, one more than there may be rows.
     #[error("no pattern within the rows")]
-    NoPattern { reached: u32 },
+    NoPattern { reached: KeyList },
 }
 
 impl From<AllocError> for SearchError {

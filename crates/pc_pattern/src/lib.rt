@@ -4,12 +4,8 @@
 
 mod error;
 mod laws;
-mod leading;
-mod renaming;
 mod searching;
-#[cfg(test)]
-mod tests;
 
-pub use error::SearchError;
+pub use error::{KeyList, SearchError};
 pub use laws::{laws_of_patterns, laws_of_searches};
 pub use searching::search;

@@ -1,20 +1,23 @@
 -- Forms in memory, and what comes of trying them.
-use Rattle.std.specs.Prelude.{◌≡◌, ℕ, ◌<◌, ◌≤◌, ◌^◌, [], length}
+use Rattle.std.specs.Prelude.{◌≡◌, ℕ, ◌<◌, ◌≤◌, ◌^◌, List, length}
 use Rattle.std.specs.List.{AllByRecursion}
 use Rattle.pc_word.specs.declared.item.Limits.{Limits}
+use Rattle.pc_word.specs.declared.item.Extent.{Extent}
 use Rattle.pc_word.specs.MachineLimits.{most_object}
 use Rattle.pc_table.specs.Table.{TableTree, Table, region_tree}
+use Rattle.pc_automaton.specs.declared.automaton.AutomatonState.{AutomatonState as StoredState}
 use Rattle.pc_automaton.specs.Automaton.{states_in}
+use Rattle.pc_pattern.specs.Searches.{Rules}
+use Rattle.pc_assign.specs.declared.assigned.Assigned.{Assigned}
 use Rattle.pc_assign.specs.Stored.{registers_in}
 use Rattle.pc_emit.specs.declared.form.RegionForm.{RegionForm as StoredForm}
 use Rattle.pc_emit.specs.declared.form.RegionForm.TheVariants as stored
 use Rattle.pc_emit.specs.Emitted.{RegionForm, Plain, Packed}
 use Rattle.pc_choose.specs.models.Leaves.{LeavesKeep}
-use Rattle.pc_choose.specs.declared.choice.Form.TheVariants as kind
-use Rattle.pc_choose.specs.declared.giving.Attempt.{Attempt}
-use Rattle.pc_choose.specs.declared.giving.Attempt.TheVariants.{Fits, Refused}
+use Rattle.pc_choose.specs.declared.trying.Attempt.{Attempt}
+use Rattle.pc_choose.specs.declared.trying.Attempt.TheVariants.{Fits, Refused}
 use Rattle.pc_choose.specs.declared.giving.Given.{Given}
-use Rattle.pc_choose.specs.Choosing.{IsRefused, Gets}
+use Rattle.pc_choose.specs.Choosing.{HasRegisters, IsRefused, Gets}
 use Rattle.pc_choose.specs.models.Counting.{bytes_beside}
 use Rattle.pc_choose.specs.models.Marked.{NamesBelow, LeadsBelow}
 
@@ -37,21 +40,22 @@ FormLeadsBelow count tree (Packed states registers) = AllByRecursion (λ state. 
 abbrev pub bytes_of : Table → (region others : ℕ) → RegionForm → ℕ
 bytes_of table region others = bytes_beside others (region_tree table region)
 
--- a packed form that a region may have, with the bytes of the object then
-pub record FitsPacked (table : Table) (limits : Limits) (region others : ℕ) (form : StoredForm) (bytes : ℕ) : Type 0 where
-  pub gets : Gets table limits region (bytes_of table region others) (form_of form) kind.Packed []
-  pub counted : bytes ≡ bytes_of table region others (form_of form)
+-- an automaton with registers that a search finds for a region, with the bytes of the object then
+pub record IsFitting (rules : Rules) (region rows : ℕ) (counts : RegionForm → ℕ) (automaton : List StoredState) (registers : Assigned) (bytes : ℕ)
+    : Type 0 where
+  pub has : HasRegisters rules region rows (states_in automaton) (registers_in registers)
+  pub counted : bytes ≡ counts (Packed (states_in automaton) (registers_in registers))
   pub short : bytes ≤ most_object
-  pub numbers : HasNumbers form
+  pub numbers : length automaton < 2 ^ 32
 
--- what comes of trying to pack a region, where all but it has so many bytes
-abbrev pub IsAttempt : Table → Limits → (region others : ℕ) → Attempt → Type 0
-IsAttempt table limits region others (Fits form bytes) = FitsPacked table limits region others form bytes
-IsAttempt table limits region others (Refused cause) = IsRefused table limits region (bytes_of table region others) cause
+-- what comes of trying the form of a search, where so many bytes are counted for each form
+abbrev pub IsAttempt : Rules → (region rows : ℕ) → (RegionForm → ℕ) → Attempt → Type 0
+IsAttempt rules region rows counts (Fits automaton registers bytes) = IsFitting rules region rows counts automaton registers bytes
+IsAttempt rules region rows counts (Refused cause) = IsRefused rules region rows counts cause
 
--- the form that a region gets, with the bytes of the object then
-pub record IsGiven (table : Table) (limits : Limits) (region others : ℕ) (given : Given) : Type 0 where
-  pub gets : Gets table limits region (bytes_of table region others) (form_of given.form) given.kind given.causes
+-- the form that a region gets, where all but it has so many bytes, with the bytes of the object then
+pub record IsGiven (table : Table) (limits : Limits) (extent : Extent) (region others : ℕ) (given : Given) : Type 0 where
+  pub gets : Gets table limits extent region (bytes_of table region others) (form_of given.form) given.kind given.causes
   pub counted : given.bytes ≡ bytes_of table region others (form_of given.form)
   pub short : given.bytes ≤ most_object
   pub numbers : HasNumbers given.form

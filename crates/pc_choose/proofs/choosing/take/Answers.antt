@@ -8,19 +8,19 @@ use Rattle.pc_choose.proofs.choosing.take.Goals as goal
 
 pub plain_bytes-plain-requires : goal.plain_bytes-plain-requires
 plain_bytes-plain-requires c =
-    let within = next_counted c.args.table.now c.args.limits c.args.progress.now c.requires.choosing c.args.region c.requires.next c.requires.there in
+    let within = next_counted c.args.table.now c.args.limits c.args.extent c.args.progress.now c.requires.choosing c.args.region c.requires.next c.requires.there in
     let short = c.requires.choosing.short in
     rw c.region_tree-tree.ensures (omega (arith, within, short))
 
 pub overflow_sub-others : goal.overflow_sub-others
 overflow_sub-others c =
-    let within = next_counted c.args.table.now c.args.limits c.args.progress.now c.requires.choosing c.args.region c.requires.next c.requires.there in
+    let within = next_counted c.args.table.now c.args.limits c.args.extent c.args.progress.now c.requires.choosing c.args.region c.requires.next c.requires.there in
     let plain = c.plain_bytes-plain.ensures ∙ ap plain_bytes c.region_tree-tree.ensures in
     omega (arith, within, plain)
 
 pub form_for-requires-clause-short : goal.form_for-requires-clause-short
 form_for-requires-clause-short c =
-    let within = next_counted c.args.table.now c.args.limits c.args.progress.now c.requires.choosing c.args.region c.requires.next c.requires.there in
+    let within = next_counted c.args.table.now c.args.limits c.args.extent c.args.progress.now c.requires.choosing c.args.region c.requires.next c.requires.there in
     let plain = c.plain_bytes-plain.ensures ∙ ap plain_bytes c.region_tree-tree.ensures in
     let short = c.requires.choosing.short in
     omega (arith, within, plain, short)
@@ -29,7 +29,7 @@ pub find_behind-requires-clause-there : goal.find_behind-requires-clause-there
 find_behind-requires-clause-there c =
     let given = c.in_ok-given.ensures in
     rw (c.requires.choosing.marks, c.region_tree-tree.ensures)
-    (leads_below (table_of c.args.table.now) c.requires.kept c.args.limits c.requires.limits c.args.region _ (form_of c.in_ok-given.given.form)
+    (leads_below (table_of c.args.table.now) c.requires.kept c.args.limits c.args.extent c.args.region _ (form_of c.in_ok-given.given.form)
     c.in_ok-given.given.kind c.in_ok-given.given.causes given.gets)
 
 pub put-requires : goal.put-requires
@@ -44,6 +44,6 @@ returns-clause-choosing c =
     let regions = map_length table_region c.args.table.now.regions in
     let there = c.requires.there in
     let plain = c.plain_bytes-plain.ensures ∙ ap plain_bytes c.region_tree-tree.ensures in
-    takes_next (table_of c.args.table.now) c.args.limits c.args.progress.now c.requires.choosing c.args.region c.requires.next
+    takes_next (table_of c.args.table.now) c.args.limits c.args.extent c.args.progress.now c.requires.choosing c.args.region c.requires.next
     (omega (arith, regions, there)) _ c.in_ok-given.given (rw plain at c.in_ok-given.ensures) (rw c.region_tree-tree.ensures at c.in_ok-find_behind.ensures) refl
     c.in_ok-put.ensures.choices c.in_ok-put.ensures.forms

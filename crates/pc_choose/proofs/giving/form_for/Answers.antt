@@ -1,10 +1,23 @@
-use Rattle.std.proofs.Common.{ℕ, ◌+◌, ap}
+use Rattle.std.proofs.Common.{sym, ◌∙◌, arith}
 use Rattle.pc_table.specs.Table.{table_of}
-use Rattle.pc_choose.proofs.Trying.{given_plain}
+use Rattle.pc_choose.proofs.FormsGiven.{given_pipelined, passed_over, not_tried}
 use Rattle.pc_choose.proofs.giving.form_for.Goals as goal
 
-pub returns : goal.returns
-returns c =
-    given_plain (table_of c.args.table.now) c.args.limits c.args.region c.args.others c.tell.new.causes c.new-causes.result c.in-Refused.cause
-    c.in_ok-form.field-0 (c.args.others + c.args.plain) c.in_ok-tell-in-Refused.ensures c.new-causes.ensures c.in-Refused.is c.in_ok-form.ensures
-    (ap (λ (n : ℕ). c.args.others + n) c.requires.counted) c.requires.short
+pub returns-then-not-may_pipeline : goal.returns-then-not-may_pipeline
+returns-then-not-may_pipeline c =
+    c.packed_or_plain.ensures c.args.extent
+    (not_tried (table_of c.args.table.now) c.args.limits c.args.extent c.args.region c.args.others c.new-causes.result
+    (sym c.may_pipeline.ensures ∙ c.if-not-may_pipeline.true) c.new-causes.ensures)
+
+pub returns-in-Fits : goal.returns-in-Fits
+returns-in-Fits c =
+    given_pipelined (table_of c.args.table.now) c.args.limits c.args.extent c.args.region c.args.others c.new-causes.result c.in_ok-automaton.field-0
+    c.in-Fits.automaton c.in-Fits.registers c.count.result c.from.result c.in-Fits.bytes (sym c.may_pipeline.ensures ∙ c.if-not-may_pipeline.false)
+    c.new-causes.ensures c.in-Fits.is c.count.ensures.number c.from.ensures c.in_ok-automaton.ensures
+
+pub returns-in_ok-tell-in-Refused : goal.returns-in_ok-tell-in-Refused
+returns-in_ok-tell-in-Refused c =
+    c.packed_or_plain-in-Refused.ensures c.args.extent
+    (passed_over (table_of c.args.table.now) c.args.limits c.args.extent c.args.region c.args.others c.new-causes.result c.tell.new.causes
+    c.in-Refused.cause c.in_ok-automaton.field-0 (sym c.may_pipeline.ensures ∙ c.if-not-may_pipeline.false) c.new-causes.ensures
+    c.in_ok-tell-in-Refused.ensures c.in-Refused.is c.in_ok-automaton.ensures)
