@@ -3,4 +3,5 @@ pub mod Pairs
 pub mod Shift
 pub mod Canonical
 pub mod Key
+pub mod Keyed
 pub mod Laws

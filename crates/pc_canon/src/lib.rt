@@ -13,4 +13,4 @@ mod window_key;
 mod writing;
 
 pub use laws::{laws_of_canonical_forms, laws_of_keys, laws_of_shifts};
-pub use window_key::{WindowKey, key};
+pub use window_key::{WindowKey, key, same_up_to_shift};

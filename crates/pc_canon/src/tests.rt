@@ -111,11 +111,13 @@ fn names_and_tags_do_not_show(alloc: Global) -> Result<bool, WindowError> {
     Ok(is_key(&one, NUMBERS, 0, 0) && is_key(&other, NUMBERS, 3, 7))
 }
 
-/// Whether a window with another literal has another key.
+/// Whether a window with other names and tags is the same up to a shift, and one with another literal is
+/// not.
 fn literals_show(alloc: Global) -> Result<bool, WindowError> {
-    let one = sum_key(alloc, 0, 1, 1, 0)?;
-    let other = sum_key(alloc, 0, 1, 2, 0)?;
-    Ok(one.numbers.as_slice() != other.numbers.as_slice())
+    let one = sum_window(alloc, 0, 1, 1, 0)?;
+    let shifted = sum_window(alloc, 3, 5, 1, 7)?;
+    let other = sum_window(alloc, 0, 1, 2, 0)?;
+    Ok(same_up_to_shift(alloc, &one, &shifted)? && !same_up_to_shift(alloc, &one, &other)?)
 }
 
 #[test]
@@ -129,7 +131,7 @@ fn windows_that_differ_in_names_and_tags_have_one_key(rt: HostRuntime) -> Result
 }
 
 #[test]
-fn windows_that_differ_in_a_literal_have_two_keys(rt: HostRuntime) -> Result<(), Fail> {
+fn windows_that_differ_in_a_literal_are_not_the_same(rt: HostRuntime) -> Result<(), Fail> {
     let is_so = match literals_show(rt.alloc()) {
         Ok(is_so) => is_so,
         Err(_) => false,

@@ -1,11 +1,13 @@
 //! Keys of windows.
-ghost use Rattle.std.specs.Prelude.{◌≡◌, ◌<◌, ◌^◌, ◌++◌, length, OnOk, IfOk};
+ghost use Rattle.std.specs.Prelude.{◌≡◌, ◌↔◌, ◌<◌, ◌^◌, ◌++◌, true, length, OnOk, IfOk};
 ghost use Rattle.pc_window.specs.Tree.{tree_size, whole};
 ghost use Rattle.pc_window.specs.Names.{parameters_of};
 ghost use Rattle.pc_window.specs.Opening.{TreeBelow, FormsBelow};
 ghost use Rattle.pc_window.specs.StoredWindow.{tree_in, supply_in, window_in};
 ghost use Rattle.pc_canon.specs.Canonical.{tags_of, first_tag};
 ghost use Rattle.pc_canon.specs.Key.{limit_numbers, loop_numbers, key_of};
+ghost use Rattle.pc_canon.specs.Keyed.{HasKey};
+ghost use Rattle.pc_canon.specs.Shift.{Shifted};
 
 use crate::forms::write_forms;
 use crate::levels::levels_of;
@@ -56,6 +58,18 @@ pub fn key(alloc: Global, window: &Window) -> Result<WindowKey, WindowError>
         names,
         tag,
     })
+}
+
+/// Whether two windows are equal up to their names, their form variables and a shift of all tags, which is
+/// whether they have one key.
+pub fn same_up_to_shift(alloc: Global, one: &Window, other: &Window) -> Result<bool, WindowError>
+    requires one { HasKey one.now }
+    requires other { HasKey other.now }
+    ensures { IfOk result (λ same. (same ≡ true) ↔ Shifted (window_in one.now) (window_in other.now)) }
+{
+    let one = key(alloc, one)?;
+    let other = key(alloc, other)?;
+    Ok(one.numbers.as_slice() == other.numbers.as_slice())
 }
 
 /// Writes limits.
