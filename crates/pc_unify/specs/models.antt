@@ -1,2 +1,4 @@
 pub mod Marks
 pub mod DeadStep
+pub mod Signature
+pub mod Twins
