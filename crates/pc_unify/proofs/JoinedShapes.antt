@@ -83,7 +83,8 @@ taken_out d place (Test_node t o on p q) =
       | false ↦ (elim (nat_lt (place - 1) (node_size p)) as (λ b. IfFound (if b then passing Passed_test (mover_in (place - 1) p) else passing Passed_test (mover_in (place - 1 - node_size p) q))
           (Shrinks (Test_node t o on p q) (if b then Test_node t o on (node_without d (place - 1) p) q else Test_node t o on p (node_without d (place - 1 - node_size p) q)))) [
             | true ↦ found_passing Passed_test (mover_in (place - 1) p) _ _ (below_yes t o on p (node_without d (place - 1) p) q) (taken_out d (place - 1) p)
-            | false ↦ found_passing Passed_test (mover_in (place - 1 - node_size p) q) _ _ (below_no t o on p q (node_without d (place - 1 - node_size p) q)) (taken_out d (place - 1 - node_size p) q)
+            | false ↦ found_passing Passed_test (mover_in (place - 1 - node_size p) q) _ _ (below_no t o on p q (node_without d (place - 1 - node_size p) q))
+                (taken_out d (place - 1 - node_size p) q)
           ])
     ]
 taken_out d place (Leads_to below) = tt

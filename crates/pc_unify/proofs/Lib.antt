@@ -10,3 +10,4 @@ pub mod EnteringOnce
 pub mod Retagged
 pub mod JoinedKept
 pub mod JoinedShapes
+pub mod EqualSumsKept
