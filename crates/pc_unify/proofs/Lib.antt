@@ -3,3 +3,11 @@ pub mod Tidied
 pub mod DeadStepKept
 pub mod Deleted
 pub mod DeletedKept
+pub mod Signatures
+pub mod FoundTwins
+pub mod TwoSides
+pub mod EnteringOnce
+pub mod Retagged
+pub mod JoinedKept
+pub mod JoinedShapes
+pub mod EqualSumsKept

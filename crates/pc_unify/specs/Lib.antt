@@ -1,2 +1,3 @@
 pub mod Deleting
+pub mod Unifying
 pub mod models

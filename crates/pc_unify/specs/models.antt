@@ -1,2 +1,5 @@
 pub mod Marks
 pub mod DeadStep
+pub mod Signature
+pub mod Twins
+pub mod EqualSums

@@ -1,11 +1,17 @@
-//! Deleting what is not used: one item, or all in a window, which tidies it.
+//! Making one item of two, and deleting what is not used: one item, or all in a window, which tidies
+//! it.
 #![tactic(auto)]
 
 mod deleting;
+mod joining;
 mod marks;
+mod signature;
 #[cfg(test)]
 mod tests;
 mod tidying;
+mod twins;
+mod unifying;
 
 pub use deleting::{delete, why_not_delete};
 pub use tidying::tidy;
+pub use unifying::{unify, why_not_unify};
