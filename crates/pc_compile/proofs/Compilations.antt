@@ -117,8 +117,8 @@ is_compiled program limits extent first flow table forms choices object fine low
     let loose = code_with limits table.arrays made.loose in
     let same_arrays = cut.arrays ∙ kept.same_arrays ∙ lowered.arrays in
     let plain = all_plain_is_short program first flow table lowered kept cut keeps in
-    let may = are_forms table keeps limits extent fine plain choices (forms_in forms) chosen in
-    let each = form_is table keeps limits extent fine plain choices (forms_in forms) chosen in
+    let may = are_forms table keeps limits extent plain choices (forms_in forms) chosen in
+    let each = form_is table keeps limits extent plain choices (forms_in forms) chosen in
     let of_flow = AgreeOnInputs-trans (flow_run flow) (flow_run first) (source_run program) kept.agrees lowered.agree in
     let of_table = AgreeOnInputs-trans (table_run table) (flow_run flow) (source_run program) cut_agrees of_flow in
     let of_rows = emitted_rows_do e keeps limits made.loose emitted.are each (never_faults program (table_run table) of_table) in

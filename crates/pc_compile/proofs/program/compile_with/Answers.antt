@@ -27,7 +27,7 @@ object_of-requires-clause-arrays g c =
 
 pub object_of-requires-clause-forms : goal.object_of-requires-clause-forms
 object_of-requires-clause-forms g c =
-    are_forms (table_of c.in_ok-table.table) c.in_ok-table.ensures.kept c.args.limits c.args.extent c.requires.limits
+    are_forms (table_of c.in_ok-table.table) c.in_ok-table.ensures.kept c.args.limits c.args.extent
     (all_plain_is_short (resolved_of c.args.checked.now) c.in_ok-flow.flow c.run_list.new.flow (table_of c.in_ok-table.table)
     c.in_ok-flow.ensures.lowered c.run_list.ensures.keeps c.in_ok-table.ensures.cut c.in_ok-table.ensures.kept)
     c.in_ok-chosen.chosen.choices (forms_in c.in_ok-chosen.chosen.forms) c.in_ok-chosen.ensures.chosen
