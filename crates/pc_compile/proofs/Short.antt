@@ -3,6 +3,7 @@
 use Rattle.std.proofs.Common.{◌≡◌, ℕ, suc, ◌+◌, ◌-◌, ◌*◌, ◌≤◌, List, [], ◌∷◌, ◌++◌, length, length-append, Option, Some, None, refl, ap, arith}
 use Rattle.std.specs.Prelude.{Bool, true, false, if◌then◌else◌, slice_get}
 use Rattle.std.specs.List.{AllByRecursion, flat_map}
+use Rattle.std.proofs.lemmas.List.Sums.{sum_by-cons}
 use Rattle.pc_word.specs.declared.item.Item.{Item}
 use Rattle.pc_word.specs.declared.item.Item.TheVariants.{Bin, Copy, Load, Store, Print, Read, More}
 use Rattle.pc_word.specs.declared.item.Operand.{Operand}
@@ -159,7 +160,7 @@ all_lengths_length (n ∷ lengths) =
     omega (arith, both, others)
 
 -- the room that the text of a code takes
-pub text_room : Room
+abbrev pub text_room : Room
 text_room = record {
   of_item = λ item. length (item_text item);
   of_test = λ on. 1 + length (operand_text on);
@@ -183,7 +184,8 @@ rows_length (row ∷ rows) =
     let both = length-append (row_text row) (flat_map row_text rows) in
     let one = row_length row in
     let others = rows_length rows in
-    omega (arith, both, one, others)
+    let sum = sum_by-cons (row_room text_room) row rows in
+    omega (arith, both, one, others, sum)
 
 -- rows that take no more room have no longer a text
 pub no_longer : (rows before : List CodeRow) → rows_room text_room rows ≤ rows_room text_room before

@@ -1,5 +1,5 @@
 //! Notes on the loops of a program.
-ghost use Rattle.std.specs.Prelude.{◌≡◌, ◌<◌, ◌++◌, length, slice_get, IfOk, IfSome, OnOk};
+ghost use Rattle.std.specs.Prelude.{◌≡◌, ◌<◌, ◌≤◌, ◌++◌, length, slice_get, IfOk, IfSome, OnOk};
 ghost use Rattle.pc_table.specs.Table.{table_of};
 ghost use Rattle.pc_window.specs.Opening.{headed_loop};
 ghost use Rattle.pc_compile.specs.Notes.{caused_note, packed_note, form_notes, choice_notes, notes_of};
@@ -132,7 +132,7 @@ fn note(line: u32, choice: &Choice) -> Option<Note>
             number: states,
             limit: rows,
         }),
-        Form::Packed => Some(packed_note(line, causes.first())),
+        Form::Packed => Some(packed_note(line, causes.first().copied())),
         Form::Plain => match causes.last() {
             None => None,
             Some(cause) => Some(caused_note(line, 5, *cause)),
@@ -141,8 +141,8 @@ fn note(line: u32, choice: &Choice) -> Option<Note>
 }
 
 /// The note of a packed region, which is not pipelined for this cause, if there is one.
-fn packed_note(line: u32, cause: Option<&Cause>) -> Note
-    ensures { result ≡ packed_note line (option_map (λ cause. cause.now) cause) }
+fn packed_note(line: u32, cause: Option<Cause>) -> Note
+    ensures { result ≡ packed_note line cause }
 {
     match cause {
         None => Note {
@@ -151,7 +151,7 @@ fn packed_note(line: u32, cause: Option<&Cause>) -> Note
             number: 1,
             limit: 1,
         },
-        Some(cause) => caused_note(line, 1, *cause),
+        Some(cause) => caused_note(line, 1, cause),
     }
 }
 
