@@ -25,3 +25,4 @@ pub mod Progress
 pub mod Steps
 pub mod States
 pub mod Turns
+pub mod EchoingKept
