@@ -4,7 +4,12 @@
 
 mod error;
 mod laws;
+mod leading;
+mod pool;
+mod renaming;
 mod searching;
+#[cfg(test)]
+mod tests;
 
 pub use error::{KeyList, SearchError};
 pub use laws::{laws_of_patterns, laws_of_searches};

@@ -1,0 +1,179 @@
+ghost use Rattle.std.specs.Prelude.{◌≡◌, ◌<◌, ◌^◌, pos, length, IfOk};
+ghost use Rattle.pc_table.specs.Table.{table_tree, table_of};
+ghost use Rattle.pc_table.specs.TableKeeps.{TableKeeps};
+ghost use Rattle.pc_window.specs.models.Printed.{printing_table};
+ghost use Rattle.pc_word.specs.Ranges.{IsBetween};
+ghost use Rattle.pc_word.specs.MachineLimits.{most_rows, most_window};
+ghost use Rattle.pc_pattern.specs.models.Echoing.{echo_tree, echoing_table};
+
+use super::*;
+use pc_automaton::{Automaton, AutomatonLeaf, RowTree};
+use pc_table::{Region, RegionList, RegionTable, RegionTree, VarList};
+use pc_word::{Extent, Item, LengthList, Limits, LoopList, LoopMark, Operand};
+use std::alloc::{AllocError, Global};
+use std::test::Fail;
+
+/// `print(7);`, as one region.
+fn printing(alloc: Global) -> Result<RegionTable, AllocError>
+    ensures table { IfOk result (λ table. table_of table ≡ printing_table (pos 7)) }
+    ensures one { IfOk result (λ table. length table.regions ≡ 1) }
+{
+    let next = Box::new(alloc, RegionTree::Stop)?;
+    let tree = RegionTree::Step {
+        origin: 0,
+        item: Item::Print {
+            value: Operand::Lit(7),
+        },
+        next,
+    };
+    let mut regions = RegionList::new(alloc);
+    regions.push(Region {
+        head: 0,
+        tree,
+        live: VarList::new(alloc),
+        inside: None,
+        heads: None,
+    })?;
+    Ok(RegionTable {
+        regions,
+        loops: LoopList::new(alloc),
+        arrays: LengthList::new(alloc),
+    })
+}
+
+/// One turn of a loop that reads and prints until it reads 0.
+fn turn(alloc: Global) -> Result<RegionTree, AllocError>
+    ensures { IfOk result (λ tree. table_tree tree ≡ echo_tree) }
+{
+    let on = Operand::Name(0);
+    let next = Box::new(alloc, RegionTree::Next { region: 0 })?;
+    let yes = Box::new(
+        alloc,
+        RegionTree::Step {
+            origin: 2,
+            item: Item::Print { value: on },
+            next,
+        },
+    )?;
+    let no = Box::new(alloc, RegionTree::Stop)?;
+    let next = Box::new(
+        alloc,
+        RegionTree::Test {
+            origin: 1,
+            on,
+            yes,
+            no,
+        },
+    )?;
+    Ok(RegionTree::Step {
+        origin: 0,
+        item: Item::Read { dest: 0 },
+        next,
+    })
+}
+
+/// The loop as a table of one region.
+fn echoing(alloc: Global) -> Result<RegionTable, AllocError>
+    ensures table { IfOk result (λ table. table_of table ≡ echoing_table) }
+    ensures one { IfOk result (λ table. length table.regions ≡ 1) }
+{
+    let mut regions = RegionList::new(alloc);
+    regions.push(Region {
+        head: 0,
+        tree: turn(alloc)?,
+        live: VarList::new(alloc),
+        inside: Some(0),
+        heads: Some(0),
+    })?;
+    let mut loops = LoopList::new(alloc);
+    loops.push(LoopMark {
+        line: 1,
+        header: 0,
+        outer: None,
+    })?;
+    Ok(RegionTable {
+        regions,
+        loops,
+        arrays: LengthList::new(alloc),
+    })
+}
+
+/// Whether some leaf of a row leads to this state.
+fn leads_to(row: &RowTree<AutomatonLeaf>, number: u32) -> bool {
+    match row {
+        RowTree::Step { next, .. } => leads_to(next, number),
+        RowTree::Test { yes, no, .. } => leads_to(yes, number) || leads_to(no, number),
+        RowTree::Leaf { leaf } =>
+            matches!(leaf, AutomatonLeaf::To { state, .. } if *state == number),
+    }
+}
+
+/// What a search finds.
+#[derive(Clone, Copy, Debug, PartialEq, Eq)]
+enum Found {
+    /// So many states, of which the last leads back to the first.
+    Closed(u32),
+    /// So many states.
+    Open(u32),
+    /// More members than there may be, with so many keys.
+    Reached(usize),
+    NoMemory,
+}
+
+/// How many states an automaton has, and whether the last leads back.
+fn last_leads(automaton: &Automaton) -> Found
+    requires { length automaton.now < 2 ^ 32 }
+{
+    let count = automaton.count();
+    if leads_to(&automaton.state(count - 1).row, 0) {
+        Found::Closed(count)
+    } else {
+        Found::Open(count)
+    }
+}
+
+/// What the search from region 0 finds, with this window number and in so many rows.
+#[tactic(auto, using(crate::proofs::EchoingKept::as_many_states))]
+fn searched(alloc: Global, table: &RegionTable, window: u8, rows: u16) -> Found
+    requires kept { TableKeeps (table_of table.now) }
+    requires one { length table.now.regions ≡ 1 }
+    requires window { IsBetween 1 most_window window }
+    requires rows { IsBetween 1 most_rows rows }
+{
+    let limits = Limits {
+        ops: 4,
+        tests: 1,
+        mem: 1,
+    };
+    match search(alloc, table, 0, limits, Extent { window, rows }) {
+        Ok(automaton) => last_leads(&automaton),
+        Err(SearchError::NoPattern { reached }) => Found::Reached(reached.len()),
+        Err(SearchError::Memory) => Found::NoMemory,
+    }
+}
+
+#[test]
+#[tactic(auto, using(pc_window::proofs::Printed::printing_keeps))]
+fn straight_code_is_one_row(rt: HostRuntime) -> Result<(), Fail> {
+    let table = printing(rt.alloc())?;
+    assert_eq!(&rt; searched(rt.alloc(), &table, 4, 1), Found::Open(1));
+    Ok(())
+}
+
+#[test]
+#[tactic(auto, using(crate::proofs::EchoingKept::echoing_keeps))]
+fn a_loop_that_is_not_unwound_reads_and_then_tests(rt: HostRuntime) -> Result<(), Fail> {
+    let table = echoing(rt.alloc())?;
+    assert_eq!(&rt; searched(rt.alloc(), &table, 1, 512), Found::Open(2));
+    assert_eq!(&rt; searched(rt.alloc(), &table, 1, 1), Found::Reached(2));
+    Ok(())
+}
+
+#[test]
+#[tactic(auto, using(crate::proofs::EchoingKept::echoing_keeps))]
+fn a_loop_that_is_unwound_closes(rt: HostRuntime) -> Result<(), Fail> {
+    let table = echoing(rt.alloc())?;
+    assert_eq!(&rt; searched(rt.alloc(), &table, 2, 2), Found::Closed(2));
+    assert_eq!(&rt; searched(rt.alloc(), &table, 4, 2), Found::Closed(2));
+    Ok(())
+}
