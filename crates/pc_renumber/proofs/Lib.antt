@@ -1,6 +1,11 @@
 pub mod NamesOfTrees
 pub mod Listing
 pub mod Places
-pub mod Variables
+pub mod NewVariables
 pub mod AlikeTrees
 pub mod Renumbered
+pub mod Numbers
+pub mod Homes
+pub mod Marks
+pub mod NewForms
+pub mod RenumberedWindows

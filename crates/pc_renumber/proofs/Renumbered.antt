@@ -34,7 +34,7 @@ use Rattle.pc_renumber.specs.Renumbering.{renumbered_supply, renumbered}
 use Rattle.pc_renumber.proofs.NamesOfTrees.{OfTree}
 use Rattle.pc_renumber.proofs.Listing.{all_distinct, names_there}
 use Rattle.pc_renumber.proofs.Places.{at_place, mapped_at_place, places_apart, place_below, distinct_mapped}
-use Rattle.pc_renumber.proofs.Variables.{Among, at_most, variable_pairs, one_to_one, form_alike, terms_below, each_stands}
+use Rattle.pc_renumber.proofs.NewVariables.{Among, at_most, variable_pairs, one_to_one, form_alike, terms_below, each_stands}
 use Rattle.pc_renumber.proofs.AlikeTrees.{with_new, new_ones, new_others, each_new, tree_below, scoped_alike, list_corresponds, trees_alike}
 
 -- ---- the front

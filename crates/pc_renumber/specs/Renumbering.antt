@@ -49,9 +49,13 @@ abbrev pub how_many_below : (ℕ → Bool) → ℕ → ℕ
 how_many_below among zero = 0
 how_many_below among (suc x) = (if among x then 1 else 0) + how_many_below among x
 
+-- a term with the new variable
+abbrev pub renumbered_term : (ℕ → ℕ) → Term → Term
+renumbered_term number term = record { variable = number term.variable; factor = term.factor }
+
 -- terms with the new variables
 abbrev pub renumbered_terms : (ℕ → ℕ) → List Term → List Term
-renumbered_terms number terms = map (λ (term : Term). record { variable = number term.variable; factor = term.factor }) terms
+renumbered_terms number terms = map (renumbered_term number) terms
 
 -- a form with the new variables
 abbrev pub renumbered_form : (ℕ → ℕ) → Form → Form

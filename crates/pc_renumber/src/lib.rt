@@ -1,6 +1,10 @@
 //! Windows whose names and form variables are numbered anew, without gaps.
 #![tactic(auto)]
 
+mod forms;
+mod names;
 mod renumbering;
+mod trees;
+mod variables;
 
 pub use renumbering::renumber;
