@@ -9,3 +9,4 @@ pub mod Homes
 pub mod Marks
 pub mod NewForms
 pub mod RenumberedWindows
+pub mod SumWindows

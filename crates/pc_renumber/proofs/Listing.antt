@@ -3,6 +3,7 @@ use Rattle.std.proofs.Common.{◌≡◌, ℕ, List, [], ◌∷◌, ◌++◌, Opt
 use Rattle.std.specs.Prelude.{Bool, true, false, ◌||◌, if◌then◌else◌, nat_eq}
 use Rattle.std.specs.List.{AllByRecursion}
 use Rattle.std.proofs.lemmas.Bool.{eqb-true}
+use Rattle.std.proofs.lemmas.List.{append-nil, append_assoc}
 use Rattle.std.proofs.lemmas.List.Folds.{list_any-append}
 use Rattle.pc_word.specs.declared.item.Item.{Item}
 use Rattle.pc_word.specs.Items.{dest_of}
@@ -72,33 +73,21 @@ in_front front found (x ∷ xs) h = by (is_in x found) (is_in x (front ++ found)
     same : is_in x (front ++ found) ≡ is_in x found
     same = list_any-append (nat_eq x) front found ∙ ap (λ (b : Bool). b || is_in x found) h.0
 
-    joined : (front found : List ℕ) → (front ++ found) ++ x ∷ [] ≡ front ++ (found ++ x ∷ [])
-    joined [] found = refl
-    joined (y ∷ front) found = ap (λ (list : List ℕ). y ∷ list) (joined front found)
-
     by : (b c : Bool) → c ≡ b → and_names (front ++ found) xs ≡ front ++ and_names found xs
         → and_names (front ++ (found ++ x ∷ [])) xs ≡ front ++ and_names (found ++ x ∷ []) xs
         → and_names (if c then front ++ found else (front ++ found) ++ x ∷ []) xs ≡ front ++ and_names (if b then found else found ++ x ∷ []) xs
     by true true e h k = h
-    by false false e h k = ap (λ (list : List ℕ). and_names list xs) (joined front found) ∙ k
+    by false false e h k = ap (λ (list : List ℕ). and_names list xs) (append_assoc front found (x ∷ [])) ∙ k
     by true false e h k = absurd (cc)
     by false true e h k = absurd (cc)
 
 -- names of which none is twice come as they are
 all_new : (found xs : List ℕ) → Distinct xs → AllByRecursion (λ x. is_in x found ≡ false) xs → and_names found xs ≡ found ++ xs
-all_new found [] d h = sym (append_none found)
-  where
-    append_none : (xs : List ℕ) → xs ++ [] ≡ xs
-    append_none [] = refl
-    append_none (x ∷ xs) = ap (λ (list : List ℕ). x ∷ list) (append_none xs)
+all_new found [] d h = sym (append-nil found)
 all_new found (x ∷ xs) d h =
     ap (λ (b : Bool). and_names (if b then found else found ++ x ∷ []) xs) h.0
-    ∙ all_new (found ++ x ∷ []) xs d.1 (apart xs d.0 h.1) ∙ append_one found
+    ∙ all_new (found ++ x ∷ []) xs d.1 (apart xs d.0 h.1) ∙ append_assoc found (x ∷ []) xs
   where
-    append_one : (found : List ℕ) → (found ++ x ∷ []) ++ xs ≡ found ++ x ∷ xs
-    append_one [] = refl
-    append_one (y ∷ found) = ap (λ (list : List ℕ). y ∷ list) (append_one found)
-
     apart : (ys : List ℕ) → has ys x ≡ false → AllByRecursion (λ y. is_in y found ≡ false) ys → AllByRecursion (λ y. is_in y (found ++ x ∷ []) ≡ false) ys
     apart [] d h = tt
     apart (y ∷ ys) d h =
@@ -141,18 +130,17 @@ module _ (tree : Tree) (scoped : Scoped (uses tree) tree) where
   behind_parameters =
       sym (all_listed tree (parameters_of tree) (and_names [] (definitions_of tree)) _ refl refl refl)
       ∙ sym (in_front (parameters_of tree) [] (definitions_of tree) no_parameters)
-      ∙ ap (λ (list : List ℕ). and_names list (definitions_of tree)) (append_none (parameters_of tree))
-    where
-      append_none : (xs : List ℕ) → xs ++ [] ≡ xs
-      append_none [] = refl
-      append_none (x ∷ xs) = ap (λ (list : List ℕ). x ∷ list) (append_none xs)
+      ∙ ap (λ (list : List ℕ). and_names list (definitions_of tree)) (append-nil (parameters_of tree))
 
   -- parameters and then definitions, put behind nothing
   pub all_put : (first all : List ℕ) → first ≡ and_names [] (parameters_of tree) → all ≡ and_names first (definitions_of tree) → all ≡ all_names tree
   all_put first all is later =
-      later ∙ ap (λ (list : List ℕ). and_names list (definitions_of tree)) (is ∙ all_new [] (parameters_of tree) (distinct_from (parameters_of tree) (parameters_distinct tree)) (none_in (parameters_of tree)))
+      later ∙ ap (λ (list : List ℕ). and_names list (definitions_of tree)) (is ∙ all_new [] (parameters_of tree) once (none_in (parameters_of tree)))
       ∙ sym behind_parameters
     where
+      once : Distinct (parameters_of tree)
+      once = distinct_from (parameters_of tree) (parameters_distinct tree)
+
       none_in : (xs : List ℕ) → AllByRecursion (λ x. is_in x [] ≡ false) xs
       none_in [] = tt
       none_in (x ∷ xs) = (refl, none_in xs)

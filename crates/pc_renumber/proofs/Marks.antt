@@ -1,8 +1,9 @@
 -- Marks tell which form variables stand in forms, and how many before each.
-use Rattle.std.proofs.Common.{◌≡◌, ◌≢◌, ◌⊎◌, inl, inr, ℕ, zero, suc, ◌+◌, ◌<◌, ◌≤◌, List, [], ◌∷◌, Some, None, length, drop, refl, sym, ◌∙◌, ap, subst, arith}
+use Rattle.std.proofs.Common.{◌≡◌, ◌≢◌, ◌⊎◌, inl, inr, ℕ, zero, suc, ◌+◌, ◌<◌, ◌≤◌, List}
+use Rattle.std.proofs.Common.{[], ◌∷◌, Some, None, length, drop, refl, sym, ◌∙◌, ap, subst, arith}
 use Rattle.std.specs.Prelude.{Bool, true, false, ◌||◌, if◌then◌else◌, nat_eq, replicate, slice_get, slice_index, slice_index_or, slice_set}
 use Rattle.std.specs.List.{AllByRecursion}
-use Rattle.std.proofs.lemmas.List.{get_or-set_same, get_or-set_other}
+use Rattle.std.proofs.lemmas.List.{get_or-set_same, get_or-set_other, length-replicate}
 use Rattle.std.proofs.lemmas.Bool.Decides.{eqb_tells}
 use Rattle.pc_word.proofs.Lists.{all_at, set_length}
 use Rattle.pc_linear.specs.declared.term.Term.{Term}
@@ -105,12 +106,8 @@ unmarked zero x = refl
 unmarked (suc n) zero = refl
 unmarked (suc n) (suc x) = unmarked n x
 
-replicate_length : (n : ℕ) → length (replicate n false) ≡ n
-replicate_length zero = refl
-replicate_length (suc n) = ap suc (replicate_length n)
-
 pub all_below : (n : ℕ) (fs : List Form) → AllByRecursion (FormBelow n) fs → AllByRecursion (FormBelow (length (replicate n false))) fs
-all_below n fs h = subst (λ (m : ℕ). AllByRecursion (FormBelow m) fs) (sym (replicate_length n)) h
+all_below n fs h = subst (λ (m : ℕ). AllByRecursion (FormBelow m) fs) (sym (length-replicate n false)) h
 
 -- ---- counts
 
@@ -154,7 +151,7 @@ new_numbers_are forms variables marks counts is counted = record {
 }
   where
     long : length marks ≡ variables
-    long = ap length is ∙ forms_length forms (replicate variables false) ∙ replicate_length variables
+    long = ap length is ∙ forms_length forms (replicate variables false) ∙ length-replicate variables false
 
     nothing_more : (n : ℕ) → n + 0 ≡ n
     nothing_more n = omega arith
@@ -169,10 +166,10 @@ new_numbers_are forms variables marks counts is counted = record {
     stand : (y : ℕ) → y < variables → marked marks y ≡ stands_in_any forms y
     stand y lt =
         ap (λ (list : List Bool). marked list y) is
-        ∙ forms_marked y forms (replicate variables false) (subst (λ (n : ℕ). y < n) (sym (replicate_length variables)) lt)
+        ∙ forms_marked y forms (replicate variables false) (subst (λ (n : ℕ). y < n) (sym (length-replicate variables false)) lt)
         ∙ ap (λ (b : Bool). stands_in_any forms y || b) (unmarked variables y) ∙ or_none (stands_in_any forms y)
 
 pub few_marks : (forms : List Form) (variables : ℕ) (marks : List Bool) → marks ≡ and_forms forms (replicate variables false) → length marks ≡ variables
-few_marks forms variables marks is = ap length is ∙ forms_length forms (replicate variables false) ∙ replicate_length variables
+few_marks forms variables marks is = ap length is ∙ forms_length forms (replicate variables false) ∙ length-replicate variables false
 
 pub ruleset new_numbers = (new_numbers_are, all_below, few_marks)

@@ -6,7 +6,7 @@ use Rattle.std.specs.Int.{w32, int_wrap}
 use Rattle.std.proofs.lemmas.Bool.{eqb-true}
 use Rattle.std.proofs.lemmas.Bool.Decides.{nat_tests}
 use Rattle.std.proofs.lemmas.Int.{int_wrap_fits}
-use Rattle.std.proofs.lemmas.List.{length-map}
+use Rattle.std.proofs.lemmas.List.{append-nil, append_assoc, length-map}
 use lib.IntN.{+ℤ_idl, +ℤ_idr, *ℤ_comm, *ℤ-zero}
 use Rattle.pc_word.proofs.Lists.{all_front}
 use Rattle.pc_word.specs.declared.item.OpCode.TheVariants.{Add, Mul}
@@ -113,14 +113,6 @@ pub ruleset term = (there_is, it_is)
 
 -- ---- all terms
 
-append_none : (ts : List Term) → ts ++ [] ≡ ts
-append_none [] = refl
-append_none (t ∷ ts) = ap (λ (us : List Term). t ∷ us) (append_none ts)
-
-append_one : (ts : List Term) (t : Term) (us : List Term) → (ts ++ t ∷ []) ++ us ≡ ts ++ t ∷ us
-append_one [] t us = refl
-append_one (u ∷ ts) t us = ap (λ (list : List Term). u ∷ list) (append_one ts t us)
-
 -- the first terms of a form are a form
 rising_front : (least : ℕ) (ts us : List Term) → Rising least (ts ++ us) → Rising least ts
 rising_front least [] us r = tt
@@ -139,14 +131,14 @@ form_front ts us k form = record {
 module _ (n : ℕ → ℕ) (sum : Form) (ts : List Term) (at : ℕ) where
   pub no_more_terms : slice_get ts at ≡ None → sum ≡ with_terms sum (renumbered_terms n (drop at ts))
   no_more_terms none = λ i. record {
-    terms = (sym (append_none sum.terms) ∙ ap (λ (us : List Term). sum.terms ++ renumbered_terms n us) (sym (none_left ts at none))) i;
+    terms = (sym (append-nil sum.terms) ∙ ap (λ (us : List Term). sum.terms ++ renumbered_terms n us) (sym (none_left ts at none))) i;
     constant = sum.constant;
   }
 
   module _ (t : Term) (is : slice_get ts at ≡ Some t) where
     one_then_others : with_terms (with_terms sum (renumbered_term n t ∷ [])) (renumbered_terms n (drop (at + 1) ts)) ≡ with_terms sum (renumbered_terms n (drop at ts))
     one_then_others = λ i. record {
-      terms = (append_one sum.terms (renumbered_term n t) (renumbered_terms n (drop (at + 1) ts))
+      terms = (append_assoc sum.terms (renumbered_term n t ∷ []) (renumbered_terms n (drop (at + 1) ts))
           ∙ ap (λ (us : List Term). sum.terms ++ renumbered_terms n us) (sym (one_from ts at t is))) i;
       constant = sum.constant;
     }

@@ -124,7 +124,7 @@ each_below n (x ∷ xs) h q e = by (nat_eq q x) refl e (each_below n xs h.1 q)
     by false same e next = next e
 
 -- each form of a list by name is below a number where those that are listed are
-forms_listed : (m : ℕ) (fs : List Form) → AllByRecursion (FormBelow m) fs → (x : ℕ) → FormBelow m (forms_in fs x)
+pub forms_listed : (m : ℕ) (fs : List Form) → AllByRecursion (FormBelow m) fs → (x : ℕ) → FormBelow m (forms_in fs x)
 forms_listed m [] h x = tt
 forms_listed m (f ∷ fs) h zero = h.0
 forms_listed m (f ∷ fs) h (suc x) = forms_listed m fs h.1 x

@@ -15,7 +15,7 @@ use std::alloc::{AllocError, Global};
 
 /// The table in which these names are the first ones, with their forms in new variables.
 #[tactic(auto, using(crate::proofs::NewForms::tables))]
-pub(crate) fn renumbered_names(
+pub(crate) fn renumbered_table(
     alloc: Global,
     table: &NameTable,
     names: &[u32],
@@ -25,12 +25,12 @@ pub(crate) fn renumbered_names(
 {
     let forms = forms_of(alloc, table, names)?;
     let numbers = new_variables(alloc, forms.as_slice(), table.next_variable)?;
-    let table = table_of(alloc, forms.as_slice(), &numbers, table.next_variable)?;
+    let table = table_from(alloc, forms.as_slice(), &numbers, table.next_variable)?;
     Ok(table)
 }
 
 /// The table of names with these forms in new variables.
-fn table_of(
+fn table_from(
     alloc: Global,
     forms: &[LinForm],
     numbers: &[u32],

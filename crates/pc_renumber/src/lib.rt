@@ -4,6 +4,8 @@
 mod forms;
 mod names;
 mod renumbering;
+#[cfg(test)]
+mod tests;
 mod trees;
 mod variables;
 

@@ -1,12 +1,13 @@
 //! Renumbering.
-ghost use Rattle.std.specs.Prelude.{◌≡◌, [], length, true, IfOk};
+ghost use Rattle.std.specs.Prelude.{◌≡◌, ◌≤◌, [], length, true, IfOk};
+ghost use Rattle.pc_window.specs.Tree.{tree_size};
 ghost use Rattle.pc_window.specs.Names.{parameters_of};
 ghost use Rattle.pc_window.specs.Steps.{IsProper};
 ghost use Rattle.pc_window.specs.StoredWindow.{tree_in, window_in, InNodes};
 ghost use Rattle.pc_renumber.specs.Renumbering.{Renumbers};
 ghost use Rattle.pc_renumber.specs.models.Numbering.{AreNumbers};
 
-use crate::forms::renumbered_names;
+use crate::forms::renumbered_table;
 use crate::names::{add_all, no_numbers};
 use crate::trees::renumber_tree;
 use pc_rebase::{NumberList, parameters_of};
@@ -26,11 +27,16 @@ pub fn renumber(alloc: Global, window: Window) -> Result<Window, WindowError>
     requires nodes { InNodes true window.tree }
     ensures renumbers { IfOk result (λ later. Renumbers (window_in window) (window_in later)) }
     ensures nodes { IfOk result (λ later. InNodes true later.tree) }
+    ensures proper { IfOk result (λ later. IsProper (window_in later)) }
+    ensures names { IfOk result (λ later. length later.names.forms ≤ length window.names.forms) }
+    ensures variables { IfOk result (λ later. later.names.next_variable ≤ window.names.next_variable) }
+    ensures size { IfOk result (λ later. tree_size (tree_in later.tree) ≡ tree_size (tree_in window.tree)) }
 {
     let count = window.names.forms.len();
     let parameters = parameters_of(alloc, &window.tree, count)?;
     let mut numbers = no_numbers(alloc, count)?;
-    renumbered(alloc, window, parameters.as_slice(), &mut numbers)
+    let later = renumbered(alloc, window, parameters.as_slice(), &mut numbers)?;
+    Ok(later)
 }
 
 /// A window with these parameters renumbered, by a table in which no name has a number yet.
@@ -58,7 +64,7 @@ fn renumbered(
     let mut tree = tree;
     let mut all = NumberList::new(alloc);
     add_all(&tree, parameters, &mut all, numbers)?;
-    let names = renumbered_names(alloc, &names, all.as_slice())?;
+    let names = renumbered_table(alloc, &names, all.as_slice())?;
     renumber_tree(&mut tree, numbers);
     Ok(Window {
         tree,

@@ -2,7 +2,7 @@ use Rattle.std.proofs.Common.{rules, ◌≡◌, refl, map}
 use Rattle.std.specs.Prelude.{slice_index}
 use Rattle.pc_renumber.specs.Renumbering.{renumbered_form}
 use Rattle.pc_renumber.proofs.NewForms.{all_rise, table_is}
-use Rattle.pc_renumber.proofs.forms.table_of.Goals as goal
+use Rattle.pc_renumber.proofs.forms.table_from.Goals as goal
 
 pub renumbered_forms-requires : goal.renumbered_forms-requires
 renumbered_forms-requires c = all_rise c.args.numbers.now c.args.forms.now c.args.variables c.requires.new c.requires.below
