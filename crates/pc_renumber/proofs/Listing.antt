@@ -5,7 +5,6 @@ use Rattle.std.specs.List.{AllByRecursion}
 use Rattle.std.proofs.lemmas.Bool.{eqb-true}
 use Rattle.std.proofs.lemmas.List.{append-nil, append_assoc}
 use Rattle.std.proofs.lemmas.List.Folds.{list_any-append}
-use Rattle.pc_word.specs.declared.item.Item.{Item}
 use Rattle.pc_word.specs.Items.{dest_of}
 use Rattle.pc_word.specs.Commit.{writes}
 use Rattle.pc_word.proofs.Lists.{all_both, all_imply}
@@ -17,7 +16,7 @@ use Rattle.pc_window.proofs.Live.{or_first, or_second}
 use Rattle.pc_window.proofs.Grafts.{nat_eq-same}
 use Rattle.pc_rebase.specs.models.Listing.{and_name, and_names}
 use Rattle.pc_rebase.proofs.Listed.{in_more, all_listed}
-use Rattle.pc_canon.proofs.Membership.{has, has_is, flipped, Distinct, distinct_from}
+use Rattle.pc_canon.proofs.Membership.{has, has_is, Distinct, distinct_from}
 use Rattle.pc_canon.proofs.ParameterLists.{parameters_listed, parameters_used, parameters_distinct}
 use Rattle.pc_renumber.proofs.NamesOfTrees.{OfTree, of_tree}
 

@@ -1,5 +1,5 @@
 -- Forms in new variables.
-use Rattle.std.proofs.Common.{◌≡◌, ℕ, zero, suc, ◌+◌, ◌<◌, ◌≤◌, List, [], ◌∷◌, ◌++◌, Option, Some, None, length, drop, map, refl, sym, ◌∙◌, ap, subst, arith}
+use Rattle.std.proofs.Common.{◌≡◌, ℕ, zero, suc, ◌+◌, ◌≤◌, List, [], ◌∷◌, ◌++◌, Option, Some, None, length, drop, map, refl, sym, ◌∙◌, ap, subst, arith}
 use Rattle.std.specs.Prelude.{ℤ, pos, negsuc, ◌+ℤ◌, ◌*ℤ◌, Bool, true, false, ◌||◌, IsSome, if◌then◌else◌, nat_eq, nat_lt, slice_get, slice_index}
 use Rattle.std.specs.List.{AllByRecursion}
 use Rattle.std.specs.Int.{w32, int_wrap}
@@ -11,7 +11,7 @@ use lib.IntN.{+ℤ_idl, +ℤ_idr, *ℤ_comm, *ℤ-zero}
 use Rattle.pc_word.proofs.Lists.{all_front}
 use Rattle.pc_word.specs.declared.item.OpCode.TheVariants.{Add, Mul}
 use Rattle.pc_linear.specs.declared.term.Term.{Term}
-use Rattle.pc_linear.specs.Form.{Form, Rising, HasFactor, IsNormal, IsForm}
+use Rattle.pc_linear.specs.Form.{Form, Rising, HasFactor, IsForm}
 use Rattle.pc_linear.specs.Combine.{prepended, add_term, plus, constant_form, variable_form, fitting, times_form, constant_of, combine_by, combine}
 use Rattle.pc_linear.proofs.Words.{one_times, wrap_zero}
 use Rattle.pc_window.specs.Opening.{TermsBelow, FormBelow}

@@ -1,11 +1,11 @@
 -- The new numbers of form variables.
-use Rattle.std.proofs.Common.{◌≡◌, ◌⊎◌, inl, inr, ℕ, zero, suc, ◌+◌, ◌<◌, ◌≤◌, List, [], ◌∷◌, map, refl, sym, ◌∙◌, ap, subst, arith}
-use Rattle.std.specs.Prelude.{ℤ, pos, ◌+ℤ◌, Bool, true, false, ◌||◌, if◌then◌else◌, nat_eq}
+use Rattle.std.proofs.Common.{◌≡◌, inl, inr, ℕ, zero, suc, ◌+◌, ◌<◌, ◌≤◌, List, [], ◌∷◌, refl, sym, ◌∙◌, ap, subst, arith}
+use Rattle.std.specs.Prelude.{pos, ◌+ℤ◌, Bool, true, false, if◌then◌else◌, nat_eq}
 use Rattle.std.specs.List.{AllByRecursion}
 use Rattle.std.proofs.lemmas.Bool.{eqb-true, eq-eqb}
 use lib.IntN.{+ℤ_idl}
 use Rattle.pc_word.proofs.Lists.{all_imply}
-use Rattle.pc_word.proofs.Truth.{or_false, or_made_false, decide_le}
+use Rattle.pc_word.proofs.Truth.{or_made_false, decide_le}
 use Rattle.pc_linear.specs.declared.term.Term.{Term}
 use Rattle.pc_linear.specs.Form.{Form, factor_of}
 use Rattle.pc_window.specs.Opening.{TermsBelow, FormBelow}
@@ -14,7 +14,7 @@ use Rattle.pc_window.proofs.Live.{or_first, or_second}
 use Rattle.pc_window.proofs.Grafts.{nat_eq-same}
 use Rattle.pc_canon.specs.Pairs.{Pair, ones, others}
 use Rattle.pc_canon.specs.Shift.{OneToOne, EachPair, FormsAlike, has_terms}
-use Rattle.pc_canon.proofs.Membership.{has, has_is, flipped, Distinct, distinct_to}
+use Rattle.pc_canon.proofs.Membership.{has, has_is, Distinct, distinct_to}
 use Rattle.pc_renumber.specs.Renumbering.{stands_in, stands_in_any, how_many_below, renumbered_terms, renumbered_form}
 
 -- terms whose variables are among some

@@ -1,7 +1,6 @@
 -- A table of the new numbers of names tells their places.
 use Rattle.std.proofs.Common.{◌≡◌, ◌≢◌, ◌⊎◌, inl, inr, ℕ, zero, suc, ◌<◌, List, [], ◌∷◌, ◌++◌, Option, Some, None, length, refl, sym, ◌∙◌, ap, subst, arith}
-use Rattle.std.specs.Prelude.{Bool, true, false, ◌||◌, if◌then◌else◌, nat_eq, replicate, slice_index_or, slice_set}
-use Rattle.std.specs.List.{AllByRecursion}
+use Rattle.std.specs.Prelude.{Bool, true, false, ◌||◌, if◌then◌else◌, nat_eq, slice_index_or, slice_set}
 use Rattle.std.proofs.lemmas.List.{get_or-set_same, get_or-set_other}
 use Rattle.std.proofs.lemmas.Bool.Decides.{eqb_tells}
 use Rattle.pc_word.specs.declared.item.Item.{Item}
@@ -11,19 +10,16 @@ use Rattle.pc_word.specs.declared.item.Operand.TheVariants.{Name, Lit}
 use Rattle.pc_word.proofs.Truth.{or_false}
 use Rattle.pc_window.specs.declared.home.Home.{Home}
 use Rattle.pc_window.specs.Tree.{Tree, Pending, Undecided, Exit, Stop_exit, Trap_exit}
-use Rattle.pc_window.specs.Opening.{TreeBelow}
-use Rattle.pc_window.specs.Names.{parameters_of}
 use Rattle.pc_window.specs.Rebasing.{is_in}
 use Rattle.pc_window.proofs.Grafts.{nat_eq-same}
 use Rattle.pc_rebase.specs.models.Listing.{and_name}
-use Rattle.pc_rebase.proofs.Listed.{in_more, parameters-below}
+use Rattle.pc_rebase.proofs.Listed.{in_more}
 use Rattle.pc_rebase.proofs.Walked.{dest_below, item_defines, item_defines_none, sides_define}
 use Rattle.pc_canon.specs.Canonical.{place_of, placed, placed_homes}
 use Rattle.pc_canon.proofs.Membership.{has, has_is}
 use Rattle.pc_renumber.specs.Renumbering.{renumbered_item, renumbered_tree}
 use Rattle.pc_renumber.specs.models.Numbering.{or_zero, number_in, place_if, AreNumbers}
 use Rattle.pc_renumber.proofs.NamesOfTrees.{OfOperand, OfItem, OfHomes, OfTree}
-use Rattle.pc_renumber.proofs.Listing.{all_put}
 
 -- ---- one name more
 
@@ -114,10 +110,6 @@ none_more numbers are = record { tells = λ x. by numbers x (are.tells x) }
 
 pub ruleset nothing = (nothing_numbered, none_more)
 
--- parameters are below a number where a tree's names are
-pub parameters_below : (n : ℕ) (tree : Tree) (parameters : List ℕ) → parameters ≡ parameters_of tree → TreeBelow n tree → AllByRecursion (λ (x : ℕ). x < n) parameters
-parameters_below n tree parameters is below = subst (AllByRecursion (λ (x : ℕ). x < n)) (sym is) (parameters-below n tree below)
-
 -- ---- a tree by the numbers of its names
 
 module _ (f g : ℕ → ℕ) (P : ℕ → Type 0) (same : (x : ℕ) → P x → f x ≡ g x) where
@@ -151,5 +143,3 @@ pub by_places : (numbers : List (Option ℕ)) (names : List ℕ) → AreNumbers 
 by_places numbers names are tree there =
     same_tree (number_in numbers) (place_of names) (λ x. is_in x names ≡ true)
     (λ x h. ap or_zero (are.tells x ∙ ap (λ (b : Bool). if b then Some (place_of names x) else None) h)) tree there
-
-pub ruleset listing = (all_put, parameters_below)

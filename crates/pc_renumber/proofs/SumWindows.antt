@@ -1,6 +1,6 @@
 -- The windows that the tests make.
 use Rattle.std.proofs.Common.{◌≡◌, ℕ, ◌<◌, List, [], ◌∷◌, ◌++◌, length, refl, sym, subst, arith}
-use Rattle.std.specs.Prelude.{pos, nat_eq, None, true}
+use Rattle.std.specs.Prelude.{pos, nat_eq, true}
 use Rattle.std.specs.List.{AllByRecursion}
 use Rattle.pc_word.proofs.Lists.{all_both}
 use Rattle.pc_word.specs.declared.item.Item.TheVariants.{Bin, Print}
@@ -10,7 +10,7 @@ use Rattle.pc_linear.specs.Form.{Form}
 use Rattle.pc_linear.specs.Combine.{variable_form}
 use Rattle.pc_window.specs.declared.names.NameTable.{NameTable}
 use Rattle.pc_window.specs.declared.window.Window.{Window as StoredWindow}
-use Rattle.pc_window.specs.Tree.{Tree, Pending, Stop_exit, whole}
+use Rattle.pc_window.specs.Tree.{Tree, Pending, Stop_exit}
 use Rattle.pc_window.specs.Opening.{FormBelow, FormsBelow, TreeBelow}
 use Rattle.pc_window.specs.Steps.{IsProper, Positive}
 use Rattle.pc_window.specs.StoredWindow.{InNodes, tree_in, supply_in, window_in}

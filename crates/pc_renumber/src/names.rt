@@ -32,7 +32,7 @@ pub(crate) fn no_numbers(alloc: Global, count: usize) -> Result<Vec<Option<u32>>
 
 /// Lists the names of a tree and numbers them: these parameters first, and then the names that it
 /// defines, in preorder, each once.
-#[tactic(auto, using(crate::proofs::Numbers::listing))]
+#[tactic(auto, using(crate::proofs::Listing::all_put))]
 pub(crate) fn add_all(
     tree: &WindowTree,
     parameters: &[u32],
@@ -42,6 +42,7 @@ pub(crate) fn add_all(
     requires scoped { Scoped (uses (tree_in tree.now)) (tree_in tree.now) }
     requires parameters { parameters.now ≡ parameters_of (tree_in tree.now) }
     requires below { TreeBelow (length numbers.old) (tree_in tree.now) }
+    requires parameters_below { AllByRecursion (λ name. name < length numbers.old) parameters.now }
     requires empty { names.old ≡ [] }
     requires numbered { AreNumbers numbers.old names.old }
     ensures names { OnOk result (names.new ≡ all_names (tree_in tree.now)) }

@@ -3,7 +3,6 @@ use Rattle.std.specs.Prelude.{slice_get, slice_index}
 use Rattle.pc_linear.specs.declared.term.Term.{Term}
 use Rattle.pc_linear.specs.Form.{IsForm}
 use Rattle.pc_rebase.proofs.TermPlaces.{fewer_places}
-use Rattle.pc_renumber.specs.Renumbering.{renumbered_term}
 use Rattle.pc_renumber.specs.models.Numbering.{with_terms}
 use Rattle.pc_renumber.proofs.Marks.{term_below, terms_below}
 use Rattle.pc_renumber.proofs.NewForms.{first_form, others_form, more_terms}

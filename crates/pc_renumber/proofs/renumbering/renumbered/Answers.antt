@@ -1,8 +1,10 @@
-use Rattle.std.proofs.Common.{rules, ◌≡◌, sym, subst, ℕ, length, map}
+use Rattle.std.proofs.Common.{rules, ◌≡◌, ◌<◌, sym, subst, ℕ, length, map}
 use Rattle.std.specs.Prelude.{true}
+use Rattle.std.specs.List.{AllByRecursion}
 use Rattle.pc_window.specs.Opening.{TreeBelow}
 use Rattle.pc_window.specs.Rebasing.{all_names}
 use Rattle.pc_window.specs.StoredWindow.{tree_in, forms_in, supply_in, InNodes}
+use Rattle.pc_rebase.proofs.Listed.{parameters-below}
 use Rattle.pc_renumber.specs.Renumbering.{renumbered_tree, renumbered_supply}
 use Rattle.pc_renumber.specs.models.Numbering.{number_in, AreNumbers}
 use Rattle.pc_renumber.proofs.RenumberedWindows.{names_below, scoped, is_renumbered}
@@ -15,6 +17,13 @@ pub add_all-requires-clause-below : goal.add_all-requires-clause-below
 add_all-requires-clause-below c =
     let window = c.args.window in
     subst (λ (n : ℕ). TreeBelow n (tree_in window.tree)) (sym c.requires.many) (names_below window.tree window.names window.limits window.inside c.requires.proper)
+
+pub add_all-requires-clause-parameters_below : goal.add_all-requires-clause-parameters_below
+add_all-requires-clause-parameters_below c =
+    let window = c.args.window in
+    let below = names_below window.tree window.names window.limits window.inside c.requires.proper in
+    subst (λ (n : ℕ). AllByRecursion (λ (x : ℕ). x < n) c.args.parameters.now) (sym c.requires.many)
+    (subst (AllByRecursion (λ (x : ℕ). x < length window.names.forms)) (sym c.requires.parameters) (parameters-below (length window.names.forms) (tree_in window.tree) below))
 
 pub returns-clause-renumbers : goal.returns-clause-renumbers
 returns-clause-renumbers c =
