@@ -50,7 +50,7 @@ module _ (ts : List Term) (at : ℕ) where
   terms_still_below marks t is below =
       subst (λ (n : ℕ). TermsBelow n (drop (at + 1) ts)) (sym (set_length marks t.variable true)) (terms_below (length marks) t is below)
 
-pub ruleset terms = (no_marks, term_marked, term_below, terms_still_below, few_places, fewer_places)
+pub ruleset terms = (no_marks, term_marked, terms_still_below, few_places, fewer_places)
 
 -- ---- as many marks as before
 
@@ -168,8 +168,3 @@ new_numbers_are forms variables marks counts is counted = record {
         ap (λ (list : List Bool). marked list y) is
         ∙ forms_marked y forms (replicate variables false) (subst (λ (n : ℕ). y < n) (sym (length-replicate variables false)) lt)
         ∙ ap (λ (b : Bool). stands_in_any forms y || b) (unmarked variables y) ∙ or_none (stands_in_any forms y)
-
-pub few_marks : (forms : List Form) (variables : ℕ) (marks : List Bool) → marks ≡ and_forms forms (replicate variables false) → length marks ≡ variables
-few_marks forms variables marks is = ap length is ∙ forms_length forms (replicate variables false) ∙ length-replicate variables false
-
-pub ruleset new_numbers = (new_numbers_are, all_below, few_marks)

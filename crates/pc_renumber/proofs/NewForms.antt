@@ -22,7 +22,7 @@ use Rattle.pc_window.proofs.Grafts.{nat_eq-same}
 use Rattle.pc_rebase.proofs.TermPlaces.{few_places, fewer_places}
 use Rattle.pc_renumber.specs.Renumbering.{stands_in, stands_in_any, renumbered_term, renumbered_terms, renumbered_form, new_variable, renumbered_supply}
 use Rattle.pc_renumber.specs.models.Numbering.{AreNew, Rise, plus_factor, plus_term, with_terms}
-use Rattle.pc_renumber.proofs.Marks.{none_left, one_from, term_below, terms_below}
+use Rattle.pc_renumber.proofs.Marks.{none_left, one_from}
 use Rattle.pc_renumber.proofs.NewVariables.{Among, rises, each_stands}
 
 -- ---- a term more
@@ -109,8 +109,6 @@ module _ (sum : Form) (t : Term) (form : IsForm (with_terms sum (t ∷ []))) whe
       some_same : {f g : Form} → Some f ≡ Some g → f ≡ g
       some_same e = cc
 
-pub ruleset term = (there_is, it_is)
-
 -- ---- all terms
 
 -- the first terms of a form are a form
@@ -157,7 +155,7 @@ module _ (n : ℕ → ℕ) (sum : Form) (ts : List Term) (at : ℕ) where
         → result ≡ with_terms sum (renumbered_terms n (drop at ts))
     more_terms next result first later = later ∙ ap (λ (f : Form). with_terms f (renumbered_terms n (drop (at + 1) ts))) first ∙ one_then_others
 
-pub ruleset terms = (no_more_terms, first_form, others_form, more_terms, term_below, terms_below, few_places, fewer_places)
+pub ruleset terms = (no_more_terms, few_places)
 
 -- ---- a whole form
 
@@ -187,8 +185,6 @@ module _ (numbers : List ℕ) where
     normal = record { rising = rising_new f.terms form.normal.rising rise; factors = same_factors f.terms form.normal.factors; constant = form.normal.constant };
     few = let many = length-map f.terms (renumbered_term (slice_index numbers)) in let few = form.few in omega (arith, many, few);
   })
-
-pub ruleset one = (new_form)
 
 -- ---- tables of names
 
@@ -249,5 +245,3 @@ module _ (numbers : List ℕ) (forms : List Form) (variables : ℕ) (new : AreNe
     next = (ap length forms_are ∙ length-map forms (renumbered_form (slice_index numbers))) i;
     next_variable = (next ∙ new.tells variables (omega arith)) i;
   }
-
-pub ruleset tables = (listed_below)

@@ -92,7 +92,7 @@ module _ (numbers : List (Option ℕ)) (names : List ℕ) (name : ℕ) (are : Ar
 
 pub ruleset numbering = (no_more, one_more, one_numbered)
 
-pub ruleset definitions = (item_defines, item_defines_none, sides_define, dest_below)
+pub ruleset definitions = (item_defines, item_defines_none, dest_below)
 
 -- ---- no names
 

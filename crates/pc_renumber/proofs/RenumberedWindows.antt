@@ -1,7 +1,6 @@
 -- Windows in memory, renumbered.
 use Rattle.std.proofs.Common.{◌≡◌, ℕ, ◌≤◌, List, Option, length, map, refl, sym, ◌∙◌, ap, subst}
 use Rattle.std.specs.Prelude.{true}
-use Rattle.pc_word.specs.declared.item.Limits.{Limits}
 use Rattle.pc_window.specs.declared.tree.WindowTree.{WindowTree}
 use Rattle.pc_window.specs.declared.names.NameTable.{NameTable}
 use Rattle.pc_window.specs.declared.window.Window.{Window as StoredWindow}
@@ -20,35 +19,38 @@ use Rattle.pc_renumber.proofs.Listing.{names_there}
 use Rattle.pc_renumber.proofs.Numbers.{by_places}
 use Rattle.pc_renumber.proofs.Renumbered.{IsSingle, renumbered_proper, renumbered_size, renumbered_names, renumbered_variables}
 
--- a window in memory, by its parts
-abbrev pub with_parts : WindowTree → NameTable → Limits → Option ℕ → StoredWindow
-with_parts tree names limits inside = record { tree = tree; names = names; limits = limits; inside = inside }
+-- ---- what a proper window in memory keeps
 
-module _ (tree : WindowTree) (names : NameTable) (limits : Limits) (inside : Option ℕ) (proper : IsProper (window_in (with_parts tree names limits inside))) where
-  pub names_below : TreeBelow (length names.forms) (tree_in tree)
-  names_below = subst (λ (t : Tree). TreeBelow (length names.forms) t) (whole_in tree) proper.names_below
+module _ (w : StoredWindow) (proper : IsProper (window_in w)) where
+  pub names_below : TreeBelow (length w.names.forms) (tree_in w.tree)
+  names_below = subst (TreeBelow (length w.names.forms)) (whole_in w.tree) proper.names_below
 
-  pub forms_below : FormsBelow (supply_in names)
+  pub forms_below : FormsBelow (supply_in w.names)
   forms_below = record { form = proper.forms_below.form }
 
-  pub scoped : Scoped (uses (tree_in tree)) (tree_in tree)
-  scoped = subst (λ (t : Tree). Scoped (uses t) t) (whole_in tree) proper.window.scoped
+  pub scoped : Scoped (uses (tree_in w.tree)) (tree_in w.tree)
+  scoped = subst (λ (t : Tree). Scoped (uses t) t) (whole_in w.tree) proper.window.scoped
 
-  pub is_renumbered : (later : WindowTree) (new : NameTable) (all : List ℕ) (numbers : List (Option ℕ)) → all ≡ all_names (tree_in tree) → AreNumbers numbers all
-      → supply_in new ≡ renumbered_supply (map (forms_in names.forms) all) names.next_variable → tree_in later ≡ renumbered_tree (number_in numbers) (tree_in tree)
-      → InNodes true later → Renumbers (window_in (with_parts tree names limits inside)) (window_in (with_parts later new limits inside))
+  -- a tree and names that are renumbered are a window renumbered
+  pub is_renumbered : (tree : WindowTree) (names : NameTable) (all : List ℕ) (numbers : List (Option ℕ)) → all ≡ all_names (tree_in w.tree)
+      → AreNumbers numbers all → supply_in names ≡ renumbered_supply (map (forms_in w.names.forms) all) w.names.next_variable
+      → tree_in tree ≡ renumbered_tree (number_in numbers) (tree_in w.tree) → InNodes true tree
+      → Renumbers (window_in w) (window_in (record { tree = tree; names = names; limits = w.limits; inside = w.inside }))
   unfolding renumbered
-  is_renumbered later new all numbers all_are are table tree_is single =
-      single_window later new limits inside (record {
-        tree = renumbered_tree (place_of (all_names (whole (front_in tree)))) (whole (front_in tree));
-        names = renumbered_supply (map (forms_in names.forms) (all_names (whole (front_in tree)))) names.next_variable;
+  is_renumbered tree names all numbers all_are are table tree_is nodes =
+      single_window tree names w.limits w.inside (record {
+        tree = renumbered_tree (place_of (all_names (whole (front_in w.tree)))) (whole (front_in w.tree));
+        names = renumbered_supply (map (forms_in w.names.forms) (all_names (whole (front_in w.tree)))) w.names.next_variable;
       }) (λ i. record {
-        tree = (tree_is ∙ places ∙ ap (λ (t : Tree). renumbered_tree (place_of (all_names t)) t) (sym (whole_in tree))) i;
-        names = (table ∙ ap (λ (xs : List ℕ). renumbered_supply (map (forms_in names.forms) xs) names.next_variable) (all_are ∙ ap all_names (sym (whole_in tree)))) i;
-      }) single
+        tree = (tree_is ∙ places ∙ ap (λ (t : Tree). renumbered_tree (place_of (all_names t)) t) (sym (whole_in w.tree))) i;
+        names = (table ∙ ap (λ (xs : List ℕ). renumbered_supply (map (forms_in w.names.forms) xs) w.names.next_variable)
+            (all_are ∙ ap all_names (sym (whole_in w.tree)))) i;
+      }) nodes
     where
-      places : renumbered_tree (number_in numbers) (tree_in tree) ≡ renumbered_tree (place_of (all_names (tree_in tree))) (tree_in tree)
-      places = by_places numbers (all_names (tree_in tree)) (subst (AreNumbers numbers) all_are are) (tree_in tree) (names_there (tree_in tree) scoped)
+      places : renumbered_tree (number_in numbers) (tree_in w.tree) ≡ renumbered_tree (place_of (all_names (tree_in w.tree))) (tree_in w.tree)
+      places = by_places numbers (all_names (tree_in w.tree)) (subst (AreNumbers numbers) all_are are) (tree_in w.tree) (names_there (tree_in w.tree) scoped)
+
+-- ---- what a window keeps that is renumbered in memory
 
 -- a window whose items and tests are nodes of their own has its first item or test as its front
 single_in : (w : StoredWindow) → InNodes true w.tree → IsSingle (window_in w)
@@ -56,7 +58,6 @@ single_in w nodes =
     let it : Grafted = record { tree = tree_in w.tree; names = supply_in w.names } in
     ap (λ (u : Window). u.front) (single_window w.tree w.names w.limits w.inside it refl nodes) ∙ ap front_of (sym (whole_in w.tree))
 
--- what a window keeps that is renumbered in memory
 module _ (w v : StoredWindow) (is : Renumbers (window_in w) (window_in v)) (proper : IsProper (window_in w)) where
   pub stays_proper : InNodes true w.tree → IsProper (window_in v)
   stays_proper nodes = subst IsProper (sym is) (renumbered_proper (window_in w) proper (single_in w nodes))
@@ -73,4 +74,6 @@ module _ (w v : StoredWindow) (is : Renumbers (window_in w) (window_in v)) (prop
       ap tree_size (sym (whole_in v.tree)) ∙ ap (λ (u : Window). tree_size (whole u.front)) is ∙ renumbered_size (window_in w)
       ∙ ap tree_size (whole_in w.tree)
 
-pub ruleset windows = (forms_below, fewer_names, fewer_variables, as_large)
+pub ruleset parts = (names_below, forms_below, scoped)
+
+pub ruleset windows = (names_below, fewer_names, fewer_variables, as_large)

@@ -15,7 +15,7 @@ use Rattle.pc_window.specs.Opening.{FormBelow, FormsBelow, TreeBelow}
 use Rattle.pc_window.specs.Steps.{IsProper, Positive}
 use Rattle.pc_window.specs.StoredWindow.{InNodes, tree_in, supply_in, window_in}
 use Rattle.pc_window.proofs.Proper.{becomes_proper}
-use Rattle.pc_window.proofs.WindowsStored.{single_window, whole_in}
+use Rattle.pc_window.proofs.WindowsStored.{single_window}
 use Rattle.pc_renumber.proofs.Renumbered.{forms_listed}
 
 pub one_more_form : (m variable : ℕ) (forms : List Form) → variable < m → AllByRecursion (FormBelow m) forms
@@ -40,13 +40,3 @@ sum_proper w tree nodes below count limits =
     (subst (λ (n : ℕ). TreeBelow n sum_tree) (sym count) ((omega arith, omega arith, tt), (omega arith, tt))) below
     (subst Positive (sym limits) (record { ops = omega arith; tests = omega arith; mem = omega arith }))
     ((refl, (tt, tt)), refl, ((refl, tt), tt, tt)))
-
-pub ruleset windows = (sum_proper)
-
-pub tree_below : (w : StoredWindow) → IsProper (window_in w) → TreeBelow (length w.names.forms) (tree_in w.tree)
-tree_below w proper = subst (λ (t : Tree). TreeBelow (length w.names.forms) t) (whole_in w.tree) proper.names_below
-
-pub forms_below : (w : StoredWindow) → IsProper (window_in w) → FormsBelow (supply_in w.names)
-forms_below w proper = record { form = proper.forms_below.form }
-
-pub ruleset keys = (tree_below, forms_below)

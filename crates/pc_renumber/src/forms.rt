@@ -14,7 +14,7 @@ use pc_word::{OpCode, Operand};
 use std::alloc::{AllocError, Global};
 
 /// The table in which these names are the first ones, with their forms in new variables.
-#[tactic(auto, using(crate::proofs::NewForms::tables))]
+#[tactic(auto, using(crate::proofs::NewForms::listed_below))]
 pub(crate) fn renumbered_table(
     alloc: Global,
     table: &NameTable,
@@ -75,7 +75,6 @@ fn renumbered_forms(
 }
 
 /// A form with the new variables.
-#[tactic(auto, using(crate::proofs::NewForms::one))]
 fn renumbered_form(form: &LinForm, numbers: &[u32]) -> LinForm
     requires { Rise numbers.now form.now.terms }
     ensures { result ≡ renumbered_form (slice_index numbers.now) form.now }
@@ -113,7 +112,7 @@ fn renumbered_term(term: Term, numbers: &[u32]) -> Term
 }
 
 /// A sum with one term more.
-#[tactic(auto, using(crate::proofs::NewForms::term))]
+#[tactic(auto, using(crate::proofs::NewForms::there_is))]
 fn with_term(sum: &LinForm, term: Term) -> LinForm
     requires { IsForm (with_terms sum.now (term ∷ [])) }
     ensures { result ≡ with_terms sum.now (term ∷ []) }

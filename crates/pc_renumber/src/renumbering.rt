@@ -40,7 +40,7 @@ pub fn renumber(alloc: Global, window: Window) -> Result<Window, WindowError>
 }
 
 /// A window with these parameters renumbered, by a table in which no name has a number yet.
-#[tactic(auto, using(crate::proofs::RenumberedWindows::windows))]
+#[tactic(auto, using(crate::proofs::RenumberedWindows::parts))]
 fn renumbered(
     alloc: Global,
     window: Window,

@@ -29,7 +29,7 @@ fn eight_names(alloc: Global) -> Result<NameTable, AllocError>
 }
 
 /// `v7 = v5 + 1; print(v7);`, where the front is the sum.
-#[tactic(auto, using(crate::proofs::SumWindows::windows))]
+#[tactic(auto, using(crate::proofs::SumWindows::sum_proper))]
 fn sum_window(alloc: Global) -> Result<Window, AllocError>
     ensures proper { IfOk result (λ window. IsProper (window_in window)) }
     ensures nodes { IfOk result (λ window. InNodes true window.tree) }
@@ -71,7 +71,7 @@ fn sum_window(alloc: Global) -> Result<Window, AllocError>
 }
 
 /// The key of a proper window.
-#[tactic(auto, using(crate::proofs::SumWindows::keys))]
+#[tactic(auto, using(crate::proofs::RenumberedWindows::parts))]
 fn key_of(alloc: Global, window: &Window) -> Result<WindowKey, WindowError>
     requires proper { IsProper (window_in window.now) }
     requires few { length window.now.names.forms < 2 ^ 31 }

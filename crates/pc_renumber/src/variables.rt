@@ -10,7 +10,7 @@ use std::alloc::{AllocError, Global};
 
 /// The new number of each form variable, in a list by variable, and at its end how many there are: a
 /// variable comes behind the smaller ones that stand in these forms.
-#[tactic(auto, using(crate::proofs::Marks::new_numbers))]
+#[tactic(auto, using(crate::proofs::Marks::all_below))]
 pub(crate) fn new_variables(
     alloc: Global,
     forms: &[LinForm],

@@ -9,7 +9,7 @@ pub parameters_of-requires : goal.parameters_of-requires
 parameters_of-requires c =
     let window = c.args.window in
     let many : c.len-count.result ≡ length window.names.forms = search rules in
-    subst (λ (n : ℕ). TreeBelow n (tree_in window.tree)) (sym many) (names_below window.tree window.names window.limits window.inside c.requires.proper)
+    subst (λ (n : ℕ). TreeBelow n (tree_in window.tree)) (sym many) (names_below window c.requires.proper)
 
 pub returns-clause-proper : goal.returns-clause-proper
 returns-clause-proper c =

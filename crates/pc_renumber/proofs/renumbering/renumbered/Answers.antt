@@ -7,21 +7,18 @@ use Rattle.pc_window.specs.StoredWindow.{tree_in, forms_in, supply_in, InNodes}
 use Rattle.pc_rebase.proofs.Listed.{parameters-below}
 use Rattle.pc_renumber.specs.Renumbering.{renumbered_tree, renumbered_supply}
 use Rattle.pc_renumber.specs.models.Numbering.{number_in, AreNumbers}
-use Rattle.pc_renumber.proofs.RenumberedWindows.{names_below, scoped, is_renumbered}
+use Rattle.pc_renumber.proofs.RenumberedWindows.{names_below, is_renumbered}
 use Rattle.pc_renumber.proofs.renumbering.renumbered.Goals as goal
-
-pub add_all-requires-clause-scoped : goal.add_all-requires-clause-scoped
-add_all-requires-clause-scoped c = let window = c.args.window in scoped window.tree window.names window.limits window.inside c.requires.proper
 
 pub add_all-requires-clause-below : goal.add_all-requires-clause-below
 add_all-requires-clause-below c =
     let window = c.args.window in
-    subst (λ (n : ℕ). TreeBelow n (tree_in window.tree)) (sym c.requires.many) (names_below window.tree window.names window.limits window.inside c.requires.proper)
+    subst (λ (n : ℕ). TreeBelow n (tree_in window.tree)) (sym c.requires.many) (names_below window c.requires.proper)
 
 pub add_all-requires-clause-parameters_below : goal.add_all-requires-clause-parameters_below
 add_all-requires-clause-parameters_below c =
     let window = c.args.window in
-    let below = names_below window.tree window.names window.limits window.inside c.requires.proper in
+    let below = names_below window c.requires.proper in
     subst (λ (n : ℕ). AllByRecursion (λ (x : ℕ). x < n) c.args.parameters.now) (sym c.requires.many)
     (subst (AllByRecursion (λ (x : ℕ). x < length window.names.forms)) (sym c.requires.parameters) (parameters-below (length window.names.forms) (tree_in window.tree) below))
 
@@ -36,5 +33,5 @@ returns-clause-renumbers c =
     let table : supply_in c.in_ok-names.names ≡ renumbered_supply (map (forms_in window.names.forms) all) window.names.next_variable = search rules in
     let tree : tree_in c.renumber_tree.new.tree ≡ renumbered_tree (number_in numbers) (tree_in window.tree) = search rules in
     let single : InNodes true c.renumber_tree.new.tree = search rules in
-    is_renumbered window.tree window.names window.limits window.inside c.requires.proper c.renumber_tree.new.tree c.in_ok-names.names all numbers
+    is_renumbered window c.requires.proper c.renumber_tree.new.tree c.in_ok-names.names all numbers
     all_are are table tree single
