@@ -72,9 +72,14 @@ module _ (among : ℕ → Bool) where
 
   -- ---- each variable with its new number
 
+  -- pairs, and in front of them a number with its new number, if it is among them
+  abbrev pair_if : Bool → ℕ → List Pair → List Pair
+  pair_if b n pairs = if b then (record { one = n; other = how_many_below among n }) ∷ pairs else pairs
+
+  -- those below a number, the last in front
   abbrev pub variable_pairs : ℕ → List Pair
   variable_pairs zero = []
-  variable_pairs (suc n) = if among n then (record { one = n; other = how_many_below among n }) ∷ variable_pairs n else variable_pairs n
+  variable_pairs (suc n) = pair_if (among n) n (variable_pairs n)
 
   ones_below : (n x : ℕ) → n ≤ x → has (ones (variable_pairs n)) x ≡ false
   ones_below zero x h = refl
@@ -84,7 +89,7 @@ module _ (among : ℕ → Bool) where
       other = grind (arith, h)
 
       by : (b : Bool) → has (ones (variable_pairs n)) x ≡ false
-          → has (ones (if b then (record { one = n; other = how_many_below among n }) ∷ variable_pairs n else variable_pairs n)) x ≡ false
+          → has (ones (pair_if b n (variable_pairs n))) x ≡ false
       by true k = or_made_false (nat_eq n x) (has (ones (variable_pairs n)) x) other k
       by false k = k
 
@@ -96,7 +101,7 @@ module _ (among : ℕ → Bool) where
       other m h = grind (arith, h)
 
       by : (b : Bool) → (if b then 1 else 0) + how_many_below among n ≤ z → (how_many_below among n ≤ z → has (others (variable_pairs n)) z ≡ false)
-          → has (others (if b then (record { one = n; other = how_many_below among n }) ∷ variable_pairs n else variable_pairs n)) z ≡ false
+          → has (others (pair_if b n (variable_pairs n))) z ≡ false
       by true h k = or_made_false (nat_eq (how_many_below among n) z) (has (others (variable_pairs n)) z) (other (how_many_below among n) (omega (arith, h))) (k (omega (arith, h)))
       by false h k = k (omega (arith, h))
 
@@ -105,7 +110,7 @@ module _ (among : ℕ → Bool) where
   ones_distinct (suc n) = by (among n) (ones_distinct n)
     where
       by : (b : Bool) → Distinct (ones (variable_pairs n))
-          → Distinct (ones (if b then (record { one = n; other = how_many_below among n }) ∷ variable_pairs n else variable_pairs n))
+          → Distinct (ones (pair_if b n (variable_pairs n)))
       by true k = (ones_below n n (omega arith), k)
       by false k = k
 
@@ -114,7 +119,7 @@ module _ (among : ℕ → Bool) where
   others_distinct (suc n) = by (among n) (others_distinct n)
     where
       by : (b : Bool) → Distinct (others (variable_pairs n))
-          → Distinct (others (if b then (record { one = n; other = how_many_below among n }) ∷ variable_pairs n else variable_pairs n))
+          → Distinct (others (pair_if b n (variable_pairs n)))
       by true k = (others_below n (how_many_below among n) (omega arith), k)
       by false k = k
 
@@ -133,16 +138,16 @@ module _ (among : ℕ → Bool) where
         here : x ≡ n → (has (ones (variable_pairs (suc n))) x ≡ true) × (has (others (variable_pairs (suc n))) (how_many_below among x) ≡ true)
         here same =
             subst (λ (b : Bool).
-            (has (ones (if b then (record { one = n; other = how_many_below among n }) ∷ variable_pairs n else variable_pairs n)) x ≡ true)
-            × (has (others (if b then (record { one = n; other = how_many_below among n }) ∷ variable_pairs n else variable_pairs n)) (how_many_below among x) ≡ true))
+            (has (ones (pair_if b n (variable_pairs n))) x ≡ true)
+            × (has (others (pair_if b n (variable_pairs n))) (how_many_below among x) ≡ true))
             (sym (ap among (sym same) ∙ is)) (
               or_first (nat_eq n x) _ (eq-eqb n x (sym same)),
               or_first (nat_eq (how_many_below among n) (how_many_below among x)) _ (eq-eqb _ _ (ap (how_many_below among) (sym same))),
             )
 
         there : (b : Bool) → (has (ones (variable_pairs n)) x ≡ true) × (has (others (variable_pairs n)) (how_many_below among x) ≡ true)
-            → (has (ones (if b then (record { one = n; other = how_many_below among n }) ∷ variable_pairs n else variable_pairs n)) x ≡ true)
-            × (has (others (if b then (record { one = n; other = how_many_below among n }) ∷ variable_pairs n else variable_pairs n)) (how_many_below among x) ≡ true)
+            → (has (ones (pair_if b n (variable_pairs n))) x ≡ true)
+            × (has (others (pair_if b n (variable_pairs n))) (how_many_below among x) ≡ true)
         there true h = (or_second (nat_eq n x) _ h.0, or_second (nat_eq (how_many_below among n) (how_many_below among x)) _ h.1)
         there false h = h
 
@@ -159,7 +164,7 @@ module _ (among : ℕ → Bool) where
   each_factor ts h (suc n) = by (among n) refl (each_factor ts h n)
     where
       by : (b : Bool) → among n ≡ b → EachPair (variable_pairs n) (λ x y. factor_of ts x ≡ factor_of (renumbered_terms (how_many_below among) ts) y)
-          → EachPair (if b then (record { one = n; other = how_many_below among n }) ∷ variable_pairs n else variable_pairs n)
+          → EachPair (pair_if b n (variable_pairs n))
           (λ x y. factor_of ts x ≡ factor_of (renumbered_terms (how_many_below among) ts) y)
       by true is k = (factor_same n is ts h, k)
       by false is k = k
