@@ -1,1 +1,12 @@
+pub mod NamesOfTrees
+pub mod Listing
+pub mod Places
+pub mod NewVariables
+pub mod AlikeTrees
 pub mod Renumbered
+pub mod Numbers
+pub mod Homes
+pub mod Marks
+pub mod NewForms
+pub mod RenumberedWindows
+pub mod SumWindows

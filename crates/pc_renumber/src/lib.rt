@@ -1,6 +1,12 @@
 //! Windows whose names and form variables are numbered anew, without gaps.
 #![tactic(auto)]
 
+mod forms;
+mod names;
 mod renumbering;
+#[cfg(test)]
+mod tests;
+mod trees;
+mod variables;
 
 pub use renumbering::renumber;

@@ -1,0 +1,2 @@
+-- Models of private code.
+pub mod Numbering
