@@ -11,15 +11,12 @@ use Rattle.pc_canon.specs.Key.{key_of}
 use Rattle.pc_canon.proofs.Keys.{keys_tell}
 use Rattle.pc_pattern.specs.Searches.{Rules, IsNoMember, Looks, looks_new, looks_known, looks_bare, looks_out, looks_end, looks_trap}
 use Rattle.pc_pattern.specs.Searches.{Search, begins, takes, looks, AreDifferent}
+use Rattle.pc_pattern.specs.models.Pools.{IsNowhere}
 use Rattle.pc_pattern.proofs.Brought.{member_shifted}
 use Rattle.pc_pattern.proofs.Keeping.{brings_on_keeps}
 use Rattle.pc_pattern.proofs.Members.{members_proper}
 
 -- ---- lists
-
--- what stands at no number of a list
-abbrev pub IsNowhere : {A : Type 0} → List A → A → Type 0
-IsNowhere {A} xs x = (i : ℕ) → slice_get xs i ≡ Some x → ⊥
 
 -- a number at which an element stands behind others is one of these, or the last
 pub last_or_before : {A : Type 0} (xs : List A) (x y : A) (i : ℕ) → slice_get (xs ++ (x ∷ [])) i ≡ Some y

@@ -16,3 +16,12 @@ pub mod FirstRows
 pub mod NamedThere
 pub mod Patterns
 pub mod Traps
+pub mod Placed
+pub mod Pools
+pub mod LedRows
+pub mod Looking
+pub mod Sizes
+pub mod Progress
+pub mod Steps
+pub mod States
+pub mod Turns

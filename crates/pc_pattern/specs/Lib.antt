@@ -1,3 +1,4 @@
+pub mod models
 pub mod NamedRow
 pub mod Searches
 pub mod Pattern

@@ -4,6 +4,9 @@
 
 mod error;
 mod laws;
+mod leading;
+mod pool;
+mod renaming;
 mod searching;
 
 pub use error::{KeyList, SearchError};

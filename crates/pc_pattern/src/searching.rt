@@ -1,17 +1,34 @@
 //! The search for the packed code of a region.
-ghost use Rattle.std.specs.Prelude.{◌<◌, ◌≤◌, length, IfOk, IfErr};
+ghost use Rattle.std.specs.Prelude.{◌≡◌, ◌+◌, ◌<◌, ◌≤◌, ◌^◌, ◌++◌, ◌∷◌, [], length, IfOk, IfErr, OnOk};
+ghost use Rattle.std.specs.List.{AllByRecursion};
+ghost use Rattle.pc_word.specs.MachineLimits.{most_rows};
 ghost use Rattle.pc_word.specs.SourceLimits.{most_nodes};
 ghost use Rattle.pc_word.specs.Ranges.{AreLimits, IsExtent};
 ghost use Rattle.pc_table.specs.Table.{table_of};
 ghost use Rattle.pc_table.specs.TableKeeps.{TableKeeps};
-ghost use Rattle.pc_automaton.specs.Automaton.{states_in};
-ghost use Rattle.pc_pattern.specs.Pattern.{rules_for, IsFound, IsNotFound};
+ghost use Rattle.pc_window.specs.Tree.{tree_size};
+ghost use Rattle.pc_window.specs.Unwinding.{most_unwound};
+ghost use Rattle.pc_window.specs.Steps.{IsProper};
+ghost use Rattle.pc_window.specs.StoredWindow.{tree_in, window_in};
+ghost use Rattle.pc_automaton.specs.Automaton.{state_in, states_in};
+ghost use Rattle.pc_pattern.specs.Searches.{IsPattern};
+ghost use Rattle.pc_pattern.specs.Pattern.{rules_for, EachIsLedTo, IsFound, IsNotFound};
+ghost use Rattle.pc_pattern.specs.models.Pools.{pool_in, IsSmall, IsSettled};
+ghost use Rattle.pc_pattern.specs.models.Leading.{rules_within, Made, Unmade, IsFirst};
 
 use crate::error::SearchError;
-use pc_automaton::Automaton;
+use crate::leading::{Bounds, led};
+use crate::pool::{Pool, begun};
+use crate::renaming::Renaming;
+use pc_automaton::{Automaton, AutomatonState, StateList, cut_front};
+use pc_fill::fill;
+use pc_rebase::parameters_of;
 use pc_table::RegionTable;
+use pc_unify::tidy;
+use pc_unwind::unwind;
+use pc_window::{Window, WindowError};
 use pc_word::{Extent, Limits};
-use std::alloc::Global;
+use std::alloc::{AllocError, Global};
 
 /// Searches for the packed code of a region, within these limits for each row.
 ///
@@ -35,5 +52,105 @@ pub fn search(
     ensures found { IfOk result (λ automaton. IsFound (rules_for (table_of table.now) limits extent.window) region extent.rows (states_in automaton)) }
     ensures not_found { IfErr result (λ error. IsNotFound (rules_for (table_of table.now) limits extent.window) region extent.rows error) }
 {
-    Err(SearchError::Memory)
+    let states = closed(alloc, table, region, Bounds { limits, extent })?;
+    match Automaton::new(states) {
+        Ok(automaton) => Ok(automaton),
+        Err(_) => unreachable!(),
+    }
+}
+
+/// The states of the closed members.
+fn closed(
+    alloc: Global,
+    table: &RegionTable,
+    region: u32,
+    bounds: Bounds,
+) -> Result<StateList, SearchError>
+    requires kept { TableKeeps (table_of table.now) }
+    requires few { length table.now.regions ≤ most_nodes }
+    requires there { region < length table.now.regions }
+    requires limits { AreLimits bounds.limits }
+    requires extent { IsExtent bounds.extent }
+    ensures pattern { IfOk result (λ states. IsPattern (rules_within (table_of table.now) bounds) region bounds.extent.rows (states_in states)) }
+    ensures led { IfOk result (λ states. EachIsLedTo (states_in states)) }
+    ensures not_found { IfErr result (λ error. IsNotFound (rules_within (table_of table.now) bounds) region bounds.extent.rows error) }
+{
+    let first = first(alloc, table, region, bounds)?;
+    let mut pool = begun(alloc, first)?;
+    let mut states = StateList::new(alloc);
+    while let Some(window) = pool.next_waiting() {
+        let state = state(alloc, table, window, &mut pool, bounds)?;
+        put_state(state, &mut states)?;
+    }
+    Ok(states)
+}
+
+/// The region's window, unwound and tidied.
+#[tactic(auto, using(crate::proofs::Steps::steps))]
+fn first(
+    alloc: Global,
+    table: &RegionTable,
+    region: u32,
+    bounds: Bounds,
+) -> Result<Window, WindowError>
+    requires kept { TableKeeps (table_of table.now) }
+    requires few { length table.now.regions ≤ most_nodes }
+    requires there { region < length table.now.regions }
+    requires limits { AreLimits bounds.limits }
+    ensures first { IfOk result (λ window. IsFirst (rules_within (table_of table.now) bounds) region (window_in window)) }
+    ensures settled { IfOk result IsSettled }
+    ensures proper { IfOk result (λ window. IsProper (window_in window)) }
+    ensures size { IfOk result (λ window. tree_size (tree_in window.tree) ≤ most_unwound) }
+    ensures names { IfOk result (λ window. length window.names.forms < 2 ^ 31) }
+{
+    let window = Window::of_region(alloc, table, region, bounds.limits)?;
+    let window = unwind(alloc, window, table, bounds.extent.window)?;
+    let window = tidy(alloc, window)?;
+    Ok(window)
+}
+
+/// Puts a state behind the others.
+fn put_state(state: AutomatonState, states: &mut StateList) -> Result<(), AllocError>
+    ensures { OnOk result (states_in states.new ≡ states_in states.old ++ state_in state ∷ []) }
+{
+    states.push(state)?;
+    Ok(())
+}
+
+/// The state of a member. What comes of its leaves waits behind the others.
+#[tactic(auto, using(crate::proofs::States::states))]
+fn state(
+    alloc: Global,
+    table: &RegionTable,
+    window: Window,
+    pool: &mut Pool,
+    bounds: Bounds,
+) -> Result<AutomatonState, SearchError>
+    requires kept { TableKeeps (table_of table.now) }
+    requires few { length table.now.regions ≤ most_nodes }
+    requires proper { IsProper (window_in window) }
+    requires settled { IsSettled window }
+    requires limits { AreLimits window.limits }
+    requires small { IsSmall (table_of table.now) most_rows (window_in window) }
+    requires room { length pool.old.keys.keys ≤ bounds.extent.rows }
+    requires rows { bounds.extent.rows ≤ most_rows }
+    ensures made { IfOk result (λ state. Made (rules_within (table_of table.now) bounds) (window_in window) (pool_in pool.old) (state_in state) (pool_in pool.new)) }
+    ensures settled { OnOk result (AllByRecursion IsSettled pool.old.waiting.items → AllByRecursion IsSettled pool.new.waiting.items) }
+    ensures room { OnOk result (length pool.new.keys.keys ≤ bounds.extent.rows) }
+    ensures unmade { IfErr result (λ error. Unmade (rules_within (table_of table.now) bounds) bounds.extent.rows (window_in window) (pool_in pool.old) error) }
+{
+    let parameters = parameters_of(alloc, &window.tree, window.names.forms.len())?;
+    let filled = fill(alloc, window)?;
+    let mut next = filled.names.forms.len() as u32;
+    let row = cut_front(alloc, filled, table)?;
+    let row = led(
+        alloc,
+        table,
+        row,
+        &Renaming::Themselves,
+        &mut next,
+        pool,
+        bounds,
+    )?;
+    Ok(AutomatonState { parameters, row })
 }

@@ -1,0 +1,16 @@
+use Rattle.pc_table.specs.Table.{table_of}
+use Rattle.pc_automaton.specs.StoredRow.{row_in, left_in}
+use Rattle.pc_pattern.specs.models.Pools.{pool_in}
+use Rattle.pc_pattern.specs.models.Leading.{rules_within}
+use Rattle.pc_pattern.proofs.States.{fillable_of, made_of}
+use Rattle.pc_pattern.proofs.searching.state.Goals as goal
+
+pub fill-requires-clause-fillable : goal.fill-requires-clause-fillable
+fill-requires-clause-fillable c = fillable_of (table_of c.args.table.now) c.args.window c.requires.settled c.requires.small
+
+pub returns-clause-made : goal.returns-clause-made
+returns-clause-made c =
+    made_of (rules_within (table_of c.args.table.now) c.args.bounds) c.args.window c.in_ok-filled.filled (pool_in c.args.pool.now) _
+    (row_in left_in c.in_ok-row.row) _ _ _
+    c.in_ok-parameters.ensures c.in_ok-filled.ensures.fills c.in_ok-filled.ensures.left c.in_ok-filled.ensures.proper c.requires.limits
+    c.in_ok-row.ensures.cut c.len-2.ensures c.in_ok-row-2.ensures.leads
