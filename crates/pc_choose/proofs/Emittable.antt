@@ -7,7 +7,7 @@ use Rattle.pc_word.specs.declared.item.Extent.{Extent}
 use Rattle.pc_word.specs.MachineLimits.{most_object, most_rows}
 use Rattle.pc_table.specs.Table.{Table, region_tree}
 use Rattle.pc_table.specs.TableKeeps.{TableKeeps}
-use Rattle.pc_automaton.specs.Automaton.{AutomatonState, IsAutomaton}
+use Rattle.pc_automaton.specs.Automaton.{AutomatonState}
 use Rattle.pc_assign.specs.Pressure.{allowed}
 use Rattle.pc_assign.specs.Assigned.{names_of}
 use Rattle.pc_assign.specs.Apart.{IsApart, HasAllowed}

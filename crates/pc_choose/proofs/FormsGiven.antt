@@ -1,5 +1,5 @@
 -- The form that a region gets comes of the searches that were tried.
-use Rattle.std.proofs.Common.{◌≡◌, ℕ, ◌+◌, ◌≤◌, Bool, true, false, List, [], ◌∷◌, ◌++◌, length, sym, ◌∙◌, ap, subst}
+use Rattle.std.proofs.Common.{◌≡◌, ℕ, ◌+◌, ◌≤◌, true, false, List, [], ◌∷◌, ◌++◌, length, sym, ◌∙◌, ap, subst}
 use Rattle.pc_word.specs.declared.item.Limits.{Limits}
 use Rattle.pc_word.specs.declared.item.Extent.{Extent}
 use Rattle.pc_word.specs.MachineLimits.{most_object, most_rows}
@@ -25,19 +25,19 @@ module _ (table : Table) (limits : Limits) (extent : Extent) (region others : �
   abbrev counts : RegionForm → ℕ
   counts = bytes_of table region others
 
-  pub given_pipelined : (causes : List Cause) (attempt : Attempt) (automaton : List StoredState) (registers : Assigned) (states rows bytes : ℕ)
-      → may_pipeline table extent region ≡ true → causes ≡ [] → attempt ≡ Fits automaton registers bytes → states ≡ length automaton → rows ≡ extent.rows
+  pub given_pipelined : (causes : List Cause) (attempt : Attempt) (automaton : List StoredState) (registers : Assigned) (form : Form) (bytes : ℕ)
+      → may_pipeline table extent region ≡ true → causes ≡ [] → attempt ≡ Fits automaton registers bytes → form ≡ kind.Pipelined (length automaton) extent.rows
       → IsAttempt (pipelines table limits extent) region extent.rows counts attempt
       → IsGiven table limits extent region others
-      (record { form = stored.Packed automaton registers; kind = kind.Pipelined states rows; causes = causes; bytes = bytes })
-  given_pipelined causes attempt automaton registers states rows bytes may none is count same tried =
+      (record { form = stored.Packed automaton registers; kind = form; causes = causes; bytes = bytes })
+  given_pipelined causes attempt automaton registers form bytes may none is told tried =
       let fits = subst (IsAttempt (pipelines table limits extent) region extent.rows counts) is tried in
-      let form : RegionForm = Packed (states_in automaton) (registers_in registers) in
+      let found : RegionForm = Packed (states_in automaton) (registers_in registers) in
       record {
         gets =
-            subst (λ (k : Form). Gets table limits extent region counts form k causes)
-            (ap (λ (n : ℕ). kind.Pipelined n extent.rows) (map_length state_in automaton ∙ sym count) ∙ ap (kind.Pipelined states) (sym same))
-            (subst (λ (cs : List Cause). Gets table limits extent region counts form (kind.Pipelined (length (states_in automaton)) extent.rows) cs) (sym none)
+            subst (λ (k : Form). Gets table limits extent region counts found k causes)
+            (ap (λ (n : ℕ). kind.Pipelined n extent.rows) (map_length state_in automaton) ∙ sym told)
+            (subst (λ (cs : List Cause). Gets table limits extent region counts found (kind.Pipelined (length (states_in automaton)) extent.rows) cs) (sym none)
             (Gets_pipelined may fits.has (subst (λ (n : ℕ). n ≤ most_object) fits.counted fits.short)));
         counted = fits.counted;
         short = fits.short;

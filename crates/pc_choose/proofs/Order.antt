@@ -1,9 +1,12 @@
 -- Regions are taken in the order that their forms fix.
-use Rattle.std.proofs.Common.{◌≡◌, ℕ, zero, suc, ◌+◌, ◌-◌, ◌≤◌, inl, inr, Bool, true, false, List, [], ◌∷◌, ◌++◌, length, map, Option, Some, None, refl, sym, ◌∙◌, ap, arith, zero-add}
-use Rattle.std.specs.Prelude.{slice_get}
+use Rattle.std.proofs.Common.{◌≡◌, ℕ, zero, suc, ◌+◌, ◌-◌, ◌≤◌, inl, inr, Bool, true, false, List, [], ◌∷◌}
+use Rattle.std.proofs.Common.{◌++◌, length, map, Option, Some, None, refl, sym, ◌∙◌, ap, arith, zero-add}
+use Rattle.std.specs.Prelude.{slice_get, if◌then◌else◌}
+use Rattle.std.specs.List.{AllByRecursion}
 use Rattle.std.proofs.lemmas.Option.{slice_get_past}
 use Rattle.pc_word.specs.declared.item.Limits.{Limits}
 use Rattle.pc_word.specs.declared.item.Extent.{Extent}
+use Rattle.pc_word.proofs.Lists.{all_both, all_imply}
 use Rattle.pc_word.proofs.Truth.{decide_le}
 use Rattle.pc_table.specs.Table.{Table, region_tree}
 use Rattle.pc_emit.specs.Emitted.{RegionForm, Plain, Packed}
@@ -11,7 +14,9 @@ use Rattle.pc_emit.specs.Leading.{form_leads}
 use Rattle.pc_choose.specs.declared.choice.Choice.{Choice}
 use Rattle.pc_choose.specs.declared.choice.Cause.{Cause}
 use Rattle.pc_choose.specs.declared.choice.Form.{Form}
-use Rattle.pc_choose.specs.Choosing.{bytes_with, with_regions, choice_of, Gets, Gets_pipelined, Gets_packed, Gets_plain, Choosing, Begins, Takes, AreChosen}
+use Rattle.pc_choose.specs.declared.choice.Form.TheVariants as kind
+use Rattle.pc_choose.specs.Choosing.{bytes_with, with_regions, choice_of, Choosing, Begins, Takes, AreChosen}
+use Rattle.pc_choose.specs.Choosing.{may_pipeline, Is_not_tried, Is_refused, Gets, Gets_pipelined, Gets_packed, Gets_plain}
 use Rattle.pc_choose.specs.Laws.{has_automaton}
 use Rattle.pc_choose.proofs.Places.{get_more, length_more, map_length}
 use Rattle.pc_choose.proofs.Counting.{with_form-same, form_stays}
@@ -34,6 +39,11 @@ map_more : {X Y : Type 0} (f : X → Y) (xs : List X) (x : X) → map f (xs ++ x
 map_more f [] x = refl
 map_more f (y ∷ xs) x = ap (λ zs. f y ∷ zs) (map_more f xs x)
 
+-- what holds of each element holds of their images
+same_images : {X Y : Type 0} (f g : X → Y) (xs : List X) → AllByRecursion (λ x. f x ≡ g x) xs → map f xs ≡ map g xs
+same_images f g [] each = refl
+same_images f g (x ∷ xs) each = λ i. each.0 i ∷ same_images f g xs each.1 i
+
 -- ---- the kinds of forms
 
 -- whether a form is packed
@@ -45,11 +55,33 @@ abbrev packed_at : Option RegionForm → Bool
 packed_at (Some form) = is_packed form
 packed_at None = false
 
+-- the kind that is told of a form with these causes, where it may be pipelined or not
+kind_of : Bool → Extent → RegionForm → List Cause → Form
+kind_of may extent Plain causes = kind.Plain
+kind_of may extent (Packed states registers) [] = if may then kind.Pipelined (length states) extent.rows else kind.Packed
+kind_of may extent (Packed states registers) (cause ∷ causes) = kind.Packed
+
+abbrev kind_at : Bool → Extent → Option RegionForm → List Cause → Form
+kind_at may extent (Some form) causes = kind_of may extent form causes
+kind_at may extent None causes = kind.Plain
+
+kind_is_packed : (may : Bool) (extent : Extent) (form : Option RegionForm) (causes : List Cause)
+    → has_automaton (kind_at may extent form causes) ≡ packed_at form
+unfolding is_packed kind_of
+kind_is_packed may extent None causes = refl
+kind_is_packed may extent (Some Plain) causes = refl
+kind_is_packed true extent (Some (Packed states registers)) [] = refl
+kind_is_packed false extent (Some (Packed states registers)) [] = refl
+kind_is_packed may extent (Some (Packed states registers)) (cause ∷ causes) = refl
+
 gets_kind : (table : Table) (limits : Limits) (extent : Extent) (region : ℕ) (bytes : RegionForm → ℕ) (form : RegionForm) (kind : Form) (causes : List Cause)
-    → Gets table limits extent region bytes form kind causes → has_automaton kind ≡ is_packed form
-unfolding is_packed
-gets_kind table limits extent region bytes form kind causes (Gets_pipelined may has short) = refl
-gets_kind table limits extent region bytes form kind causes (Gets_packed passed has short) = refl
+    → Gets table limits extent region bytes form kind causes → kind ≡ kind_of (may_pipeline table extent region) extent form causes
+unfolding kind_of
+gets_kind table limits extent region bytes form kind causes (Gets_pipelined {states} {registers} may has short) =
+    ap (λ (b : Bool). kind_of b extent (Packed states registers) []) (sym may)
+gets_kind table limits extent region bytes form kind causes (Gets_packed {states} {registers} (Is_not_tried may) has short) =
+    ap (λ (b : Bool). kind_of b extent (Packed states registers) []) (sym may)
+gets_kind table limits extent region bytes form kind causes (Gets_packed (Is_refused may refused) has short) = refl
 gets_kind table limits extent region bytes form kind causes (Gets_plain passed refused) = refl
 
 -- ---- the order
@@ -70,14 +102,18 @@ module _ (table : Table) (limits : Limits) (extent : Extent) (forms : ℕ → Op
   grown zero = 0 ∷ []
   grown (suc n) = behind (grown n) (slice_get (grown n) n)
 
+  -- the kind of form that is told is the one that the form and the causes fix
+  abbrev IsTold : Choice → Type 0
+  IsTold choice = choice.form ≡ kind_at (may_pipeline table extent choice.region) extent (forms choice.region) choice.causes
+
   -- what the choices of some regions say
   record Follows (found : List ℕ) (choices : List Choice) : Type 0 where
     order : found ≡ grown (length choices)
     regions : (at region : ℕ) → slice_get (map (λ choice. choice.region) choices) at ≡ Some region → slice_get found at ≡ Some region
-    kinds : map (λ choice. has_automaton choice.form) choices ≡ map (λ choice. packed_at (forms choice.region)) choices
+    kinds : AllByRecursion IsTold choices
 
   takes_follows : (found : List ℕ) (choices : List Choice) (last : ℕ) (chosen : RegionForm) (kind : Form) (causes : List Cause)
-      → slice_get found (length choices) ≡ Some last → forms last ≡ Some chosen → has_automaton kind ≡ is_packed chosen → Follows found choices
+      → slice_get found (length choices) ≡ Some last → forms last ≡ Some chosen → kind ≡ kind_of (may_pipeline table extent last) extent chosen causes → Follows found choices
       → Follows (with_regions found (form_leads (region_tree table last) chosen)) (choices ++ choice_of last kind causes ∷ [])
   takes_follows found choices last chosen kind causes next has is follows = record {
     order =
@@ -95,16 +131,14 @@ module _ (table : Table) (limits : Limits) (extent : Extent) (forms : ℕ → Op
               (ap (slice_get found) place ∙ next ∙ ap Some h.1)
         ];
     kinds =
-        map_more (λ (choice : Choice). has_automaton choice.form) choices (choice_of last kind causes)
-        ∙ ap (λ (ks : List Bool). ks ++ has_automaton kind ∷ []) follows.kinds
-        ∙ ap (λ (k : Bool). map (λ (choice : Choice). packed_at (forms choice.region)) choices ++ k ∷ []) (is ∙ sym (ap packed_at has))
-        ∙ sym (map_more (λ (choice : Choice). packed_at (forms choice.region)) choices (choice_of last kind causes));
+        all_both IsTold choices (choice_of last kind causes ∷ []) follows.kinds
+        (is ∙ ap (λ (f : Option RegionForm). kind_at (may_pipeline table extent last) extent f causes) (sym has), tt);
   }
 
   -- so it is whatever was chosen, while all forms are among the last ones
   choosing_follows : (found : List ℕ) (choices : List Choice) (had : ℕ → Option RegionForm) → Choosing table limits extent found choices had
       → ((region : ℕ) (form : RegionForm) → had region ≡ Some form → forms region ≡ Some form) → Follows found choices
-  choosing_follows found choices had Begins among = record { order = refl; regions = λ at region e. absurd (cc); kinds = refl }
+  choosing_follows found choices had Begins among = record { order = refl; regions = λ at region e. absurd (cc); kinds = tt }
   choosing_follows found choices had (Takes {found = before} {choices = earlier} {forms = old} {region = last} {chosen = chosen} {kind = kind} {causes = causes} choosing next gets) among =
       let free = next_is_free table limits extent before earlier old choosing last next in
       takes_follows before earlier last chosen kind causes next (among last chosen (with_form-same old last chosen))
@@ -151,9 +185,37 @@ module _ (table : Table) (limits : Limits) (extent : Extent) (forms : ℕ → Op
 
     pub one_kind : map (λ choice. has_automaton choice.form) choices ≡ map (λ choice. has_automaton choice.form) others
     one_kind =
-        follows.kinds ∙ kinds_of choices ∙ ap (map (λ (region : ℕ). packed_at (forms region))) one_order ∙ sym (kinds_of others) ∙ sym other_follows.kinds
+        packed_told choices follows.kinds ∙ kinds_of choices ∙ ap (map (λ (region : ℕ). packed_at (forms region))) one_order
+        ∙ sym (kinds_of others) ∙ sym (packed_told others other_follows.kinds)
       where
+        packed_told : (list : List Choice) → AllByRecursion IsTold list
+            → map (λ (choice : Choice). has_automaton choice.form) list ≡ map (λ (choice : Choice). packed_at (forms choice.region)) list
+        packed_told list told =
+            same_images (λ (choice : Choice). has_automaton choice.form) (λ (choice : Choice). packed_at (forms choice.region)) list
+            (all_imply IsTold (λ choice. has_automaton choice.form ≡ packed_at (forms choice.region)) list
+            (λ choice is.
+            ap has_automaton is ∙ kind_is_packed (may_pipeline table extent choice.region) extent (forms choice.region) choice.causes)
+            told)
+
         kinds_of : (list : List Choice) → map (λ (choice : Choice). packed_at (forms choice.region)) list
             ≡ map (λ (region : ℕ). packed_at (forms region)) (map (λ (choice : Choice). choice.region) list)
         kinds_of [] = refl
         kinds_of (choice ∷ list) = ap (λ (ks : List Bool). packed_at (forms choice.region) ∷ ks) (kinds_of list)
+
+    -- with the same causes they are the same
+    pub one_whole : map (λ choice. choice.causes) choices ≡ map (λ choice. choice.causes) others → choices ≡ others
+    one_whole causes = same_told choices others follows.kinds other_follows.kinds one_order causes
+      where
+        same_told : (xs ys : List Choice) → AllByRecursion IsTold xs → AllByRecursion IsTold ys
+            → map (λ (choice : Choice). choice.region) xs ≡ map (λ (choice : Choice). choice.region) ys
+            → map (λ (choice : Choice). choice.causes) xs ≡ map (λ (choice : Choice). choice.causes) ys → xs ≡ ys
+        same_told [] [] told told' regions causes = refl
+        same_told [] (y ∷ ys) told told' regions causes = absurd (cc)
+        same_told (x ∷ xs) [] told told' regions causes = absurd (cc)
+        same_told (x ∷ xs) (y ∷ ys) told told' regions causes =
+            let region : x.region ≡ y.region = (cc) in
+            let why : x.causes ≡ y.causes = (cc) in
+            let form : x.form ≡ y.form =
+            told.0 ∙ (λ i. kind_at (may_pipeline table extent (region i)) extent (forms (region i)) (why i)) ∙ sym told'.0 in
+            let first : x ≡ y = (λ i. record { region = region i; form = form i; causes = why i }) in
+            λ i. first i ∷ same_told xs ys told.1 told'.1 (cc) (cc) i

@@ -10,7 +10,7 @@ use Rattle.pc_table.specs.Table.{Table, region_tree}
 use Rattle.pc_window.specs.Steps.{loop_of}
 use Rattle.pc_automaton.specs.Automaton.{AutomatonState}
 use Rattle.pc_pattern.specs.Searches.{Rules, HasNoPattern}
-use Rattle.pc_pattern.specs.Pattern.{IsFound}
+use Rattle.pc_pattern.specs.Pattern.{rules_for, IsFound}
 use Rattle.pc_assign.specs.Pressure.{allowed, IsFirstHigh, LowBefore}
 use Rattle.pc_assign.specs.Assigned.{IsAssigned}
 use Rattle.pc_emit.specs.Emitted.{RegionForm, Plain, Packed}
@@ -36,11 +36,11 @@ bytes_with table forms region form = object_bytes table (with_form forms region 
 
 -- the search for a pipelined form, whose windows may hold so many turns of a loop
 abbrev pub pipelines : Table → Limits → Extent → Rules
-pipelines table limits extent = record { table = table; limits = limits; number = extent.window }
+pipelines table limits extent = rules_for table limits extent.window
 
 -- the search for a packed form, in which nothing is unwound
 abbrev pub packs : Table → Limits → Rules
-packs table limits = record { table = table; limits = limits; number = 1 }
+packs table limits = rules_for table limits 1
 
 -- states that a search finds within so many rows, with registers for their names
 pub record HasRegisters (rules : Rules) (region rows : ℕ) (states : List AutomatonState) (registers : ℕ → ℕ → Option ℕ) : Type 0 where

@@ -26,9 +26,10 @@ has_automaton (kind.Pipelined states rows) = true
 has_automaton kind.Packed = true
 has_automaton kind.Plain = false
 
--- the forms fix in which order regions are taken, and of which it is told that they are plain
+-- the forms fix in which order regions are taken, and of which it is told that they are plain; with the causes they fix all
 abbrev pub FormsFixTheChoices : Type 0
 FormsFixTheChoices = (table : Table) (limits : Limits) (extent : Extent) (forms : ℕ → Option RegionForm) (choices others : List Choice)
     → AreChosen table limits extent choices forms → AreChosen table limits extent others forms
     → (map (λ choice. choice.region) choices ≡ map (λ choice. choice.region) others)
     × (map (λ choice. has_automaton choice.form) choices ≡ map (λ choice. has_automaton choice.form) others)
+    × (map (λ choice. choice.causes) choices ≡ map (λ choice. choice.causes) others → choices ≡ others)

@@ -1,19 +1,21 @@
 //! The form that a region gets: the first that is not refused.
-ghost use Rattle.std.specs.Prelude.{◌≡◌, ◌+◌, ◌<◌, ◌≤◌, ◌++◌, ◌∷◌, [], length, IfOk, OnOk};
+ghost use Rattle.std.specs.Prelude.{◌≡◌, ◌+◌, ◌<◌, ◌≤◌, ◌^◌, ◌++◌, ◌∷◌, [], length, IfOk, OnOk};
 ghost use Rattle.pc_word.specs.declared.item.Extent.{Extent};
 ghost use Rattle.pc_word.specs.Ranges.{AreLimits, IsExtent};
-ghost use Rattle.pc_word.specs.MachineLimits.{most_object};
+ghost use Rattle.pc_word.specs.MachineLimits.{most_object, most_rows};
 ghost use Rattle.pc_word.specs.SourceLimits.{most_nodes};
 ghost use Rattle.pc_table.specs.Table.{table_of, table_tree, region_tree};
 ghost use Rattle.pc_table.specs.TableKeeps.{TableKeeps};
 ghost use Rattle.pc_emit.specs.Bytes.{plain_bytes};
-ghost use Rattle.pc_choose.specs.Choosing.{PassesOver};
-ghost use Rattle.pc_choose.specs.models.Giving.{bytes_of, IsGiven};
+ghost use Rattle.pc_choose.specs.declared.choice.Form.TheVariants.{Pipelined};
+ghost use Rattle.pc_choose.specs.Choosing.{packs, PassesOver};
+ghost use Rattle.pc_choose.specs.models.Giving.{bytes_of, IsAttempt, IsGiven};
 
 use crate::error::ChooseError;
 use crate::heading::may_pipeline;
 use crate::trying::{Attempt, try_form};
 use crate::{Cause, CauseList, Form};
+use pc_automaton::Automaton;
 use pc_emit::RegionForm;
 use pc_table::{RegionTable, RegionTree};
 use pc_word::{Extent, Limits, MOST_ROWS};
@@ -64,10 +66,7 @@ pub(crate) fn form_for(
             registers,
             bytes,
         } => {
-            let kind = Form::Pipelined {
-                states: automaton.count(),
-                rows: u32::from(extent.rows),
-            };
+            let kind = pipelined(&automaton, extent);
             let form = RegionForm::Packed {
                 automaton,
                 registers,
@@ -105,7 +104,7 @@ fn packed_or_plain(
     ensures { (extent : Extent) → PassesOver (table_of table.now) limits extent region (bytes_of (table_of table.now) region others) causes
         → IfOk result (IsGiven (table_of table.now) limits extent region others) }
 {
-    match try_form(alloc, table, region, limits, PACKED, others)? {
+    match try_packed(alloc, table, region, limits, others)? {
         Attempt::Fits {
             automaton,
             registers,
@@ -131,6 +130,35 @@ fn packed_or_plain(
                 bytes: others + plain,
             })
         }
+    }
+}
+
+/// Tries to pack a region, where all but it has so many bytes.
+fn try_packed(
+    alloc: Global,
+    table: &RegionTable,
+    region: u32,
+    limits: Limits,
+    others: u32,
+) -> Result<Attempt, ChooseError>
+    requires kept { TableKeeps (table_of table.now) }
+    requires few { length table.now.regions ≤ most_nodes }
+    requires limits { AreLimits limits }
+    requires there { region < length table.now.regions }
+    requires short { others ≤ most_object }
+    ensures { IfOk result (IsAttempt (packs (table_of table.now) limits) region most_rows (bytes_of (table_of table.now) region others)) }
+{
+    try_form(alloc, table, region, limits, PACKED, others)
+}
+
+/// The kind of a pipelined form.
+fn pipelined(automaton: &Automaton, extent: Extent) -> Form
+    requires { length automaton.now < 2 ^ 32 }
+    ensures { result ≡ Pipelined (length automaton.now) extent.rows }
+{
+    Form::Pipelined {
+        states: automaton.count(),
+        rows: u32::from(extent.rows),
     }
 }
 

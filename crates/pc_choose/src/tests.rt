@@ -136,6 +136,8 @@ fn nothing_is_pipelined_where_a_window_holds_one_turn(rt: HostRuntime) -> Result
     Ok(())
 }
 
+/// The first state reads a number. In each of the others the number before is tested and added, and the
+/// next is read; the sum is known as one number more, until it is a sum of more than four.
 #[test]
 fn a_loop_is_pipelined_and_what_stands_before_it_is_packed(rt: HostRuntime) -> Result<(), Fail> {
     let extent = Extent {
@@ -143,7 +145,7 @@ fn a_loop_is_pipelined_and_what_stands_before_it_is_packed(rt: HostRuntime) -> R
         rows: 16,
     };
     let form = Form::Pipelined {
-        states: 2,
+        states: 5,
         rows: 16,
     };
     let pipelined = match chosen_within(rt.alloc(), extent) {
