@@ -18,11 +18,6 @@ use Rattle.pc_pattern.specs.Searches.{Rules, Settles, BringsOn}
 Follows-after : (out : List ℤ) (X Y : Run) → Follows X Y → Follows (λ n. after_printing out (X n)) (λ n. after_printing out (Y n))
 Follows-after out X Y follows n = let m = follows n in (m.0, Answers-after out (X n) (Y m.0) (X n).end m.1)
 
--- a run that shows nothing at first, and of which another is a unit ahead, is followed by it
-GainsUnit-follows : (X Y : Run) → (X 0 ≡ record { printed = []; end = None }) → GainsUnit X Y → Follows X Y
-GainsUnit-follows X Y starts gains zero = (0, subst (λ (x : Seen). Answers x (Y 0) x.end) (sym starts) ((Y 0).printed, refl))
-GainsUnit-follows X Y starts gains (suc n) = (n, gains n)
-
 KeepsPace-trans : (X Y Z : Run) → KeepsPace X Y → KeepsPace Y Z → KeepsPace X Z
 KeepsPace-trans X Y Z p q n = answer_of_answer (X n) (Y n) (Z n) (p n) (q n)
 

@@ -276,9 +276,6 @@ row_next (leads_written some leads) = let h = row_next leads in omega (arith, h)
 row_next (leads_test one other) = let h = row_next one in let k = row_next other in omega (arith, h, k)
 row_next (leads_leaf leads) = omega arith
 
-dest_none : (next : ℕ) (item : Item) → dest_of item ≡ None → dest_of (with_dest next item) ≡ None
-dest_none next item none = elim (write_next next item) [ inl e ↦ absurd (let k : Some e.0 ≡ None = sym e.1 ∙ none in cc) | inr e ↦ e.1 ]
-
 dest_some : (next one : ℕ) (item : Item) → dest_of item ≡ Some one → dest_of (with_dest next item) ≡ Some next
 dest_some next one item some = elim (write_next next item) [ inl e ↦ e.2 | inr e ↦ absurd (let k : Some one ≡ None = sym some ∙ e.0 in cc) ]
 

@@ -27,13 +27,8 @@ use Rattle.pc_pattern.specs.models.Leading.{RowRefused, refused_row, refused_bel
 use Rattle.pc_pattern.proofs.Brought.{member_shifted}
 use Rattle.pc_pattern.proofs.Keeping.{brings_on_keeps}
 use Rattle.pc_pattern.proofs.Members.{members_proper}
-use Rattle.pc_pattern.proofs.Keys.{key_at, members_differ}
+use Rattle.pc_pattern.proofs.Keys.{map_at, key_at, members_differ}
 use Rattle.pc_pattern.proofs.LedRows.{none_bare, some_bare}
-
-map_at : {A B : Type 0} (f : A → B) (xs : List A) (i : ℕ) (x : A) → slice_get xs i ≡ Some x → slice_get (map f xs) i ≡ Some (f x)
-map_at f [] i x at = absurd (cc)
-map_at f (y ∷ xs) zero x at = cc
-map_at f (y ∷ xs) (suc i) x at = map_at f xs i x at
 
 module _ (rules : Rules) (keeps : TableKeeps rules.table) (room : Positive rules.limits) (region number : ℕ) where
   -- the keys of members

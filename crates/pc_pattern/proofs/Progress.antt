@@ -31,9 +31,9 @@ use Rattle.pc_pattern.specs.Searches.{Rules, RowFor, Settles, Search, begins, ta
 use Rattle.pc_pattern.specs.Pattern.{IsLedTo, EachIsLedTo, IsNotFound}
 use Rattle.pc_pattern.specs.models.Pools.{Pool, IsSmall}
 use Rattle.pc_pattern.specs.models.Leading.{Made, Unmade, unmade_memory, unmade_row}
-use Rattle.pc_pattern.proofs.Pools.{KeysStand, stays_in, last_in, LeadsTo, either_side, row_leads_to}
+use Rattle.pc_pattern.proofs.Pools.{KeysStand, last_in, LeadsTo, either_side, row_leads_to}
 use Rattle.pc_pattern.proofs.Keys.{key_at}
-use Rattle.pc_pattern.proofs.Members.{members_proper, state_more}
+use Rattle.pc_pattern.proofs.Members.{slice_get_more, members_proper, state_more}
 use Rattle.pc_pattern.proofs.RowsFit.{members_limited}
 use Rattle.pc_pattern.proofs.LedRows.{cut_scoped, LeavesScoped, renames_parameters, row_leads, row_fresh, distinct_apart}
 use Rattle.pc_pattern.proofs.Sizes.{filled_next, later_small, all_later_small, IsRest, each_and, cut_rests, first_small, IsNext, row_small}
@@ -77,7 +77,7 @@ led_still states more to h = record {
   state = h.state;
   arguments = h.arguments;
   earlier = h.earlier;
-  there = stays_in states more h.from h.state h.there;
+  there = slice_get_more states more h.from h.state h.there;
   leaf = h.leaf;
 }
 

@@ -90,9 +90,6 @@ module _ (stored : RegionTable) (keeps : TableKeeps (table_of stored)) (few : le
         next_small rules keeps few_regions extent.window.1 room region rows (states_in states) (window_in w) (map window_in new.waiting.items)
         (keys_in new.keys.keys) here extent.rows.1
 
-    pub turn_room : length new.keys.keys ≤ rows
-    turn_room = let few = here.few in let many = length-map new.keys.keys (λ key. key.items) in omega (arith, few, many)
-
     -- not all rows that there may be were made
     pub turn_left : length states < rows
     turn_left =
