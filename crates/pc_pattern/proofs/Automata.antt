@@ -29,7 +29,7 @@ use Rattle.pc_automaton.specs.declared.automaton.AutomatonLeaf.{AutomatonLeaf}
 use Rattle.pc_automaton.specs.declared.automaton.AutomatonLeaf.TheVariants.{To, Out, Stop, Trap}
 use Rattle.pc_automaton.specs.Automaton.{AutomatonState, is_parameter, LeafIsKnown, LeavesAreKnown, Takes, LeafLeads, IsStateAmong}
 use Rattle.pc_automaton.specs.Automaton.{IsAutomaton}
-use Rattle.pc_canon.specs.Pairs.{Pair, corresponds, ones, others, themselves, defined, operands_for, OperandsAlike, ArgumentsAlike, HomesAlike}
+use Rattle.pc_canon.specs.Pairs.{Pair, corresponds, others, themselves, defined, operands_for, OperandsAlike, ArgumentsAlike, HomesAlike}
 use Rattle.pc_pattern.specs.NamedRow.{RowsNamed, named_item, named_test, named_leaf, LeavesAlike}
 use Rattle.pc_pattern.specs.Searches.{Rules, IsClosed, bare_leaf, Leads, to_member, to_bare, to_region, to_end, to_trap, StateFor, Automates}
 use Rattle.pc_canon.proofs.ParameterLists.{parameters_listed}

@@ -1,5 +1,5 @@
 -- What a window that was brought on has, and the member that it becomes.
-use Rattle.std.proofs.Common.{◌≡◌, List, refl, sym, ◌∙◌, ap, subst}
+use Rattle.std.proofs.Common.{sym, ap, subst}
 use Rattle.pc_window.specs.Tree.{Tree, Pending, Undecided, Exit, Stop_exit, Trap_exit, Front, whole, front_of}
 use Rattle.pc_window.specs.WindowRun.{Window}
 use Rattle.pc_window.specs.Tidying.{tidied}
@@ -8,9 +8,9 @@ use Rattle.pc_window.specs.Steps.{Tidies, IsProper}
 use Rattle.pc_window.proofs.CutRows.{whole_front_of}
 use Rattle.pc_canon.specs.Shift.{ShiftedBy}
 use Rattle.pc_canon.specs.Canonical.{parameter_pairs}
-use Rattle.pc_renumber.specs.Renumbering.{renumbered, Renumbers}
+use Rattle.pc_renumber.specs.Renumbering.{Renumbers}
 use Rattle.pc_renumber.proofs.Renumbered.{IsSingle, renumbered_single, renumbered_shifts, renumbered_proper}
-use Rattle.pc_pattern.specs.Searches.{Rules, Settles, BringsOn}
+use Rattle.pc_pattern.specs.Searches.{Rules, BringsOn}
 
 -- the front of a window that was tidied is its first item or test
 pub tidied_single : (w v : Window) → Tidies w v → IsSingle v

@@ -12,7 +12,7 @@ use Rattle.pc_window.specs.Opening.{Supply, Grafted, opened, first_supply, first
 use Rattle.pc_window.specs.Unwinding.{Unwinds, unwinds_no_more, unwinds_once}
 use Rattle.pc_window.specs.Tidying.{above, tidied}
 use Rattle.pc_window.specs.WindowRun.{Window}
-use Rattle.pc_window.specs.Steps.{loop_of, grafted_of, opened_window, UnwindsTo, IsProper}
+use Rattle.pc_window.specs.Steps.{loop_of, opened_window, UnwindsTo, IsProper}
 use Rattle.pc_window.proofs.CutRows.{whole_front_of}
 use Rattle.pc_window.proofs.Proper.{proper_sound}
 use Rattle.pc_window.proofs.Once.{Sound}

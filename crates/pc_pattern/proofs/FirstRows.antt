@@ -1,20 +1,17 @@
 -- Where the first row leads that a search finds, if it has neither item nor test.
-use Rattle.std.proofs.Common.{◌≡◌, ℕ, List, Option, Some, refl, sym, ◌∙◌, ap, subst}
+use Rattle.std.proofs.Common.{◌≡◌, ℕ, List, Some, refl, sym, ◌∙◌, ap, subst}
 use Rattle.std.specs.Prelude.{slice_get}
-use Rattle.pc_word.specs.declared.item.Limits.{Limits}
 use Rattle.pc_word.specs.declared.item.TrapKind.{TrapKind}
 use Rattle.pc_word.specs.Row.{Row, Then, Either, At_leaf}
 use Rattle.pc_table.specs.Table.{Table}
-use Rattle.pc_table.specs.TableKeeps.{TableKeeps, ComesUntested, By_one}
+use Rattle.pc_table.specs.TableKeeps.{TableKeeps, ComesUntested}
 use Rattle.pc_window.specs.declared.home.Home.{Home}
 use Rattle.pc_window.specs.Tree.{Tree, Pending, Undecided, Exit, Stop_exit, Trap_exit, Front, whole, front_of}
 use Rattle.pc_window.specs.Names.{uses}
 use Rattle.pc_window.specs.WindowRun.{Window}
-use Rattle.pc_window.specs.Opening.{Grafted}
-use Rattle.pc_window.specs.Unwinding.{Unwinds, unwinds_no_more, unwinds_once}
 use Rattle.pc_window.specs.Tidying.{tidied}
 use Rattle.pc_window.specs.Kept.{Left, Gone, Finished, Trapped_at, IsBare, HasFront, HasItems}
-use Rattle.pc_window.specs.Steps.{Positive, UnwindsTo, grafted_of, with_tree, opened_window, cut_row}
+use Rattle.pc_window.specs.Steps.{Positive, UnwindsTo, cut_row}
 use Rattle.pc_window.proofs.Settling.{fills_front, cuts_front}
 use Rattle.pc_automaton.specs.declared.automaton.AutomatonLeaf.{AutomatonLeaf}
 use Rattle.pc_automaton.specs.Automaton.{AutomatonState}

@@ -1,13 +1,13 @@
 -- Changes that keep a window's run and forms, one after the other.
-use Rattle.std.proofs.Common.{◌≡◌, ℕ, zero, suc, List, [], None, refl, sym, subst}
+use Rattle.std.proofs.Common.{suc, List}
 use Rattle.std.specs.Prelude.{ℤ}
-use Rattle.pc_word.specs.Run.{Seen, Run, Answers, Follows, after_printing}
+use Rattle.pc_word.specs.Run.{Run, Follows, after_printing}
 use Rattle.pc_word.specs.State.{State}
 use Rattle.pc_word.proofs.Runs.{Follows-trans, Answers-after}
 use Rattle.pc_table.specs.Table.{Table}
 use Rattle.pc_table.specs.TableKeeps.{TableKeeps}
 use Rattle.pc_window.specs.WindowRun.{Window, window_run}
-use Rattle.pc_window.specs.Kept.{KeepsPace, GainsUnit, NeverFaults, KeptIn, WindowKeeps, RestKept}
+use Rattle.pc_window.specs.Kept.{KeepsPace, NeverFaults, KeptIn, WindowKeeps, RestKept}
 use Rattle.pc_window.specs.Steps.{IsProper}
 use Rattle.pc_window.proofs.Paces.{answer_of_answer, NeverFaults-follows}
 use Rattle.pc_window.proofs.Proper.{unwinds_proper, tidies_proper, rebases_proper}
@@ -17,11 +17,6 @@ use Rattle.pc_pattern.specs.Searches.{Rules, Settles, BringsOn}
 -- runs after the same list follow if the runs do
 Follows-after : (out : List ℤ) (X Y : Run) → Follows X Y → Follows (λ n. after_printing out (X n)) (λ n. after_printing out (Y n))
 Follows-after out X Y follows n = let m = follows n in (m.0, Answers-after out (X n) (Y m.0) (X n).end m.1)
-
--- a run that shows nothing at first, and of which another is a unit ahead, is followed by it
-GainsUnit-follows : (X Y : Run) → (X 0 ≡ record { printed = []; end = None }) → GainsUnit X Y → Follows X Y
-GainsUnit-follows X Y starts gains zero = (0, subst (λ (x : Seen). Answers x (Y 0) x.end) (sym starts) ((Y 0).printed, refl))
-GainsUnit-follows X Y starts gains (suc n) = (n, gains n)
 
 KeepsPace-trans : (X Y Z : Run) → KeepsPace X Y → KeepsPace Y Z → KeepsPace X Z
 KeepsPace-trans X Y Z p q n = answer_of_answer (X n) (Y n) (Z n) (p n) (q n)

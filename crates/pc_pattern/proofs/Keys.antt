@@ -19,7 +19,7 @@ use Rattle.pc_pattern.proofs.Members.{members_proper}
 -- ---- lists
 
 -- a number at which an element stands behind others is one of these, or the last
-pub last_or_before : {A : Type 0} (xs : List A) (x y : A) (i : ℕ) → slice_get (xs ++ (x ∷ [])) i ≡ Some y
+last_or_before : {A : Type 0} (xs : List A) (x y : A) (i : ℕ) → slice_get (xs ++ (x ∷ [])) i ≡ Some y
     → (slice_get xs i ≡ Some y) ⊎ ((i ≡ length xs) × (x ≡ y))
 last_or_before [] x y zero at = inr (refl, cc)
 last_or_before [] x y (suc i) at = absurd (cc)
@@ -30,7 +30,7 @@ last_or_before (z ∷ xs) x y (suc i) at = elim (last_or_before xs x y i at) [
 ]
 
 -- one more that stands nowhere differs from the others
-pub different_more : {A : Type 0} (xs : List A) (x : A) → AreDifferent xs → IsNowhere xs x → AreDifferent (xs ++ (x ∷ []))
+different_more : {A : Type 0} (xs : List A) (x : A) → AreDifferent xs → IsNowhere xs x → AreDifferent (xs ++ (x ∷ []))
 different_more {A} xs x differ none i j y at at' = elim (last_or_before xs x y i at) [
   | inl p ↦ elim (last_or_before xs x y j at') [
     | inl q ↦ differ i j y p q
@@ -42,6 +42,12 @@ different_more {A} xs x differ none i j y at at' = elim (last_or_before xs x y i
   ]
 ]
 
+-- the image of an element stands in its place
+pub map_at : {A B : Type 0} (f : A → B) (xs : List A) (i : ℕ) (x : A) → slice_get xs i ≡ Some x → slice_get (map f xs) i ≡ Some (f x)
+map_at f [] i x at = absurd (cc)
+map_at f (y ∷ xs) zero x at = cc
+map_at f (y ∷ xs) (suc i) x at = map_at f xs i x at
+
 -- ---- keys
 
 -- a key of a list of windows is that of one of them
@@ -52,7 +58,7 @@ key_at (w ∷ members) zero key at = (w, refl, cc)
 key_at (w ∷ members) (suc i) key at = key_at members i key at
 
 -- the key of a window that is no member is no member's
-pub key_nowhere : (members : List Window) (w : Window) → IsNoMember members w → IsNowhere (map key_of members) (key_of w)
+key_nowhere : (members : List Window) (w : Window) → IsNoMember members w → IsNowhere (map key_of members) (key_of w)
 key_nowhere members w none i at = let m = key_at members i (key_of w) at in none i m.0 m.1 ((keys_tell w m.0).0 (sym m.2))
 
 module _ (rules : Rules) (keeps : TableKeeps rules.table) (room : Positive rules.limits) (region : ℕ) where

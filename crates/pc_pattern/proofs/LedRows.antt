@@ -1,6 +1,6 @@
 -- The row that the code makes of a cut row is the row of a state: its leaves lead on, and each place that writes a name has one
 -- of its own.
-use Rattle.std.proofs.Common.{◌≡◌, ℕ, zero, suc, ◌+◌, ◌≤◌, ◌<◌, List, [], ◌∷◌, ◌++◌, length, append_assoc, ◌⊎◌, inl, inr, refl, sym, ◌∙◌, ap}
+use Rattle.std.proofs.Common.{◌≡◌, ℕ, suc, ◌≤◌, ◌<◌, List, [], ◌∷◌, ◌++◌, ◌⊎◌, inl, inr, refl, sym, ◌∙◌, ap}
 use Rattle.std.proofs.Common.{subst, arith}
 use Rattle.std.specs.Prelude.{Bool, true, false, not, ◌&&◌, ◌||◌, if◌then◌else◌, nat_eq, Option, Some, None}
 use Rattle.std.specs.List.{AllByRecursion, IsDistinct, cons_option}
@@ -12,7 +12,7 @@ use Rattle.pc_word.specs.declared.item.Operand.{Operand}
 use Rattle.pc_word.specs.declared.item.Operand.TheVariants.{Name, Lit}
 use Rattle.pc_word.specs.Items.{dest_of}
 use Rattle.pc_word.specs.Commit.{writes}
-use Rattle.pc_word.specs.Row.{Row, Then, Either, At_leaf, items_of, leaves_of}
+use Rattle.pc_word.specs.Row.{Row, Then, Either, At_leaf, items_of}
 use Rattle.pc_word.proofs.Lists.{all_both, all_imply}
 use Rattle.pc_table.specs.Table.{Table}
 use Rattle.pc_table.specs.TableKeeps.{TableKeeps}
@@ -275,9 +275,6 @@ row_next (leads_plain none leads) = let h = row_next leads in omega (arith, h)
 row_next (leads_written some leads) = let h = row_next leads in omega (arith, h)
 row_next (leads_test one other) = let h = row_next one in let k = row_next other in omega (arith, h, k)
 row_next (leads_leaf leads) = omega arith
-
-dest_none : (next : ℕ) (item : Item) → dest_of item ≡ None → dest_of (with_dest next item) ≡ None
-dest_none next item none = elim (write_next next item) [ inl e ↦ absurd (let k : Some e.0 ≡ None = sym e.1 ∙ none in cc) | inr e ↦ e.1 ]
 
 dest_some : (next one : ℕ) (item : Item) → dest_of item ≡ Some one → dest_of (with_dest next item) ≡ Some next
 dest_some next one item some = elim (write_next next item) [ inl e ↦ e.2 | inr e ↦ absurd (let k : Some one ≡ None = sym some ∙ e.0 in cc) ]

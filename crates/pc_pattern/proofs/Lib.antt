@@ -26,3 +26,4 @@ pub mod Steps
 pub mod States
 pub mod Turns
 pub mod EchoingKept
+pub mod ExchangingKept

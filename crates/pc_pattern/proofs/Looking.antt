@@ -1,7 +1,6 @@
 -- The row of a state looks at the leaves of a cut row: the search goes on by as many members as come of it, or has too many.
-use Rattle.std.proofs.Common.{◌≡◌, ℕ, zero, suc, List, [], ◌∷◌, ◌++◌, length, length-append, append-nil, append_assoc, map, refl, sym, ◌∙◌, ap, subst, arith}
-use Rattle.std.specs.Prelude.{ℤ, Some, slice_get, Vec}
-use Rattle.std.specs.declared.alloc.Global.{Global}
+use Rattle.std.proofs.Common.{◌≡◌, ℕ, suc, List, [], ◌∷◌, ◌++◌, length, length-append, append-nil, append_assoc, map, refl, sym, ◌∙◌, ap, subst, arith}
+use Rattle.std.specs.Prelude.{ℤ, Some, slice_get}
 use Rattle.std.proofs.lemmas.List.{length-map, map-append}
 use Rattle.pc_word.specs.Row.{Row, leaves_of}
 use Rattle.pc_table.specs.TableKeeps.{TableKeeps}
@@ -19,7 +18,7 @@ use Rattle.pc_pattern.specs.declared.error.SearchError.{SearchError}
 use Rattle.pc_pattern.specs.Searches.{Rules, BringsOn, bare_leaf, IsNoMember, looks_new, looks_known, looks_bare, looks_out, looks_end, looks_trap}
 use Rattle.pc_pattern.specs.Searches.{Search, looks, AreDifferent}
 use Rattle.pc_pattern.specs.Pattern.{IsNotFound}
-use Rattle.pc_pattern.specs.models.Pools.{Pool, keys_in, IsNowhere, IsNumbered, numbered_known, numbered_new}
+use Rattle.pc_pattern.specs.models.Pools.{Pool, IsNowhere, numbered_known, numbered_new}
 use Rattle.pc_pattern.specs.models.Leading.{WindowLeads, leads_member, leads_bare, LeftLeads, leads_rest, leads_region, leads_end, leads_trap}
 use Rattle.pc_pattern.specs.models.Leading.{RowLeads, leads_plain, leads_written, leads_test, leads_leaf}
 use Rattle.pc_pattern.specs.models.Leading.{WindowRefused, refused_memory, refused_many, LeftRefused, refused_here, refused_rest}
@@ -27,13 +26,8 @@ use Rattle.pc_pattern.specs.models.Leading.{RowRefused, refused_row, refused_bel
 use Rattle.pc_pattern.proofs.Brought.{member_shifted}
 use Rattle.pc_pattern.proofs.Keeping.{brings_on_keeps}
 use Rattle.pc_pattern.proofs.Members.{members_proper}
-use Rattle.pc_pattern.proofs.Keys.{key_at, members_differ}
+use Rattle.pc_pattern.proofs.Keys.{map_at, key_at, members_differ}
 use Rattle.pc_pattern.proofs.LedRows.{none_bare, some_bare}
-
-map_at : {A B : Type 0} (f : A → B) (xs : List A) (i : ℕ) (x : A) → slice_get xs i ≡ Some x → slice_get (map f xs) i ≡ Some (f x)
-map_at f [] i x at = absurd (cc)
-map_at f (y ∷ xs) zero x at = cc
-map_at f (y ∷ xs) (suc i) x at = map_at f xs i x at
 
 module _ (rules : Rules) (keeps : TableKeeps rules.table) (room : Positive rules.limits) (region number : ℕ) where
   -- the keys of members

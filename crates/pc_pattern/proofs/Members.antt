@@ -276,10 +276,11 @@ module _ (rules : Rules) (keeps : TableKeeps rules.table) (room : Positive rules
 
 -- ---- states that were made stay right while members are added
 
-slice_get_more : (ws more : List Window) (number : ℕ) (w : Window) → slice_get ws number ≡ Some w → slice_get (ws ++ more) number ≡ Some w
-slice_get_more [] more number w at = absurd (cc)
-slice_get_more (v ∷ ws) more zero w at = at
-slice_get_more (v ∷ ws) more (suc number) w at = slice_get_more ws more number w at
+-- what stands in a list stands in a longer one
+pub slice_get_more : {X : Type 0} (xs more : List X) (i : ℕ) (x : X) → slice_get xs i ≡ Some x → slice_get (xs ++ more) i ≡ Some x
+slice_get_more [] more i x at = absurd (cc)
+slice_get_more (y ∷ xs) more zero x at = at
+slice_get_more (y ∷ xs) more (suc i) x at = slice_get_more xs more i x at
 
 leads_more : {rules : Rules} {members : List Window} {names : List Pair} {left : Left} {leaf : AutomatonLeaf} (more : List Window)
     → Leads rules members names left leaf → Leads rules (members ++ more) names left leaf

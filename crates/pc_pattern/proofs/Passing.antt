@@ -1,32 +1,13 @@
 -- Values that are passed to parameters: the next state's run goes on as it would have with all names.
-use Rattle.std.proofs.Common.{◌≡◌, ℕ, zero, suc, List, [], ◌∷◌, refl, sym, ◌∙◌, ap, subst}
-use Rattle.std.specs.Prelude.{ℤ, Bool, true, false, not, ◌&&◌, ◌||◌, if◌then◌else◌, nat_eq}
-use Rattle.std.proofs.lemmas.Bool.{eqb-true, eq-eqb}
-use Rattle.pc_word.specs.declared.item.Item.{Item}
+use Rattle.std.proofs.Common.{◌≡◌, ℕ, List, [], ◌∷◌, refl, sym, ◌∙◌, ap}
+use Rattle.std.specs.Prelude.{ℤ, Bool, true, false, not, ◌&&◌, if◌then◌else◌, nat_eq}
+use Rattle.std.proofs.lemmas.Bool.{eqb-true}
 use Rattle.pc_word.specs.declared.item.Operand.{Operand}
-use Rattle.pc_word.specs.Word.{holds}
-use Rattle.pc_word.specs.Run.{Seen, after_printing, run_from}
 use Rattle.pc_word.specs.State.{State}
-use Rattle.pc_word.specs.Items.{operand_value, dest_of, value_of}
-use Rattle.pc_word.specs.Commit.{writes, fault_of, state_after}
-use Rattle.pc_linear.specs.Form.{Means}
-use Rattle.pc_table.specs.Table.{Table, Next}
-use Rattle.pc_table.specs.TableKeeps.{reads, reads_name}
-use Rattle.pc_table.specs.RegionRun.{place_at}
-use Rattle.pc_window.specs.Tree.{Tree, Pending, Undecided, Exit, Stop_exit, Trap_exit, whole, home_of, state_at}
-use Rattle.pc_window.specs.Names.{uses, parameters_of}
-use Rattle.pc_window.specs.Rebasing.{is_in}
-use Rattle.pc_window.specs.WindowRun.{Window, Beyond, window_step, tree_run, window_run, seen_first, seen_side, FormsHold}
-use Rattle.pc_window.proofs.Items.{Alike, Alike-fault, Alike-prints, Alike-value, Alike-after, same_evaluated, same_operand, states_equal}
-use Rattle.pc_window.proofs.Live.{pick_same, or_first, or_second, needed_above}
-use Rattle.pc_window.proofs.Uses.{reads_is}
-use Rattle.pc_window.proofs.Unwinding.{home_of-used}
-use Rattle.pc_window.proofs.Units.{led, entered}
-use Rattle.pc_window.proofs.Tidying.{AgreeOn, defined_agrees}
+use Rattle.pc_word.specs.Items.{operand_value}
 use Rattle.pc_automaton.specs.AutomatonRun.{passed, passed_state}
 use Rattle.pc_canon.specs.Pairs.{Pair, corresponds, ones, others, themselves, operands_for, ArgumentsAlike, Correspond}
 use Rattle.pc_canon.proofs.Alike.{operands_alike}
-use Rattle.pc_canon.proofs.ParameterLists.{parameters_listed}
 
 -- ---- what is passed
 

@@ -2,7 +2,7 @@
 use Rattle.std.proofs.Common.{ℕ, List, arith}
 use Rattle.pc_table.specs.TableKeeps.{TableKeeps}
 use Rattle.pc_window.specs.Steps.{Positive}
-use Rattle.pc_automaton.specs.Automaton.{AutomatonState, IsAutomaton}
+use Rattle.pc_automaton.specs.Automaton.{AutomatonState}
 use Rattle.pc_pattern.specs.Searches.{Rules, IsPattern}
 use Rattle.pc_pattern.specs.Pattern.{RowFits, EachIsLedTo, IsFound}
 use Rattle.pc_pattern.specs.Laws.{PatternsRunAsTheRegion, PatternsHaveNoEmptyStates, PatternsFit, PatternsAreAutomata, SearchesHaveOneAnswer}

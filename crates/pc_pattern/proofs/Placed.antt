@@ -1,5 +1,5 @@
 -- The number of a key that is put into an ordered set of keys.
-use Rattle.std.proofs.Common.{◌≡◌, ℕ, zero, suc, ◌+◌, ◌≤◌, ◌<◌, List, [], ◌∷◌, ◌++◌, length, length-append, map, refl, sym, ◌∙◌, ap, subst, arith}
+use Rattle.std.proofs.Common.{◌≡◌, ℕ, zero, suc, ◌+◌, ◌≤◌, ◌<◌, List, [], ◌∷◌, ◌++◌, length, length-append, refl, sym, ◌∙◌, ap, subst, arith}
 use Rattle.std.specs.Ordering.{int_eq}
 use Rattle.std.specs.Prelude.{ℤ, Bool, true, false, not, ◌||◌, if◌then◌else◌, cond, None, Some, slice_get, Vec}
 use Rattle.std.specs.List.{list_any, position_or_len}
@@ -19,6 +19,7 @@ use Rattle.pc_renumber.proofs.Renumbered.{renumbered_variables}
 use Rattle.pc_pattern.specs.declared.error.SearchError.{SearchError}
 use Rattle.pc_pattern.specs.declared.error.SearchError.TheVariants.{Memory, NoPattern}
 use Rattle.pc_pattern.specs.Searches.{bare_leaf}
+use Rattle.pc_pattern.proofs.Keys.{map_at}
 use Rattle.pc_pattern.specs.models.Pools.{Pool, keys_in, IsNowhere, IsPlaced, placed_known, placed_new, Joins, IsNumbered, numbered_known, numbered_new, IsSettled}
 use Rattle.pc_pattern.specs.models.Leading.{KeyRefused, key_memory, key_many, WindowRefused, refused_memory, refused_many}
 
@@ -61,11 +62,6 @@ last_index key (k ∷ keys) none =
     let next = last_index key keys parts.1 in
     omega (arith, step, next)
 
-key_there : (keys : List StoredKey) (i : ℕ) (k : StoredKey) → slice_get keys i ≡ Some k → slice_get (keys_in keys) i ≡ Some k.items
-key_there [] i k at = absurd (cc)
-key_there (x ∷ keys) zero k at = cc
-key_there (x ∷ keys) (suc i) k at = key_there keys i k at
-
 pub placed_of : (key : StoredKey) (olds news : List StoredKey) (number : ℕ) (is_new : Bool) → is_new ≡ not (list_any (is_key key) olds)
     → news ≡ (if list_any (is_key key) olds then olds else olds ++ key ∷ []) → number ≡ position_or_len (is_key key) olds
     → (k : StoredKey) × (slice_get news number ≡ Some k) × (is_key key k ≡ true) → IsPlaced (keys_in olds) key.items number is_new (keys_in news)
@@ -75,7 +71,7 @@ placed_of key olds news number is_new new are at stored = by (list_any (is_key k
         → IsPlaced (keys_in olds) key.items number is_new (keys_in news)
     by true e n are =
         let there : slice_get (keys_in olds) number ≡ Some key.items =
-        sym (ap (λ (ks : List StoredKey). slice_get (keys_in ks) number) are) ∙ key_there news number stored.0 stored.1
+        sym (ap (λ (ks : List StoredKey). slice_get (keys_in ks) number) are) ∙ map_at (λ (k : StoredKey). k.items) news number stored.0 stored.1
         ∙ ap (λ (xs : List ℤ). Some xs) (sym (same_numbers key.items stored.0.items stored.2)) in
         subst (λ (b : Bool). IsPlaced (keys_in olds) key.items number b (keys_in news)) (sym n)
         (subst (λ (ks : List StoredKey). IsPlaced (keys_in olds) key.items number false (keys_in ks)) (sym are) (placed_known there))

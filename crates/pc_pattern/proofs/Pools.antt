@@ -1,5 +1,5 @@
 -- What comes of the keys and of the windows that wait where the row of a state leads on.
-use Rattle.std.proofs.Common.{◌≡◌, ℕ, zero, suc, ◌+◌, ◌≤◌, ◌<◌, List, [], ◌∷◌, ◌++◌, length, length-append, ◌⊎◌, inl, inr, refl, sym, ◌∙◌, ap, subst, arith}
+use Rattle.std.proofs.Common.{◌≡◌, ℕ, ◌≤◌, ◌<◌, List, [], ◌∷◌, ◌++◌, length, length-append, ◌⊎◌, inl, inr, refl, subst, arith}
 use Rattle.std.specs.Prelude.{ℤ, Some, slice_get, Contains}
 use Rattle.std.proofs.lemmas.List.Elements.{Contains-append_left, Contains-append_right, Contains-push}
 use Rattle.pc_word.specs.declared.item.Operand.{Operand}
@@ -17,15 +17,11 @@ use Rattle.pc_pattern.specs.models.Renaming.{arguments_for}
 use Rattle.pc_pattern.specs.models.Pools.{Pool, IsNumbered, numbered_known, numbered_new}
 use Rattle.pc_pattern.specs.models.Leading.{WindowLeads, leads_member, leads_bare, LeftLeads, leads_rest, leads_region, leads_end, leads_trap}
 use Rattle.pc_pattern.specs.models.Leading.{RowLeads, leads_plain, leads_written, leads_test, leads_leaf}
+use Rattle.pc_pattern.proofs.Members.{slice_get_more}
 
 -- ---- lists
 
--- what stands in a list stands in a longer one
-pub stays_in : {X : Type 0} (xs ys : List X) (i : ℕ) (x : X) → slice_get xs i ≡ Some x → slice_get (xs ++ ys) i ≡ Some x
-stays_in [] ys i x at = absurd (cc)
-stays_in (y ∷ xs) ys zero x at = at
-stays_in (y ∷ xs) ys (suc i) x at = stays_in xs ys i x at
-
+-- the last of a list stands behind the others
 pub last_in : {X : Type 0} (xs : List X) (x : X) → slice_get (xs ++ (x ∷ [])) (length xs) ≡ Some x
 last_in [] x = refl
 last_in (y ∷ xs) x = last_in xs x
@@ -48,7 +44,7 @@ KeysStay pool later = (number : ℕ) (key : List ℤ) → slice_get pool.keys nu
 
 numbered_keys : {pool later : Pool} {w : Window} {number : ℕ} → IsNumbered pool w number later → KeysStay pool later
 numbered_keys (numbered_known at) i key there = there
-numbered_keys {pool} {w} (numbered_new new renumbers) i key there = stays_in pool.keys (key_of w ∷ []) i key there
+numbered_keys {pool} {w} (numbered_new new renumbers) i key there = slice_get_more pool.keys (key_of w ∷ []) i key there
 
 window_keys : {written : List Pair} {pool later : Pool} {w : Window} {leaf : AutomatonLeaf} → WindowLeads written pool w leaf later → KeysStay pool later
 window_keys (leads_member none numbered) = numbered_keys numbered

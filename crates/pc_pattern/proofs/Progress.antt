@@ -1,14 +1,13 @@
 -- How far a search has come: which members were taken and have their states, and which wait.
 use Rattle.std.proofs.Common.{◌≡◌, ℕ, zero, suc, ◌+◌, ◌≤◌, ◌<◌, List, [], ◌∷◌, ◌++◌, length, length-append, append-nil, append_assoc, map}
 use Rattle.std.proofs.Common.{inl, inr, refl, sym, ◌∙◌, ap, subst, arith}
-use Rattle.std.specs.Prelude.{ℤ, nat_eq, Some, slice_get, Contains}
+use Rattle.std.specs.Prelude.{ℤ, nat_eq, Some, slice_get}
 use Rattle.std.specs.List.{AllByRecursion, IsDistinct}
 use Rattle.std.proofs.lemmas.List.{length-map}
-use Rattle.pc_word.specs.declared.item.Operand.{Operand}
 use Rattle.pc_word.specs.MachineLimits.{most_window}
 use Rattle.pc_word.specs.SourceLimits.{most_nodes}
 use Rattle.pc_word.specs.Row.{Row, leaves_of}
-use Rattle.pc_word.proofs.Lists.{all_back, all_both, all_imply}
+use Rattle.pc_word.proofs.Lists.{all_back, all_imply}
 use Rattle.pc_table.specs.TableKeeps.{TableKeeps, most_region_nodes}
 use Rattle.pc_window.specs.Tree.{whole, tree_size}
 use Rattle.pc_window.specs.Names.{uses, parameters_of}
@@ -22,22 +21,19 @@ use Rattle.pc_rebase.proofs.Listed.{parameters-below}
 use Rattle.pc_canon.specs.Pairs.{themselves}
 use Rattle.pc_canon.specs.Key.{key_of}
 use Rattle.pc_canon.proofs.ParameterLists.{parameters_listed, parameters_distinct}
-use Rattle.pc_automaton.specs.declared.automaton.AutomatonLeaf.{AutomatonLeaf}
-use Rattle.pc_automaton.specs.declared.automaton.AutomatonLeaf.TheVariants.{To}
 use Rattle.pc_automaton.specs.Automaton.{AutomatonState, names_written}
 use Rattle.pc_pattern.specs.declared.error.SearchError.{SearchError}
-use Rattle.pc_pattern.specs.NamedRow.{RowsNamed}
-use Rattle.pc_pattern.specs.Searches.{Rules, RowFor, Settles, Search, begins, takes, Leads, StateFor, IsPattern}
+use Rattle.pc_pattern.specs.Searches.{Rules, RowFor, Settles, Search, begins, takes, StateFor, IsPattern}
 use Rattle.pc_pattern.specs.Pattern.{IsLedTo, EachIsLedTo, IsNotFound}
 use Rattle.pc_pattern.specs.models.Pools.{Pool, IsSmall}
 use Rattle.pc_pattern.specs.models.Leading.{Made, Unmade, unmade_memory, unmade_row}
-use Rattle.pc_pattern.proofs.Pools.{KeysStand, stays_in, last_in, LeadsTo, either_side, row_leads_to}
+use Rattle.pc_pattern.proofs.Pools.{KeysStand, last_in, LeadsTo, either_side, row_leads_to}
 use Rattle.pc_pattern.proofs.Keys.{key_at}
-use Rattle.pc_pattern.proofs.Members.{members_proper, state_more}
+use Rattle.pc_pattern.proofs.Members.{slice_get_more, members_proper, state_more}
 use Rattle.pc_pattern.proofs.RowsFit.{members_limited}
 use Rattle.pc_pattern.proofs.LedRows.{cut_scoped, LeavesScoped, renames_parameters, row_leads, row_fresh, distinct_apart}
 use Rattle.pc_pattern.proofs.Sizes.{filled_next, later_small, all_later_small, IsRest, each_and, cut_rests, first_small, IsNext, row_small}
-use Rattle.pc_pattern.proofs.Looking.{AreKeys, Looked, row_looked, row_refused}
+use Rattle.pc_pattern.proofs.Looking.{row_looked, row_refused}
 
 -- ---- the state of a member
 
@@ -77,7 +73,7 @@ led_still states more to h = record {
   state = h.state;
   arguments = h.arguments;
   earlier = h.earlier;
-  there = stays_in states more h.from h.state h.there;
+  there = slice_get_more states more h.from h.state h.there;
   leaf = h.leaf;
 }
 

@@ -1,5 +1,5 @@
 -- Windows that are equal up to a shift: their parameters stand side by side, and both have an item or test, or neither.
-use Rattle.std.proofs.Common.{◌≡◌, ℕ, suc, List, [], ◌∷◌, length, map, refl, sym, ◌∙◌, ap, arith}
+use Rattle.std.proofs.Common.{◌≡◌, ℕ, List, [], ◌∷◌, length, map, refl, sym, ◌∙◌, ap, arith}
 use Rattle.std.specs.Prelude.{None}
 use Rattle.std.proofs.lemmas.List.{length-map}
 use Rattle.pc_linear.specs.Form.{Form}

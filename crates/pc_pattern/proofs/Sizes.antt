@@ -1,5 +1,5 @@
 -- How large the windows of a search are.
-use Rattle.std.proofs.Common.{◌≡◌, ℕ, suc, ◌+◌, ◌*◌, ◌≤◌, ◌<◌, ◌^◌, List, [], ◌∷◌, ◌++◌, length, refl, sym, ◌∙◌, ap, subst, arith}
+use Rattle.std.proofs.Common.{◌≡◌, ℕ, suc, ◌+◌, ◌*◌, ◌≤◌, ◌^◌, List, [], ◌∷◌, length, sym, ◌∙◌, ap, subst, arith}
 use Rattle.std.specs.Prelude.{Bool, true, false, if◌then◌else◌}
 use Rattle.std.specs.List.{AllByRecursion}
 use Rattle.pc_word.specs.declared.item.Item.{Item}
@@ -19,14 +19,14 @@ use Rattle.pc_window.specs.Filled.{MostBehind, Filled, Full, Goes_on, Jump}
 use Rattle.pc_window.specs.Opening.{Supply}
 use Rattle.pc_window.specs.WindowRun.{Window, supply_of}
 use Rattle.pc_window.specs.Kept.{Left, Rest, Gone, Finished, Trapped_at}
-use Rattle.pc_window.specs.Steps.{LeftIs, EachLeft, IsProper, FillsTo, Cuts, Tidies, Rebases, UnwindsTo, opened_window}
+use Rattle.pc_window.specs.Steps.{LeftIs, EachLeft, IsProper, FillsTo, Cuts, Tidies, Rebases, opened_window}
 use Rattle.pc_window.specs.There.{PartsAreThere, LeftIsThere}
 use Rattle.pc_window.proofs.CutRows.{whole_front_of}
 use Rattle.pc_window.proofs.Sizes.{filling_bounded}
 use Rattle.pc_window.proofs.Proper.{given_next}
 use Rattle.pc_window.proofs.Rebasing.{rebased-kept}
 use Rattle.pc_window.proofs.There.{opened_there, tidies_there, rebases_there, fills_there, cuts_there}
-use Rattle.pc_unwind.specs.Unwindable.{CanUnwind, HasGrown}
+use Rattle.pc_unwind.specs.Unwindable.{CanUnwind}
 use Rattle.pc_unwind.proofs.Grown.{has_grown}
 use Rattle.pc_unwind.proofs.PartsThere.{parts_higher}
 use Rattle.pc_canon.specs.Pairs.{Pair}
@@ -34,7 +34,7 @@ use Rattle.pc_renumber.specs.Renumbering.{Renumbers}
 use Rattle.pc_renumber.proofs.Renumbered.{renumbered_size, renumbered_names, renumbered_parts}
 use Rattle.pc_automaton.specs.declared.automaton.AutomatonLeaf.{AutomatonLeaf}
 use Rattle.pc_pattern.specs.Searches.{Rules, Settles, BringsOn}
-use Rattle.pc_pattern.specs.models.Pools.{Pool, IsNumbered, numbered_known, numbered_new, CanBringOn, names_a_turn, tags_a_turn, IsSmall}
+use Rattle.pc_pattern.specs.models.Pools.{Pool, numbered_known, numbered_new, CanBringOn, names_a_turn, tags_a_turn, IsSmall}
 use Rattle.pc_pattern.specs.models.Leading.{WindowLeads, leads_member, leads_bare, LeftLeads, leads_rest, leads_region, leads_end, leads_trap}
 use Rattle.pc_pattern.specs.models.Leading.{RowLeads, leads_plain, leads_written, leads_test, leads_leaf, most_in_front}
 use Rattle.pc_pattern.proofs.Keeping.{brings_on_keeps}

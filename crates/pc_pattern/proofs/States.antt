@@ -1,5 +1,5 @@
 -- The first member of a search, and the state of a member, as the code makes them.
-use Rattle.std.proofs.Common.{◌≡◌, ℕ, ◌+◌, ◌≤◌, ◌<◌, ◌^◌, List, [], length, refl, sym, ◌∙◌, ap, subst, arith}
+use Rattle.std.proofs.Common.{◌≡◌, ℕ, ◌+◌, ◌≤◌, ◌<◌, [], length, sym, ◌∙◌, ap, subst, arith}
 use Rattle.pc_word.specs.declared.item.Limits.{Limits}
 use Rattle.pc_word.specs.MachineLimits.{most_rows}
 use Rattle.pc_word.specs.Ranges.{AreLimits}

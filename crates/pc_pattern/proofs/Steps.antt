@@ -1,5 +1,5 @@
 -- The steps of a search, as the code takes them.
-use Rattle.std.proofs.Common.{◌≡◌, ℕ, suc, ◌+◌, ◌≤◌, ◌<◌, ◌^◌, List, [], ◌∷◌, length, refl, sym, ◌∙◌, ap, subst, arith}
+use Rattle.std.proofs.Common.{◌≡◌, ℕ, suc, ◌+◌, ◌≤◌, ◌<◌, ◌^◌, List, ◌∷◌, length, sym, ◌∙◌, ap, subst, arith}
 use Rattle.std.specs.Prelude.{true, Option, Some, None}
 use Rattle.pc_word.specs.declared.item.Item.{Item}
 use Rattle.pc_word.specs.declared.item.Operand.{Operand}
@@ -29,9 +29,10 @@ use Rattle.pc_pattern.specs.models.Renaming.{renamed_bare, arguments_for}
 use Rattle.pc_pattern.specs.models.Pools.{Pool, IsNumbered, CanBringOn, IsSettled}
 use Rattle.pc_pattern.specs.models.Leading.{rules_within, WindowLeads, leads_member, leads_bare, LeftLeads, leads_rest, leads_region, leads_end, leads_trap}
 use Rattle.pc_pattern.specs.models.Leading.{RowLeads, leads_plain, leads_written, leads_test, leads_leaf}
-use Rattle.pc_pattern.specs.models.Leading.{WindowRefused, refused_memory, LeftRefused, refused_here, refused_rest}
+use Rattle.pc_pattern.specs.models.Leading.{WindowRefused, LeftRefused, refused_here, refused_rest}
 use Rattle.pc_pattern.specs.models.Leading.{RowRefused, refused_row, refused_below, refused_yes, refused_no, refused_leaf}
 use Rattle.pc_pattern.proofs.LedRows.{none_bare}
+use Rattle.pc_pattern.proofs.Placed.{member_out}
 use Rattle.pc_pattern.proofs.Sizes.{can_unwind, rebased_same}
 
 -- ---- windows that are brought on
@@ -109,9 +110,6 @@ pub window_bare : (written : List Pair) (pool : Pool) (w : StoredWindow) (leaf :
     → Some leaf ≡ renamed_bare written (bare_leaf (tree_in w.tree)) → WindowLeads written pool (window_in w) leaf pool
 window_bare written pool w leaf some = leads_bare (renamed_whole written w (Some leaf) some)
 
-pub window_memory : (rows : ℕ) (pool : Pool) (w : Window) (error : SearchError) → error ≡ Memory → WindowRefused rows pool w error
-window_memory rows pool w error is = subst (WindowRefused rows pool w) (sym is) refused_memory
-
 pub left_memory : (rules : Rules) (rows : ℕ) (pool : Pool) (left : Left) (error : SearchError) → error ≡ Memory → LeftRefused rules rows pool left error
 left_memory rules rows pool left error is = subst (LeftRefused rules rows pool left) (sym is) refused_here
 
@@ -123,7 +121,7 @@ pub left_refused : (rules : Rules) (rows : ℕ) (pool : Pool) (rest brought : Wi
     → WindowRefused rows pool brought error → LeftRefused rules rows pool (Rest rest) error
 left_refused rules rows pool rest brought error brings refused = refused_rest brings refused
 
-pub ruleset leaves = (names_there, left_to_do, window_member, window_bare, window_memory, left_memory, left_rest, left_refused, leads_region, leads_end, leads_trap)
+pub ruleset leaves = (names_there, left_to_do, window_member, window_bare, member_out, left_memory, left_rest, left_refused, leads_region, leads_end, leads_trap)
 
 -- ---- rows
 

@@ -1,5 +1,5 @@
 -- A turn of the search's loop: the first window that waits becomes a state.
-use Rattle.std.proofs.Common.{◌≡◌, ℕ, suc, ◌+◌, ◌-◌, ◌≤◌, ◌<◌, List, [], ◌∷◌, ◌++◌, length, length-append, map, refl, sym, ◌∙◌, ap, subst, arith}
+use Rattle.std.proofs.Common.{◌≡◌, ℕ, ◌-◌, ◌≤◌, ◌<◌, List, [], ◌∷◌, ◌++◌, length, length-append, map, sym, ap, subst, arith}
 use Rattle.std.specs.Prelude.{Result, Err, IfErr}
 use Rattle.std.specs.List.{AllByRecursion}
 use Rattle.std.proofs.lemmas.List.{length-map}
@@ -22,7 +22,7 @@ use Rattle.pc_pattern.specs.declared.leading.Bounds.{Bounds}
 use Rattle.pc_pattern.specs.declared.pool.Pool.{Pool as StoredPool}
 use Rattle.pc_pattern.specs.Searches.{Rules, IsPattern}
 use Rattle.pc_pattern.specs.Pattern.{EachIsLedTo, IsNotFound}
-use Rattle.pc_pattern.specs.models.Pools.{Pool, keys_in, pool_in, IsSmall}
+use Rattle.pc_pattern.specs.models.Pools.{keys_in, pool_in, IsSmall}
 use Rattle.pc_pattern.specs.models.Leading.{rules_within, Made, Unmade, IsFirst}
 use Rattle.pc_pattern.proofs.Progress.{Searching, begins_searching, next_proper, next_limits, some_left, next_small, searching_on, too_far, states_led, pattern_found}
 
@@ -89,9 +89,6 @@ module _ (stored : RegionTable) (keeps : TableKeeps (table_of stored)) (few : le
     turn_small =
         next_small rules keeps few_regions extent.window.1 room region rows (states_in states) (window_in w) (map window_in new.waiting.items)
         (keys_in new.keys.keys) here extent.rows.1
-
-    pub turn_room : length new.keys.keys ≤ rows
-    turn_room = let few = here.few in let many = length-map new.keys.keys (λ key. key.items) in omega (arith, few, many)
 
     -- not all rows that there may be were made
     pub turn_left : length states < rows

@@ -2,3 +2,4 @@ pub mod Renaming
 pub mod Pools
 pub mod Leading
 pub mod Echoing
+pub mod Exchanging

@@ -1,10 +1,13 @@
 ghost use Rattle.std.specs.Prelude.{◌≡◌, ◌<◌, ◌^◌, pos, length, IfOk};
-ghost use Rattle.pc_table.specs.Table.{table_tree, table_of};
+ghost use Rattle.pc_table.specs.Table.{Does, table_tree, table_of};
 ghost use Rattle.pc_table.specs.TableKeeps.{TableKeeps};
 ghost use Rattle.pc_window.specs.models.Printed.{printing_table};
 ghost use Rattle.pc_word.specs.Ranges.{IsBetween};
 ghost use Rattle.pc_word.specs.MachineLimits.{most_rows, most_window};
-ghost use Rattle.pc_pattern.specs.models.Echoing.{echo_tree, echoing_table};
+ghost use Rattle.pc_word.specs.declared.item.Item.TheVariants.{Copy};
+ghost use Rattle.pc_word.specs.declared.item.Operand.TheVariants.{Name};
+ghost use Rattle.pc_pattern.specs.models.Echoing.{echo_tree, looping_table, echoing_table};
+ghost use Rattle.pc_pattern.specs.models.Exchanging.{exchange_tree, exchanging_table};
 
 use super::*;
 use pc_automaton::{Automaton, AutomatonLeaf, RowTree};
@@ -72,16 +75,16 @@ fn turn(alloc: Global) -> Result<RegionTree, AllocError>
     })
 }
 
-/// The loop as a table of one region.
-fn echoing(alloc: Global) -> Result<RegionTable, AllocError>
-    ensures table { IfOk result (λ table. table_of table ≡ echoing_table) }
+/// A loop of one region as a table.
+fn looping(alloc: Global, tree: RegionTree, live: VarList) -> Result<RegionTable, AllocError>
+    ensures table { IfOk result (λ table. table_of table ≡ looping_table (table_tree tree) live) }
     ensures one { IfOk result (λ table. length table.regions ≡ 1) }
 {
     let mut regions = RegionList::new(alloc);
     regions.push(Region {
         head: 0,
-        tree: turn(alloc)?,
-        live: VarList::new(alloc),
+        tree,
+        live,
         inside: Some(0),
         heads: Some(0),
     })?;
@@ -96,6 +99,68 @@ fn echoing(alloc: Global) -> Result<RegionTable, AllocError>
         loops,
         arrays: LengthList::new(alloc),
     })
+}
+
+/// The loop that reads and prints, as a table.
+fn echoing(alloc: Global) -> Result<RegionTable, AllocError>
+    ensures table { IfOk result (λ table. table_of table ≡ echoing_table) }
+    ensures one { IfOk result (λ table. length table.regions ≡ 1) }
+{
+    let tree = turn(alloc)?;
+    looping(alloc, tree, VarList::new(alloc))
+}
+
+/// A copy from one variable to another, above a tree.
+fn copied(
+    alloc: Global,
+    origin: u32,
+    dest: u32,
+    from: u32,
+    below: RegionTree,
+) -> Result<RegionTree, AllocError>
+    ensures { IfOk result (λ tree. table_tree tree ≡ Does origin (Copy dest (Name from)) (table_tree below)) }
+{
+    let item = Item::Copy {
+        dest,
+        from: Operand::Name(from),
+    };
+    let next = Box::new(alloc, below)?;
+    Ok(RegionTree::Step { origin, item, next })
+}
+
+/// The exchange of two variables, and the test of one.
+fn exchange(alloc: Global) -> Result<RegionTree, AllocError>
+    ensures { IfOk result (λ tree. table_tree tree ≡ exchange_tree) }
+{
+    let yes = Box::new(alloc, RegionTree::Next { region: 0 })?;
+    let no = Box::new(alloc, RegionTree::Stop)?;
+    let test = RegionTree::Test {
+        origin: 4,
+        on: Operand::Name(0),
+        yes,
+        no,
+    };
+    let tree = copied(alloc, 3, 1, 2, test)?;
+    let tree = copied(alloc, 2, 0, 1, tree)?;
+    let tree = copied(alloc, 1, 2, 0, tree)?;
+    Ok(tree)
+}
+
+/// A loop that prints a variable and exchanges it with another until it is 0, as a table of one region.
+fn exchanging(alloc: Global) -> Result<RegionTable, AllocError>
+    ensures table { IfOk result (λ table. table_of table ≡ exchanging_table) }
+    ensures one { IfOk result (λ table. length table.regions ≡ 1) }
+{
+    let tree = exchange(alloc)?;
+    let tree = RegionTree::Step {
+        origin: 0,
+        item: Item::Print {
+            value: Operand::Name(0),
+        },
+        next: Box::new(alloc, tree)?,
+    };
+    let live = VarList::from_vec(Vec::from_slice(alloc, &[0, 1])?);
+    looping(alloc, tree, live)
 }
 
 /// Whether some leaf of a row leads to this state.
@@ -175,5 +240,14 @@ fn a_loop_that_is_unwound_closes(rt: HostRuntime) -> Result<(), Fail> {
     let table = echoing(rt.alloc())?;
     assert_eq!(&rt; searched(rt.alloc(), &table, 2, 2), Found::Closed(2));
     assert_eq!(&rt; searched(rt.alloc(), &table, 4, 2), Found::Closed(2));
+    Ok(())
+}
+
+#[test]
+#[tactic(auto, using(crate::proofs::ExchangingKept::exchanging_keeps))]
+fn a_loop_that_exchanges_variables_leads_to_itself(rt: HostRuntime) -> Result<(), Fail> {
+    let table = exchanging(rt.alloc())?;
+    assert_eq!(&rt; searched(rt.alloc(), &table, 1, 1), Found::Open(1));
+    assert_eq!(&rt; searched(rt.alloc(), &table, 2, 1), Found::Closed(1));
     Ok(())
 }

@@ -60,13 +60,15 @@ pub record CanBringOn (table : Table) (w : Window) : Type 0 where
   pub names : w.next ≤ 2 ^ 30
   pub parts : PartsAreThere table (2 ^ 30) (whole w.front)
 
--- a window that waits after so many turns has no more names than these, and no higher tags
+-- more than the names that a window gets in a turn
 abbrev pub names_a_turn : ℕ
 names_a_turn = 4096
 
+-- more than its tags rise in a turn
 abbrev pub tags_a_turn : ℕ
 tags_a_turn = 32768
 
+-- a window that waits after so many turns has few items, names and tags
 pub record IsSmall (table : Table) (turns : ℕ) (w : Window) : Type 0 where
   pub size : tree_size (whole w.front) ≤ most_unwound
   pub names : w.next ≤ names_a_turn * turns
