@@ -1,0 +1,14 @@
+//! Filling, replayed by single moves.
+#![tactic(auto)]
+
+mod bounds;
+mod error;
+mod locating;
+mod raising;
+mod replaying;
+#[cfg(test)]
+mod tests;
+mod twins;
+
+pub use error::ReplayError;
+pub use replaying::replay;
