@@ -13,10 +13,13 @@ pub enum ReplayError {
     /// A single move was refused.
     #[error("a move is refused")]
     Refused { why: MoveError },
-    /// The window has too many items, tests, names or form variables, or they are not where they were
-    /// said to be.
+    /// The window has too many items, tests, names or form variables, or a leaf or place has too high
+    /// a number.
     #[error("the window is too large")]
     TooLarge,
+    /// What is ready is not behind the front.
+    #[error("what is ready was not found")]
+    NotFound,
     /// Memory ran out.
     #[error("out of memory")]
     Memory,

@@ -4,6 +4,8 @@
 mod bounds;
 mod error;
 mod locating;
+#[cfg(test)]
+mod program_tests;
 mod raising;
 mod replaying;
 #[cfg(test)]

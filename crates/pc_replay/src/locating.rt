@@ -97,9 +97,9 @@ fn find(
                 path,
             )
         }
-        WindowTree::Exit { .. } => Err(ReplayError::TooLarge),
-        WindowTree::Stop => Err(ReplayError::TooLarge),
-        WindowTree::Trap { .. } => Err(ReplayError::TooLarge),
+        WindowTree::Exit { .. } => Err(ReplayError::NotFound),
+        WindowTree::Stop => Err(ReplayError::NotFound),
+        WindowTree::Trap { .. } => Err(ReplayError::NotFound),
     }
 }
 

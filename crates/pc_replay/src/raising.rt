@@ -48,7 +48,7 @@ fn landing(window: &Window, parent: &[u16], leaf: u16) -> Result<u16, ReplayErro
         return Err(ReplayError::TooLarge);
     }
     match node_at(&window.tree, parent) {
-        None => Err(ReplayError::TooLarge),
+        None => Err(ReplayError::NotFound),
         Some(node) => numbered(place_above(node, leaf as u32)),
     }
 }

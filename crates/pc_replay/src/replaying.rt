@@ -30,7 +30,7 @@ fn bring_item(
 {
     let at = locate(alloc, &window.tree, ready.place, &[])?;
     let Some(leaf) = at.path.get(0).copied() else {
-        return Err(ReplayError::TooLarge);
+        return Err(ReplayError::NotFound);
     };
     let place = raise(alloc, window, &at.path, at.place)?;
     match twin_of(alloc, window, leaf, ready, item)? {
@@ -73,8 +73,11 @@ fn first(alloc: Global, window: &Window) -> Result<Option<ReadyNode>, ReplayErro
 }
 
 /// Fills a window's front by single moves: each item and test that filling would bring into it comes
-/// up node by node, and two that filling would make one become one. On `Err` some may have come, and
-/// the window is dropped.
+/// up node by node, and two that filling would make one become one.
+///
+/// It fails where a single move is refused. So it does where an item that comes has an equal one on
+/// the other side of a test, which may not come up to that test as it does; then filling leaves that
+/// one where it stands.
 #[tactic(auto, using(crate::proofs::Moved::moves))]
 pub fn replay(alloc: Global, window: Window) -> Result<Window, ReplayError>
     requires { IsProper (window_in window) }

@@ -4,6 +4,7 @@ ghost use Rattle.pc_word.specs.declared.item.Operand.TheVariants.{Lit};
 ghost use Rattle.pc_table.specs.Table.{table_of, table_tree, table_region, Does, Asks};
 ghost use Rattle.pc_window.specs.Steps.{IsProper};
 ghost use Rattle.pc_window.specs.StoredWindow.{window_in, IsJustOpened, InNodes};
+ghost use Rattle.pc_fill.specs.Fillable.{IsFillable};
 ghost use Rattle.pc_replay.specs.models.JumpingTrees.{sum_tree, over_print, over_test, test_over_print, two_sums, region_of, jumping_table};
 
 use super::*;
@@ -103,7 +104,7 @@ fn sums_on_both_sides(alloc: Global) -> Result<RegionTree, AllocError>
     ensures { IfOk result (λ tree. table_tree tree ≡ two_sums) }
 {
     let yes = sum_and_print(alloc)?;
-    let yes = does(alloc, 1, print(2), yes)?;
+    let yes = does(alloc, 5, print(2), yes)?;
     let no = sum_and_print(alloc)?;
     asks(alloc, 0, yes, no)
 }
@@ -170,28 +171,49 @@ fn key_of(alloc: Global, window: &Window) -> Result<WindowKey, ReplayError>
     Ok(key)
 }
 
-/// Whether a region's window is filled by single moves as it is filled at once, and is not as before.
+/// A window that was filled at once and by single moves.
+#[derive(Clone, Copy, Debug)]
+pub(crate) struct Compared {
+    /// Filling changed it.
+    pub(crate) changed: bool,
+    /// Both ways led to the same window, up to names.
+    pub(crate) alike: bool,
+}
+
+/// A window that is filled at once, and the same one by single moves.
+pub(crate) fn compare(alloc: Global, window: Window, same: Window) -> Result<Compared, ReplayError>
+    requires proper { IsProper (window_in window) }
+    requires fillable { IsFillable window }
+    requires same { IsProper (window_in same) }
+{
+    let before = key_of(alloc, &window)?;
+    let filled = fill(alloc, window)?;
+    let at_once = key_of(alloc, &filled)?;
+    let replayed = replay(alloc, same)?;
+    let by_moves = key_of(alloc, &replayed)?;
+    Ok(Compared {
+        changed: at_once.numbers.as_slice() != before.numbers.as_slice(),
+        alike: by_moves.numbers.as_slice() == at_once.numbers.as_slice(),
+    })
+}
+
+/// The same of a region's window.
 #[tactic(auto, using(pc_fill::proofs::Opened::opened_windows))]
-fn is_replayed(alloc: Global, table: &RegionTable, region: u32) -> Result<bool, ReplayError>
+fn compare_region(alloc: Global, table: &RegionTable, region: u32) -> Result<Compared, ReplayError>
     requires table { table_of table.now ≡ jumping_table }
     requires region { region < 4 }
 {
     let window = opened(alloc, table, region)?;
-    let before = key_of(alloc, &window)?;
-    let filled = fill(alloc, window)?;
-    let at_once = key_of(alloc, &filled)?;
-    let window = opened(alloc, table, region)?;
-    let replayed = replay(alloc, window)?;
-    let by_moves = key_of(alloc, &replayed)?;
-    let changed = at_once.numbers.as_slice() != before.numbers.as_slice();
-    Ok(changed && by_moves.numbers.as_slice() == at_once.numbers.as_slice())
+    let same = opened(alloc, table, region)?;
+    compare(alloc, window, same)
 }
 
-/// Whether each of the regions is.
+/// Whether each of the regions is changed by filling, and so by single moves.
 fn are_replayed(alloc: Global) -> Result<bool, ReplayError> {
     let table = four_regions(alloc)?;
     for region in 0..4 {
-        if !is_replayed(alloc, &table, region)? {
+        let compared = compare_region(alloc, &table, region)?;
+        if !compared.changed || !compared.alike {
             return Ok(false);
         }
     }

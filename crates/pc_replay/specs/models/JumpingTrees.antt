@@ -21,9 +21,9 @@ over_test = Asks 0 (Lit (pos 1)) (Asks 1 (Lit (pos 1)) sum_tree Stops_here) Stop
 abbrev pub test_over_print : TableTree
 test_over_print = Does 0 (Print (Lit (pos 1))) (Does 1 (Print (Lit (pos 2))) (Asks 2 (Lit (pos 1)) sum_tree Stops_here))
 
--- two sums become one above a test
+-- two sums become one above a test, of which one comes up over a print
 abbrev pub two_sums : TableTree
-two_sums = Asks 0 (Lit (pos 1)) (Does 1 (Print (Lit (pos 2))) sum_tree) sum_tree
+two_sums = Asks 0 (Lit (pos 1)) (Does 5 (Print (Lit (pos 2))) sum_tree) sum_tree
 
 -- a region
 abbrev pub region_of : TableTree → TableRegion
