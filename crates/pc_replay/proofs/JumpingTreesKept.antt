@@ -9,7 +9,7 @@ use Rattle.pc_table.specs.Table.{Table, TableTree, TableRegion, table_of, table_
 use Rattle.pc_word.specs.declared.item.Item.TheVariants.{Print}
 use Rattle.pc_word.specs.declared.item.Operand.TheVariants.{Lit}
 use Rattle.pc_table.specs.TableKeeps.{ItemIsThere, TreeIsThere, RegionKeeps, TableKeeps, ComesUntested, By_one, By_more, untested, needs, units}
-use Rattle.pc_replay.specs.models.JumpingTrees.{sum_tree, over_print, over_test, test_over_print, two_sums, region_of, jumping_table}
+use Rattle.pc_replay.specs.models.JumpingTrees.{sum_tree, load_tree, over_print, over_tests, test_over_print, two_sums, region_of, jumping_table}
 
 no_next : (region : ℕ) → untested (region_tree jumping_table region) ≡ None
 no_next zero = refl
@@ -23,27 +23,36 @@ no_cycle from to (By_one e) = absurd (let none : None ≡ Some to = sym (no_next
 no_cycle from to (By_more {mid = mid} c e) = absurd (let none : None ≡ Some to = sym (no_next mid) ∙ e in cc)
 
 -- no variable is needed
+written_first : (b : Bool) → (not b && (b || (true && false))) ≡ false
+written_first true = refl
+written_first false = refl
+
 sum_needs : (x : ℕ) → needs jumping_table sum_tree x ≡ false
-sum_needs x = by_test (nat_eq 1 x)
-  where
-    by_test : (b : Bool) → (not b && (b || (true && false))) ≡ false
-    by_test true = refl
-    by_test false = refl
+sum_needs x = written_first (nat_eq 1 x)
+
+load_needs : (x : ℕ) → needs jumping_table load_tree x ≡ false
+load_needs x = written_first (nat_eq 1 x)
 
 needs_none : (region x : ℕ) → needs jumping_table (region_tree jumping_table region) x ≡ false
 needs_none zero x = sum_needs x
-needs_none (suc zero) x = rw (sum_needs x) refl
+needs_none (suc zero) x = rw (load_needs x) refl
 needs_none (suc (suc zero)) x = rw (sum_needs x) refl
 needs_none (suc (suc (suc zero))) x = rw (sum_needs x) refl
 needs_none (suc (suc (suc (suc region)))) x = refl
 
-print_there : (n : ℕ) → ItemIsThere 0 (Print (Lit (pos n)))
+print_there : (n : ℕ) → ItemIsThere 1 (Print (Lit (pos n)))
 print_there n = record { reads = (tt, tt); writes = tt; array = tt }
 
-sum_there : TreeIsThere 0 4 sum_tree
+sum_there : TreeIsThere 1 4 sum_tree
 sum_there = (record { reads = (tt, (tt, tt)); writes = omega arith; array = tt }, (record { reads = (omega arith, tt); writes = tt; array = tt }, tt))
 
-tree_keeps : (tree : TableTree) → TreeIsThere 0 4 tree → units tree ≤ 128 → RegionKeeps jumping_table (region_of tree)
+load_there : TreeIsThere 1 4 load_tree
+load_there = (
+  record { reads = (tt, (tt, tt)); writes = tt; array = omega arith },
+  (record { reads = (tt, tt); writes = omega arith; array = omega arith }, (record { reads = (omega arith, tt); writes = tt; array = tt }, tt)),
+)
+
+tree_keeps : (tree : TableTree) → TreeIsThere 1 4 tree → units tree ≤ 128 → RegionKeeps jumping_table (region_of tree)
 tree_keeps tree there few = record {
   there = there;
   few = few;
@@ -57,8 +66,8 @@ region_keeps zero region e =
     let same : region_of over_print ≡ region = (cc) in
     subst (RegionKeeps jumping_table) same (tree_keeps over_print (print_there 1, (print_there 2, sum_there)) (omega arith))
 region_keeps (suc zero) region e =
-    let same : region_of over_test ≡ region = (cc) in
-    subst (RegionKeeps jumping_table) same (tree_keeps over_test (tt, (tt, sum_there, tt), tt) (omega arith))
+    let same : region_of over_tests ≡ region = (cc) in
+    subst (RegionKeeps jumping_table) same (tree_keeps over_tests (tt, (tt, (tt, load_there, tt), tt), tt) (omega arith))
 region_keeps (suc (suc zero)) region e =
     let same : region_of test_over_print ≡ region = (cc) in
     subst (RegionKeeps jumping_table) same (tree_keeps test_over_print (print_there 1, (print_there 2, (tt, sum_there, tt))) (omega arith))

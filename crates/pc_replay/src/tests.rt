@@ -5,7 +5,7 @@ ghost use Rattle.pc_table.specs.Table.{table_of, table_tree, table_region, Does,
 ghost use Rattle.pc_window.specs.Steps.{IsProper};
 ghost use Rattle.pc_window.specs.StoredWindow.{window_in, IsJustOpened, InNodes};
 ghost use Rattle.pc_fill.specs.Fillable.{IsFillable};
-ghost use Rattle.pc_replay.specs.models.JumpingTrees.{sum_tree, over_print, over_test, test_over_print, two_sums, region_of, jumping_table};
+ghost use Rattle.pc_replay.specs.models.JumpingTrees.{sum_tree, load_tree, over_print, over_tests, test_over_print, two_sums, region_of, jumping_table};
 
 use super::*;
 use crate::bounds::is_small;
@@ -79,11 +79,34 @@ fn sum_below_print(alloc: Global) -> Result<RegionTree, AllocError>
     does(alloc, 0, print(1), tree)
 }
 
-/// `if (1) if (1) { a = 3 + 1; print(a); }`.
-fn sum_below_test(alloc: Global) -> Result<RegionTree, AllocError>
-    ensures { IfOk result (λ tree. table_tree tree ≡ over_test) }
+/// `t[0] = 7; a = t[1]; print(a);`.
+fn load_and_print(alloc: Global) -> Result<RegionTree, AllocError>
+    ensures { IfOk result (λ tree. table_tree tree ≡ load_tree) }
 {
-    let tree = sum_and_print(alloc)?;
+    let store = Item::Store {
+        array: 0,
+        index: Operand::Lit(0),
+        value: Operand::Lit(7),
+    };
+    let load = Item::Load {
+        dest: 1,
+        array: 0,
+        index: Operand::Lit(1),
+    };
+    let print = Item::Print {
+        value: Operand::Name(1),
+    };
+    let tree = does(alloc, 5, print, RegionTree::Stop)?;
+    let tree = does(alloc, 4, load, tree)?;
+    does(alloc, 3, store, tree)
+}
+
+/// `if (1) if (1) if (1) { t[0] = 7; a = t[1]; print(a); }`.
+fn load_below_tests(alloc: Global) -> Result<RegionTree, AllocError>
+    ensures { IfOk result (λ tree. table_tree tree ≡ over_tests) }
+{
+    let tree = load_and_print(alloc)?;
+    let tree = asks(alloc, 2, tree, RegionTree::Stop)?;
     let tree = asks(alloc, 1, tree, RegionTree::Stop)?;
     asks(alloc, 0, tree, RegionTree::Stop)
 }
@@ -129,16 +152,18 @@ fn four_regions(alloc: Global) -> Result<RegionTable, AllocError>
     let mut regions = RegionList::new(alloc);
     let tree = sum_below_print(alloc)?;
     regions.push(region(alloc, tree))?;
-    let tree = sum_below_test(alloc)?;
+    let tree = load_below_tests(alloc)?;
     regions.push(region(alloc, tree))?;
     let tree = test_below_print(alloc)?;
     regions.push(region(alloc, tree))?;
     let tree = sums_on_both_sides(alloc)?;
     regions.push(region(alloc, tree))?;
+    let mut arrays = LengthList::new(alloc);
+    arrays.push(4)?;
     Ok(RegionTable {
         regions,
         loops: LoopList::new(alloc),
-        arrays: LengthList::new(alloc),
+        arrays,
     })
 }
 
