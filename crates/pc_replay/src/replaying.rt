@@ -1,8 +1,8 @@
 //! Filling by single moves.
-ghost use Rattle.std.specs.Prelude.{OnOk, IfOk};
+ghost use Rattle.std.specs.Prelude.{◌≡◌, None, OnOk, IfOk};
 ghost use Rattle.pc_window.specs.Steps.{IsProper};
 ghost use Rattle.pc_window.specs.StoredWindow.{window_in};
-ghost use Rattle.pc_replay.specs.Replaying.{ComesTo};
+ghost use Rattle.pc_replay.specs.Replaying.{ComesTo, NothingIsReady};
 
 use crate::bounds::is_small;
 use crate::error::ReplayError;
@@ -64,6 +64,7 @@ fn bring(alloc: Global, window: &mut Window, ready: ReadyNode) -> Result<(), Rep
 #[tactic(auto, using(crate::proofs::Moved::wholes))]
 fn first(alloc: Global, window: &Window) -> Result<Option<ReadyNode>, ReplayError>
     requires { IsProper (window_in window.now) }
+    ensures { IfOk result (λ found. found ≡ None → NothingIsReady window.now) }
 {
     if !is_small(window) {
         return Err(ReplayError::TooLarge);
@@ -73,7 +74,7 @@ fn first(alloc: Global, window: &Window) -> Result<Option<ReadyNode>, ReplayErro
 }
 
 /// Fills a window's front by single moves: each item and test that filling would bring into it comes
-/// up node by node, and two that filling would make one become one.
+/// up node by node, and two that filling would make one become one, until nothing is ready.
 ///
 /// It fails where a single move is refused. So it does where an item that comes has an equal one on
 /// the other side of a test, which may not come up to that test as it does; then filling leaves that
@@ -81,7 +82,8 @@ fn first(alloc: Global, window: &Window) -> Result<Option<ReadyNode>, ReplayErro
 #[tactic(auto, using(crate::proofs::Moved::moves))]
 pub fn replay(alloc: Global, window: Window) -> Result<Window, ReplayError>
     requires { IsProper (window_in window) }
-    ensures { IfOk result (λ later. ComesTo window later) }
+    ensures kept { IfOk result (λ later. ComesTo window later) }
+    ensures done { IfOk result NothingIsReady }
 {
     let mut window = window;
     for _ in 0..MOST_STEPS {
