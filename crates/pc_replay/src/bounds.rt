@@ -1,0 +1,59 @@
+//! Windows that are small enough for a move.
+ghost use Rattle.std.specs.Prelude.{◌≡◌, ◌<◌, ◌^◌, true, IfSome};
+ghost use Rattle.pc_window.specs.Tree.{tree_size};
+ghost use Rattle.pc_window.specs.StoredWindow.{tree_in};
+ghost use Rattle.pc_replay.specs.Replaying.{IsSmall};
+
+use crate::error::ReplayError;
+use pc_window::{Window, WindowTree};
+
+/// More than the items and tests that a window may have.
+const TOO_MANY: u32 = 1 << 30;
+
+/// A number that is not too large.
+fn few(number: u32) -> Option<u32>
+    ensures same { IfSome result (λ n. n ≡ number) }
+    ensures few { IfSome result (λ n. n < 2 ^ 30) }
+{
+    if number < TOO_MANY {
+        return Some(number);
+    }
+    None
+}
+
+/// The items and tests of a tree, where there are not too many.
+pub(crate) fn size(tree: &WindowTree) -> Option<u32>
+    ensures size { IfSome result (λ n. n ≡ tree_size (tree_in tree.now)) }
+    ensures few { IfSome result (λ n. n < 2 ^ 30) }
+{
+    match tree {
+        WindowTree::Step { rest, .. } => match size(rest) {
+            None => None,
+            Some(below) => few(1 + below),
+        },
+        WindowTree::Test { yes, no, .. } => match size(yes) {
+            None => None,
+            Some(on_yes) => match size(no) {
+                None => None,
+                Some(on_no) => few(1 + on_yes + on_no),
+            },
+        },
+        WindowTree::Node { below } => size(below),
+        WindowTree::Exit { .. } => Some(0),
+        WindowTree::Stop => Some(0),
+        WindowTree::Trap { .. } => Some(0),
+    }
+}
+
+/// Whether a window is small enough for a move.
+pub(crate) fn is_small(window: &Window) -> bool
+    ensures { (result ≡ true) → IsSmall window.now }
+{
+    if size(&window.tree).is_none() {
+        return false;
+    }
+    if window.names.forms.len() >= 1 << 31 {
+        return false;
+    }
+    window.names.next_variable < 1 << 31
+}

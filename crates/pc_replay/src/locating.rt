@@ -1,0 +1,127 @@
+//! Where items and tests stand in a window.
+ghost use Rattle.std.specs.Prelude.{◌≡◌, ◌<◌, ◌≤◌, ◌+◌, ◌^◌};
+ghost use Rattle.pc_window.specs.Tree.{tree_size};
+ghost use Rattle.pc_window.specs.StoredWindow.{tree_in};
+
+use crate::bounds::size;
+use crate::error::ReplayError;
+use crate::raising::numbered;
+use pc_moveop::{leaf_count, node_size};
+use pc_window::WindowTree;
+use std::alloc::{AllocError, Global};
+
+/// Where an item or test stands: the leaves that lead from the front to its node, and its place there.
+#[derive(Debug, Drop)]
+pub(crate) struct Location {
+    pub(crate) path: Vec<u16>,
+    pub(crate) place: u16,
+}
+
+/// How far a search in a node has come: how many items and tests, and how many leaves, were passed.
+#[derive(Clone, Copy, Debug)]
+struct Passed {
+    places: u32,
+    leaves: u32,
+}
+
+/// A path that goes on by one more leaf.
+fn go_on(path: &mut Vec<u16>, leaf: u16) -> Result<(), AllocError> {
+    path.push(leaf)?;
+    Ok(())
+}
+
+/// The place in its node of the item or test at a preorder place of a tree. Behind a leaf the path
+/// is longer.
+fn find(
+    tree: &WindowTree,
+    place: u32,
+    passed: Passed,
+    path: &mut Vec<u16>,
+) -> Result<u16, ReplayError>
+    requires small { tree_size (tree_in tree.now) < 2 ^ 30 }
+    requires places { passed.places + tree_size (tree_in tree.now) < 2 ^ 31 }
+    requires leaves { passed.leaves + tree_size (tree_in tree.now) < 2 ^ 31 }
+{
+    match tree {
+        WindowTree::Step { rest, .. } => {
+            if place == 0 {
+                return numbered(passed.places);
+            }
+            find(
+                rest,
+                place - 1,
+                Passed {
+                    places: passed.places + 1,
+                    ..passed
+                },
+                path,
+            )
+        }
+        WindowTree::Test { yes, no, .. } => {
+            if place == 0 {
+                return numbered(passed.places);
+            }
+            let Some(on_yes) = size(yes) else {
+                return Err(ReplayError::TooLarge);
+            };
+            if place - 1 < on_yes {
+                return find(
+                    yes,
+                    place - 1,
+                    Passed {
+                        places: passed.places + 1,
+                        ..passed
+                    },
+                    path,
+                );
+            }
+            find(
+                no,
+                place - 1 - on_yes,
+                Passed {
+                    places: passed.places + 1 + node_size(yes),
+                    leaves: passed.leaves + leaf_count(yes),
+                },
+                path,
+            )
+        }
+        WindowTree::Node { below } => {
+            go_on(path, numbered(passed.leaves)?)?;
+            find(
+                below,
+                place,
+                Passed {
+                    places: 0,
+                    leaves: 0,
+                },
+                path,
+            )
+        }
+        WindowTree::Exit { .. } => Err(ReplayError::NotFound),
+        WindowTree::Stop => Err(ReplayError::NotFound),
+        WindowTree::Trap { .. } => Err(ReplayError::NotFound),
+    }
+}
+
+/// Where the item or test at a preorder place of a tree stands; the tree is a node that a path leads
+/// to.
+pub(crate) fn locate(
+    alloc: Global,
+    tree: &WindowTree,
+    place: u32,
+    from: &[u16],
+) -> Result<Location, ReplayError> {
+    if size(tree).is_none() {
+        return Err(ReplayError::TooLarge);
+    }
+    let mut path = Vec::new(alloc);
+    for leaf in from {
+        go_on(&mut path, *leaf)?;
+    }
+    let nothing = Passed {
+        places: 0,
+        leaves: 0,
+    };
+    let place = find(tree, place, nothing, &mut path)?;
+    Ok(Location { path, place })
+}

@@ -1,0 +1,256 @@
+ghost use Rattle.std.specs.Prelude.{◌≡◌, ◌<◌, pos, true, IfOk};
+ghost use Rattle.pc_word.specs.declared.item.Item.TheVariants.{Print};
+ghost use Rattle.pc_word.specs.declared.item.Operand.TheVariants.{Lit};
+ghost use Rattle.pc_table.specs.Table.{table_of, table_tree, table_region, Does, Asks};
+ghost use Rattle.pc_window.specs.Steps.{IsProper};
+ghost use Rattle.pc_window.specs.StoredWindow.{window_in, IsJustOpened, InNodes};
+ghost use Rattle.pc_fill.specs.Fillable.{IsFillable};
+ghost use Rattle.pc_replay.specs.models.JumpingTrees.{sum_tree, load_tree, over_print, over_tests, test_over_print, two_sums, region_of, jumping_table};
+
+use super::*;
+use crate::bounds::is_small;
+use pc_canon::{WindowKey, key};
+use pc_fill::fill;
+use pc_table::{Region, RegionList, RegionTable, RegionTree, VarList};
+use pc_window::{Window, WindowError};
+use pc_word::{Item, LengthList, Limits, LoopList, OpCode, Operand};
+use std::alloc::{AllocError, Global};
+use std::test::Fail;
+
+/// An item above a tree.
+fn does(alloc: Global, origin: u32, item: Item, below: RegionTree) -> Result<RegionTree, AllocError>
+    ensures { IfOk result (λ tree. table_tree tree ≡ Does origin item (table_tree below)) }
+{
+    let next = Box::new(alloc, below)?;
+    Ok(RegionTree::Step { origin, item, next })
+}
+
+/// A test above two trees.
+fn asks(
+    alloc: Global,
+    origin: u32,
+    yes: RegionTree,
+    no: RegionTree,
+) -> Result<RegionTree, AllocError>
+    ensures { IfOk result (λ tree. table_tree tree ≡ Asks origin (Lit (pos 1)) (table_tree yes) (table_tree no)) }
+{
+    let yes = Box::new(alloc, yes)?;
+    let no = Box::new(alloc, no)?;
+    Ok(RegionTree::Test {
+        origin,
+        on: Operand::Lit(1),
+        yes,
+        no,
+    })
+}
+
+/// `a = 3 + 1; print(a);`.
+fn sum_and_print(alloc: Global) -> Result<RegionTree, AllocError>
+    ensures { IfOk result (λ tree. table_tree tree ≡ sum_tree) }
+{
+    let print = Item::Print {
+        value: Operand::Name(1),
+    };
+    let sum = Item::Bin {
+        op: OpCode::Add,
+        dest: 1,
+        left: Operand::Lit(3),
+        right: Operand::Lit(1),
+    };
+    let tree = does(alloc, 4, print, RegionTree::Stop)?;
+    does(alloc, 3, sum, tree)
+}
+
+/// The print of a number.
+fn print(value: i32) -> Item
+    ensures { result ≡ Print (Lit value) }
+{
+    Item::Print {
+        value: Operand::Lit(value),
+    }
+}
+
+/// `print(1); print(2); a = 3 + 1; print(a);`.
+fn sum_below_print(alloc: Global) -> Result<RegionTree, AllocError>
+    ensures { IfOk result (λ tree. table_tree tree ≡ over_print) }
+{
+    let tree = sum_and_print(alloc)?;
+    let tree = does(alloc, 1, print(2), tree)?;
+    does(alloc, 0, print(1), tree)
+}
+
+/// `t[0] = 7; a = t[1]; print(a);`.
+fn load_and_print(alloc: Global) -> Result<RegionTree, AllocError>
+    ensures { IfOk result (λ tree. table_tree tree ≡ load_tree) }
+{
+    let store = Item::Store {
+        array: 0,
+        index: Operand::Lit(0),
+        value: Operand::Lit(7),
+    };
+    let load = Item::Load {
+        dest: 1,
+        array: 0,
+        index: Operand::Lit(1),
+    };
+    let print = Item::Print {
+        value: Operand::Name(1),
+    };
+    let tree = does(alloc, 5, print, RegionTree::Stop)?;
+    let tree = does(alloc, 4, load, tree)?;
+    does(alloc, 3, store, tree)
+}
+
+/// `if (1) if (1) if (1) { t[0] = 7; a = t[1]; print(a); }`.
+fn load_below_tests(alloc: Global) -> Result<RegionTree, AllocError>
+    ensures { IfOk result (λ tree. table_tree tree ≡ over_tests) }
+{
+    let tree = load_and_print(alloc)?;
+    let tree = asks(alloc, 2, tree, RegionTree::Stop)?;
+    let tree = asks(alloc, 1, tree, RegionTree::Stop)?;
+    asks(alloc, 0, tree, RegionTree::Stop)
+}
+
+/// `print(1); print(2); if (1) { a = 3 + 1; print(a); }`.
+fn test_below_print(alloc: Global) -> Result<RegionTree, AllocError>
+    ensures { IfOk result (λ tree. table_tree tree ≡ test_over_print) }
+{
+    let tree = sum_and_print(alloc)?;
+    let tree = asks(alloc, 2, tree, RegionTree::Stop)?;
+    let tree = does(alloc, 1, print(2), tree)?;
+    does(alloc, 0, print(1), tree)
+}
+
+/// `if (1) { print(2); a = 3 + 1; print(a); } else { a = 3 + 1; print(a); }`, where both sums are of
+/// one node.
+fn sums_on_both_sides(alloc: Global) -> Result<RegionTree, AllocError>
+    ensures { IfOk result (λ tree. table_tree tree ≡ two_sums) }
+{
+    let yes = sum_and_print(alloc)?;
+    let yes = does(alloc, 5, print(2), yes)?;
+    let no = sum_and_print(alloc)?;
+    asks(alloc, 0, yes, no)
+}
+
+/// A region in no loop, at whose head nothing is live.
+fn region(alloc: Global, tree: RegionTree) -> Region
+    ensures { table_region result ≡ region_of (table_tree tree) }
+{
+    Region {
+        head: 0,
+        tree,
+        live: VarList::new(alloc),
+        inside: None,
+        heads: None,
+    }
+}
+
+/// The four, each as a region.
+fn four_regions(alloc: Global) -> Result<RegionTable, AllocError>
+    ensures { IfOk result (λ table. table_of table ≡ jumping_table) }
+{
+    let mut regions = RegionList::new(alloc);
+    let tree = sum_below_print(alloc)?;
+    regions.push(region(alloc, tree))?;
+    let tree = load_below_tests(alloc)?;
+    regions.push(region(alloc, tree))?;
+    let tree = test_below_print(alloc)?;
+    regions.push(region(alloc, tree))?;
+    let tree = sums_on_both_sides(alloc)?;
+    regions.push(region(alloc, tree))?;
+    let mut arrays = LengthList::new(alloc);
+    arrays.push(4)?;
+    Ok(RegionTable {
+        regions,
+        loops: LoopList::new(alloc),
+        arrays,
+    })
+}
+
+/// The window of a region. Its front has room for one test.
+#[tactic(auto, using(crate::proofs::JumpingTreesKept::jumping))]
+fn opened(alloc: Global, table: &RegionTable, region: u32) -> Result<Window, WindowError>
+    requires table { table_of table.now ≡ jumping_table }
+    requires region { region < 4 }
+    ensures proper { IfOk result (λ window. IsProper (window_in window)) }
+    ensures small { IfOk result (λ window. IsJustOpened window) }
+    ensures nodes { IfOk result (λ window. InNodes true window.tree) }
+{
+    let limits = Limits {
+        ops: 8,
+        tests: 1,
+        mem: 1,
+    };
+    Window::of_region(alloc, table, region, limits)
+}
+
+/// The key of a window that is not too large.
+#[tactic(auto, using(crate::proofs::Moved::wholes))]
+fn key_of(alloc: Global, window: &Window) -> Result<WindowKey, ReplayError>
+    requires { IsProper (window_in window.now) }
+{
+    if !is_small(window) {
+        return Err(ReplayError::TooLarge);
+    }
+    let key = key(alloc, window)?;
+    Ok(key)
+}
+
+/// A window that was filled at once and by single moves.
+#[derive(Clone, Copy, Debug)]
+pub(crate) struct Compared {
+    /// Filling changed it.
+    pub(crate) changed: bool,
+    /// Both ways led to the same window, up to names.
+    pub(crate) alike: bool,
+}
+
+/// A window that is filled at once, and the same one by single moves.
+pub(crate) fn compare(alloc: Global, window: Window, same: Window) -> Result<Compared, ReplayError>
+    requires proper { IsProper (window_in window) }
+    requires fillable { IsFillable window }
+    requires same { IsProper (window_in same) }
+{
+    let before = key_of(alloc, &window)?;
+    let filled = fill(alloc, window)?;
+    let at_once = key_of(alloc, &filled)?;
+    let replayed = replay(alloc, same)?;
+    let by_moves = key_of(alloc, &replayed)?;
+    Ok(Compared {
+        changed: at_once.numbers.as_slice() != before.numbers.as_slice(),
+        alike: by_moves.numbers.as_slice() == at_once.numbers.as_slice(),
+    })
+}
+
+/// The same of a region's window.
+#[tactic(auto, using(pc_fill::proofs::Opened::opened_windows))]
+fn compare_region(alloc: Global, table: &RegionTable, region: u32) -> Result<Compared, ReplayError>
+    requires table { table_of table.now ≡ jumping_table }
+    requires region { region < 4 }
+{
+    let window = opened(alloc, table, region)?;
+    let same = opened(alloc, table, region)?;
+    compare(alloc, window, same)
+}
+
+/// Whether each of the regions is changed by filling, and so by single moves.
+fn are_replayed(alloc: Global) -> Result<bool, ReplayError> {
+    let table = four_regions(alloc)?;
+    for region in 0..4 {
+        let compared = compare_region(alloc, &table, region)?;
+        if !compared.changed || !compared.alike {
+            return Ok(false);
+        }
+    }
+    Ok(true)
+}
+
+#[test]
+fn filling_comes_about_by_single_moves(rt: HostRuntime) -> Result<(), Fail> {
+    let is_so = match are_replayed(rt.alloc()) {
+        Ok(is_so) => is_so,
+        Err(_) => false,
+    };
+    assert!(&rt; is_so);
+    Ok(())
+}
