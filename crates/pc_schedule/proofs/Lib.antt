@@ -1,0 +1,4 @@
+pub mod Costs
+pub mod Needs
+pub mod Places
+pub mod Paces
