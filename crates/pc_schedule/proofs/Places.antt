@@ -32,7 +32,7 @@ use Rattle.pc_copies.specs.Moves.{after_rows}
 use Rattle.pc_emit.specs.Registers.{register_of, argument_moves, home_moves}
 use Rattle.pc_emit.specs.Emitted.{Emission, RegionForm, Plain, Packed, root_leaf, form_leaf, leads_to_state, leads_to_region, ends_here, traps_here}
 use Rattle.pc_emit.specs.Emitted.{BeginsAt, at_first_row, by_leaf_alone}
-use Rattle.pc_emit.specs.Emitted.{LeadsBehind, to_item, to_test, to_region, to_end, to_trap, TreeStands, item_row, test_row, no_end_row, no_trap_row, IsEmitted}
+use Rattle.pc_emit.specs.Emitted.{LeadsBehind, to_item, to_test, to_region, to_end, to_trap, TreeStands, item_row, test_row, no_row, no_end_row, no_trap_row, IsEmitted}
 use Rattle.pc_emit.specs.PackedForm.{IsPackedForm, IsForm}
 use Rattle.pc_emit.specs.Laws.{code_with}
 use Rattle.pc_emit.proofs.Rows.{LeafHolds, OutcomeStands, both_fault, both_commit}
