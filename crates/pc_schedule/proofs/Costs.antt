@@ -1,13 +1,12 @@
 -- The rows of copies behind a leaf are no more than the leaf's cost allows.
-use Rattle.std.proofs.Common.{◌≡◌, ℕ, zero, suc, ◌+◌, ◌*◌, ◌≤◌, List, [], ◌∷◌, length, refl, ap, arith}
+use Rattle.std.proofs.Common.{◌≡◌, ℕ, zero, suc, ◌+◌, ◌*◌, ◌≤◌, List, [], ◌∷◌, length, refl, arith}
 use Rattle.std.specs.Prelude.{Bool, true, false, if◌then◌else◌, nat_le}
 use Rattle.std.specs.List.{AllByRecursion}
-use Rattle.std.proofs.lemmas.List.{length-map}
 use Rattle.pc_word.specs.declared.item.Operand.{Operand}
 use Rattle.pc_window.specs.declared.home.Home.{Home}
 use Rattle.pc_copies.specs.declared.moves.Move.{Move}
-use Rattle.pc_copies.specs.Moves.{kept, IsCopyRow, copies_in, IsArranged}
-use Rattle.pc_emit.specs.Registers.{in_register, argument_moves, home_moves}
+use Rattle.pc_copies.specs.Moves.{IsCopyRow, copies_in, IsArranged}
+use Rattle.pc_emit.specs.Registers.{argument_moves, home_moves}
 use Rattle.pc_emit.proofs.FewCopies.{kept_few, copies_few}
 use Rattle.pc_schedule.specs.ScheduleRun.{passing_cost}
 

@@ -1,6 +1,6 @@
 -- States that agree on what a tree needs agree, behind its item or test, on what is needed there.
-use Rattle.std.proofs.Common.{◌≡◌, ℕ, List, [], ◌∷◌, refl, ap}
-use Rattle.std.specs.Prelude.{ℤ, pos, true, ◌||◌, ◌&&◌, not}
+use Rattle.std.proofs.Common.{◌≡◌, ℕ, [], ◌∷◌, ap}
+use Rattle.std.specs.Prelude.{pos, true, ◌||◌, ◌&&◌, not}
 use Rattle.pc_word.specs.declared.item.Item.{Item}
 use Rattle.pc_word.specs.declared.item.Operand.{Operand}
 use Rattle.pc_word.specs.State.{State}

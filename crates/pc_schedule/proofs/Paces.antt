@@ -1,6 +1,5 @@
 -- Emitted rows keep pace with the schedule of their forms, and so does a code after its tightening.
-use Rattle.std.proofs.Common.{◌≡◌, ℕ, zero, suc, ◌+◌, ◌≤◌, List, [], Option, Some, refl, sym, ◌∙◌, ap, subst, arith}
-use Rattle.std.specs.Prelude.{ℤ}
+use Rattle.std.proofs.Common.{◌≡◌, ℕ, zero, suc, ◌+◌, List, [], Option, Some, refl, sym, subst, arith}
 use Rattle.pc_word.specs.declared.item.Limits.{Limits}
 use Rattle.pc_word.specs.State.{State, start_state}
 use Rattle.pc_word.specs.Run.{Run, Seen, Step, Goes, Answers, after_printing, seen_of, run_from}
@@ -9,7 +8,7 @@ use Rattle.pc_table.specs.Table.{region_tree}
 use Rattle.pc_table.specs.TableKeeps.{TableKeeps}
 use Rattle.pc_table.specs.Laws.{AlikeAtHead}
 use Rattle.pc_window.proofs.Paces.{answer_of_answer}
-use Rattle.pc_machine.specs.MachineCode.{Leaf, Leads_to, CodeRow, RowCode}
+use Rattle.pc_machine.specs.MachineCode.{Leaf, Leads_to, CodeRow}
 use Rattle.pc_machine.specs.MachineRun.{machine_run}
 use Rattle.pc_emit.specs.Emitted.{Emission, RegionForm, Plain, Packed, form_leaf, BeginsAtFirstRow, IsEmitted}
 use Rattle.pc_emit.specs.PackedForm.{IsForm}

@@ -1,6 +1,6 @@
 -- Where the machine is at the rows of a schedule's place, a step of the schedule is no more cycles than it costs, and leads to where
 -- the machine is at the rows of the next place.
-use Rattle.std.proofs.Common.{◌≡◌, ℕ, zero, suc, ◌+◌, ◌≤◌, List, [], ◌∷◌, length, Option, Some, None, refl, sym, ◌∙◌, ap, subst, arith}
+use Rattle.std.proofs.Common.{◌≡◌, ℕ, suc, ◌+◌, ◌≤◌, List, [], ◌∷◌, length, Option, Some, None, refl, sym, ◌∙◌, ap, subst, arith}
 use Rattle.std.specs.Prelude.{ℤ, Bool, true, false, if◌then◌else◌, nat_eq, slice_get}
 use Rattle.std.specs.List.{list_any}
 use Rattle.pc_word.specs.declared.item.Item.{Item}
@@ -14,7 +14,7 @@ use Rattle.pc_word.specs.Items.{operand_value}
 use Rattle.pc_word.specs.Commit.{fault_of, prints_of, state_after}
 use Rattle.pc_word.specs.Row.{Then, Either, At_leaf, RowOutcome, commit_of, row_step}
 use Rattle.pc_word.specs.Run.{Run, Seen, Step, Goes, Stops, after_printing, seen_of, run_from}
-use Rattle.pc_table.specs.Table.{TableTree, Does, Asks, Next, Stops_here, Traps_here, region_tree, region_live}
+use Rattle.pc_table.specs.Table.{TableTree, Does, Asks, region_tree, region_live}
 use Rattle.pc_table.specs.RegionRun.{lead_on}
 use Rattle.pc_table.specs.TableKeeps.{TableKeeps, units}
 use Rattle.pc_table.specs.Laws.{AlikeAtHead}

@@ -1,5 +1,5 @@
 -- That a code keeps pace with a schedule.
-use Rattle.std.specs.Prelude.{◌≡◌, ℕ, ℤ, List, Option, Some}
+use Rattle.std.specs.Prelude.{ℕ, ℤ, List, Option}
 use Rattle.pc_word.specs.Run.{Answers}
 use Rattle.pc_table.specs.Table.{Table}
 use Rattle.pc_machine.specs.MachineCode.{RowCode}

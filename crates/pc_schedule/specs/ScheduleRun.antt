@@ -1,6 +1,6 @@
 -- The schedule of a table's regions in their forms: a row of an automaton at a time in a region that has one, an item or test at a
 -- time in a plain one; and how many cycles it may cost.
-use Rattle.std.specs.Prelude.{ℕ, zero, suc, ◌+◌, ◌*◌, ℤ, Bool, if◌then◌else◌, nat_le, List, [], length, Option, Some, None, slice_get}
+use Rattle.std.specs.Prelude.{ℕ, zero, suc, ◌+◌, ◌*◌, ℤ, if◌then◌else◌, nat_le, List, [], length, Option, Some, None, slice_get}
 use Rattle.pc_word.specs.declared.item.End.TheVariants.{Ended, Trapped, Fault}
 use Rattle.pc_word.specs.Run.{Run, Step, Goes, Stops, run_from}
 use Rattle.pc_word.specs.State.{State, start_state}
@@ -40,7 +40,7 @@ module _ (table : Table) (forms : ℕ → Option RegionForm) where
   behind Stops_here s = At_tree Stops_here s
   behind (Traps_here kind line) s = At_tree (Traps_here kind line) s
 
-  -- one item or test of a plain region
+  -- one item or test of a plain region, or the stop or trap at its end
   abbrev pub tree_step : TableTree → State → Step SchedulePlace
   tree_step (Does origin item rest) s = lead_on (item_step table.arrays item rest s) behind
   tree_step (Asks origin on on_yes on_no) s = Goes [] (behind (side_of (operand_value s.names on) on_yes on_no) s)
@@ -56,11 +56,12 @@ module _ (table : Table) (forms : ℕ → Option RegionForm) where
   leaf_step region states out new Stop = Stops out Ended
   leaf_step region states out new (Trap kind line) = Stops out (Trapped kind line)
 
-  -- one row of a state
+  -- a row that was done leads on, and a fault ends the run
   abbrev pub outcome_step : (region : ℕ) → List AutomatonState → RowOutcome AutomatonLeaf → Step SchedulePlace
   outcome_step region states (Faults fault) = Stops [] (Fault fault)
   outcome_step region states (Commits out new leaf) = leaf_step region states out new leaf
 
+  -- the row of a state; a number that no state has, which no leaf of an automaton names, ends
   abbrev pub state_step : (region : ℕ) → List AutomatonState → Option AutomatonState → State → Step SchedulePlace
   state_step region states (Some state) s = outcome_step region states (row_step table.arrays state.row s)
   state_step region states None s = Stops [] Ended
@@ -100,7 +101,7 @@ abbrev pub state_cost : (lengths : List ℕ) (ops : ℕ) → Option AutomatonSta
 state_cost lengths ops (Some state) s = outcome_cost ops (row_step lengths state.row s)
 state_cost lengths ops None s = 1
 
--- the cycles of a step: one for an item or test of a plain region, and one for its entry
+-- the cycles of a step: in a plain region one for its entry and one for each item, test, stop and trap; else those of a row
 abbrev pub step_cost : (lengths : List ℕ) (ops : ℕ) → SchedulePlace → ℕ
 step_cost lengths ops (Before region s) = 1
 step_cost lengths ops (At_tree tree s) = 1
