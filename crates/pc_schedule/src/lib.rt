@@ -1,5 +1,5 @@
-//! What a program of regions costs on the machine: the run of the schedule that the forms of its
-//! regions are, its cost in cycles, and that emitted and tightened codes keep pace with it.
+//! The schedule of a table's regions in their forms: its run, what it may cost in cycles, and that
+//! emitted code keeps pace with it, and tightened code too.
 #![tactic(auto)]
 
 mod laws;
