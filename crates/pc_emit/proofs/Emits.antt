@@ -20,7 +20,7 @@ use Rattle.pc_machine.specs.WellFormed.{IsLeaf, IsRow}
 use Rattle.pc_machine.specs.Reachable.{IsReachable}
 use Rattle.pc_emit.specs.declared.form.RegionForm.{RegionForm as StoredForm}
 use Rattle.pc_emit.specs.Bytes.{tree_bytes, row_bytes, states_bytes, form_bytes, regions_bytes}
-use Rattle.pc_emit.specs.Emitted.{RegionForm, Plain, Packed, root_leaf, form_leaf, BeginsAt, at_first_row, by_leaf_alone, IsEmitted}
+use Rattle.pc_emit.specs.Emitted.{RegionForm, Plain, Packed, root_leaf, form_leaf, BeginsAt, at_first_row, by_leaf_alone, BeginsAtFirstRow, IsEmitted}
 use Rattle.pc_emit.specs.Emitting.{form_in, forms_in, CanHave, AreEmitted, AreForms}
 use Rattle.pc_emit.specs.declared.output.Output.{Output}
 use Rattle.pc_emit.specs.declared.plan.Plan.{Plan}
@@ -300,6 +300,12 @@ module _ (plan : Plan) (is : IsPlan plan) (old new : Output) (rows : List CodeRo
       let other = length-map new.copies.items row_of in
       omega (arith, all, both, one, other)
 
+  -- nothing stands in front of region 0 where it is packed
+  first_row : BeginsAtFirstRow (emission_in plan)
+  first_row states registers e =
+      let first = is.entries.first ∙ ap (λ (f : Option RegionForm). length (front_rows (region_tree (table_in plan) 0) f)) e in
+      omega (arith, first)
+
   pub all_emitted : IsEmitted (emission_in plan) rows
   all_emitted = record {
     first = form_leaf (emission_in plan) 0 is.forms.first.form;
@@ -330,10 +336,7 @@ module _ (plan : Plan) (is : IsPlan plan) (old new : Output) (rows : List CodeRo
 
       begins : (form : RegionForm) → forms_at plan 0 ≡ Some form → BeginsAt rows (form_leaf (emission_in plan) 0 form)
       begins Plain e = by_tree (region_tree (table_in plan) 0) refl (roots (table_in plan) is.kept 0) e
-      begins (Packed states registers) e =
-          let first = is.entries.first ∙ ap (λ (f : Option RegionForm). length (front_rows (region_tree (table_in plan) 0) f)) e in
-          let none : entry + 0 ≡ 0 = omega (arith, first) in
-          subst (λ (n : ℕ). BeginsAt rows (Leads_to n)) (sym none) at_first_row
+      begins (Packed states registers) e = subst (λ (n : ℕ). BeginsAt rows (Leads_to n)) (sym (first_row states registers e)) at_first_row
 
   -- a row is one of a region, or of copies
   by_part : (P : ℕ → Type 0) → ((number : ℕ) → number < rows_end plan → P number)
@@ -388,7 +391,7 @@ module _ (plan : Plan) (is : IsPlan plan) (old new : Output) (rows : List CodeRo
       empty (tree ∷ trees) e = absurd (omega (arith, e))
 
   pub are_emitted : AreEmitted (table_in plan) plan.forms.now plan.limits rows
-  are_emitted = record { entries = plan.entries.now; are = all_emitted; some = some; fit = fit; reached = reached; short = short }
+  are_emitted = record { entries = plan.entries.now; are = all_emitted; first_row = first_row; some = some; fit = fit; reached = reached; short = short }
 
 -- ---- what the code reads
 

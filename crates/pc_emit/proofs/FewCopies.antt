@@ -13,7 +13,7 @@ use Rattle.pc_copies.specs.declared.moves.Move.{Move}
 use Rattle.pc_copies.specs.Moves.{is_name, kept, copy_of, IsCycle, IsAmong, joined, AreCopies}
 
 -- no more moves are kept than there are
-kept_few : (moves : List Move) → length (kept moves) ≤ length moves
+pub kept_few : (moves : List Move) → length (kept moves) ≤ length moves
 kept_few [] = omega arith
 kept_few (move ∷ moves) = by_test (is_name move.from move.dest) (kept_few moves)
   where

@@ -118,7 +118,7 @@ module _ (e : Emission) (keeps : TableKeeps e.table) (limits : Limits) (rows : L
     -- ---- where a leaf leads
 
     -- the next state is there, and its parameters have their values behind the copies
-    next_stands : (of : ℕ → ℕ) (s m : State) (number : ℕ) (arguments : List Operand) (leaf : Leaf) → Takes (slice_get states number) (length arguments)
+    pub next_stands : (of : ℕ → ℕ) (s m : State) (number : ℕ) (arguments : List Operand) (leaf : Leaf) → Takes (slice_get states number) (length arguments)
         → LeafHolds of (To number arguments) s m
         → (moves : Moves e rows leaf (argument_moves of (register_of (registers number)) (state_parameters (slice_get states number)) arguments) (Leads_to (e.places.state region number)))
         → StandsAt number (passed_state s (state_parameters (slice_get states number)) arguments) (after_rows table.arrays moves.copies m)

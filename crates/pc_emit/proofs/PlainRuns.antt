@@ -101,7 +101,7 @@ module _ (e : Emission) (keeps : TableKeeps e.table) (limits : Limits) (rows : L
         )
 
   -- the side of a test
-  test_shown : (row : ℕ) (on : Operand) (yes_leaf no_leaf : Leaf) (m : State) (n : ℕ) → slice_get rows row ≡ Some (Either on (At_leaf yes_leaf) (At_leaf no_leaf))
+  pub test_shown : (row : ℕ) (on : Operand) (yes_leaf no_leaf : Leaf) (m : State) (n : ℕ) → slice_get rows row ≡ Some (Either on (At_leaf yes_leaf) (At_leaf no_leaf))
       → shown (Leads_to row) m (suc n) ≡ shown (if holds (operand_value m.names on) then yes_leaf else no_leaf) m n
   test_shown row on yes_leaf no_leaf m n there =
       row_seen (code e keeps limits rows) row (Either on (At_leaf yes_leaf) (At_leaf no_leaf)) m n there ∙ by_test (holds (operand_value m.names on))

@@ -135,6 +135,11 @@ pub data BeginsAt (rows : List CodeRow) : Leaf → Type 0 where
   at_first_row : BeginsAt rows (Leads_to 0)
   by_leaf_alone : {leaf : Leaf} → slice_get rows 0 ≡ Some (At_leaf leaf) → BeginsAt rows leaf
 
+-- row 0 is the first row of region 0, if this is packed
+abbrev pub BeginsAtFirstRow : Emission → Type 0
+BeginsAtFirstRow e =
+    (states : List AutomatonState) (registers : ℕ → ℕ → Option ℕ) → e.forms 0 ≡ Some (Packed states registers) → e.places.state 0 0 ≡ 0
+
 -- the rows of a code: those of each region that has a form, region 0 among them
 pub record IsEmitted (e : Emission) (rows : List CodeRow) : Type 0 where
   pub first : Leaf

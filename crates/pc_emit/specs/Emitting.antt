@@ -20,7 +20,7 @@ use Rattle.pc_machine.specs.Reachable.{IsReachable}
 use Rattle.pc_object.specs.ObjectText.{row_text}
 use Rattle.pc_emit.specs.declared.form.RegionForm.{RegionForm as StoredForm}
 use Rattle.pc_emit.specs.declared.form.RegionForm.TheVariants as stored
-use Rattle.pc_emit.specs.Emitted.{RegionForm, Plain, Packed, Emission, IsEmitted}
+use Rattle.pc_emit.specs.Emitted.{RegionForm, Plain, Packed, Emission, BeginsAtFirstRow, IsEmitted}
 use Rattle.pc_emit.specs.Leading.{IsMet}
 use Rattle.pc_emit.specs.Bytes.{regions_bytes, object_bytes}
 
@@ -53,6 +53,7 @@ emission_of table forms entries ops = record {
 pub record AreEmitted (table : Table) (forms : List (Option StoredForm)) (limits : Limits) (rows : List CodeRow) : Type 0 where
   pub entries : List ℕ
   pub are : IsEmitted (emission_of table forms entries limits.ops) rows
+  pub first_row : BeginsAtFirstRow (emission_of table forms entries limits.ops)
   pub some : 1 ≤ length rows
   pub fit : AllByRecursion (IsRow limits (length table.arrays) (length rows)) rows
   pub reached : (row : ℕ) → row < length rows → IsReachable rows row

@@ -1,8 +1,8 @@
 -- What the automaton of a packed region keeps, with registers for its names.
-use Rattle.std.specs.Prelude.{◌≡◌, ℕ, List, Option, Some, slice_get}
-use Rattle.std.specs.List.{AllByRecursion}
+use Rattle.std.specs.Prelude.{◌≡◌, ℕ, true, nat_eq, List, Option, Some, slice_get}
+use Rattle.std.specs.List.{AllByRecursion, list_any}
 use Rattle.pc_word.specs.State.{State}
-use Rattle.pc_table.specs.Table.{Table, Next}
+use Rattle.pc_table.specs.Table.{Table, Next, region_live}
 use Rattle.pc_table.specs.RegionRun.{region_run}
 use Rattle.pc_window.specs.Kept.{NeverFaults}
 use Rattle.pc_automaton.specs.Automaton.{AutomatonState, IsAutomaton}
@@ -11,14 +11,15 @@ use Rattle.pc_automaton.specs.RunsAsRegion.{RunsAlike, LeadsUntested}
 use Rattle.pc_assign.specs.Apart.{IsApart}
 use Rattle.pc_emit.specs.Emitted.{RegionForm, Plain, Packed}
 
--- the automaton of a region, and registers for its names: names that are live together have different ones, and each variable
--- that the first state is passed is in the register of its number
+-- the automaton of a region, and registers for its names: names that are live together have different ones, and the first state
+-- is passed variables that are live at the region's head, each in the register of its number
 pub record IsPackedForm (table : Table) (region : ℕ) (states : List AutomatonState) (registers : ℕ → ℕ → Option ℕ) : Type 0 where
   pub automaton : IsAutomaton states
   pub first : AutomatonState
   pub is_first : slice_get states 0 ≡ Some first
   pub runs : (s : State) → NeverFaults (region_run table (Next region) s) → RunsAlike table region states first s
   pub untested : LeadsUntested table region first.row
+  pub live : AllByRecursion (λ variable. list_any (nat_eq variable) (region_live table region) ≡ true) first.parameters
   pub variables : AllByRecursion (λ variable. registers 0 variable ≡ Some variable) first.parameters
   pub apart : (number : ℕ) (state : AutomatonState) → slice_get states number ≡ Some state → IsApart (registers number) state
   pub there : AllByRecursion (StateIsThere table) states

@@ -1,0 +1,5 @@
+pub mod Costs
+pub mod Needs
+pub mod Places
+pub mod Paces
+pub mod Worked

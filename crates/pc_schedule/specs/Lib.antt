@@ -1,0 +1,3 @@
+pub mod ScheduleRun
+pub mod Pace
+pub mod Laws
