@@ -41,11 +41,12 @@ use Rattle.pc_emit.specs.declared.form.RegionForm.{RegionForm as StoredForm}
 use Rattle.pc_emit.specs.Bytes.{object_bytes}
 use Rattle.pc_emit.specs.Emitting.{forms_in, emission_of, AreEmitted}
 use Rattle.pc_emit.proofs.Emissions.{emitted_rows_do}
+use Rattle.pc_schedule.proofs.Paces.{emitted_rows_keep_pace, tightened_codes_keep_pace}
 use Rattle.pc_choose.specs.declared.choice.Choice.{Choice}
 use Rattle.pc_choose.specs.Choosing.{AreChosen}
 use Rattle.pc_choose.proofs.Emittable.{are_forms, form_is}
 use Rattle.pc_compile.specs.Notes.{notes_of}
-use Rattle.pc_compile.specs.Compiled.{code_with, IsCompiled}
+use Rattle.pc_compile.specs.Compiled.{loose_code, IsCompiled}
 use Rattle.pc_compile.specs.models.Counts.{all_units}
 use Rattle.pc_compile.specs.models.Made.{IsObjectOf}
 use Rattle.pc_compile.proofs.Origins.{few_units, few_regions}
@@ -114,7 +115,7 @@ is_compiled program limits extent first flow table forms choices object fine low
     let emitted = made.emitted in
     let tightened = made.tightened in
     let e = emission_of table forms emitted.entries limits.ops in
-    let loose = code_with limits table.arrays made.loose in
+    let loose = loose_code limits table.arrays made.loose in
     let same_arrays = cut.arrays ∙ kept.same_arrays ∙ lowered.arrays in
     let plain = all_plain_is_short program first flow table lowered kept cut keeps in
     let may = are_forms table keeps limits extent plain choices (forms_in forms) chosen in
@@ -155,24 +156,27 @@ is_compiled program limits extent first flow table forms choices object fine low
       reached = tightened.reachable reachable;
       compact = tightened.compact reachable;
       no_goto_alone = tightened.no_goto_alone;
+      pace = λ input words.
+          tightened_codes_keep_pace table (forms_in forms) loose object.code tightened input (never_faults program (machine_run loose) of_loose input words)
+          (emitted_rows_keep_pace e keeps limits made.loose refl emitted.are emitted.first_row each input);
       notes = made.notes;
     }
 
 -- rows that were emitted may be tightened
 pub loose_is_well_formed : (table : Table) (forms : List (Option StoredForm)) (limits : Limits) (arrays : List ℕ) (rows : List CodeRow) → AreLimits limits
-    → AreArrays table.arrays → arrays ≡ table.arrays → AreEmitted table forms limits rows → WellFormed (code_with limits arrays rows)
+    → AreArrays table.arrays → arrays ≡ table.arrays → AreEmitted table forms limits rows → WellFormed (loose_code limits arrays rows)
 loose_is_well_formed table forms limits arrays rows fine sized same emitted =
-    subst (λ (l : List ℕ). WellFormed (code_with limits l rows)) (sym same)
+    subst (λ (l : List ℕ). WellFormed (loose_code limits l rows)) (sym same)
     (record { limits = fine; arrays = sized; entry = emitted.some; rows = emitted.fit })
 
 -- a code that was tightened, with these notes, is the object of a table in forms that were chosen
 pub made_object : (table : Table) (limits : Limits) (forms given : List (Option StoredForm)) (choices noted : List Choice) (arrays : List ℕ)
     (rows : List CodeRow) (code : RowCode) (notes : List Note) → arrays ≡ table.arrays → notes ≡ notes_of table noted → noted ≡ choices
-    → AreEmitted table given limits rows → given ≡ forms → IsTightened (code_with limits arrays rows) code
+    → AreEmitted table given limits rows → given ≡ forms → IsTightened (loose_code limits arrays rows) code
     → IsObjectOf table forms choices limits (record { code = code; notes = notes })
 made_object table limits forms given choices noted arrays rows code notes same_arrays are same emitted same_forms tightened = record {
   loose = rows;
   emitted = subst (λ (l : List (Option StoredForm)). AreEmitted table l limits rows) same_forms emitted;
-  tightened = subst (λ (l : List ℕ). IsTightened (code_with limits l rows) code) same_arrays tightened;
+  tightened = subst (λ (l : List ℕ). IsTightened (loose_code limits l rows) code) same_arrays tightened;
   notes = are ∙ ap (λ (l : List Choice). notes_of table l) same;
 }

@@ -1,9 +1,10 @@
 -- What the object of a program is, and when there is none.
-use Rattle.std.specs.Prelude.{◌≡◌, ℕ, ◌<◌, ◌≤◌, min, List, Option}
+use Rattle.std.specs.Prelude.{◌≡◌, ℕ, ◌<◌, ◌≤◌, min, ℤ, List, All, Option}
 use Rattle.pc_word.specs.declared.item.Extent.{Extent}
 use Rattle.pc_word.specs.declared.item.Limits.{Limits}
 use Rattle.pc_word.specs.Run.{AgreeOnInputs}
 use Rattle.pc_word.specs.SourceLimits.{most_nodes}
+use Rattle.pc_word.specs.Word.{IsWord}
 use Rattle.pc_syntax.specs.Source.{ResolvedProgram}
 use Rattle.pc_meaning.specs.SourceRun.{source_run}
 use Rattle.pc_flow.specs.FlowGraph.{FlowGraph}
@@ -19,20 +20,22 @@ use Rattle.pc_tighten.specs.Tightened.{EachIsReachable, IsTightened}
 use Rattle.pc_object.specs.ObjectText.{CodeWithNotes, IsObject}
 use Rattle.pc_emit.specs.declared.form.RegionForm.{RegionForm}
 use Rattle.pc_emit.specs.Emitting.{forms_in, AreEmitted}
+use Rattle.pc_schedule.specs.Pace.{KeepsPaceOn}
 use Rattle.pc_choose.specs.declared.choice.Choice.{Choice}
 use Rattle.pc_choose.specs.Choosing.{AreChosen}
 use Rattle.pc_compile.specs.Notes.{notes_of}
 use Rattle.pc_compile.specs.declared.error.CompileError.{CompileError}
 use Rattle.pc_compile.specs.declared.error.CompileError.TheVariants.{TooLarge, Memory}
 
--- a code of rows, with limits and arrays
-abbrev pub code_with : Limits → (arrays : List ℕ) → List CodeRow → RowCode
-code_with limits arrays rows = record { limits = limits; arrays = arrays; rows = rows }
+-- the code of rows that are not tightened yet
+abbrev pub loose_code : Limits → (arrays : List ℕ) → List CodeRow → RowCode
+loose_code limits arrays rows = record { limits = limits; arrays = arrays; rows = rows }
 
 -- The object does what the program does, for every input of words, and may be written; it has the given limits and the
 -- program's arrays. The table is the cut of the graph, which passes made of the program's. Each region that is led to from
 -- region 0 got the first form that was not refused. The code is that of the regions' rows in their forms, tightened: it is
--- compact, leaves lead to each row from row 0, and no row but row 0 is a goto alone. The notes tell the forms of the loops.
+-- compact, leaves lead to each row from row 0, and no row but row 0 is a goto alone; and on every input of words it keeps pace
+-- with the schedule of the regions in their forms. The notes tell the forms of the loops.
 pub record IsCompiled (program : ResolvedProgram) (limits : Limits) (extent : Extent) (flow : FlowGraph) (table : Table) (choices : List Choice) (object : CodeWithNotes)
     : Type 0 where
   pub agree : AgreeOnInputs (source_run program) (machine_run object.code)
@@ -47,10 +50,11 @@ pub record IsCompiled (program : ResolvedProgram) (limits : Limits) (extent : Ex
   pub chosen : AreChosen table limits extent choices (forms_in forms)
   pub loose : List CodeRow
   pub emitted : AreEmitted table forms limits loose
-  pub tightened : IsTightened (code_with limits table.arrays loose) object.code
+  pub tightened : IsTightened (loose_code limits table.arrays loose) object.code
   pub reached : EachIsReachable object.code.rows
   pub compact : Compact object.code
   pub no_goto_alone : HasNoGotoAlone object.code.rows
+  pub pace : (input : List ℤ) → All IsWord input → KeepsPaceOn table (forms_in forms) object.code input
   pub notes : object.notes ≡ notes_of table choices
 
 -- Why a program of a size has no object: its flow graph would have too many nodes, and they are told, as far as a number
