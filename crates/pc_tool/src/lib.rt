@@ -10,8 +10,6 @@ mod file;
 mod host;
 mod laws;
 #[cfg(test)]
-mod packed_tests;
-#[cfg(test)]
 mod pass_tests;
 mod program;
 #[cfg(test)]
@@ -19,6 +17,8 @@ mod program_tests;
 mod refusal;
 #[cfg(test)]
 mod sample_tests;
+#[cfg(test)]
+mod schedule_tests;
 mod simulate;
 #[cfg(test)]
 mod simulator_tests;

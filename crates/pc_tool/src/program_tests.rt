@@ -152,12 +152,14 @@ const PROGRAMS: [Program; 17] = [
     },
 ];
 
-/// Lines that compile for rows of several widths.
-const WIDTHS: [&str; 4] = [
+/// Lines that compile for rows of several widths, with and without loops of which several turns overlap.
+const WIDTHS: [&str; 6] = [
     "a.c -o o.tv",
+    "a.c -o o.tv --window 1",
     "a.c -o o.tv --ops 1 --tests 1 --mem 1",
+    "a.c -o o.tv --ops 1 --window 8",
     "a.c -o o.tv --ops 2 --tests 2",
-    "a.c -o o.tv --ops 32 --tests 7 --mem 32",
+    "a.c -o o.tv --ops 32 --tests 7 --mem 32 --window 8 --rows 512",
 ];
 
 /// Whether a source is compiled by a line, and its object does what it is to.
