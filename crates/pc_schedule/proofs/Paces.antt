@@ -59,7 +59,7 @@ module _ (e : Emission) (keeps : TableKeeps e.table) (limits : Limits) (rows : L
   alike_itself s = record { cells = refl; input = refl; names = λ variable live. refl }
 
   first_in_time : BeginsAtFirstRow e → (form : RegionForm) → e.forms 0 ≡ Some form → emitted.first ≡ form_leaf e 0 form → (s : State) (n : ℕ)
-      → IsInTime n (begins_in e.table e.forms 0 (Some form) s) (Leads_to 0) s
+      → IsInTime n (begins_in 0 (Some form) s) (Leads_to 0) s
   first_in_time at_first Plain has is s zero = ((shown (Leads_to 0) s 0).printed, refl)
   first_in_time at_first Plain has is s (suc n) =
       step_in_time n (Goes [] (At_tree (region_tree e.table 0) s)) 1 (Leads_to 0) s (λ next target moved h. in_time n next target moved h)
@@ -73,7 +73,7 @@ pub emitted_rows_keep_pace : EmittedRowsKeepPace
 emitted_rows_keep_pace e keeps limits rows same emitted at_first forms input n =
     subst (λ (ops : ℕ). Answers (schedule_run e.table e.forms input n) (machine_run (code_with limits e rows) input (schedule_cost e.table e.forms ops input n))
     (schedule_run e.table e.forms input n).end) (sym same)
-    (subst (λ (it : Option RegionForm). IsInTime e keeps limits rows emitted forms n (begins_in e.table e.forms 0 it (start_state input)) (Leads_to 0) (start_state input))
+    (subst (λ (it : Option RegionForm). IsInTime e keeps limits rows emitted forms n (begins_in 0 it (start_state input)) (Leads_to 0) (start_state input))
     (sym emitted.leads.has)
     (first_in_time e keeps limits rows emitted forms at_first emitted.leads.form emitted.leads.has emitted.leads.is (start_state input) n))
 

@@ -90,14 +90,14 @@ module _ (e : Emission) (keeps : TableKeeps e.table) (limits : Limits) (rows : L
 
   -- a leaf that leads to a region leads to where it begins
   pub form_meets : (region : ℕ) (form : RegionForm) → e.forms region ≡ Some form → (s m : State) → AlikeAtHead e.table region s m
-      → Meets (begins_in e.table e.forms region (Some form) s) (form_leaf e region form) m
+      → Meets (begins_in region (Some form) s) (form_leaf e region form) m
   form_meets region Plain has s m alike = meets_region has alike
   form_meets region (Packed states registers) has s m alike = meets_state has (stands_first region states registers has s m alike)
 
   region_meets : (region : ℕ) (form : RegionForm) → e.forms region ≡ Some form → (s m : State) → AlikeAtHead e.table region s m
-      → Meets (begins_at e.table e.forms region s) (form_leaf e region form) m
+      → Meets (begins_at e.forms region s) (form_leaf e region form) m
   region_meets region form has s m alike =
-      subst (λ (it : Option RegionForm). Meets (begins_in e.table e.forms region it s) (form_leaf e region form) m) (sym has) (form_meets region form has s m alike)
+      subst (λ (it : Option RegionForm). Meets (begins_in region it s) (form_leaf e region form) m) (sym has) (form_meets region form has s m alike)
 
   -- ---- packed regions
 
@@ -109,7 +109,7 @@ module _ (e : Emission) (keeps : TableKeeps e.table) (limits : Limits) (rows : L
 
     leaf_pays : (of : ℕ → ℕ) (out : List ℤ) (s m : State) (leaf : AutomatonLeaf) (below : Leaf) → LeadsOn of leaf below → LeafHolds of leaf s m
         → (shown : Run) → ((j : ℕ) → shown (suc j) ≡ after_printing out (leaf_run code below m j))
-        → Pays (leaf_step e.table e.forms region states out s leaf) (leaf_cost e.ops leaf) shown
+        → Pays (leaf_step e.forms region states out s leaf) (leaf_cost e.ops leaf) shown
     leaf_pays of out s m (To number arguments) below (leads, leads_to_state moves) holds shown same =
         pays_on (suc (length moves.copies))
         (passing_few (argument_moves of (register_of (registers number)) (state_parameters (slice_get states number)) arguments) e.ops e.scratch moves.copies moves.arranged
@@ -125,7 +125,7 @@ module _ (e : Emission) (keeps : TableKeeps e.table) (limits : Limits) (rows : L
         (passing_few (home_moves of homes) e.ops e.scratch moves.copies moves.arranged (length homes) (homes_many of homes))
         (λ k. let one : suc (length moves.copies) + k ≡ suc (length moves.copies + k) = omega arith in
         ap shown one ∙ same (length moves.copies + k) ∙ ap (λ (x : Seen). after_printing out x) (passes_back code moves.passes m k))
-        (subst (λ (l : Leaf). Meets (begins_at e.table e.forms to (home_state s homes)) l u) (sym there.is)
+        (subst (λ (l : Leaf). Meets (begins_at e.forms to (home_state s homes)) l u) (sym there.is)
         (region_meets to there.form there.has (home_state s homes) u
         (region_passed e.table of s m u e.scratch to homes leads.1.live holds (moves.arranged.done e.table.arrays m))))
     leaf_pays of out s m Stop below (leads, ends_here) holds shown same = pays_end 1 (omega arith) (same 0 ∙ sym (leaf_seen code out m below 0))
@@ -133,7 +133,7 @@ module _ (e : Emission) (keeps : TableKeeps e.table) (limits : Limits) (rows : L
 
     outcome_pays : (of : ℕ → ℕ) (a : RowOutcome AutomatonLeaf) (b : RowOutcome Leaf) → OutcomeStands (LeadsOn of) of a b
         → (shown : Run) → ((j : ℕ) → shown (suc j) ≡ seen_of (after_row b) (run_from (machine_step code) j))
-        → Pays (outcome_step e.table e.forms region states a) (outcome_cost e.ops a) shown
+        → Pays (outcome_step e.forms region states a) (outcome_cost e.ops a) shown
     outcome_pays of a b both_fault shown same = pays_end 1 (omega arith) (same 0)
     outcome_pays of a b (both_commit {printed} {new} {moved} {leaf} {below} leads holds) shown same =
         leaf_pays of printed new moved leaf below leads holds shown (λ j. same j ∙ leaf_seen code printed moved below j)
@@ -153,11 +153,11 @@ module _ (e : Emission) (keeps : TableKeeps e.table) (limits : Limits) (rows : L
 
   -- what stands behind an item or a test
   behind_meets : {row : ℕ} {tree : TableTree} {leaf : Leaf} (s m : State) → LeadsBehind e row tree leaf → TreeStands e rows row tree → Agrees e.table tree s m
-      → Meets (behind e.table e.forms tree s) leaf m
+      → Meets (behind e.forms tree s) leaf m
   behind_meets s m to_item stands agrees = meets_tree stands tt agrees
   behind_meets s m to_test stands agrees = meets_tree stands tt agrees
   behind_meets s m (to_region {region} {leaf} there) stands agrees =
-      subst (λ (l : Leaf). Meets (begins_at e.table e.forms region s) l m) (sym there.is)
+      subst (λ (l : Leaf). Meets (begins_at e.forms region s) l m) (sym there.is)
       (region_meets region there.form there.has s m (alike_at_head e.table s m region agrees))
   behind_meets s m to_end stands agrees = meets_tree stands tt agrees
   behind_meets s m to_trap stands agrees = meets_tree stands tt agrees
@@ -175,7 +175,7 @@ module _ (e : Emission) (keeps : TableKeeps e.table) (limits : Limits) (rows : L
 
       by_fault : (f : Option MachineFault)
           → ((j : ℕ) → leaf_run code (Leads_to row) m (suc j) ≡ seen_of (after_row (commit_of e.table.arrays m (item ∷ []) leaf f)) (run_from (machine_step code) j))
-          → Pays (lead_on (commit_of e.table.arrays s (item ∷ []) rest f) (behind e.table e.forms)) 1 (leaf_run code (Leads_to row) m)
+          → Pays (lead_on (commit_of e.table.arrays s (item ∷ []) rest f) (behind e.forms)) 1 (leaf_run code (Leads_to row) m)
       by_fault (Some fault) same = pays_end 1 (omega arith) (same 0)
       by_fault None same =
           let new = state_after e.table.arrays m (item ∷ []) in
@@ -195,7 +195,7 @@ module _ (e : Emission) (keeps : TableKeeps e.table) (limits : Limits) (rows : L
       ∙ ap (λ (value : ℤ). leaf_run code (if holds value then yes_leaf else no_leaf) m j) (test_alike e.table s m origin on on_yes on_no agrees))
     where
       by_test : (b : Bool) → ((j : ℕ) → leaf_run code (Leads_to row) m (suc j) ≡ leaf_run code (if b then yes_leaf else no_leaf) m j)
-          → Pays (Goes [] (behind e.table e.forms (if b then on_yes else on_no) s)) 1 (leaf_run code (Leads_to row) m)
+          → Pays (Goes [] (behind e.forms (if b then on_yes else on_no) s)) 1 (leaf_run code (Leads_to row) m)
       by_test true same =
           pays_on 1 (omega arith) (λ k. let one : 1 + k ≡ suc k = omega arith in ap (leaf_run code (Leads_to row) m) one ∙ same k)
           (behind_meets s m yes_leads yes_below (behind_yes e.table s m origin on on_yes on_no agrees))

@@ -21,61 +21,60 @@ pub data SchedulePlace : Type 0 where
   At_tree : (tree : TableTree) → (state : State) → SchedulePlace
   At_state : (region : ℕ) → (states : List AutomatonState) → (number : ℕ) → (state : State) → SchedulePlace
 
-module _ (table : Table) (forms : ℕ → Option RegionForm) where
-  -- where a region in this form begins
-  abbrev pub begins_in : (region : ℕ) → Option RegionForm → State → SchedulePlace
-  begins_in region None s = Before region s
-  begins_in region (Some Plain) s = Before region s
-  begins_in region (Some (Packed states registers)) s = At_state region states 0 s
+-- where a region in this form begins
+abbrev pub begins_in : (region : ℕ) → Option RegionForm → State → SchedulePlace
+begins_in region None s = Before region s
+begins_in region (Some Plain) s = Before region s
+begins_in region (Some (Packed states registers)) s = At_state region states 0 s
 
-  -- where a region begins, with these values of the variables
-  abbrev pub begins_at : (region : ℕ) → State → SchedulePlace
-  begins_at region s = begins_in region (forms region) s
+-- where a region begins, with these values of the variables
+abbrev pub begins_at : (forms : ℕ → Option RegionForm) → (region : ℕ) → State → SchedulePlace
+begins_at forms region s = begins_in region (forms region) s
 
-  -- what stands behind an item or test of a plain region: the rest of its tree, or the region that follows
-  abbrev pub behind : TableTree → State → SchedulePlace
-  behind (Does origin item rest) s = At_tree (Does origin item rest) s
-  behind (Asks origin on on_yes on_no) s = At_tree (Asks origin on on_yes on_no) s
-  behind (Next region) s = begins_at region s
-  behind Stops_here s = At_tree Stops_here s
-  behind (Traps_here kind line) s = At_tree (Traps_here kind line) s
+-- what stands behind an item or test of a plain region: the rest of its tree, or the region that follows
+abbrev pub behind : (forms : ℕ → Option RegionForm) → TableTree → State → SchedulePlace
+behind forms (Does origin item rest) s = At_tree (Does origin item rest) s
+behind forms (Asks origin on on_yes on_no) s = At_tree (Asks origin on on_yes on_no) s
+behind forms (Next region) s = begins_at forms region s
+behind forms Stops_here s = At_tree Stops_here s
+behind forms (Traps_here kind line) s = At_tree (Traps_here kind line) s
 
-  -- one item or test of a plain region, or the stop or trap at its end
-  abbrev pub tree_step : TableTree → State → Step SchedulePlace
-  tree_step (Does origin item rest) s = lead_on (item_step table.arrays item rest s) behind
-  tree_step (Asks origin on on_yes on_no) s = Goes [] (behind (side_of (operand_value s.names on) on_yes on_no) s)
-  tree_step (Next region) s = Goes [] (begins_at region s)
-  tree_step Stops_here s = Stops [] Ended
-  tree_step (Traps_here kind line) s = Stops [] (Trapped kind line)
+-- one item or test of a plain region, or the stop or trap at its end
+abbrev pub tree_step : Table → (forms : ℕ → Option RegionForm) → TableTree → State → Step SchedulePlace
+tree_step table forms (Does origin item rest) s = lead_on (item_step table.arrays item rest s) (behind forms)
+tree_step table forms (Asks origin on on_yes on_no) s = Goes [] (behind forms (side_of (operand_value s.names on) on_yes on_no) s)
+tree_step table forms (Next region) s = Goes [] (begins_at forms region s)
+tree_step table forms Stops_here s = Stops [] Ended
+tree_step table forms (Traps_here kind line) s = Stops [] (Trapped kind line)
 
-  -- where a leaf of a state leads
-  abbrev pub leaf_step : (region : ℕ) → List AutomatonState → List ℤ → State → AutomatonLeaf → Step SchedulePlace
-  leaf_step region states out new (To number arguments) =
-      Goes out (At_state region states number (passed_state new (state_parameters (slice_get states number)) arguments))
-  leaf_step region states out new (Out to homes) = Goes out (begins_at to (home_state new homes))
-  leaf_step region states out new Stop = Stops out Ended
-  leaf_step region states out new (Trap kind line) = Stops out (Trapped kind line)
+-- where a leaf of a state leads
+abbrev pub leaf_step : (forms : ℕ → Option RegionForm) → (region : ℕ) → List AutomatonState → List ℤ → State → AutomatonLeaf → Step SchedulePlace
+leaf_step forms region states out new (To number arguments) =
+    Goes out (At_state region states number (passed_state new (state_parameters (slice_get states number)) arguments))
+leaf_step forms region states out new (Out to homes) = Goes out (begins_at forms to (home_state new homes))
+leaf_step forms region states out new Stop = Stops out Ended
+leaf_step forms region states out new (Trap kind line) = Stops out (Trapped kind line)
 
-  -- a row that was done leads on, and a fault ends the run
-  abbrev pub outcome_step : (region : ℕ) → List AutomatonState → RowOutcome AutomatonLeaf → Step SchedulePlace
-  outcome_step region states (Faults fault) = Stops [] (Fault fault)
-  outcome_step region states (Commits out new leaf) = leaf_step region states out new leaf
+-- a row that was done leads on, and a fault ends the run
+abbrev pub outcome_step : (forms : ℕ → Option RegionForm) → (region : ℕ) → List AutomatonState → RowOutcome AutomatonLeaf → Step SchedulePlace
+outcome_step forms region states (Faults fault) = Stops [] (Fault fault)
+outcome_step forms region states (Commits out new leaf) = leaf_step forms region states out new leaf
 
-  -- the row of a state; a number that no state has, which no leaf of an automaton names, ends
-  abbrev pub state_step : (region : ℕ) → List AutomatonState → Option AutomatonState → State → Step SchedulePlace
-  state_step region states (Some state) s = outcome_step region states (row_step table.arrays state.row s)
-  state_step region states None s = Stops [] Ended
+-- the row of a state; a number that no state has, which no leaf of an automaton names, ends
+abbrev pub state_step : Table → (forms : ℕ → Option RegionForm) → (region : ℕ) → List AutomatonState → Option AutomatonState → State → Step SchedulePlace
+state_step table forms region states (Some state) s = outcome_step forms region states (row_step table.arrays state.row s)
+state_step table forms region states None s = Stops [] Ended
 
-  -- one step of the schedule: a plain region is entered, an item or test of it is done, or a row
-  abbrev pub schedule_step : SchedulePlace → Step SchedulePlace
-  schedule_step (Before region s) = Goes [] (At_tree (region_tree table region) s)
-  schedule_step (At_tree tree s) = tree_step tree s
-  schedule_step (At_state region states number s) = state_step region states (slice_get states number) s
+-- one step of the schedule: a plain region is entered, an item or test of it is done, or a row
+abbrev pub schedule_step : Table → (forms : ℕ → Option RegionForm) → SchedulePlace → Step SchedulePlace
+schedule_step table forms (Before region s) = Goes [] (At_tree (region_tree table region) s)
+schedule_step table forms (At_tree tree s) = tree_step table forms tree s
+schedule_step table forms (At_state region states number s) = state_step table forms region states (slice_get states number) s
 
-  -- the schedule's run: so many rows, items and tests of plain regions, and entries of these, from region 0 and with all variables
-  -- and elements 0
-  abbrev pub schedule_run : List ℤ → Run
-  schedule_run input n = run_from schedule_step n (begins_at 0 (start_state input))
+-- the schedule's run: so many rows, items and tests of plain regions, and entries of these, from region 0 and with all variables
+-- and elements 0
+abbrev pub schedule_run : Table → (forms : ℕ → Option RegionForm) → List ℤ → Run
+schedule_run table forms input n = run_from (schedule_step table forms) n (begins_at forms 0 (start_state input))
 
 -- ---- cost
 
@@ -120,4 +119,4 @@ cost_from step cost (suc n) place = cost place + cost_behind (step place) (cost_
 -- what so many steps of the schedule may cost
 abbrev pub schedule_cost : Table → (ℕ → Option RegionForm) → (ops : ℕ) → List ℤ → ℕ → ℕ
 schedule_cost table forms ops input n =
-    cost_from (schedule_step table forms) (step_cost table.arrays ops) n (begins_at table forms 0 (start_state input))
+    cost_from (schedule_step table forms) (step_cost table.arrays ops) n (begins_at forms 0 (start_state input))
