@@ -7,7 +7,8 @@ pub fn law_of_chosen_forms()
     ensures { ChosenFormsMayBeEmitted }
 {}
 
-/// The forms fix in which order the regions are taken, and which kind of form is told of each.
+/// The forms fix in which order the regions are taken, which of them are told to be plain, and, where the
+/// causes are the same too, all that is told of each.
 pub fn law_of_choices()
     ensures { FormsFixTheChoices }
 {}

@@ -32,10 +32,10 @@ abbrev pub loose_code : Limits → (arrays : List ℕ) → List CodeRow → RowC
 loose_code limits arrays rows = record { limits = limits; arrays = arrays; rows = rows }
 
 -- The object does what the program does, for every input of words, and may be written; it has the given limits and the
--- program's arrays. The table is the cut of the graph, which passes made of the program's. Each region that is led to from
+-- program's arrays. The table is the cut of the graph, which shows what the program's own graph shows. Each region that is led to from
 -- region 0 got the first form that was not refused. The code is that of the regions' rows in their forms, tightened: it is
--- compact, leaves lead to each row from row 0, and no row but row 0 is a goto alone; and on every input of words it keeps pace
--- with the schedule of the regions in their forms. The notes tell the forms of the loops.
+-- compact, leaves lead to each row from row 0, and no row but row 0 is a goto alone to another row; and on every input of words
+-- it keeps pace with the schedule of the regions in their forms. The notes tell the forms of the loops.
 pub record IsCompiled (program : ResolvedProgram) (limits : Limits) (extent : Extent) (flow : FlowGraph) (table : Table) (choices : List Choice) (object : CodeWithNotes)
     : Type 0 where
   pub agree : AgreeOnInputs (source_run program) (machine_run object.code)

@@ -48,8 +48,9 @@ emission_of table forms entries ops = record {
   scratch = allowed;
 }
 
--- These rows are those of a table's regions in these forms. There is one; each keeps the limits of the machine and its own,
--- leaves lead to each from row 0, and together they are no longer than was counted.
+-- These rows are those of a table's regions in these forms, and row 0 is the first of region 0 where that has an automaton. There
+-- is one; each keeps the limits of the machine and its own, leaves lead to each from row 0, and together they are no longer than
+-- was counted.
 pub record AreEmitted (table : Table) (forms : List (Option StoredForm)) (limits : Limits) (rows : List CodeRow) : Type 0 where
   pub entries : List ℕ
   pub are : IsEmitted (emission_of table forms entries limits.ops) rows

@@ -1,4 +1,4 @@
-//! Why no packed code was found.
+//! Why no automaton was found.
 ghost use Rattle.std.specs.Prelude.{◌≡◌};
 ghost use Rattle.pc_pattern.specs.declared.error.SearchError.TheVariants.{Memory};
 
@@ -11,7 +11,7 @@ use thiserror::Error;
 /// variables and its first tag.
 pub type KeyList = Seq<Vec<i64>>;
 
-/// Why no packed code was found.
+/// Why no automaton was found.
 #[derive(Debug, Drop, Error)]
 pub enum SearchError {
     /// Memory ran out.

@@ -1,4 +1,4 @@
-//! Laws of packed code. No function here does anything: each one's contract is a law, and that it is
+//! Laws of searches. No function here does anything: each one's contract is a law, and that it is
 //! proved is all that it is for.
 ghost use Rattle.pc_pattern.specs.Laws.{PatternsRunAsTheRegion, PatternsHaveNoEmptyStates, PatternsFit, PatternsAreAutomata};
 ghost use Rattle.pc_pattern.specs.Laws.{PatternsNameWhatIsThere, PatternsBeginWithLiveVariables, SearchesHaveOneAnswer, SearchesAreOne, TrapsHaveOneState};

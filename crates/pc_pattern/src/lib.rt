@@ -1,4 +1,4 @@
-//! The packed code of a region: a search opens and unwinds its window, fills and cuts it, and brings on
+//! The automaton of a region: a search opens and unwinds its window, fills and cuts it, and brings on
 //! what is left at each leaf, until each window leads only to windows that were met, but for names,
 //! form variables and a shift of tags.
 #![tactic(auto)]

@@ -1,4 +1,4 @@
-//! The search for the packed code of a region.
+//! The search for the automaton of a region.
 ghost use Rattle.std.specs.Prelude.{◌≡◌, ◌+◌, ◌<◌, ◌≤◌, ◌^◌, ◌++◌, ◌∷◌, [], length, IfOk, IfErr, OnOk};
 ghost use Rattle.std.specs.List.{AllByRecursion};
 ghost use Rattle.pc_word.specs.MachineLimits.{most_rows};
@@ -30,7 +30,8 @@ use pc_window::{Window, WindowError};
 use pc_word::{Extent, Limits};
 use std::alloc::{AllocError, Global};
 
-/// Searches for the packed code of a region, within these limits for each row.
+/// Searches for the automaton of a region, within these limits for each row. With window number 1 it is
+/// packed code, of one turn of a loop at a time; with a greater one the turns of a loop overlap.
 ///
 /// The region's window, unwound, is the first member. Each member is filled and its front is cut off
 /// as the row of a state; what is left at each leaf is rebased, unwound and tidied. Where something is

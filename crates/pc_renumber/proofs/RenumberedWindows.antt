@@ -12,12 +12,13 @@ use Rattle.pc_window.specs.Steps.{IsProper}
 use Rattle.pc_window.specs.WindowRun.{Window}
 use Rattle.pc_window.specs.StoredWindow.{InNodes, window_in, tree_in, front_in, forms_in, supply_in}
 use Rattle.pc_window.proofs.WindowsStored.{single_window, whole_in}
-use Rattle.pc_canon.specs.Canonical.{place_of}
+use Rattle.pc_canon.specs.Canonical.{place_of, parameter_pairs}
+use Rattle.pc_canon.specs.Shift.{ShiftedBy}
 use Rattle.pc_renumber.specs.Renumbering.{renumbered_tree, renumbered_supply, renumbered, Renumbers}
 use Rattle.pc_renumber.specs.models.Numbering.{number_in, AreNumbers}
 use Rattle.pc_renumber.proofs.Listing.{names_there}
 use Rattle.pc_renumber.proofs.Numbers.{by_places}
-use Rattle.pc_renumber.proofs.Renumbered.{IsSingle, renumbered_proper, renumbered_size, renumbered_names, renumbered_variables}
+use Rattle.pc_renumber.proofs.Renumbered.{IsSingle, renumbered_proper, renumbered_size, renumbered_names, renumbered_variables, renumbered_shifts}
 
 -- ---- what a proper window in memory keeps
 
@@ -61,6 +62,11 @@ single_in w nodes =
 module _ (w v : StoredWindow) (is : Renumbers (window_in w) (window_in v)) (proper : IsProper (window_in w)) where
   pub stays_proper : InNodes true w.tree → IsProper (window_in v)
   stays_proper nodes = subst IsProper (sym is) (renumbered_proper (window_in w) proper (single_in w nodes))
+
+  pub stays_same : InNodes true w.tree → ShiftedBy (parameter_pairs (window_in w) (window_in v)) (window_in w) (window_in v)
+  stays_same nodes =
+      subst (λ (u : Window). ShiftedBy (parameter_pairs (window_in w) u) (window_in w) u) (sym is)
+      (renumbered_shifts (window_in w) proper (single_in w nodes))
 
   pub fewer_names : length v.names.forms ≤ length w.names.forms
   fewer_names = subst (λ (n : ℕ). n ≤ length w.names.forms) (sym (ap (λ (u : Window). u.next) is)) (renumbered_names (window_in w) proper)

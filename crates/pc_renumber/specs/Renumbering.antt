@@ -79,7 +79,8 @@ renumbered_supply forms next_variable = record {
   next_variable = new_variable forms next_variable;
 }
 
--- a window with its names and form variables numbered anew: a name by its place among all names, parameters first, a variable by its order
+-- a window with its names and form variables numbered anew: a name by its place among all names, parameters first, a variable by its
+-- order; its front is the first item or test, as of every window that was brought on
 unfoldable pub renumbered : Window → Window
 renumbered w =
     window_of (renumbered_tree (place_of (all_names (whole w.front))) (whole w.front)) (renumbered_supply (forms_of_names w) w.next_variable)

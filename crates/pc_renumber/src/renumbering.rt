@@ -4,6 +4,8 @@ ghost use Rattle.pc_window.specs.Tree.{tree_size};
 ghost use Rattle.pc_window.specs.Names.{parameters_of};
 ghost use Rattle.pc_window.specs.Steps.{IsProper};
 ghost use Rattle.pc_window.specs.StoredWindow.{tree_in, window_in, InNodes};
+ghost use Rattle.pc_canon.specs.Shift.{ShiftedBy};
+ghost use Rattle.pc_canon.specs.Canonical.{parameter_pairs};
 ghost use Rattle.pc_renumber.specs.Renumbering.{Renumbers};
 ghost use Rattle.pc_renumber.specs.models.Numbering.{AreNumbers};
 
@@ -17,7 +19,8 @@ use std::alloc::Global;
 /// Numbers the names and form variables of a window anew.
 ///
 /// The parameters come first, in the order of first use, then the names that are defined, in preorder,
-/// each once; the form variables that stand in their forms keep their order. All else stays as it is.
+/// each once; the form variables that stand in their forms keep their order. All else stays as it is: the
+/// window is equal to the one before up to names and form variables.
 /// It takes time linear in the window, its names and its form variables, but for the search of the
 /// parameters. There is no memory for a name whose number would be 2^31. The window is dropped where
 /// memory runs out.
@@ -31,6 +34,7 @@ pub fn renumber(alloc: Global, window: Window) -> Result<Window, WindowError>
     ensures names { IfOk result (λ later. length later.names.forms ≤ length window.names.forms) }
     ensures variables { IfOk result (λ later. later.names.next_variable ≤ window.names.next_variable) }
     ensures size { IfOk result (λ later. tree_size (tree_in later.tree) ≡ tree_size (tree_in window.tree)) }
+    ensures same { IfOk result (λ later. ShiftedBy (parameter_pairs (window_in window) (window_in later)) (window_in window) (window_in later)) }
 {
     let count = window.names.forms.len();
     let parameters = parameters_of(alloc, &window.tree, count)?;

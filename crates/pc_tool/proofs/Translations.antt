@@ -1,7 +1,6 @@
 -- From a checked text to the object that translates it.
-use Rattle.std.proofs.Common.{◌≡◌, ℕ, ◌<◌, List, length, sym, ◌∙◌, ap, subst, arith}
+use Rattle.std.proofs.Common.{◌≡◌, ℕ, ◌<◌, List, length, sym, ◌∙◌, ap, subst, arith, get_or}
 use Rattle.std.specs.Prelude.{min}
-use Rattle.std.specs.List.{get_or}
 use Rattle.std.proofs.lemmas.Option.{slice_get-get_or}
 use Rattle.pc_word.specs.SourceLimits.{most_nodes}
 use Rattle.pc_word.specs.Run.{AgreeOnInputs}

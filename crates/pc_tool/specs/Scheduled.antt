@@ -9,8 +9,8 @@ use Rattle.pc_object.specs.ObjectText.{CodeWithNotes}
 use Rattle.pc_choose.specs.declared.choice.Choice.{Choice}
 use Rattle.pc_compile.specs.Compiled.{IsCompiled}
 
--- the object is what is compiled of a program within these limits and this extent, over some graph that the passes left, the regions
--- of the graph's cut, and what was chosen for each of them
+-- the object is what is compiled of a program within these limits and this extent, over some graph that shows what the program's own
+-- shows, the regions of the graph's cut, and what was chosen for each of them
 pub record IsScheduled (program : ResolvedProgram) (limits : Limits) (extent : Extent) (object : CodeWithNotes) : Type 0 where
   pub flow : FlowGraph
   pub table : Table
