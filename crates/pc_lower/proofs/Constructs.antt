@@ -61,7 +61,7 @@ lays_branch {p = p} {z = z} {y = y} x s o b' c' r q other chosen test =
 
 -- `while`
 pub lays_while : {a b c : Draft} {h at start to y : ℕ} (x : SourceExpression) (s : SourceStatement) (b' c' r q own : ℕ)
-    → LaysTurn a b x h at → Lays b c (statement_size s) start to (StatementNodes s q h r y h) → at + 1 + statement_size s ≡ to → to ≤ length a.graph.nodes
+    → LaysTurn a b x own h at → Lays b c (statement_size s) start to (StatementNodes s q h r y h) → at + 1 + statement_size s ≡ to → to ≤ length a.graph.nodes
     → Lays a (closed at (Test (held x 0) y q (Some own)) own h c) (expression_size x + statement_size s + 1) h to (StatementNodes (WhileLoop 0 x s) b' c' r h q)
 lays_while {b = b} {c = c} {h = h} {at = at} {start = start} {to = to} {y = y} x s b' c' r q own turn body place there =
     let e = body.size_is in
@@ -72,7 +72,7 @@ lays_while {b = b} {c = c} {h = h} {at = at} {start = start} {to = to} {y = y} x
 
 -- `do`
 pub lays_do : {a b c : Draft} {h at start p to : ℕ} (x : SourceExpression) (s : SourceStatement) (b' c' r q own : ℕ)
-    → LaysTurn a b x h at → Lays b c (statement_size s) start h (StatementNodes s q h r p h) → at + 1 ≡ to → to ≤ length a.graph.nodes
+    → LaysTurn a b x own h at → Lays b c (statement_size s) start h (StatementNodes s q h r p h) → at + 1 ≡ to → to ≤ length a.graph.nodes
     → Lays a (closed at (Test (held x 0) p q (Some own)) own start c) (statement_size s + expression_size x + 1) start to (StatementNodes (DoLoop 0 s x) b' c' r p q)
 lays_do {a = a} {c = c} {h = h} {at = at} {start = start} {p = p} {to = to} x s b' c' r q own turn body place there =
     subst (λ (n : ℕ). Lays a (closed at (Test (held x 0) p q (Some own)) own start c) (statement_size s + expression_size x + 1) start n
@@ -89,7 +89,7 @@ lays_body_and_step {y = y} {m = m} s o out b' c' r q step body =
 
 -- the turns of a `for`
 pub lays_turns : {a b c : Draft} {h at start to y : ℕ} (x : SourceExpression) (o : OptionalStatement) (s : SourceStatement) (b' c' r q own : ℕ)
-    → LaysTurn a b x h at → Lays b c (statement_size s + branch_size o) start to (RoundNodes s o q b' c' r y h)
+    → LaysTurn a b x own h at → Lays b c (statement_size s + branch_size o) start to (RoundNodes s o q b' c' r y h)
     → at + 1 + (statement_size s + branch_size o) ≡ to → to ≤ length a.graph.nodes
     → Lays a (closed at (Test (held x 0) y q (Some own)) own h c) (expression_size x + 1 + (statement_size s + branch_size o)) h to (TurnsNodes x o s b' c' r h q)
 lays_turns {b = b} {c = c} {h = h} {at = at} {start = start} {to = to} {y = y} x o s b' c' r q own turn round place there =

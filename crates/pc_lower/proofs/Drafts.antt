@@ -9,9 +9,11 @@ use Rattle.pc_word.specs.SourceLimits.{most_nodes}
 use Rattle.pc_word.proofs.Lists.{set_at, set_length, index_set_same, index_set_other}
 use Rattle.pc_flow.specs.declared.node.FlowNode.{FlowNode}
 use Rattle.pc_flow.specs.declared.node.FlowNode.TheVariants.{Op, Test, Stop, Trap}
-use Rattle.pc_flow.specs.FlowGraph.{FlowGraph, IsTarget, Descends, NodeFits}
+use Rattle.pc_flow.specs.FlowGraph.{FlowGraph, IsTarget, Descends, NodeFits, turn_of}
+use Rattle.pc_lower.proofs.Fills.{get_set_same, get_set_other}
+use Rattle.pc_lower.specs.LoopTests.{TestsInside}
 use Rattle.pc_lower.proofs.LoopMarks.{header_length, header_outer}
-use Rattle.pc_lower.specs.models.Drafts.{Draft, IsDraft, IsPlaced, LeadsToPlaced, MayPlace, CanPlace, graph_with, draft_with, CanAim, aimed, headed, MayBegin, first_draft}
+use Rattle.pc_lower.specs.models.Drafts.{Draft, IsDraft, IsPlaced, LeadsToPlaced, MayPlace, CanPlace, graph_with, draft_with, HasTest, CanAim, aimed, headed, MayBegin, first_draft}
 
 -- two numbers are the same or not
 decide_same : (i j : ℕ) → (i ≡ j) ⊎ (i ≢ j)
@@ -22,6 +24,10 @@ decide_same (suc i) (suc j) = elim (decide_same i j) [
   | inl e ↦ inl (ap suc e)
   | inr h ↦ inr (λ e. h (omega (arith, e)))
 ]
+
+-- a node at a number stands in a loop, if it is that loop's test
+abbrev PlacedIn : List (Option ℕ) → ℕ → FlowNode → Type 0
+PlacedIn places number node = IfSome (turn_of node) (λ turn. slice_get places number ≡ Some (Some turn))
 
 module _ (draft : Draft) (at : ℕ) (node : FlowNode) (inside : Option ℕ) (keeps : IsDraft draft) (can : CanPlace draft at node inside) where
   abbrev old : FlowGraph
@@ -111,6 +117,22 @@ module _ (draft : Draft) (at : ℕ) (node : FlowNode) (inside : Option ℕ) (kee
     | inr h ↦ leads-with one (keeps.leads number one h.1)
   ]
 
+  -- a test of a loop that is placed stands in it
+  stands-new : (turn : Option ℕ) → IfSome turn (λ turn. inside ≡ Some turn) → IfSome turn (λ turn. slice_get new.inside at ≡ Some (Some turn))
+  stands-new None h = tt
+  stands-new (Some turn) h =
+      let there = subst (λ (n : ℕ). at < n) (sym keeps.flow.all_placed) can.at_open.there in
+      get_set_same old.inside at inside there ∙ ap Some h
+
+  -- and so does each
+  all-stand : TestsInside new
+  all-stand number one e = elim (set_at old.nodes at number node one e) [
+    | inl h ↦ subst (λ (n : ℕ). PlacedIn new.inside n one) (sym h.0) (subst (PlacedIn new.inside at) (sym h.1) (stands-new (turn_of node) can.stands))
+    | inr h ↦
+        let same = get_set_other old.inside at number inside (λ e. h.0 (sym e)) in
+        subst (λ (place : Option (Option ℕ)). IfSome (turn_of one) (λ turn. place ≡ Some (Some turn))) (sym same) (keeps.tests_inside number one h.1)
+  ]
+
   -- no rank is above the new one
   ranks-below : (number : ℕ) → slice_index new.ranks number ≤ draft.ranked + 1
   ranks-below number = elim (decide_same at number) [
@@ -141,13 +163,14 @@ module _ (draft : Draft) (at : ℕ) (node : FlowNode) (inside : Option ℕ) (kee
       nodes_fit = fits-with;
     };
     leads = all-lead;
+    tests_inside = all-stand;
     below = ranks-below;
     few = let room = can.room in omega (arith, room);
   }
 
 -- ---- the test of a loop, which leads elsewhere
 
-module _ (draft : Draft) (at : ℕ) (on : Operand) (on_yes on_no turn : ℕ) (keeps : IsDraft draft) (can : CanAim draft at on on_yes on_no turn) where
+module _ (draft : Draft) (at : ℕ) (on : Operand) (on_yes on_no turn : ℕ) (keeps : IsDraft draft) (can : CanAim draft at on on_yes on_no turn) (test : HasTest draft.graph at turn) where
   abbrev node_aimed : FlowNode
   node_aimed = Test on on_yes on_no (Some turn)
 
@@ -171,11 +194,24 @@ module _ (draft : Draft) (at : ℕ) (on : Operand) (on_yes on_no turn : ℕ) (ke
     | inr h ↦ leads-aimed one (keeps.leads number one h.1)
   ]
 
+  -- the test stands where the one before it stood
+  stands-aimed : slice_get draft.graph.inside at ≡ Some (Some turn)
+  stands-aimed =
+      subst (λ (loop : Option ℕ). IfSome loop (λ turn. slice_get draft.graph.inside at ≡ Some (Some turn))) test.tests
+      (keeps.tests_inside at test.node test.is_there)
+
+  all-stand-aimed : TestsInside graph_aimed
+  all-stand-aimed number one e = elim (set_at draft.graph.nodes at number node_aimed one e) [
+    | inl h ↦ subst (λ (n : ℕ). PlacedIn draft.graph.inside n one) (sym h.0) (subst (PlacedIn draft.graph.inside at) (sym h.1) stands-aimed)
+    | inr h ↦ keeps.tests_inside number one h.1
+  ]
+
   -- the draft stays one
   pub aim_keeps : IsDraft (aimed at node_aimed draft)
   aim_keeps = record {
     flow = set_node_keeps draft.graph at node_aimed keeps.flow (can.names, (can.yes_there, can.no_there, can.turn_there));
     leads = all-aimed;
+    tests_inside = all-stand-aimed;
     below = keeps.below;
     few = keeps.few;
   }
@@ -227,6 +263,7 @@ module _ (draft : Draft) (number header : ℕ) (keeps : IsDraft draft) where
       nodes_fit = λ from one e. fits-headed from one (keeps.flow.nodes_fit from one e);
     };
     leads = λ from one e. leads-headed one (keeps.leads from one e);
+    tests_inside = keeps.tests_inside;
     below = keeps.below;
     few = keeps.few;
   }
@@ -263,6 +300,7 @@ first_keeps count loops arrays may =
         nodes_fit = λ number node e. subst (NodeFits graph number) (sym (replicate_at count number Stop node e)) tt;
       };
       leads = λ number node e. subst (LeadsToPlaced graph) (sym (replicate_at count number Stop node e)) tt;
+      tests_inside = λ number node e. subst (PlacedIn graph.inside number) (sym (replicate_at count number Stop node e)) tt;
       below = λ number. let rank = zero_at count number in omega (arith, rank);
       few = omega arith;
     }

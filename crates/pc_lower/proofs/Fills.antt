@@ -3,7 +3,7 @@ use Rattle.std.proofs.Common.{◌≡◌, ◌≢◌, ℕ, zero, suc, ◌+◌, ◌
 use Rattle.std.specs.Prelude.{IfSome, slice_get, slice_set, slice_index}
 use Rattle.pc_word.proofs.Truth.{decide_le}
 use Rattle.pc_flow.specs.declared.node.FlowNode.{FlowNode}
-use Rattle.pc_lower.specs.models.Drafts.{Draft, IsPlaced}
+use Rattle.pc_lower.specs.models.Drafts.{Draft, IsPlaced, HasTest}
 use Rattle.pc_lower.specs.models.Fills.{IsOutside, Fills, Keeps, Lays, HasRoom}
 
 -- ---- lists with an element replaced
@@ -150,6 +150,11 @@ placed_within {old} {new} i room l lo hi =
     let there = room.there in
     let n = l.fills.as_many in
     record { there = omega (arith, hi, there, n); ranked = l.fills.filled i lo hi }
+
+-- the test of a loop outside of a part stays
+pub test_kept : {old new : Draft} {k from to at loop : ℕ} {P : List FlowNode → List ℕ → Type 0} → HasTest old.graph at loop → Lays old new k from to P
+    → IsOutside from to at → HasTest new.graph at loop
+test_kept {at = at} h l out = record { node = h.node; is_there = l.fills.nodes_kept at out ∙ h.is_there; tests = h.tests }
 
 -- and its first one
 pub placed_first : {old new : Draft} {k from to size : ℕ} {inside : Option ℕ} {P : List FlowNode → List ℕ → Type 0} → HasRoom old size to inside

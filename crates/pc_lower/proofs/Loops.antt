@@ -81,7 +81,7 @@ test_closed c from to final at node own header h lo hi there = h at lo hi ∙ ge
 
 -- a condition with its test, what is behind them, and the test aimed
 pub lays_round : {a b c : Draft} {start at to k : ℕ} {P : List FlowNode → List ℕ → Type 0} (x : SourceExpression) (node : FlowNode) (own : ℕ) (header : ℕ)
-    → LaysTurn a b x start at → Lays b c k (at + 1) to P → to ≤ length a.graph.nodes
+    → LaysTurn a b x own start at → Lays b c k (at + 1) to P → to ≤ length a.graph.nodes
     → Lays a (closed at node own header c) (expression_size x + 1 + k) start to
     (λ nodes lengths. Gives nodes lengths x 0 start at × (slice_get nodes at ≡ Some node) × P nodes lengths)
 lays_round {a} {b} {c} {start} {at} {to} {k} {P} x node own header turn l there =
@@ -109,7 +109,7 @@ lays_round {a} {b} {c} {start} {at} {to} {k} {P} x node own header turn l there 
 
 -- a condition with its test, what is before them, and the test aimed
 pub lays_round_before : {a b c : Draft} {start from at k : ℕ} {P : List FlowNode → List ℕ → Type 0} (x : SourceExpression) (node : FlowNode) (own : ℕ) (header : ℕ)
-    → LaysTurn a b x start at → Lays b c k from start P → at < length a.graph.nodes
+    → LaysTurn a b x own start at → Lays b c k from start P → at < length a.graph.nodes
     → Lays a (closed at node own header c) (k + expression_size x + 1) from (at + 1)
     (λ nodes lengths. P nodes lengths × Gives nodes lengths x 0 start at × (slice_get nodes at ≡ Some node))
 lays_round_before {a} {b} {c} {start} {from} {at} {k} {P} x node own header turn l there =

@@ -1,5 +1,5 @@
 -- Statements that are lowered part by part: what a part may take for granted.
-use Rattle.std.proofs.Common.{◌≡◌, ℕ, ◌+◌, ◌≤◌, List, length, Option, Some, None, true, refl, sym, subst, arith}
+use Rattle.std.proofs.Common.{◌≡◌, ℕ, ◌+◌, ◌≤◌, inr, List, length, Option, Some, None, true, refl, sym, ◌∙◌, subst, arith}
 use Rattle.std.specs.Prelude.{slice_get}
 use Rattle.pc_syntax.specs.Source.{SourceExpression, Literal, Variable, Input, Indexed, Prefixed, Combined, Conjunction, Disjunction, Conditional}
 use Rattle.pc_check.specs.Needs.{hold}
@@ -11,7 +11,7 @@ use Rattle.pc_word.proofs.Truth.{less_of}
 use Rattle.pc_check.specs.Sizes.{expression_size}
 use Rattle.pc_flow.specs.declared.node.FlowNode.{FlowNode}
 use Rattle.pc_flow.specs.declared.node.FlowNode.TheVariants.{Test}
-use Rattle.pc_flow.specs.FlowGraph.{IsVariable, ItemFits}
+use Rattle.pc_flow.specs.FlowGraph.{IsVariable, ItemFits, turn_of}
 use Rattle.pc_lower.specs.Lowers.{held, Gives}
 use Rattle.pc_lower.specs.declared.spot.Spot.{Spot}
 use Rattle.pc_lower.specs.models.Drafts.{Draft, IsPlaced}
@@ -109,17 +109,22 @@ lays_condition {start = start} {m = m} x y z test value =
     lays_as _ (ConditionNodes x y z start) (lays_both test value) refl (λ nodes h. record { is = (m, h.1, h.0) })
 
 -- the condition of a loop and its test
-pub lays_turn : {a b c : Draft} {start m to at : ℕ} {P : List FlowNode → List ℕ → Type 0} (x : SourceExpression) → at + 1 ≡ to
-    → Lays a b 1 m to P → LaysExpression x 0 start m m b c → LaysTurn a c x start at
-lays_turn {a} {b} {c} {start} {m} {to} {at} {P} x e test value =
+pub lays_turn : {a b c : Draft} {start m to at own : ℕ} {node : FlowNode} (x : SourceExpression) → at + 1 ≡ to → turn_of node ≡ Some own
+    → Lays a b 1 m to (λ nodes lengths. slice_get nodes m ≡ Some node) → LaysExpression x 0 start m m b c → LaysTurn a c x own start at
+lays_turn {a} {b} {c} {start} {m} {to} {at} {own} {node} x e turns test value =
     let s = test.size_is in
     let same : m ≡ at = omega (arith, s, e) in
-    let made : LaysTurn a c x start m = record {
+    let made : LaysTurn a c x own start m = record {
       size_is = value.size_is;
+      tested = record {
+        node = node;
+        is_there = value.fills.nodes_kept m (inr (omega arith)) ∙ test.gives b.graph.nodes (λ i lo hi. refl);
+        tests = turns;
+      };
       fills = fills_both a b c start m (m + 1) (subst (λ (n : ℕ). Fills a b m n) (sym s) test.fills) value.fills;
       gives = λ final h. subst (λ (lengths : List ℕ). Gives final lengths x 0 start m) test.fills.arrays (value.gives final h);
     } in
-    subst (λ (n : ℕ). LaysTurn a c x start n) same made
+    subst (λ (n : ℕ). LaysTurn a c x own start n) same made
 
 -- a print fits
 pub print_fits : (arrays : ℕ) (value : Operand) → IsVariable value → ItemFits arrays (Print value)

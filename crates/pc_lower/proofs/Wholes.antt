@@ -16,6 +16,7 @@ use Rattle.pc_lower.specs.Kinds.{kinds_from}
 use Rattle.pc_lower.specs.Lowers.{Lowers}
 use Rattle.pc_lower.specs.Lowered.{IsLowered}
 use Rattle.pc_lower.specs.SourceLoops.{source_loops, loops_of}
+use Rattle.pc_lower.specs.LoopTests.{TestsInside}
 use Rattle.pc_lower.specs.models.Drafts.{Draft, first_draft}
 use Rattle.pc_lower.specs.models.Fills.{Lays, HasRoom}
 use Rattle.pc_lower.specs.models.LowersExpression.{AreLengths}
@@ -77,8 +78,8 @@ whole_spot {d} {d1} {P} last ends body is same l e =
 -- what was laid is the flow graph of the program
 pub is_lowered : (program : ResolvedProgram) (old new : Draft) (entry : ℕ) (flow : FlowGraph) → IsLaid old new program.body entry → old.graph.arrays ≡ program.arrays
     → length old.graph.nodes ≡ resolved_size program → resolved_size program ≤ most_nodes → source_loops old.graph.loops ≡ loops_of program
-    → flow ≡ record new.graph { entry = entry } → IsLowered program flow
-is_lowered program old new entry flow laid same count few marked e = subst (IsLowered program) (sym e) (record {
+    → flow ≡ record new.graph { entry = entry } → TestsInside flow → IsLowered program flow
+is_lowered program old new entry flow laid same count few marked e tests = subst (IsLowered program) (sym e) (record {
   agree = subst (λ (arrays : List ℕ). AgreeOnInputs (nodes_run new.graph.nodes arrays entry) (source_run program)) (sym arrays)
       (lowered_runs_agree new.graph.nodes program entry lowers);
   traced = λ input n. subst (λ (lengths : List ℕ). kinds_from new.graph.nodes lengths (length (trace_of program input n)) (flow_start entry input) ≡ trace_of program input n) (sym arrays)
@@ -86,6 +87,7 @@ is_lowered program old new entry flow laid same count few marked e = subst (IsLo
   counted = laid.counted ∙ count;
   arrays = arrays;
   loops = laid.loops ∙ marked;
+  tests_inside = subst TestsInside e tests;
   few = few;
 })
   where

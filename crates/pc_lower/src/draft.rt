@@ -3,7 +3,8 @@
 ghost use Rattle.std.specs.Prelude.{◌≡◌, ◌+◌, ◌<◌, Some, None, length, slice_get, slice_index, replicate, IfOk};
 ghost use Rattle.pc_flow.specs.FlowGraph.{IsTarget};
 ghost use Rattle.pc_flow.specs.declared.node.FlowNode.TheVariants.{Test, Stop};
-ghost use Rattle.pc_lower.specs.models.Drafts.{CanPlace, draft_with, CanAim, aimed, headed, MayBegin, first_draft};
+ghost use Rattle.pc_lower.specs.LoopTests.{TestsInside};
+ghost use Rattle.pc_lower.specs.models.Drafts.{CanPlace, draft_with, CanAim, HasTest, aimed, headed, MayBegin, first_draft};
 ghost use Rattle.pc_lower.specs.models.Fills.{Lays};
 
 use pc_flow::{Flow, FlowNode, FlowNodeList, InsideList, RankList};
@@ -84,6 +85,7 @@ impl Draft {
     /// Lets the test of a loop lead to these nodes, of which some may not be placed yet.
     pub(crate) fn aim(&mut self, at: u32, on: Operand, yes: u32, no: u32, turn: u16)
         requires can { CanAim self.now at on yes no turn }
+        requires test { HasTest self.now.graph at turn }
         ensures { self.new ≡ aimed at (Test on yes no (Some turn)) self.old }
     {
         self.nodes.set(
@@ -110,7 +112,8 @@ impl Draft {
     /// The graph of these nodes, which begins at one of them.
     pub(crate) fn into_flow(self, entry: u32) -> Flow
         requires there { IsTarget self.graph entry }
-        ensures { result ≡ record self.graph { entry = entry } }
+        ensures begun { result ≡ record self.graph { entry = entry } }
+        ensures tests { TestsInside result }
     {
         Flow::new(
             self.nodes,

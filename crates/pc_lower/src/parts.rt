@@ -9,7 +9,7 @@ ghost use Rattle.pc_meaning.specs.Lowered.{binary_code};
 ghost use Rattle.pc_flow.specs.declared.node.FlowNode.TheVariants.{Op, Test};
 ghost use Rattle.pc_flow.specs.FlowGraph.{IsVariable, ItemFits};
 ghost use Rattle.pc_lower.specs.Lowers.{temporary, held, prefix_item, binary_item, Combines};
-ghost use Rattle.pc_lower.specs.models.Drafts.{IsPlaced, MayPlace};
+ghost use Rattle.pc_lower.specs.models.Drafts.{IsPlaced, MayPlace, StandsIn};
 ghost use Rattle.pc_lower.specs.models.Fills.{HasRoom, Lays};
 ghost use Rattle.pc_lower.specs.models.LowersExpression.{Guards};
 
@@ -24,6 +24,7 @@ use pc_word::{Item, OpCode, Operand, TrapKind};
 pub(crate) fn lay(draft: &mut Draft, node: FlowNode, site: Site) -> u32
     requires room { HasRoom draft.now 1 site.end site.inside }
     requires fits { MayPlace draft.now.graph node }
+    requires stands { StandsIn site.inside node }
     ensures { Lays draft.old draft.new 1 result site.end (λ nodes lengths. slice_get nodes result ≡ Some node) }
 {
     let at = site.end - 1;

@@ -5,7 +5,7 @@ ghost use Rattle.pc_syntax.specs.Erasure.{expression_of};
 ghost use Rattle.pc_check.specs.Sizes.{expression_size};
 ghost use Rattle.pc_flow.specs.declared.node.FlowNode.TheVariants.{Test};
 ghost use Rattle.pc_lower.specs.Lowers.{held, Does, Gives};
-ghost use Rattle.pc_lower.specs.models.Drafts.{IsPlaced, CanAim};
+ghost use Rattle.pc_lower.specs.models.Drafts.{IsPlaced, CanAim, HasTest};
 ghost use Rattle.pc_lower.specs.models.Fills.{Lays};
 ghost use Rattle.pc_lower.specs.models.LowersExpression.{IsReady, IsHeld};
 ghost use Rattle.pc_lower.specs.models.LowersStatement.{ConditionNodes, LaysTurn, closed};
@@ -67,7 +67,8 @@ pub(crate) fn lower_turn(draft: &mut Draft, test: &Expr, own: u16, site: Site) -
     requires ready { IsReady draft.now (expression_size (expression_of test.now) + 1) site.end site.next site.inside }
     requires test { IsHeld draft.now.graph.arrays (expression_of test.now) 0 }
     requires own { own < length draft.now.graph.loops }
-    ensures turn { (at : ℕ) → at + 1 ≡ site.end → LaysTurn draft.old draft.new (expression_of test.now) result at }
+    requires inside { site.inside ≡ Some own }
+    ensures turn { (at : ℕ) → at + 1 ≡ site.end → LaysTurn draft.old draft.new (expression_of test.now) own result at }
     ensures laid { Lays draft.old draft.new (expression_size (expression_of test.now) + 1) result site.end (λ nodes lengths. Unit {0}) }
 {
     let node = FlowNode::Test {
@@ -94,6 +95,7 @@ pub(crate) struct Closing {
 /// Lets the test of a loop lead to its body and to what follows, and puts the loop's header.
 pub(crate) fn close_loop(draft: &mut Draft, test: &Expr, closing: Closing)
     requires can { CanAim draft.now closing.at (held (expression_of test.now) 0) closing.yes closing.no closing.own }
+    requires test { HasTest draft.now.graph closing.at closing.own }
     ensures { draft.new ≡ closed closing.at (Test (held (expression_of test.now) 0) closing.yes closing.no (Some closing.own)) closing.own
         closing.header draft.old }
 {

@@ -12,7 +12,7 @@ use Rattle.pc_word.specs.Count.{Rose}
 
 -- a graph keeps itself
 pub keeps_refl : (flow : FlowGraph) → Keeps flow flow
-keeps_refl flow = record { agrees = AgreeOnInputs-refl (flow_run flow); as_many = refl; same_loops = refl; same_arrays = refl }
+keeps_refl flow = record { agrees = AgreeOnInputs-refl (flow_run flow); as_many = refl; same_loops = refl; same_inside = refl; same_arrays = refl }
 
 -- what keeps a graph that keeps a graph keeps that
 pub keeps_trans : (old mid new : FlowGraph) → Keeps old mid → Keeps mid new → Keeps old new
@@ -20,6 +20,7 @@ keeps_trans old mid new p q = record {
   agrees = AgreeOnInputs-trans (flow_run new) (flow_run mid) (flow_run old) q.agrees p.agrees;
   as_many = q.as_many ∙ p.as_many;
   same_loops = q.same_loops ∙ p.same_loops;
+  same_inside = q.same_inside ∙ p.same_inside;
   same_arrays = q.same_arrays ∙ p.same_arrays;
 }
 

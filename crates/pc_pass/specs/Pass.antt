@@ -6,11 +6,12 @@ use Rattle.pc_flow.specs.FlowGraph.{FlowGraph}
 use Rattle.pc_flow.specs.FlowRun.{flow_run}
 
 -- The new graph shows what the old one shows, on every input of words and in both directions, and has as many nodes, the
--- same loops and the same arrays.
+-- same loops, each node in the same one, and the same arrays.
 pub record Keeps (old new : FlowGraph) : Type 0 where
   pub agrees : AgreeOnInputs (flow_run new) (flow_run old)
   pub as_many : length new.nodes ≡ length old.nodes
   pub same_loops : new.loops ≡ old.loops
+  pub same_inside : new.inside ≡ old.inside
   pub same_arrays : new.arrays ≡ old.arrays
 
 -- each of a list of counts rose, or stands at the end of u64

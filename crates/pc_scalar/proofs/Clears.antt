@@ -359,6 +359,7 @@ module _ (flow : FlowGraph) (plan : Plan) (is : IsClearing flow plan) where
     agrees = change_agrees change is_change;
     as_many = new_as_many flow plan is.table is.ends (λ node. node) (is_skipping flow plan is);
     same_loops = refl;
+    same_inside = refl;
     same_arrays = refl;
   }
 

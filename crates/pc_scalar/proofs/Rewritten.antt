@@ -139,7 +139,13 @@ module _ (flow : FlowGraph) (rule : Rule) (plan : Plan) (is : IsRewriting flow r
   }
 
   pub rewriting_keeps : Keeps flow new
-  rewriting_keeps = record { agrees = change_agrees change is_change; as_many = is.rewrites.as_many; same_loops = refl; same_arrays = refl }
+  rewriting_keeps = record {
+    agrees = change_agrees change is_change;
+    as_many = is.rewrites.as_many;
+    same_loops = refl;
+    same_inside = refl;
+    same_arrays = refl;
+  }
 
   -- ---- tests of loops
 

@@ -7,7 +7,8 @@ use Rattle.pc_word.specs.declared.item.Operand.{Operand}
 use Rattle.pc_word.specs.declared.loop_mark.LoopMark.{LoopMark}
 use Rattle.pc_flow.specs.declared.node.FlowNode.{FlowNode}
 use Rattle.pc_flow.specs.declared.node.FlowNode.TheVariants.{Op, Test, Stop, Trap}
-use Rattle.pc_flow.specs.FlowGraph.{FlowGraph, IsFlow, ItemFits, IsVariable, IsTarget}
+use Rattle.pc_flow.specs.FlowGraph.{FlowGraph, IsFlow, ItemFits, IsVariable, IsTarget, turn_of}
+use Rattle.pc_lower.specs.LoopTests.{TestsInside}
 
 -- the graph, and the greatest rank so far
 pub record Draft : Type 0 where
@@ -45,17 +46,23 @@ pub record MayPlace (graph : FlowGraph) (node : FlowNode) : Type 0 where
   pub names : HasNames graph node
   pub leads : LeadsToPlaced graph node
 
+-- a node stands where it may: the test of a loop in that loop
+abbrev pub StandsIn : Option ℕ → FlowNode → Type 0
+StandsIn inside node = IfSome (turn_of node) (λ turn. inside ≡ Some turn)
+
 -- a node may be placed at a number, inside a loop that there is or none, while there are ranks
 pub record CanPlace (draft : Draft) (at : ℕ) (node : FlowNode) (inside : Option ℕ) : Type 0 where
   pub at_open : IsOpen draft.graph at
   pub fits : MayPlace draft.graph node
   pub room : draft.ranked < most_nodes
   pub loop_there : IfSome inside (λ loop. loop < length draft.graph.loops)
+  pub stands : StandsIn inside node
 
 -- what every draft keeps
 pub record IsDraft (draft : Draft) : Type 0 where
   pub flow : IsFlow draft.graph
   pub leads : (number : ℕ) (node : FlowNode) → slice_get draft.graph.nodes number ≡ Some node → LeadsToPlaced draft.graph node
+  pub tests_inside : TestsInside draft.graph
   pub below : (number : ℕ) → slice_index draft.graph.ranks number ≤ draft.ranked
   pub few : draft.ranked ≤ most_nodes
 
@@ -75,6 +82,12 @@ draft_with at node inside draft = record {
 }
 
 -- ---- the test of a loop, which may lead to what is placed later
+
+-- at a number stands the test of a loop
+pub record HasTest (graph : FlowGraph) (at loop : ℕ) : Type 0 where
+  pub node : FlowNode
+  pub is_there : slice_get graph.nodes at ≡ Some node
+  pub tests : turn_of node ≡ Some loop
 
 -- a loop's test that may stand at a number
 pub record CanAim (draft : Draft) (at : ℕ) (on : Operand) (on_yes on_no turn : ℕ) : Type 0 where

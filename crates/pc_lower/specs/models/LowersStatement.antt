@@ -11,7 +11,7 @@ use Rattle.pc_lower.specs.Lowers.{held, Gives, Tests, TestsTurn, Implements, Imp
 use Rattle.pc_lower.specs.SourceLoops.{source_loops}
 use Rattle.pc_lower.specs.declared.spot.Spot.{Spot}
 use Rattle.pc_lower.specs.declared.spot.Laid.{Laid}
-use Rattle.pc_lower.specs.models.Drafts.{Draft, IsPlaced, aimed, headed}
+use Rattle.pc_lower.specs.models.Drafts.{Draft, IsPlaced, HasTest, aimed, headed}
 use Rattle.pc_lower.specs.models.Fills.{Fills, Keeps, Lays, HasRoom}
 use Rattle.pc_lower.specs.models.LowersExpression.{AreLengths}
 
@@ -98,8 +98,9 @@ LaysList items spot laid old new =
 
 -- The test of a loop was placed, and before it the condition. Where the test leads is said later, so what is told is of
 -- the condition alone.
-pub record LaysTurn (old new : Draft) (test : SourceExpression) (start at : ℕ) : Type 0 where
+pub record LaysTurn (old new : Draft) (test : SourceExpression) (own start at : ℕ) : Type 0 where
   pub size_is : start + expression_size test ≡ at
+  pub tested : HasTest new.graph at own
   pub fills : Fills old new start (at + 1)
   pub gives : (final : List FlowNode) → Keeps new start at final → Gives final old.graph.arrays test 0 start at
 

@@ -1,9 +1,10 @@
-use Rattle.std.proofs.Common.{◌≡◌, suc, ◌-◌, ◌<◌, length, refl, ap, arith}
+use Rattle.std.proofs.Common.{◌≡◌, suc, ◌-◌, ◌<◌, inl, inr, length, refl, ap, arith}
 use Rattle.std.specs.Prelude.{option_map}
 use Rattle.pc_syntax.specs.declared.statement.Stmt.{Stmt}
 use Rattle.pc_syntax.specs.Erasure.{expression_of, statement_of, optional_of, list_of}
 use Rattle.pc_syntax.proofs.ErasureLaws.{statement_of-Assign, statement_of-For}
 use Rattle.pc_lower.proofs.Weights.{statement_weight}
+use Rattle.pc_lower.proofs.Fills.{test_kept}
 use Rattle.pc_lower.proofs.Constructs.{none_laid, item_weight, item_sound, item_spot, item_numbers, item_laid}
 use Rattle.pc_lower.proofs.Constructs.{lays_branch, lays_while, lays_do, lays_body_and_step, lays_turns, lays_for, lays_for_of, for_spot, for_sound, held_of, lays_assignment}
 use Rattle.pc_lower.proofs.statement.+lower_statement.Goals as goal
@@ -85,11 +86,25 @@ lower_while-returns-clause-laid t c =
     rw (c.close_loop.ensures, c.at.ensures)
     (lays_while _ _ _ _ _ _ _ turn c.lower_statement-yes.ensures.laid (omega (arith, room, nodes)) c.requires.spot.room.there)
 
+pub lower_while-close_loop-requires-clause-test : goal.lower_while-close_loop-requires-clause-test
+lower_while-close_loop-requires-clause-test t c =
+    let room = c.requires.spot.room.within in
+    let nodes = c.statement_size.ensures in
+    let size = c.lower_statement-yes.ensures.laid.size_is in
+    let turn = (rw c.turn.ensures at c.lower_turn-header.ensures.turn) (c.args.spot.end - 1 - c.statement_size.result) refl in
+    test_kept turn.tested c.lower_statement-yes.ensures.laid (inl (omega (arith, room, nodes, size)))
+
 pub lower_do-returns-clause-laid : goal.lower_do-returns-clause-laid
 lower_do-returns-clause-laid t c =
     let room = c.requires.spot.room.within in
     let turn = (rw c.turn.ensures at c.lower_turn-next.ensures.turn) (c.args.spot.end - 1) refl in
     rw c.close_loop.ensures (lays_do _ _ _ _ _ _ _ turn c.lower_statement-laid.ensures.laid (omega (arith, room)) c.requires.spot.room.there)
+
+pub lower_do-close_loop-requires-clause-test : goal.lower_do-close_loop-requires-clause-test
+lower_do-close_loop-requires-clause-test t c =
+    let turn = (rw c.turn.ensures at c.lower_turn-next.ensures.turn) (c.args.spot.end - 1) refl in
+    let size = turn.size_is in
+    test_kept turn.tested c.lower_statement-laid.ensures.laid (inr (omega (arith, size)))
 
 pub lower_round-returns-clause-laid : goal.lower_round-returns-clause-laid
 lower_round-returns-clause-laid t c =
@@ -104,6 +119,15 @@ lower_turns-returns t c =
     let turn = (rw c.turn.ensures at c.lower_turn-header.ensures.turn) (c.args.spot.end - 1 - c.statement_size.result - c.branch_size.result) refl in
     rw c.close_loop.ensures
     (lays_turns _ _ _ _ _ _ _ _ turn c.lower_round-yes.ensures.laid (omega (arith, room, nodes, others)) c.requires.spot.room.there)
+
+pub lower_turns-close_loop-requires-clause-test : goal.lower_turns-close_loop-requires-clause-test
+lower_turns-close_loop-requires-clause-test t c =
+    let room = c.requires.spot.room.within in
+    let nodes = c.statement_size.ensures in
+    let others = c.branch_size.ensures in
+    let size = c.lower_round-yes.ensures.laid.size_is in
+    let turn = (rw c.turn.ensures at c.lower_turn-header.ensures.turn) (c.args.spot.end - 1 - c.statement_size.result - c.branch_size.result) refl in
+    test_kept turn.tested c.lower_round-yes.ensures.laid (inl (omega (arith, room, nodes, others, size)))
 
 pub lower_for-returns-clause-laid : goal.lower_for-returns-clause-laid
 lower_for-returns-clause-laid t c =
