@@ -1,3 +1,4 @@
 pub mod Moved
 pub mod JumpingTreesKept
 pub mod Unwound
+pub mod NamedThere

@@ -2,12 +2,20 @@
 #![tactic(auto)]
 
 mod bounds;
+#[cfg(test)]
+mod copying;
 mod error;
+#[cfg(test)]
+mod following;
 mod locating;
+#[cfg(test)]
+mod naming;
 #[cfg(test)]
 mod program_tests;
 mod raising;
 mod replaying;
+#[cfg(test)]
+mod sources;
 #[cfg(test)]
 mod tests;
 mod twins;

@@ -3,12 +3,13 @@ ghost use Rattle.pc_word.specs.declared.item.Item.TheVariants.{Print};
 ghost use Rattle.pc_word.specs.declared.item.Operand.TheVariants.{Lit};
 ghost use Rattle.pc_table.specs.Table.{table_of, table_tree, table_region, Does, Asks};
 ghost use Rattle.pc_window.specs.Steps.{IsProper};
-ghost use Rattle.pc_window.specs.StoredWindow.{window_in, IsJustOpened, InNodes};
+ghost use Rattle.pc_window.specs.StoredWindow.{window_in, IsJustOpened, InNodes, NodesBehind};
 ghost use Rattle.pc_fill.specs.Fillable.{IsFillable};
 ghost use Rattle.pc_replay.specs.models.JumpingTrees.{sum_tree, load_tree, over_print, over_tests, test_over_print, two_sums, region_of, jumping_table};
 
 use super::*;
 use crate::bounds::is_small;
+use crate::copying::copied;
 use pc_canon::{WindowKey, key};
 use pc_fill::fill;
 use pc_table::{Region, RegionList, RegionTable, RegionTree, VarList};
@@ -196,53 +197,71 @@ fn key_of(alloc: Global, window: &Window) -> Result<WindowKey, ReplayError>
     Ok(key)
 }
 
-/// A window that was filled at once and by single moves.
+/// Windows that were filled at once and by single moves.
 #[derive(Clone, Copy, Debug)]
 pub(crate) struct Compared {
-    /// Filling changed it.
-    pub(crate) changed: bool,
-    /// Both ways led to the same window, up to names.
+    /// Filling changed so many of them.
+    pub(crate) changed: u32,
+    /// Both ways led to windows that are the same, up to names.
     pub(crate) alike: bool,
 }
 
-/// A window that is filled at once, and the same one by single moves.
-pub(crate) fn compare(alloc: Global, window: Window, same: Window) -> Result<Compared, ReplayError>
+/// No windows so far.
+pub(crate) const NOTHING: Compared = Compared {
+    changed: 0,
+    alike: true,
+};
+
+/// Fills a window at once, and a copy of it by single moves.
+pub(crate) fn compare(
+    alloc: Global,
+    window: Window,
+    all: &mut Compared,
+) -> Result<Window, ReplayError>
     requires proper { IsProper (window_in window) }
     requires fillable { IsFillable window }
-    requires same { IsProper (window_in same) }
+    ensures proper { IfOk result (λ filled. IsProper (window_in filled)) }
+    ensures nodes { IfOk result (λ filled. NodesBehind filled.tree) }
 {
+    let same = copied(alloc, &window)?;
     let before = key_of(alloc, &window)?;
     let filled = fill(alloc, window)?;
     let at_once = key_of(alloc, &filled)?;
     let replayed = replay(alloc, same)?;
     let by_moves = key_of(alloc, &replayed)?;
-    Ok(Compared {
-        changed: at_once.numbers.as_slice() != before.numbers.as_slice(),
-        alike: by_moves.numbers.as_slice() == at_once.numbers.as_slice(),
-    })
+    if at_once.numbers.as_slice() != before.numbers.as_slice() {
+        all.changed = all.changed.saturating_add(1);
+    }
+    if by_moves.numbers.as_slice() != at_once.numbers.as_slice() {
+        all.alike = false;
+    }
+    Ok(filled)
 }
 
 /// The same of a region's window.
 #[tactic(auto, using(pc_fill::proofs::Opened::opened_windows))]
-fn compare_region(alloc: Global, table: &RegionTable, region: u32) -> Result<Compared, ReplayError>
+fn compare_region(
+    alloc: Global,
+    table: &RegionTable,
+    region: u32,
+    all: &mut Compared,
+) -> Result<(), ReplayError>
     requires table { table_of table.now ≡ jumping_table }
     requires region { region < 4 }
 {
     let window = opened(alloc, table, region)?;
-    let same = opened(alloc, table, region)?;
-    compare(alloc, window, same)
+    compare(alloc, window, all)?;
+    Ok(())
 }
 
 /// Whether each of the regions is changed by filling, and so by single moves.
 fn are_replayed(alloc: Global) -> Result<bool, ReplayError> {
     let table = four_regions(alloc)?;
+    let mut all = NOTHING;
     for region in 0..4 {
-        let compared = compare_region(alloc, &table, region)?;
-        if !compared.changed || !compared.alike {
-            return Ok(false);
-        }
+        compare_region(alloc, &table, region, &mut all)?;
     }
-    Ok(true)
+    Ok(all.alike && all.changed == 4)
 }
 
 #[test]
