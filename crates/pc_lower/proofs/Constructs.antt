@@ -23,12 +23,13 @@ use Rattle.pc_lower.specs.declared.spot.Laid.{Laid}
 use Rattle.pc_lower.specs.models.Drafts.{Draft, IsPlaced}
 use Rattle.pc_lower.specs.models.Fills.{Lays}
 use Rattle.pc_lower.specs.models.LowersExpression.{IsHeld}
-use Rattle.pc_lower.specs.models.LowersStatement.{loop_count, branch_loops, list_loops, IsSpot, LaysList, LaysTurn, closed}
+use Rattle.pc_lower.specs.models.LowersStatement.{loop_count, branch_loops, list_loops, IsSpot, AreTested, LaysList, LaysTurn, closed}
 use Rattle.pc_lower.specs.models.LowersStatement.{ConditionNodes, StatementNodes, OptionalNodes, ListNodes, RoundNodes, TurnsNodes}
 use Rattle.pc_lower.proofs.Weights.{statement_weight, list_weight}
 use Rattle.pc_lower.proofs.Fills.{lays_both, lays_as}
 use Rattle.pc_lower.proofs.Spots.{lays_nothing, spot_before}
 use Rattle.pc_lower.proofs.Loops.{lays_round, lays_round_before}
+use Rattle.pc_lower.proofs.Tested.{tested_none, tested_both, all_still}
 
 -- ---- parts in general
 
@@ -263,6 +264,7 @@ pub record ListLaid (old new : Draft) (spot : Spot) (rest : SourceList) (laid : 
   pub lays : LaysList rest spot laid old new
   pub begins : IsPlaced new.graph laid.entry
   pub numbers : loops_end + list_loops rest ≡ spot.loops_end
+  pub tested : AreTested new (list_loops rest) spot.loops_end
 
 -- nothing yet
 pub none_laid : (d : Draft) (spot : Spot) (items : List Stmt) {laid : Laid} → IsPlaced d.graph spot.next → laid ≡ record { start = spot.end; entry = spot.next }
@@ -275,6 +277,7 @@ none_laid d spot items placed e = rw (drop-length items, e) (made)
       lays = lays_nothing d spot.end (ListNodes No_more spot.break_to spot.continue_to spot.return_to spot.next spot.next) (λ final. record { is = refl });
       begins = placed;
       numbers = omega arith;
+      tested = tested_none;
     }
 
 -- a statement before those that were laid
@@ -313,9 +316,10 @@ module _ {d d1 : Draft} {spot : Spot} (items : List Stmt) (i at : ℕ) (item : S
   pub item_laid : {d2 : Draft} {new : Laid} {ends : ℕ}
       → Lays d1 d2 (statement_size (statement_of item)) new.start laid.start
       (StatementNodes (statement_of item) spot.break_to spot.continue_to spot.return_to new.entry laid.entry)
-      → IsPlaced d2.graph new.entry → ends + loop_count (statement_of item) ≡ loops_end → ListLaid d d2 spot (list_of (drop i items)) new ends
+      → IsPlaced d2.graph new.entry → ends + loop_count (statement_of item) ≡ loops_end
+      → AreTested d2 (loop_count (statement_of item)) loops_end → ListLaid d d2 spot (list_of (drop i items)) new ends
   unfolding list_size loop_count
-  item_laid {d2} {new} {ends} l begins e =
+  item_laid {d2} {new} {ends} l begins e tested =
       let numbers = laid-so_far.numbers in
       let made : ListLaid d d2 spot (More (statement_of item) (list_of (drop (suc i) items))) new ends = record {
         lays = lays_as (statement_size (statement_of item) + list_size (list_of (drop (suc i) items)))
@@ -323,5 +327,6 @@ module _ {d d1 : Draft} {spot : Spot} (items : List Stmt) (i at : ℕ) (item : S
             (lays_both laid-so_far.lays l) refl (λ nodes h. record { is = (laid.entry, h.1.is, h.0.is) });
         begins = begins;
         numbers = omega (arith, numbers, e);
+        tested = tested_both _ tested (all_still l laid-so_far.tested) numbers refl;
       } in
       subst (λ (rest : SourceList). ListLaid d d2 spot rest new ends) (sym (list_at items i item below read)) made

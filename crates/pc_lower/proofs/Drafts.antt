@@ -11,9 +11,9 @@ use Rattle.pc_flow.specs.declared.node.FlowNode.{FlowNode}
 use Rattle.pc_flow.specs.declared.node.FlowNode.TheVariants.{Op, Test, Stop, Trap}
 use Rattle.pc_flow.specs.FlowGraph.{FlowGraph, IsTarget, Descends, NodeFits, turn_of}
 use Rattle.pc_lower.proofs.Fills.{get_set_same, get_set_other}
-use Rattle.pc_lower.specs.LoopTests.{TestsInside}
+use Rattle.pc_lower.specs.LoopTests.{HasTest, TestsInside}
 use Rattle.pc_lower.proofs.LoopMarks.{header_length, header_outer}
-use Rattle.pc_lower.specs.models.Drafts.{Draft, IsDraft, IsPlaced, LeadsToPlaced, MayPlace, CanPlace, graph_with, draft_with, HasTest, CanAim, aimed, headed, MayBegin, first_draft}
+use Rattle.pc_lower.specs.models.Drafts.{Draft, IsDraft, IsPlaced, LeadsToPlaced, MayPlace, CanPlace, graph_with, draft_with, CanAim, aimed, headed, MayBegin, first_draft}
 
 -- two numbers are the same or not
 decide_same : (i j : ℕ) → (i ≡ j) ⊎ (i ≢ j)

@@ -3,7 +3,8 @@ use Rattle.std.proofs.Common.{◌≡◌, ◌≢◌, ℕ, zero, suc, ◌+◌, ◌
 use Rattle.std.specs.Prelude.{IfSome, slice_get, slice_set, slice_index}
 use Rattle.pc_word.proofs.Truth.{decide_le}
 use Rattle.pc_flow.specs.declared.node.FlowNode.{FlowNode}
-use Rattle.pc_lower.specs.models.Drafts.{Draft, IsPlaced, HasTest}
+use Rattle.pc_lower.specs.models.Drafts.{Draft, IsPlaced, PlacedTest, IsTested}
+use Rattle.pc_lower.specs.LoopTests.{HasTest}
 use Rattle.pc_lower.specs.models.Fills.{IsOutside, Fills, Keeps, Lays, HasRoom}
 
 -- ---- lists with an element replaced
@@ -39,6 +40,11 @@ module _ (a b c : Draft) (from mid to : ℕ) (later : Fills a b mid to) (earlier
   filled-both i lo hi (inl h) = earlier.filled i lo h
   filled-both i lo hi (inr h) = subst (λ (n : ℕ). 1 ≤ n) (sym (earlier.ranks_kept i (inr h))) (later.filled i h hi)
 
+  -- and was open before
+  opens-both : (i : ℕ) → from ≤ i → i < to → (i < mid) ⊎ (mid ≤ i) → slice_index a.graph.ranks i ≡ 0
+  opens-both i lo hi (inl h) = sym (later.ranks_kept i (inl h)) ∙ earlier.opens i lo h
+  opens-both i lo hi (inr h) = later.opens i h hi
+
   below-or : (i : ℕ) → (i < mid) ⊎ (mid ≤ i)
   below-or i = elim (decide_le mid i) [ inl h ↦ inr h | inr h ↦ inl h ]
 
@@ -57,6 +63,7 @@ module _ (a b c : Draft) (from mid to : ℕ) (later : Fills a b mid to) (earlier
         arrays = earlier.arrays ∙ later.arrays;
         nodes_kept = λ i h. earlier.nodes_kept i (outside_earlier from mid to i f h) ∙ later.nodes_kept i (outside_later from mid to i g h f);
         ranks_kept = λ i h. earlier.ranks_kept i (outside_earlier from mid to i f h) ∙ later.ranks_kept i (outside_later from mid to i g h f);
+        opens = λ i lo hi. opens-both i lo hi (below-or i);
         filled = λ i lo hi. filled-both i lo hi (below-or i);
         ranked = omega (arith, r, s);
       }
@@ -155,6 +162,24 @@ placed_within {old} {new} i room l lo hi =
 pub test_kept : {old new : Draft} {k from to at loop : ℕ} {P : List FlowNode → List ℕ → Type 0} → HasTest old.graph at loop → Lays old new k from to P
     → IsOutside from to at → HasTest new.graph at loop
 test_kept {at = at} h l out = record { node = h.node; is_there = l.fills.nodes_kept at out ∙ h.is_there; tests = h.tests }
+
+-- the test of a loop that was placed stays
+pub placed_test_still : {old new : Draft} {k from to at loop : ℕ} {P : List FlowNode → List ℕ → Type 0} → Lays old new k from to P
+    → PlacedTest old.graph at loop → PlacedTest new.graph at loop
+placed_test_still {old} {new} {k} {from} {to} {at} l t =
+    record { test = test_kept t.test l (elsewhere (in_or_out from to at)); placed = placed_still l t.placed }
+  where
+    elsewhere : IsOutside from to at ⊎ ((from ≤ at) × (at < to)) → IsOutside from to at
+    elsewhere (inl out) = out
+    elsewhere (inr h) =
+        let none = l.fills.opens at h.0 h.1 in
+        let some = t.placed.ranked in
+        absurd (omega (arith, none, some))
+
+-- and so a loop that is tested
+pub tested_still : {old new : Draft} {k from to loop : ℕ} {P : List FlowNode → List ℕ → Type 0} → Lays old new k from to P → IsTested old.graph loop
+    → IsTested new.graph loop
+tested_still l t = (t.0, placed_test_still l t.1)
 
 -- and its first one
 pub placed_first : {old new : Draft} {k from to size : ℕ} {inside : Option ℕ} {P : List FlowNode → List ℕ → Type 0} → HasRoom old size to inside

@@ -7,6 +7,7 @@ pub mod Weights
 pub mod Assigned
 pub mod Spots
 pub mod Loops
+pub mod Tested
 pub mod Constructs
 pub mod Rules
 pub mod Bounds

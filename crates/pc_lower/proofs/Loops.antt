@@ -27,6 +27,10 @@ module _ (a b c : Draft) (from mid to : ℕ) (front : Fills a b from mid) (back 
   filled-each i lo hi (inl h) = back.filled i h hi
   filled-each i lo hi (inr h) = subst (λ (n : ℕ). 1 ≤ n) (sym (back.ranks_kept i (inl h))) (front.filled i lo h)
 
+  opens-each : (i : ℕ) → from ≤ i → i < to → (mid ≤ i) ⊎ (i < mid) → slice_index a.graph.ranks i ≡ 0
+  opens-each i lo hi (inl h) = sym (front.ranks_kept i (inr h)) ∙ back.opens i h hi
+  opens-each i lo hi (inr h) = front.opens i lo h
+
   pub fills_behind : Fills a c from to
   fills_behind =
       let f = front.forward in
@@ -41,6 +45,7 @@ module _ (a b c : Draft) (from mid to : ℕ) (front : Fills a b from mid) (back 
         arrays = back.arrays ∙ front.arrays;
         nodes_kept = λ i h. back.nodes_kept i (outside-back i h) ∙ front.nodes_kept i (outside-front i h);
         ranks_kept = λ i h. back.ranks_kept i (outside-back i h) ∙ front.ranks_kept i (outside-front i h);
+        opens = λ i lo hi. opens-each i lo hi (decide_le mid i);
         filled = λ i lo hi. filled-each i lo hi (decide_le mid i);
         ranked = omega (arith, r, s);
       }
@@ -60,6 +65,7 @@ module _ (a c : Draft) (from to at : ℕ) (node : FlowNode) (own : ℕ) (header 
     arrays = fills.arrays;
     nodes_kept = λ i h. get_set_other c.graph.nodes at i node (elsewhere i h) ∙ fills.nodes_kept i h;
     ranks_kept = fills.ranks_kept;
+    opens = fills.opens;
     filled = fills.filled;
     ranked = fills.ranked;
   }

@@ -74,6 +74,7 @@ lays_nothing d to P f = record {
     arrays = refl;
     nodes_kept = λ i h. refl;
     ranks_kept = λ i h. refl;
+    opens = λ i lo hi. absurd (omega (arith, lo, hi));
     filled = λ i lo hi. absurd (omega (arith, lo, hi));
     ranked = refl;
   };

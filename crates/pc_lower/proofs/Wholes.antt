@@ -16,11 +16,11 @@ use Rattle.pc_lower.specs.Kinds.{kinds_from}
 use Rattle.pc_lower.specs.Lowers.{Lowers}
 use Rattle.pc_lower.specs.Lowered.{IsLowered}
 use Rattle.pc_lower.specs.SourceLoops.{source_loops, loops_of}
-use Rattle.pc_lower.specs.LoopTests.{TestsInside}
+use Rattle.pc_lower.specs.LoopTests.{TestsInside, EachTested}
 use Rattle.pc_lower.specs.models.Drafts.{Draft, first_draft}
 use Rattle.pc_lower.specs.models.Fills.{Lays, HasRoom}
 use Rattle.pc_lower.specs.models.LowersExpression.{AreLengths}
-use Rattle.pc_lower.specs.models.LowersStatement.{list_loops, IsSpot, IsUnplaced, IsLaid}
+use Rattle.pc_lower.specs.models.LowersStatement.{list_loops, IsSpot, AreTested, IsUnplaced, IsLaid}
 use Rattle.pc_lower.proofs.Drafts.{zero_at}
 use Rattle.pc_lower.proofs.Fills.{room_left, placed_first}
 use Rattle.pc_lower.proofs.Bounds.{list-loops_sized}
@@ -75,11 +75,24 @@ whole_spot {d} {d1} {P} last ends body is same l e =
       numbers = omega (arith, e, sized, few);
     }
 
+-- each loop has a test
+pub each_tested : {d d1 d2 : Draft} {last start : ℕ} {P Q : List FlowNode → List ℕ → Type 0} (ends : ℕ) (body : SourceList) → IsUnplaced d body
+    → Lays d d1 1 last (last + 1) P → Lays d1 d2 (list_size body) start last Q → ends ≡ min (list_loops body) 65535 → AreTested d2 (list_loops body) ends
+    → EachTested d2.graph
+each_tested ends body is stop l e tested loop there =
+    let sized = list-loops_sized body in
+    let few = is.few in
+    let loops = is.loops in
+    let before = stop.fills.as_many_loops in
+    let after = l.fills.as_many_loops in
+    let t = tested.each loop (omega (arith, e)) (omega (arith, there, e, sized, few, loops, before, after)) in
+    (t.0, t.1.test)
+
 -- what was laid is the flow graph of the program
 pub is_lowered : (program : ResolvedProgram) (old new : Draft) (entry : ℕ) (flow : FlowGraph) → IsLaid old new program.body entry → old.graph.arrays ≡ program.arrays
     → length old.graph.nodes ≡ resolved_size program → resolved_size program ≤ most_nodes → source_loops old.graph.loops ≡ loops_of program
-    → flow ≡ record new.graph { entry = entry } → TestsInside flow → IsLowered program flow
-is_lowered program old new entry flow laid same count few marked e tests = subst (IsLowered program) (sym e) (record {
+    → flow ≡ record new.graph { entry = entry } → TestsInside flow → EachTested new.graph → IsLowered program flow
+is_lowered program old new entry flow laid same count few marked e tests each = subst (IsLowered program) (sym e) (record {
   agree = subst (λ (arrays : List ℕ). AgreeOnInputs (nodes_run new.graph.nodes arrays entry) (source_run program)) (sym arrays)
       (lowered_runs_agree new.graph.nodes program entry lowers);
   traced = λ input n. subst (λ (lengths : List ℕ). kinds_from new.graph.nodes lengths (length (trace_of program input n)) (flow_start entry input) ≡ trace_of program input n) (sym arrays)
@@ -88,6 +101,7 @@ is_lowered program old new entry flow laid same count few marked e tests = subst
   arrays = arrays;
   loops = laid.loops ∙ marked;
   tests_inside = subst TestsInside e tests;
+  each_tested = λ loop there. let t = each loop there in (t.0, record { node = t.1.node; is_there = t.1.is_there; tests = t.1.tests });
   few = few;
 })
   where

@@ -10,13 +10,13 @@ use Rattle.pc_flow.specs.FlowGraph.{FlowGraph}
 use Rattle.pc_flow.specs.FlowRun.{flow_start, flow_run}
 use Rattle.pc_lower.specs.Kinds.{kinds_from}
 use Rattle.pc_lower.specs.SourceLoops.{source_loops, loops_of}
-use Rattle.pc_lower.specs.LoopTests.{TestsInside}
+use Rattle.pc_lower.specs.LoopTests.{TestsInside, EachTested}
 use Rattle.pc_lower.specs.declared.error.LowerError.{LowerError}
 use Rattle.pc_lower.specs.declared.error.LowerError.TheVariants.{TooLarge, Memory}
 
 -- A flow graph is that of a program: for every input of words both show the same, each in its own time; the nodes that
 -- are passed first are those of the program's trace; there are as many nodes as the program's size; the arrays and the
--- loops are the program's; and the test of each loop stands in it.
+-- loops are the program's; and each loop has a test, which stands in it.
 pub record IsLowered (program : ResolvedProgram) (flow : FlowGraph) : Type 0 where
   pub agree : AgreeOnInputs (flow_run flow) (source_run program)
   pub traced : (input : List ℤ) (n : ℕ)
@@ -25,6 +25,7 @@ pub record IsLowered (program : ResolvedProgram) (flow : FlowGraph) : Type 0 whe
   pub arrays : flow.arrays ≡ program.arrays
   pub loops : source_loops flow.loops ≡ loops_of program
   pub tests_inside : TestsInside flow
+  pub each_tested : EachTested flow
   pub few : resolved_size program ≤ most_nodes
 
 -- Why a program of a size has no flow graph: it has too many nodes, and they are told, as far as a number goes; or

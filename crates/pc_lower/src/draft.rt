@@ -3,8 +3,8 @@
 ghost use Rattle.std.specs.Prelude.{◌≡◌, ◌+◌, ◌<◌, Some, None, length, slice_get, slice_index, replicate, IfOk};
 ghost use Rattle.pc_flow.specs.FlowGraph.{IsTarget};
 ghost use Rattle.pc_flow.specs.declared.node.FlowNode.TheVariants.{Test, Stop};
-ghost use Rattle.pc_lower.specs.LoopTests.{TestsInside};
-ghost use Rattle.pc_lower.specs.models.Drafts.{CanPlace, draft_with, CanAim, HasTest, aimed, headed, MayBegin, first_draft};
+ghost use Rattle.pc_lower.specs.LoopTests.{HasTest, TestsInside};
+ghost use Rattle.pc_lower.specs.models.Drafts.{CanPlace, draft_with, CanAim, aimed, headed, MayBegin, first_draft};
 ghost use Rattle.pc_lower.specs.models.Fills.{Lays};
 
 use pc_flow::{Flow, FlowNode, FlowNodeList, InsideList, RankList};

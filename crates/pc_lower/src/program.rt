@@ -6,6 +6,7 @@ ghost use Rattle.pc_check.specs.Sizes.{list_size, resolved_size};
 ghost use Rattle.pc_check.specs.Sound.{list_is_sound};
 ghost use Rattle.pc_check.specs.Checks.{resolved_of};
 ghost use Rattle.pc_lower.specs.Lowered.{IsLowered, IsRefused};
+ghost use Rattle.pc_lower.specs.LoopTests.{EachTested};
 ghost use Rattle.pc_lower.specs.models.LowersStatement.{IsUnplaced, IsLaid};
 
 use crate::draft::Draft;
@@ -25,7 +26,8 @@ fn lower_body(draft: &mut Draft, last: u32, body: &StmtList) -> u32
     requires first { IsUnplaced draft.now (list_of body.now) }
     requires last { last ≡ list_size (list_of body.now) }
     requires sound { list_is_sound most_scalars (length draft.now.graph.arrays) true (list_of body.now) ≡ true }
-    ensures { IsLaid draft.old draft.new (list_of body.now) result }
+    ensures laid { IsLaid draft.old draft.new (list_of body.now) result }
+    ensures tested { EachTested draft.new.graph }
 {
     draft.place(last, FlowNode::Stop, None);
     let spot = Spot {

@@ -6,10 +6,10 @@ ghost use Rattle.pc_syntax.specs.Source.{Branch, WhileLoop, DoLoop, ForLoop};
 ghost use Rattle.pc_syntax.specs.Erasure.{expression_of, statement_of, optional_of, list_of};
 ghost use Rattle.pc_check.specs.Sizes.{expression_size, statement_size, branch_size, list_size};
 ghost use Rattle.pc_check.specs.Sound.{is_sound, branch_is_sound, list_is_sound};
-ghost use Rattle.pc_lower.specs.models.Drafts.{IsPlaced};
+ghost use Rattle.pc_lower.specs.models.Drafts.{IsPlaced, IsTested};
 ghost use Rattle.pc_lower.specs.models.Fills.{Lays};
 ghost use Rattle.pc_lower.specs.models.LowersExpression.{IsHeld};
-ghost use Rattle.pc_lower.specs.models.LowersStatement.{loop_count, branch_loops, list_loops, IsSpot, LaysStatement, LaysOptional, LaysList, StatementNodes, RoundNodes, TurnsNodes};
+ghost use Rattle.pc_lower.specs.models.LowersStatement.{loop_count, branch_loops, list_loops, IsSpot, AreTested, LaysStatement, LaysOptional, LaysList, StatementNodes, RoundNodes, TurnsNodes};
 
 use crate::assignment::{Target, lower_assignment, lower_declaration};
 use crate::draft::Draft;
@@ -38,6 +38,7 @@ fn lower_branch(
         (StatementNodes (Branch 0 (expression_of test.now) (statement_of yes.now) (optional_of no.now))
         spot.break_to spot.continue_to spot.return_to result.entry spot.next) }
     ensures begins { IsPlaced draft.new.graph result.entry }
+    ensures tested { AreTested draft.new (loop_count (statement_of yes.now) + branch_loops (optional_of no.now)) spot.loops_end }
 {
     let other = lower_optional(draft, no, spot);
     let behind = Spot {
@@ -63,6 +64,7 @@ fn lower_while(draft: &mut Draft, test: &Expr, body: &Stmt, spot: Spot) -> Laid
         (StatementNodes (WhileLoop 0 (expression_of test.now) (statement_of body.now))
         spot.break_to spot.continue_to spot.return_to result.entry spot.next) }
     ensures begins { IsPlaced draft.new.graph result.entry }
+    ensures tested { AreTested draft.new (loop_count (statement_of body.now) + 1) spot.loops_end }
 {
     let own = spot.loops_end - 1 - loop_count(body);
     let at = spot.end - 1 - statement_size(body);
@@ -100,6 +102,7 @@ fn lower_do(draft: &mut Draft, test: &Expr, body: &Stmt, spot: Spot) -> Laid
         (StatementNodes (DoLoop 0 (statement_of body.now) (expression_of test.now))
         spot.break_to spot.continue_to spot.return_to result.entry spot.next) }
     ensures begins { IsPlaced draft.new.graph result.entry }
+    ensures tested { AreTested draft.new (loop_count (statement_of body.now) + 1) spot.loops_end }
 {
     let own = spot.loops_end - 1 - loop_count(body);
     let at = spot.end - 1;
@@ -142,6 +145,7 @@ fn lower_round(
     ensures laid { Lays draft.old draft.new (statement_size (statement_of body.now) + branch_size (optional_of step.now)) result.start spot.end
         (RoundNodes (statement_of body.now) (optional_of step.now) out spot.break_to spot.continue_to spot.return_to result.entry spot.next) }
     ensures begins { IsPlaced draft.new.graph result.entry }
+    ensures tested { AreTested draft.new (branch_loops (optional_of step.now) + loop_count (statement_of body.now)) spot.loops_end }
 {
     let inner = Spot {
         loops_end: spot.loops_end - loop_count(body),
@@ -169,10 +173,12 @@ fn lower_turns(
     requires test { IsHeld draft.now.graph.arrays (expression_of test.now) 0 }
     requires step { branch_is_sound most_scalars (length draft.now.graph.arrays) true (optional_of step.now) ≡ true }
     requires body { is_sound most_scalars (length draft.now.graph.arrays) true (statement_of body.now) ≡ true }
-    ensures { Lays draft.old draft.new (expression_size (expression_of test.now) + 1 + (statement_size (statement_of body.now)
+    ensures laid { Lays draft.old draft.new (expression_size (expression_of test.now) + 1 + (statement_size (statement_of body.now)
         + branch_size (optional_of step.now))) result spot.end
         (TurnsNodes (expression_of test.now) (optional_of step.now) (statement_of body.now) spot.break_to spot.continue_to spot.return_to
         result spot.next) }
+    ensures own { IsTested draft.new.graph own }
+    ensures tested { AreTested draft.new (branch_loops (optional_of step.now) + loop_count (statement_of body.now)) spot.loops_end }
 {
     let at = spot.end - 1 - statement_size(body) - branch_size(step);
     let header = lower_turn(draft, test, own, spot.turn(own, at + 1));
@@ -218,6 +224,7 @@ fn lower_for(
         (ForLoop 0 (list_of first.now) (expression_of test.now) (optional_of step.now) (statement_of body.now))
         spot.break_to spot.continue_to spot.return_to result.entry spot.next) }
     ensures begins { IsPlaced draft.new.graph result.entry }
+    ensures tested { AreTested draft.new (list_loops (list_of first.now) + (branch_loops (optional_of step.now) + loop_count (statement_of body.now)) + 1) spot.loops_end }
 {
     let behind = spot.loops_end - loop_count(body) - branch_loops(step);
     let own = behind - 1 - list_loops(first);
@@ -233,6 +240,7 @@ pub(crate) fn lower_statement(draft: &mut Draft, statement: &Stmt, spot: Spot) -
     requires sound { is_sound most_scalars (length draft.now.graph.arrays) true (statement_of statement.now) ≡ true }
     ensures laid { LaysStatement (statement_of statement.now) spot result draft.old draft.new }
     ensures begins { IsPlaced draft.new.graph result.entry }
+    ensures tested { AreTested draft.new (loop_count (statement_of statement.now)) spot.loops_end }
 {
     let site = spot.site(spot.next);
     match statement {
@@ -279,6 +287,7 @@ fn lower_optional(draft: &mut Draft, statement: &Option<Box<Stmt>>, spot: Spot) 
     requires sound { branch_is_sound most_scalars (length draft.now.graph.arrays) true (optional_of statement.now) ≡ true }
     ensures laid { LaysOptional (optional_of statement.now) spot result draft.old draft.new }
     ensures begins { IsPlaced draft.new.graph result.entry }
+    ensures tested { AreTested draft.new (branch_loops (optional_of statement.now)) spot.loops_end }
 {
     match statement {
         None => Laid::empty(spot.end, spot.next),
@@ -294,6 +303,7 @@ pub(crate) fn lower_list(draft: &mut Draft, items: &StmtList, spot: Spot) -> Lai
     requires sound { list_is_sound most_scalars (length draft.now.graph.arrays) true (list_of items.now) ≡ true }
     ensures laid { LaysList (list_of items.now) spot result draft.old draft.new }
     ensures begins { IsPlaced draft.new.graph result.entry }
+    ensures tested { AreTested draft.new (list_loops (list_of items.now)) spot.loops_end }
 {
     let mut laid = Laid::empty(spot.end, spot.next);
     let mut loops_end = spot.loops_end;

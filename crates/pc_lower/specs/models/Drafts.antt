@@ -8,7 +8,7 @@ use Rattle.pc_word.specs.declared.loop_mark.LoopMark.{LoopMark}
 use Rattle.pc_flow.specs.declared.node.FlowNode.{FlowNode}
 use Rattle.pc_flow.specs.declared.node.FlowNode.TheVariants.{Op, Test, Stop, Trap}
 use Rattle.pc_flow.specs.FlowGraph.{FlowGraph, IsFlow, ItemFits, IsVariable, IsTarget, turn_of}
-use Rattle.pc_lower.specs.LoopTests.{TestsInside}
+use Rattle.pc_lower.specs.LoopTests.{HasTest, TestsInside}
 
 -- the graph, and the greatest rank so far
 pub record Draft : Type 0 where
@@ -83,11 +83,14 @@ draft_with at node inside draft = record {
 
 -- ---- the test of a loop, which may lead to what is placed later
 
--- at a number stands the test of a loop
-pub record HasTest (graph : FlowGraph) (at loop : ℕ) : Type 0 where
-  pub node : FlowNode
-  pub is_there : slice_get graph.nodes at ≡ Some node
-  pub tests : turn_of node ≡ Some loop
+-- a node that was placed is the test of a loop
+pub record PlacedTest (graph : FlowGraph) (at loop : ℕ) : Type 0 where
+  pub test : HasTest graph at loop
+  pub placed : IsPlaced graph at
+
+-- a loop has a test that was placed
+abbrev pub IsTested : FlowGraph → ℕ → Type 0
+IsTested graph loop = (at : ℕ) × PlacedTest graph at loop
 
 -- a loop's test that may stand at a number
 pub record CanAim (draft : Draft) (at : ℕ) (on : Operand) (on_yes on_no turn : ℕ) : Type 0 where

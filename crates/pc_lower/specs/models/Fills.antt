@@ -10,7 +10,7 @@ use Rattle.pc_lower.specs.models.Drafts.{Draft}
 abbrev pub IsOutside : (from to i : ℕ) → Type 0
 IsOutside from to i = (i < from) ⊎ (to ≤ i)
 
--- the nodes from one number to another were placed; all else is as before, but for the headers of loops
+-- the nodes from one number to another were open, and were placed; all else is as before, but for the headers of loops
 pub record Fills (old new : Draft) (from to : ℕ) : Type 0 where
   pub forward : from ≤ to
   pub as_many : length new.graph.nodes ≡ length old.graph.nodes
@@ -19,6 +19,7 @@ pub record Fills (old new : Draft) (from to : ℕ) : Type 0 where
   pub arrays : new.graph.arrays ≡ old.graph.arrays
   pub nodes_kept : (i : ℕ) → IsOutside from to i → slice_get new.graph.nodes i ≡ slice_get old.graph.nodes i
   pub ranks_kept : (i : ℕ) → IsOutside from to i → slice_index new.graph.ranks i ≡ slice_index old.graph.ranks i
+  pub opens : (i : ℕ) → from ≤ i → i < to → slice_index old.graph.ranks i ≡ 0
   pub filled : (i : ℕ) → from ≤ i → i < to → 1 ≤ slice_index new.graph.ranks i
   pub ranked : new.ranked + from ≡ old.ranked + to
 

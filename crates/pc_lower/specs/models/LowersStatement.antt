@@ -11,7 +11,8 @@ use Rattle.pc_lower.specs.Lowers.{held, Gives, Tests, TestsTurn, Implements, Imp
 use Rattle.pc_lower.specs.SourceLoops.{source_loops}
 use Rattle.pc_lower.specs.declared.spot.Spot.{Spot}
 use Rattle.pc_lower.specs.declared.spot.Laid.{Laid}
-use Rattle.pc_lower.specs.models.Drafts.{Draft, IsPlaced, HasTest, aimed, headed}
+use Rattle.pc_lower.specs.models.Drafts.{Draft, IsPlaced, IsTested, aimed, headed}
+use Rattle.pc_lower.specs.LoopTests.{HasTest}
 use Rattle.pc_lower.specs.models.Fills.{Fills, Keeps, Lays, HasRoom}
 use Rattle.pc_lower.specs.models.LowersExpression.{AreLengths}
 
@@ -103,6 +104,10 @@ pub record LaysTurn (old new : Draft) (test : SourceExpression) (own start at : 
   pub tested : HasTest new.graph at own
   pub fills : Fills old new start (at + 1)
   pub gives : (final : List FlowNode) → Keeps new start at final → Gives final old.graph.arrays test 0 start at
+
+-- each of so many loops before a number has a test that was placed
+pub record AreTested (draft : Draft) (many ends : ℕ) : Type 0 where
+  pub each : (loop : ℕ) → ends ≤ loop + many → loop < ends → IsTested draft.graph loop
 
 -- the draft with the test of a loop aimed, and its header
 abbrev pub closed : (at : ℕ) → FlowNode → (own header : ℕ) → Draft → Draft

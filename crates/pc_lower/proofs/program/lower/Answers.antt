@@ -72,4 +72,5 @@ returns-clause-lowered c =
     let nodes : length c.in_ok-draft.draft.graph.nodes ≡ list_size body + 1 = rw c.in_ok-draft.ensures (length-replicate c.size-count.result Stop ∙ count) in
     let marked : source_loops c.in_ok-draft.draft.graph.loops ≡ loops_of (resolved_of c.args.checked.now) = rw (c.in_ok-draft.ensures, c.in_ok-mark_list.ensures.marked, c.new-loops.ensures) in
     is_lowered (resolved_of c.args.checked.now) c.in_ok-draft.draft c.lower_body-entry.new.draft c.lower_body-entry.result c.into_flow.result
-    c.lower_body-entry.ensures arrays nodes (omega (arith, count, few)) marked c.into_flow.ensures.begun c.into_flow.ensures.tests
+    c.lower_body-entry.ensures.laid arrays nodes (omega (arith, count, few)) marked c.into_flow.ensures.begun c.into_flow.ensures.tests
+    c.lower_body-entry.ensures.tested

@@ -2,11 +2,13 @@ use Rattle.std.proofs.Common.{◌≡◌, suc, ◌-◌, ◌<◌, inl, inr, length
 use Rattle.std.specs.Prelude.{option_map}
 use Rattle.pc_syntax.specs.declared.statement.Stmt.{Stmt}
 use Rattle.pc_syntax.specs.Erasure.{expression_of, statement_of, optional_of, list_of}
-use Rattle.pc_syntax.proofs.ErasureLaws.{statement_of-Assign, statement_of-For}
+use Rattle.pc_syntax.proofs.ErasureLaws.{statement_of-Assign, statement_of-Do, statement_of-For}
 use Rattle.pc_lower.proofs.Weights.{statement_weight}
-use Rattle.pc_lower.proofs.Fills.{test_kept}
+use Rattle.pc_lower.specs.models.LowersStatement.{loop_count}
+use Rattle.pc_lower.proofs.Fills.{test_kept, placed_test_still, tested_still}
+use Rattle.pc_lower.proofs.Tested.{tested_both, tested_round, all_still, turn_tested, closed_tested, all_closed}
 use Rattle.pc_lower.proofs.Constructs.{none_laid, item_weight, item_sound, item_spot, item_numbers, item_laid}
-use Rattle.pc_lower.proofs.Constructs.{lays_branch, lays_while, lays_do, lays_body_and_step, lays_turns, lays_for, lays_for_of, for_spot, for_sound, held_of, lays_assignment}
+use Rattle.pc_lower.proofs.Constructs.{lays_branch, lays_while, lays_do, lays_body_and_step, lays_turns, lays_do_of, lays_for, lays_for_of, for_spot, for_sound, held_of, lays_assignment}
 use Rattle.pc_lower.proofs.statement.+lower_statement.Goals as goal
 
 -- ---- statements in order
@@ -59,8 +61,9 @@ lower_list-loop-at-preserved t c =
     let fits = c.loop-at.auto.loops_end-fits in
     let numbers = item_numbers c.args.items.now i c.loop-at.at item c.requires.spot c.requires.sound c.loop-at.invariant follows below read in
     let laid = rw c.before-in-loop-at.ensures at c.lower_statement-laid.ensures.laid in
+    let tested = rw c.before-in-loop-at.ensures at c.lower_statement-laid.ensures.tested in
     item_laid c.args.items.now i c.loop-at.at item c.requires.spot c.requires.sound c.loop-at.invariant follows below read
-    laid c.lower_statement-laid.ensures.begins (omega (arith, loops, fits, numbers))
+    laid c.lower_statement-laid.ensures.begins (omega (arith, loops, fits, numbers)) tested
 
 pub lower_list-returns-clause-laid : goal.lower_list-returns-clause-laid
 lower_list-returns-clause-laid t c =
@@ -70,6 +73,12 @@ lower_list-returns-clause-laid t c =
 
 pub lower_list-returns-clause-begins : goal.lower_list-returns-clause-begins
 lower_list-returns-clause-begins t c = c.loop-at.invariant.begins
+
+pub lower_list-returns-clause-tested : goal.lower_list-returns-clause-tested
+lower_list-returns-clause-tested t c =
+    let ended : c.loop-at.at ≡ 0 = let none = c.loop-at-test.false in omega (arith, none) in
+    let laid = rw ended at c.loop-at.invariant in
+    laid.tested
 
 -- ---- the parts implement the whole
 
@@ -111,8 +120,8 @@ lower_round-returns-clause-laid t c =
     let body = rw c.round.ensures at c.lower_statement.ensures.laid in
     lays_body_and_step _ _ _ _ _ _ _ c.lower_optional-after.ensures.laid body
 
-pub lower_turns-returns : goal.lower_turns-returns
-lower_turns-returns t c =
+pub lower_turns-returns-clause-laid : goal.lower_turns-returns-clause-laid
+lower_turns-returns-clause-laid t c =
     let room = c.requires.spot.room.within in
     let nodes = c.statement_size.ensures in
     let others = c.branch_size.ensures in
@@ -132,12 +141,17 @@ lower_turns-close_loop-requires-clause-test t c =
 pub lower_for-returns-clause-laid : goal.lower_for-returns-clause-laid
 lower_for-returns-clause-laid t c =
     let first = rw (c.before-2.ensures, c.at.ensures) at c.lower_list.ensures.laid in
-    lays_for _ _ _ _ _ _ _ _ c.lower_turns-header.ensures first
+    lays_for _ _ _ _ _ _ _ _ c.lower_turns-header.ensures.laid first
 
 pub lower_statement-returns-in-For-clause-laid : goal.lower_statement-returns-in-For-clause-laid
 lower_statement-returns-in-For-clause-laid t c =
     let is = statement_of-For c.args.statement.now c.in-For.line c.in-For.first c.in-For.test c.in-For.step c.in-For.body c.in-For.is in
     rw is (rw c.deref-in-For.ensures at (lays_for_of _ _ _ _ _ c.in-For.line _ _ _ _ c.lower_for.ensures.laid))
+
+pub lower_statement-returns-in-Do-clause-laid : goal.lower_statement-returns-in-Do-clause-laid
+lower_statement-returns-in-Do-clause-laid t c =
+    let is = statement_of-Do c.args.statement.now c.in-Do.line c.in-Do.body c.in-Do.test c.in-Do.is in
+    rw is (rw c.deref-in-Do.ensures at (lays_do_of _ _ _ _ _ c.in-Do.line _ _ c.lower_do.ensures.laid))
 
 pub lower_statement-lower_for-requires : goal.lower_statement-lower_for-requires
 lower_statement-lower_for-requires t c =
@@ -165,3 +179,68 @@ lower_statement-returns-in-Assign-clause-laid t c =
     rw (is, c.at-in-Assign.ensures)
     (lays_assignment c.args.spot.break_to c.args.spot.continue_to c.args.spot.return_to _ _ c.in-Assign.symbol c.in-Assign.line
     (option_map expression_of c.in-Assign.index) c.in-Assign.bracket c.in-Assign.op c.in-Assign.at (expression_of c.in-Assign.value) laid)
+
+-- ---- each loop has a test
+
+pub lower_branch-returns-clause-tested : goal.lower_branch-returns-clause-tested
+lower_branch-returns-clause-tested t c =
+    let loops = c.branch_loops.ensures in
+    let numbers = c.requires.spot.numbers in
+    let others = all_still c.lower_statement-chosen.ensures.laid c.lower_optional-other.ensures.tested in
+    all_still c.lower_condition.ensures (tested_both _ c.lower_statement-chosen.ensures.tested others (omega (arith, loops, numbers)) refl)
+
+pub lower_while-returns-clause-tested : goal.lower_while-returns-clause-tested
+lower_while-returns-clause-tested t c =
+    let loops = c.loop_count.ensures in
+    let numbers = c.requires.spot.numbers in
+    let turn = (rw c.turn.ensures at c.lower_turn-header.ensures.turn) (c.args.spot.end - 1 - c.statement_size.result) refl in
+    let own = placed_test_still c.lower_statement-yes.ensures.laid (turn_tested turn) in
+    let all = tested_round (_, own) c.lower_statement-yes.ensures.tested (omega (arith, loops, numbers)) in
+    rw c.close_loop.ensures (all_closed _ _ _ _ _ refl own.test all)
+
+pub lower_do-returns-clause-tested : goal.lower_do-returns-clause-tested
+lower_do-returns-clause-tested t c =
+    let loops = c.loop_count.ensures in
+    let numbers = c.requires.spot.numbers in
+    let turn = (rw c.turn.ensures at c.lower_turn-next.ensures.turn) (c.args.spot.end - 1) refl in
+    let own = placed_test_still c.lower_statement-laid.ensures.laid (turn_tested turn) in
+    let all = tested_round (_, own) c.lower_statement-laid.ensures.tested (omega (arith, loops, numbers)) in
+    rw c.close_loop.ensures (all_closed _ _ _ _ _ refl own.test all)
+
+pub lower_round-returns-clause-tested : goal.lower_round-returns-clause-tested
+lower_round-returns-clause-tested t c =
+    let loops = c.loop_count.ensures in
+    let numbers = c.requires.spot.numbers in
+    let body = rw c.round.ensures at c.lower_statement.ensures.laid in
+    let tested = rw c.round.ensures at c.lower_statement.ensures.tested in
+    tested_both _ (all_still body c.lower_optional-after.ensures.tested) tested (omega (arith, loops, numbers)) refl
+
+pub lower_turns-returns-clause-own : goal.lower_turns-returns-clause-own
+lower_turns-returns-clause-own t c =
+    let turn = (rw c.turn.ensures at c.lower_turn-header.ensures.turn) (c.args.spot.end - 1 - c.statement_size.result - c.branch_size.result) refl in
+    let own = placed_test_still c.lower_round-yes.ensures.laid (turn_tested turn) in
+    rw c.close_loop.ensures (c.args.spot.end - 1 - c.statement_size.result - c.branch_size.result, closed_tested c.lower_round-yes.new.draft _ _ _ _ refl own.test own)
+
+pub lower_turns-returns-clause-tested : goal.lower_turns-returns-clause-tested
+lower_turns-returns-clause-tested t c =
+    let turn = (rw c.turn.ensures at c.lower_turn-header.ensures.turn) (c.args.spot.end - 1 - c.statement_size.result - c.branch_size.result) refl in
+    let own = placed_test_still c.lower_round-yes.ensures.laid (turn_tested turn) in
+    rw c.close_loop.ensures (all_closed _ _ _ _ _ refl own.test c.lower_round-yes.ensures.tested)
+
+pub lower_for-returns-clause-tested : goal.lower_for-returns-clause-tested
+lower_for-returns-clause-tested t c =
+    let first = rw (c.before-2.ensures, c.at.ensures) at c.lower_list.ensures.laid in
+    let tested = rw c.before-2.ensures at c.lower_list.ensures.tested in
+    let turns = all_still first c.lower_turns-header.ensures.tested in
+    let own = tested_still first c.lower_turns-header.ensures.own in
+    let numbers = c.requires.spot.numbers in
+    let body = c.loop_count.ensures in
+    let step = c.branch_loops.ensures in
+    let count = c.list_loops.ensures in
+    tested_round own (tested_both _ tested turns (omega (arith, numbers, body, step, count)) refl) (omega (arith, numbers, body, step, count))
+
+pub lower_statement-returns-in-For-clause-tested : goal.lower_statement-returns-in-For-clause-tested
+unfolding loop_count
+lower_statement-returns-in-For-clause-tested t c =
+    let is = statement_of-For c.args.statement.now c.in-For.line c.in-For.first c.in-For.test c.in-For.step c.in-For.body c.in-For.is in
+    rw is (rw c.deref-in-For.ensures at c.lower_for.ensures.tested)

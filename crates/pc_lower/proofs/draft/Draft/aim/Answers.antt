@@ -1,5 +1,6 @@
 use Rattle.std.proofs.Common.{sym, subst}
-use Rattle.pc_lower.specs.models.Drafts.{Draft, CanAim, HasTest}
+use Rattle.pc_lower.specs.models.Drafts.{Draft, CanAim}
+use Rattle.pc_lower.specs.LoopTests.{HasTest}
 use Rattle.pc_lower.specs.contracts.draft.Draft.{the_view}
 use Rattle.pc_lower.proofs.Drafts.{aim_keeps}
 use Rattle.pc_lower.proofs.draft.Draft.aim.Goals as goal
