@@ -1,5 +1,5 @@
 -- A stub names what is there.
-use Rattle.std.proofs.Common.{◌≡◌, ℕ, Some, List, map, length, ◌<◌, sym, ◌∙◌, ap, arith}
+use Rattle.std.proofs.Common.{◌≡◌, ℕ, Some, List, map, length, ◌<◌, sym, ap, arith}
 use Rattle.std.specs.Prelude.{slice_get}
 use Rattle.pc_table.specs.declared.table.Region.{Region}
 use Rattle.pc_table.specs.declared.table.RegionTable.{RegionTable}

@@ -1,5 +1,5 @@
 -- Windows that may be unwound or filled.
-use Rattle.std.proofs.Common.{◌≡◌, ℕ, ◌+◌, ◌≤◌, ◌<◌, ◌^◌, true, length, sym, ap, subst, arith}
+use Rattle.std.proofs.Common.{◌≡◌, ℕ, ◌≤◌, ◌<◌, ◌^◌, true, length, sym, ap, subst, arith}
 use Rattle.std.proofs.lemmas.List.{length-map}
 use Rattle.pc_word.specs.declared.item.Limits.{Limits}
 use Rattle.pc_table.specs.declared.table.RegionTable.{RegionTable}
@@ -9,7 +9,7 @@ use Rattle.pc_window.specs.declared.window.Window.{Window as StoredWindow}
 use Rattle.pc_window.specs.Steps.{opened_window}
 use Rattle.pc_window.specs.StoredWindow.{tree_in, window_in, InNodes}
 use Rattle.pc_window.specs.There.{PartsAreThere}
-use Rattle.pc_window.specs.Tree.{Tree, tree_size}
+use Rattle.pc_window.specs.Tree.{tree_size}
 use Rattle.pc_window.specs.WindowRun.{Window}
 use Rattle.pc_window.proofs.WindowsStored.{whole_in}
 use Rattle.pc_automaton.proofs.Cuts.{in_nodes_behind}

@@ -1,5 +1,5 @@
 //! Windows that are small enough for a move.
-ghost use Rattle.std.specs.Prelude.{◌≡◌, ◌<◌, ◌^◌, true, IfSome};
+ghost use Rattle.std.specs.Prelude.{◌≡◌, ◌<◌, ◌≤◌, ◌^◌, true, false, None, IfSome};
 ghost use Rattle.pc_window.specs.Tree.{tree_size};
 ghost use Rattle.pc_window.specs.StoredWindow.{tree_in};
 ghost use Rattle.pc_replay.specs.Replaying.{IsSmall};
@@ -14,6 +14,7 @@ const TOO_MANY: u32 = 1 << 30;
 fn few(number: u32) -> Option<u32>
     ensures same { IfSome result (λ n. n ≡ number) }
     ensures few { IfSome result (λ n. n < 2 ^ 30) }
+    ensures many { (result ≡ None) → 2 ^ 30 ≤ number }
 {
     if number < TOO_MANY {
         return Some(number);
@@ -25,6 +26,7 @@ fn few(number: u32) -> Option<u32>
 pub(crate) fn size(tree: &WindowTree) -> Option<u32>
     ensures size { IfSome result (λ n. n ≡ tree_size (tree_in tree.now)) }
     ensures few { IfSome result (λ n. n < 2 ^ 30) }
+    ensures many { (result ≡ None) → 2 ^ 30 ≤ tree_size (tree_in tree.now) }
 {
     match tree {
         WindowTree::Step { rest, .. } => match size(rest) {
@@ -47,7 +49,8 @@ pub(crate) fn size(tree: &WindowTree) -> Option<u32>
 
 /// Whether a window is small enough for a move.
 pub(crate) fn is_small(window: &Window) -> bool
-    ensures { (result ≡ true) → IsSmall window.now }
+    ensures small { (result ≡ true) → IsSmall window.now }
+    ensures large { (result ≡ false) → IsSmall window.now → ⊥ }
 {
     if size(&window.tree).is_none() {
         return false;

@@ -8,6 +8,7 @@ ghost use Rattle.pc_window.specs.Tree.{tree_size};
 ghost use Rattle.pc_window.specs.Steps.{IsProper, EachLeft};
 ghost use Rattle.pc_window.specs.StoredWindow.{tree_in, window_in, InNodes, NodesBehind};
 ghost use Rattle.pc_automaton.specs.StoredRow.{row_in, left_in, LeftInNodes, EachLeaf};
+ghost use Rattle.pc_unwind.specs.Unwindable.{CanUnwind};
 
 use crate::ReplayError;
 use crate::bounds::size;
@@ -20,7 +21,7 @@ use pc_unify::tidy;
 use pc_unwind::unwind;
 use pc_window::{Window, WindowError};
 use pc_word::Limits;
-use std::alloc::Global;
+use std::alloc::{AllocError, Global};
 
 /// How many turns of a loop stand in a window.
 const TURNS: u8 = 4;
@@ -61,6 +62,17 @@ fn is_little(window: &Window) -> bool
     window.names.next_variable <= 1 << 30
 }
 
+/// Whether a window may be unwound.
+#[tactic(auto, using(crate::proofs::Unwound::small_windows))]
+fn may_be_unwound(alloc: Global, table: &RegionTable, window: &Window) -> Result<bool, AllocError>
+    ensures { IfOk result (λ may. may ≡ true → CanUnwind (table_of table.now) (window_in window.now)) }
+{
+    if !is_little(window) {
+        return Ok(false);
+    }
+    parts_are_there(alloc, table, &window.tree)
+}
+
 /// What is left at a leaf of a row: at the first one on this side, or else on the other.
 fn rest_of(row: RowTree<Left>, on_yes: bool) -> Option<Window>
     requires nodes { EachLeaf LeftInNodes row }
@@ -93,7 +105,6 @@ fn rest_of(row: RowTree<Left>, on_yes: bool) -> Option<Window>
 }
 
 /// The window that follows one that is filled: what is left at a leaf, rebased, unwound and tidied.
-#[tactic(auto, using(crate::proofs::Unwound::small_windows))]
 fn next(
     alloc: Global,
     table: &RegionTable,
@@ -112,11 +123,8 @@ fn next(
         return Ok(None);
     };
     let rest = rebase(alloc, rest)?;
-    if !is_little(&rest) {
+    if !may_be_unwound(alloc, table, &rest)? {
         return Err(ReplayError::TooLarge);
-    }
-    if !parts_are_there(alloc, table, &rest.tree)? {
-        return Err(ReplayError::NotFound);
     }
     let rest = unwind(alloc, rest, table, TURNS)?;
     let rest = tidy(alloc, rest)?;

@@ -22,7 +22,7 @@ use std::alloc::Global;
 use std::test::Fail;
 
 /// How many windows follow that of a region on one side.
-const MORE: u32 = 5;
+const MORE: u32 = 15;
 
 /// How many samples there are.
 const SAMPLES: u32 = 21;

@@ -1,8 +1,9 @@
 //! Filling by single moves.
-ghost use Rattle.std.specs.Prelude.{◌≡◌, None, OnOk, IfOk};
+ghost use Rattle.std.specs.Prelude.{◌≡◌, None, OnOk, IfOk, IfErr};
 ghost use Rattle.pc_window.specs.Steps.{IsProper};
 ghost use Rattle.pc_window.specs.StoredWindow.{window_in};
-ghost use Rattle.pc_replay.specs.Replaying.{ComesTo, NothingIsReady};
+ghost use Rattle.pc_replay.specs.Replaying.{ComesTo, IsSmall, NothingIsReady};
+ghost use Rattle.pc_replay.specs.declared.error.ReplayError.TheVariants.{Memory};
 
 use crate::bounds::is_small;
 use crate::error::ReplayError;
@@ -64,7 +65,9 @@ fn bring(alloc: Global, window: &mut Window, ready: ReadyNode) -> Result<(), Rep
 #[tactic(auto, using(crate::proofs::Moved::wholes))]
 fn first(alloc: Global, window: &Window) -> Result<Option<ReadyNode>, ReplayError>
     requires { IsProper (window_in window.now) }
-    ensures { IfOk result (λ found. found ≡ None → NothingIsReady window.now) }
+    ensures none { IfOk result (λ found. found ≡ None → NothingIsReady window.now) }
+    ensures some { IfOk result (λ found. NothingIsReady window.now → found ≡ None) }
+    ensures fails { IfErr result (λ why. IsSmall window.now → why ≡ Memory) }
 {
     if !is_small(window) {
         return Err(ReplayError::TooLarge);
@@ -73,24 +76,40 @@ fn first(alloc: Global, window: &Window) -> Result<Option<ReadyNode>, ReplayErro
     Ok(ready)
 }
 
-/// Fills a window's front by single moves: each item and test that filling would bring into it comes
-/// up node by node, and two that filling would make one become one, until nothing is ready.
-///
-/// It fails where a single move is refused. So it does where an item that comes has an equal one on
-/// the other side of a test, which may not come up to that test as it does; then filling leaves that
-/// one where it stands.
+/// What is ready comes into the front, one after another, until nothing is.
 #[tactic(auto, using(crate::proofs::Moved::moves))]
-pub fn replay(alloc: Global, window: Window) -> Result<Window, ReplayError>
+fn bring_all(alloc: Global, window: Window, ready: ReadyNode) -> Result<Window, ReplayError>
     requires { IsProper (window_in window) }
     ensures kept { IfOk result (λ later. ComesTo window later) }
     ensures done { IfOk result NothingIsReady }
 {
     let mut window = window;
+    let mut ready = ready;
     for _ in 0..MOST_STEPS {
+        bring(alloc, &mut window, ready)?;
         match first(alloc, &window)? {
             None => return Ok(window),
-            Some(ready) => bring(alloc, &mut window, ready)?,
+            Some(next) => ready = next,
         }
     }
     Err(ReplayError::TooLarge)
+}
+
+/// Fills a window's front by single moves: each item and test that filling would bring into it comes
+/// up node by node, and two that filling would make one become one, until nothing is ready.
+///
+/// It fails where a single move is refused. So it does where an item that comes has an equal one on
+/// the other side of a test, which may not come up to that test as it does; then filling leaves that
+/// one where it stands. A small window in which nothing is ready takes memory alone.
+#[tactic(auto, using(crate::proofs::Moved::moves))]
+pub fn replay(alloc: Global, window: Window) -> Result<Window, ReplayError>
+    requires { IsProper (window_in window) }
+    ensures kept { IfOk result (λ later. ComesTo window later) }
+    ensures done { IfOk result NothingIsReady }
+    ensures needless { IsSmall window → NothingIsReady window → IfErr result (λ why. why ≡ Memory) }
+{
+    match first(alloc, &window)? {
+        None => Ok(window),
+        Some(ready) => bring_all(alloc, window, ready),
+    }
 }

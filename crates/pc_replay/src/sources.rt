@@ -1,6 +1,6 @@
-//! Sources whose windows are filled.
+//! Sources whose windows the tests fill.
 
-/// The examples.
+/// The examples, without their comments.
 pub(crate) const EXAMPLES: [&[u8]; 12] = [
     // divides_by_zero.c
     b"int main(void) { int divisor = 3; while (1) { print(divisor); divisor--; print(12 / \
@@ -49,7 +49,7 @@ pub(crate) const EXAMPLES: [&[u8]; 12] = [
     b"int main(void){print(7);}",
 ];
 
-/// Small programs, each of which shows something of the language.
+/// Small programs, of which each shows something of the language.
 pub(crate) const PROGRAMS: [&[u8]; 16] = [
     b"int main(void){print(2147483647+1);print((-2147483647-1)/-1);print(-7/2);print(-7%2);}",
     b"int main(void){int a[4];print(1);a[4]=read();}",
