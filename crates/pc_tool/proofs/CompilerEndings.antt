@@ -19,8 +19,10 @@ use Rattle.pc_report.specs.Report.{PassCount, report_lines}
 use Rattle.pc_tool.specs.Compilation.{Compiled, report_on}
 use Rattle.pc_tool.specs.Compiler.{CompilerEnds, Done, Misused, Unread, Refused, Unwritten, Unreported, Lacking, CompilerLacks, Early, Writing, Reporting, CompilerPromise}
 use Rattle.pc_tool.specs.Due.{Told}
-use Rattle.pc_tool.specs.Files.{HasSource, HoldsSource, HoldsText}
-use Rattle.pc_tool.specs.Outside.{Outside, Streamed}
+use Rattle.pc_program.specs.Files.{HoldsText}
+use Rattle.pc_tool.specs.Files.{HasSource, HoldsSource}
+use Rattle.pc_program.specs.Streams.{Streamed}
+use Rattle.pc_tool.specs.Outside.{Outside}
 use Rattle.pc_tool.specs.Source.{IsSomeSource}
 use Rattle.pc_tool.specs.SourceFaults.{HasFault, Long}
 use Rattle.pc_tool.specs.declared.translation.Translation.{Translation}

@@ -11,7 +11,8 @@ use Rattle.pc_outside.specs.Shelf.{Files, Shelved, ReadKeeps, OnlyFileDiffers, H
 use Rattle.pc_command.specs.Requests.{SourcePlace, OfFile, OfSample}
 use Rattle.pc_sample.specs.SampleText.{sample_text}
 use Rattle.pc_tool.specs.CompilerLaws.{IsTold}
-use Rattle.pc_tool.specs.Files.{HasText, HoldsText, HasSource, HoldsSource}
+use Rattle.pc_program.specs.Files.{HasText, HoldsText}
+use Rattle.pc_tool.specs.Files.{HasSource, HoldsSource}
 
 -- ---- the text that a read gives
 

@@ -18,9 +18,10 @@ use Rattle.pc_outside.specs.Shelf.{Shelved}
 use Rattle.pc_report.specs.declared.fault.ObjectFault.{ObjectFault}
 use Rattle.pc_report.specs.declared.fault.ObjectFault.TheVariants as object_fault
 use Rattle.pc_report.specs.declared.fault.InputFault.TheVariants as input_fault
-use Rattle.pc_tool.specs.Files.{HasText}
-use Rattle.pc_tool.specs.Outside.{Streamed}
-use Rattle.pc_tool.specs.Simulation.{HasInputFault, Long_input, Misspelt_input, HasObjectFault, Long_object, Unread_object, SpellsInput, told_of_object}
+use Rattle.pc_program.specs.Files.{HasText}
+use Rattle.pc_program.specs.Streams.{Streamed}
+use Rattle.pc_program.specs.Objects.{HasObjectFault, Long_object, Unread_object, told_of_object}
+use Rattle.pc_tool.specs.Simulation.{HasInputFault, Long_input, Misspelt_input, SpellsInput}
 use Rattle.pc_tool.specs.declared.file.FileError.{FileError}
 use Rattle.pc_tool.specs.declared.file.FileError.TheVariants as file
 use Rattle.pc_tool.specs.models.Reading.{RefusesFile}

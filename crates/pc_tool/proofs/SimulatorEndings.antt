@@ -21,8 +21,9 @@ use Rattle.pc_report.specs.declared.fault.ToolFault.{ToolFault}
 use Rattle.pc_report.specs.declared.fault.ToolFault.TheVariants as fault
 use Rattle.pc_vm.specs.Standing.{Standing, here_of}
 use Rattle.pc_tool.specs.Due.{Told}
-use Rattle.pc_tool.specs.Objects.{HoldsObject}
-use Rattle.pc_tool.specs.Outside.{Outside, Streamed}
+use Rattle.pc_program.specs.Objects.{HoldsObject}
+use Rattle.pc_program.specs.Streams.{Streamed}
+use Rattle.pc_tool.specs.Outside.{Outside}
 use Rattle.pc_tool.specs.Simulation.{Loaded, due_of, run_seen}
 use Rattle.pc_tool.specs.Simulator.{SimulatorEnds, Ran, Misused, Unread, Refused, Untaken, Misspelt, Broke, Lacking}
 use Rattle.pc_tool.specs.Simulator.{SimulatorLacks, Untouched, Loading, Telling, SimulatorPromise}

@@ -19,10 +19,11 @@ use Rattle.pc_report.specs.declared.fault.InputFault.{InputFault}
 use Rattle.pc_report.specs.declared.fault.ToolFault.{ToolFault}
 use Rattle.pc_tool.specs.CompilerLaws.{HasErrorFault}
 use Rattle.pc_tool.specs.Due.{Told, trap_status}
-use Rattle.pc_tool.specs.Files.{HoldsText}
-use Rattle.pc_tool.specs.Objects.{IsTextOf, IsNoObject, Holds, HoldsObject}
+use Rattle.pc_program.specs.Files.{HoldsText}
+use Rattle.pc_program.specs.Objects.{IsTextOf, IsNoObject, Holds, HoldsObject}
 use Rattle.pc_tool.specs.Outside.{Outside}
-use Rattle.pc_tool.specs.Simulation.{HasObjectFault, Long_object, Unread_object, HasInputFault, Long_input, Misspelt_input}
+use Rattle.pc_program.specs.Objects.{HasObjectFault, Long_object, Unread_object}
+use Rattle.pc_tool.specs.Simulation.{HasInputFault, Long_input, Misspelt_input}
 use Rattle.pc_tool.specs.Simulation.{IsInputOf, IsNoInput, SpellsInput, Loaded, due_of, run_seen}
 use Rattle.pc_tool.specs.Simulator.{SimulatorEnds, Ran, Misused, Unread, Refused, Untaken, Misspelt, Broke, Lacking, SimulatorLacks, SimulatorPromise}
 use Rattle.pc_tool.specs.SimulatorLaws.{end_status, IsEndStatus, SendsRun, BreaksOff, HasRun, HasBroken, FailsToTake, RefusesBytes, IsToldObject, SimulatorStatuses}

@@ -3,7 +3,7 @@ use Rattle.std.proofs.Common.{◌≡◌, ℕ, ◌⊎◌, inl, inr, Option, Some,
 use Rattle.pc_word.specs.Count.{Rose}
 use Rattle.pc_report.specs.declared.fault.ToolFault.{ToolFault}
 use Rattle.pc_tool.specs.Due.{Told, fault_status}
-use Rattle.pc_tool.specs.Outside.{Streamed}
+use Rattle.pc_program.specs.Streams.{Streamed}
 
 -- the status of what is due: 0 where nothing is
 abbrev pub due_status : Option ToolFault → ℕ

@@ -3,7 +3,7 @@ use Rattle.std.proofs.Common.{◌≡◌, ℕ, List, [], length, Option, Some, No
 use Rattle.std.proofs.lemmas.List.{take_all}
 use Rattle.std.specs.Io.KnownBytes.{Appends}
 use Rattle.pc_outside.specs.Stream.{AppendsPart}
-use Rattle.pc_tool.specs.Outside.{Streamed, SendsFront}
+use Rattle.pc_program.specs.Streams.{Streamed, SendsFront}
 
 -- nothing was sent
 sends_nothing : (told : Option (List ℕ)) → Appends told told []

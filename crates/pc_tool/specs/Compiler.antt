@@ -15,7 +15,8 @@ use Rattle.pc_report.specs.Report.{PassCount, report_lines}
 use Rattle.pc_tool.specs.Compilation.{Compiled, Reports, report_on}
 use Rattle.pc_tool.specs.Due.{Told}
 use Rattle.pc_tool.specs.Files.{HoldsSource}
-use Rattle.pc_tool.specs.Outside.{Outside, Streamed, SendsFront}
+use Rattle.pc_program.specs.Streams.{Streamed, SendsFront}
+use Rattle.pc_tool.specs.Outside.{Outside}
 use Rattle.pc_tool.specs.Source.{IsSomeSource}
 use Rattle.pc_tool.specs.SourceFaults.{HasFault}
 

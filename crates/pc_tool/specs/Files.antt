@@ -1,18 +1,9 @@
--- What is said of a file where the shelf tells what it holds, and where it does not, nothing; and of a source, which is a
--- file or a sample.
-use Rattle.std.specs.Prelude.{◌≡◌, ℕ, List, Option, Some, IfSome}
-use Rattle.std.specs.FinMap.{get}
+-- What is said of a source, which is a file or a sample.
+use Rattle.std.specs.Prelude.{◌≡◌, ℕ, List, Option}
 use Rattle.pc_outside.specs.Shelf.{Files}
+use Rattle.pc_program.specs.Files.{HasText, HoldsText}
 use Rattle.pc_command.specs.Requests.{SourcePlace, OfFile, OfSample}
 use Rattle.pc_sample.specs.SampleText.{sample_text}
-
--- the named file has this text
-abbrev pub HasText : Option Files → List ℕ → List ℕ → Type 0
-HasText held name text = IfSome held (λ files. get files name ≡ Some text)
-
--- the named file is held, with a text of which P holds
-abbrev pub HoldsText : Option Files → List ℕ → (List ℕ → Type 0) → Type 0
-HoldsText held name P = IfSome held (λ files. (text : List ℕ) × (get files name ≡ Some text) × P text)
 
 -- the source has this text: the named file does, or it is the text of the sample
 abbrev pub HasSource : Option Files → SourcePlace → List ℕ → Type 0

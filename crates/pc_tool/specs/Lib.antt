@@ -6,7 +6,6 @@ pub mod CompilerLaws
 pub mod Due
 pub mod Files
 pub mod Meaning
-pub mod Objects
 pub mod Outside
 pub mod Simulation
 pub mod Simulator

@@ -1,24 +1,19 @@
--- What is simulated: an object on an input; and why an object or an input is refused, as a user is told it.
+-- What is simulated: an object on an input; and why an input is refused, as a user is told it.
 use Rattle.std.specs.Prelude.{◌≡◌, ℕ, ◌<◌, ◌≤◌, ℤ, List, length, Option, Some, None, IfSome, Ok, Err}
 use Rattle.pc_word.specs.declared.item.End.{End}
 use Rattle.pc_word.specs.declared.item.End.TheVariants.{Ended, Fault, Trapped}
-use Rattle.pc_word.specs.MachineLimits.{most_input, most_object}
+use Rattle.pc_word.specs.MachineLimits.{most_input}
 use Rattle.pc_word.specs.NumberText.{numbers_in}
 use Rattle.pc_word.specs.Run.{Seen}
 use Rattle.pc_machine.specs.MachineRun.{machine_run}
 use Rattle.pc_object.specs.ObjectText.{CodeWithNotes}
-use Rattle.pc_object.specs.Reading.{object_reading}
-use Rattle.pc_object.specs.declared.refusal.ObjectError.{ObjectError}
-use Rattle.pc_object.specs.declared.refusal.ObjectError.TheVariants as error
 use Rattle.pc_outside.specs.Shelf.{Files}
 use Rattle.pc_command.specs.Requests.{SimulateRequest}
-use Rattle.pc_report.specs.declared.fault.ObjectFault.{ObjectFault}
-use Rattle.pc_report.specs.declared.fault.ObjectFault.TheVariants as object
 use Rattle.pc_report.specs.declared.fault.InputFault.{InputFault}
 use Rattle.pc_report.specs.declared.fault.InputFault.TheVariants as input
 use Rattle.pc_report.specs.declared.fault.ToolFault.{ToolFault}
 use Rattle.pc_report.specs.declared.fault.ToolFault.TheVariants as fault
-use Rattle.pc_tool.specs.Objects.{Holds}
+use Rattle.pc_program.specs.Objects.{Holds}
 
 -- the bytes are an input of these numbers
 pub record IsInputOf (bytes : List ℕ) (numbers : List ℤ) : Type 0 where
@@ -30,23 +25,6 @@ abbrev pub IsNoInput : List ℕ → Type 0
 IsNoInput bytes = (numbers : List ℤ) → IsInputOf bytes numbers → ⊥
 
 -- ---- refusals
-
--- how the first thing that is wrong with an object is told; want of memory is none
-abbrev pub told_of_object : ObjectError → Option ObjectFault
-told_of_object error.BadMagic = Some object.BadMagic
-told_of_object (error.Truncated offset) = Some (object.Truncated offset)
-told_of_object (error.BadField offset flaw) = Some (object.BadField offset flaw)
-told_of_object (error.Trailing offset) = Some (object.Trailing offset)
-told_of_object error.Memory = None
-
--- the bytes have this fault: they are too many, or this is the first thing that is wrong with them
-pub data HasObjectFault (bytes : List ℕ) : (fault : ObjectFault) → Type 0 where
-  Long_object : most_object < length bytes → HasObjectFault bytes object.TooLong
-  Unread_object : {error : ObjectError} {fault : ObjectFault} →
-      length bytes ≤ most_object →
-      object_reading bytes ≡ Err error →
-      told_of_object error ≡ Some fault →
-      HasObjectFault bytes fault
 
 -- the bytes have this fault: they are too many, or the word that begins at this offset is the first that spells no number
 pub data HasInputFault (bytes : List ℕ) : (fault : InputFault) → Type 0 where

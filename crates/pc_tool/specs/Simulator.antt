@@ -15,10 +15,12 @@ use Rattle.pc_report.specs.declared.fault.InputFault.{InputFault}
 use Rattle.pc_report.specs.declared.fault.ToolFault.{ToolFault}
 use Rattle.pc_report.specs.declared.fault.ToolFault.TheVariants as fault
 use Rattle.pc_tool.specs.Due.{Told}
-use Rattle.pc_tool.specs.Files.{HoldsText}
-use Rattle.pc_tool.specs.Objects.{HoldsObject}
-use Rattle.pc_tool.specs.Outside.{Outside, Streamed, SendsFront}
-use Rattle.pc_tool.specs.Simulation.{HasInputFault, HasObjectFault, Loaded, due_of, run_seen}
+use Rattle.pc_program.specs.Files.{HoldsText}
+use Rattle.pc_program.specs.Objects.{HoldsObject}
+use Rattle.pc_program.specs.Streams.{Streamed, SendsFront}
+use Rattle.pc_tool.specs.Outside.{Outside}
+use Rattle.pc_program.specs.Objects.{HasObjectFault}
+use Rattle.pc_tool.specs.Simulation.{HasInputFault, Loaded, due_of, run_seen}
 
 -- What stands where memory ran out: nothing was taken from the input and nothing sent; or OBJ holds an object that loads, and
 -- nothing was sent; or it was run, and the front of what its run printed was sent.

@@ -12,8 +12,8 @@ use Rattle.pc_outside.specs.Shelf.{Files, ReadFaultOf}
 use Rattle.pc_outside.specs.Stream.{AppendsPart}
 use Rattle.pc_command.specs.Requests.{SimulateRequest}
 use Rattle.pc_tool.specs.Due.{trap_status}
-use Rattle.pc_tool.specs.Files.{HoldsText}
-use Rattle.pc_tool.specs.Objects.{IsTextOf, IsNoObject, HoldsObject}
+use Rattle.pc_program.specs.Files.{HoldsText}
+use Rattle.pc_program.specs.Objects.{IsTextOf, IsNoObject, HoldsObject}
 use Rattle.pc_tool.specs.Outside.{Outside}
 use Rattle.pc_tool.specs.CompilerLaws.{HasErrorFault}
 use Rattle.pc_tool.specs.Simulation.{IsInputOf, IsNoInput, Loaded, run_seen}

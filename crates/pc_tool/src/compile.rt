@@ -5,7 +5,7 @@ ghost use Rattle.pc_command.specs.Words.{spelled};
 ghost use Rattle.pc_tool.specs.Compilation.{counts_of};
 ghost use Rattle.pc_tool.specs.Compiler.{CompilerEnds};
 ghost use Rattle.pc_tool.specs.Files.{HasSource};
-ghost use Rattle.pc_tool.specs.Outside.{streamed};
+ghost use Rattle.pc_program.specs.Streams.{streamed};
 ghost use Rattle.std.specs.List.{AllByRecursion};
 ghost use Rattle.pc_object.specs.ObjectText.{IsChoice};
 ghost use Rattle.pc_pass.specs.Pass.{EachRose};

@@ -1,7 +1,7 @@
 //! Whole files of the shelf.
 ghost use Rattle.std.specs.Prelude.{◌≤◌, length, MatchResult, IfOk};
 ghost use Rattle.pc_outside.specs.Shelf.{ReadKeeps};
-ghost use Rattle.pc_tool.specs.Files.{HasText};
+ghost use Rattle.pc_program.specs.Files.{HasText};
 ghost use Rattle.pc_tool.specs.models.Reading.{RefusesFile};
 ghost use Rattle.pc_word.specs.MachineLimits.{most_object};
 

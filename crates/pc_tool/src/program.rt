@@ -6,7 +6,8 @@ ghost use Rattle.pc_tool.specs.declared.program.Who.TheVariants.{Pcc, Pvm};
 ghost use Rattle.pc_pass.specs.Pass.{EachRose};
 ghost use Rattle.pc_tool.specs.Compilation.{counts_of};
 ghost use Rattle.pc_tool.specs.Compiler.{CompilerPromise};
-ghost use Rattle.pc_tool.specs.Outside.{outside_of, streamed};
+ghost use Rattle.pc_program.specs.Streams.{streamed};
+ghost use Rattle.pc_tool.specs.Outside.{outside_of};
 ghost use Rattle.pc_tool.specs.Simulator.{SimulatorPromise};
 
 use crate::compile::run_compiler;

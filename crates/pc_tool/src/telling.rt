@@ -1,8 +1,9 @@
 //! The end of a program: its line on the error output, and its status.
 ghost use Rattle.std.specs.Prelude.{◌≡◌, ◌⊎◌, IsSome, Some};
 ghost use Rattle.pc_report.specs.declared.fault.ToolFault.TheVariants.{NoMemory};
-ghost use Rattle.pc_tool.specs.Due.{Told, TellsLine, fault_status, trap_status};
-ghost use Rattle.pc_tool.specs.Outside.{streamed};
+ghost use Rattle.pc_program.specs.Telling.{TellsLine};
+ghost use Rattle.pc_tool.specs.Due.{Told, fault_status, trap_status};
+ghost use Rattle.pc_program.specs.Streams.{streamed};
 
 use pc_outside::{Sink, send};
 use pc_report::{ReportError, Speaker, ToolFault, fault_text, out_of_memory_line};

@@ -20,8 +20,10 @@ use Rattle.pc_command.specs.Requests.{ViewRequest, view_command_of}
 use Rattle.pc_command.proofs.PlainWords.{no_words-command}
 use Rattle.pc_report.specs.declared.fault.ObjectFault.{ObjectFault}
 use Rattle.pc_report.specs.declared.fault.ObjectFault.TheVariants as object
-use Rattle.pc_viewer.specs.Objects.{HasObjectFault, Long_object, Unread_object, HasText, HoldsText, told_of_object}
-use Rattle.pc_viewer.specs.Outside.{SendsFront, Streamed, Surroundings}
+use Rattle.pc_program.specs.Files.{HasText, HoldsText}
+use Rattle.pc_program.specs.Objects.{HasObjectFault, Long_object, Unread_object, told_of_object}
+use Rattle.pc_program.specs.Streams.{SendsFront, Streamed}
+use Rattle.pc_viewer.specs.Outside.{Surroundings}
 use Rattle.pc_viewer.specs.Told.{Told}
 use Rattle.pc_viewer.specs.Viewer.{ViewerEnds, Viewed, Misused, Unread, Refused, Broke, Lacking, ViewerLacks, Early, Sending, ViewerPromise}
 use Rattle.pc_viewer.specs.Viewer.{view_text}

@@ -13,8 +13,10 @@ use Rattle.pc_outside.specs.Shelf.{Files, ReadFaultOf}
 use Rattle.pc_command.specs.Requests.{ViewRequest}
 use Rattle.pc_report.specs.declared.fault.ObjectFault.{ObjectFault}
 use Rattle.pc_viewer.specs.Laws.{SendsText, BreaksOff, HasViewed, HasBroken, HasReadFault, HasErrorFault, IsToldObject, ViewerStatuses}
-use Rattle.pc_viewer.specs.Objects.{HasObjectFault, Long_object, Unread_object, HasText, Holds, HoldsText, IsNoObject, IsTextOf}
-use Rattle.pc_viewer.specs.Outside.{Streamed, Surroundings}
+use Rattle.pc_program.specs.Files.{HasText, HoldsText}
+use Rattle.pc_program.specs.Objects.{HasObjectFault, Long_object, Unread_object, Holds, IsNoObject, IsTextOf}
+use Rattle.pc_program.specs.Streams.{Streamed}
+use Rattle.pc_viewer.specs.Outside.{Surroundings}
 use Rattle.pc_viewer.specs.Told.{Told, view_status}
 use Rattle.pc_viewer.specs.Viewer.{ViewerEnds, Viewed, Misused, Unread, Refused, Broke, Lacking, ViewerLacks, ViewerPromise}
 use Rattle.pc_viewer.specs.declared.fault.ViewFault.{ViewFault}

@@ -1,6 +1,5 @@
 pub mod models
 pub mod Laws
-pub mod Objects
 pub mod Outside
 pub mod Told
 pub mod Viewer

@@ -1,13 +1,11 @@
 -- What the viewer tells at its end, and the status with which it ends.
-use Rattle.std.specs.Prelude.{◌≡◌, ℕ, ◌⊎◌, List, Option, Some, None}
-use Rattle.std.specs.Io.KnownBytes.{Appends}
-use Rattle.pc_word.specs.Count.{Rose}
-use Rattle.pc_outside.specs.Stream.{AppendsPart}
+use Rattle.std.specs.Prelude.{◌≡◌, ℕ, Option, Some, None}
 use Rattle.pc_report.specs.declared.fault.Speaker.TheVariants.{Pview}
 use Rattle.pc_report.specs.declared.fault.ToolFault.{ToolFault}
 use Rattle.pc_report.specs.declared.fault.ToolFault.TheVariants as tool
 use Rattle.pc_report.specs.FaultLine.{fault_line}
-use Rattle.pc_viewer.specs.Outside.{Streamed}
+use Rattle.pc_program.specs.Streams.{Streamed}
+use Rattle.pc_program.specs.Telling.{TellsLine}
 use Rattle.pc_viewer.specs.declared.fault.ViewFault.{ViewFault}
 use Rattle.pc_viewer.specs.declared.fault.ViewFault.TheVariants.{NoMemory, Usage, ReadObject, Object, WriteOutput}
 
@@ -26,21 +24,6 @@ view_status Usage = 2
 view_status (ReadObject name) = 3
 view_status (Object what) = 4
 view_status WriteOutput = 5
-
--- the whole line was sent, and the status is the one that goes with it
-pub record TellsWhole (line : List ℕ) (status : ℕ) (old new : Streamed) (code : ℕ) : Type 0 where
-  pub ended : code ≡ status
-  pub sent : Appends old.told new.told line
-
--- the status is 5: a proper prefix of the line was sent, and then the error output failed
-pub record TellsPart (line : List ℕ) (old new : Streamed) (code : ℕ) : Type 0 where
-  pub ended : code ≡ 5
-  pub failed : Rose old.faults new.faults
-  pub sent : AppendsPart old.told new.told line
-
--- a line is told with a status
-abbrev pub TellsLine : List ℕ → ℕ → Streamed → Streamed → ℕ → Type 0
-TellsLine line status old new code = TellsWhole line status old new code ⊎ TellsPart line old new code
 
 -- What was due is told, by the status and on the error output: 0 and nothing with success, and else the line of the fault.
 abbrev pub Told : Option ViewFault → Streamed → Streamed → ℕ → Type 0

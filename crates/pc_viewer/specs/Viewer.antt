@@ -10,8 +10,10 @@ use Rattle.pc_command.specs.Requests.{ViewRequest}
 use Rattle.pc_report.specs.declared.fault.ObjectFault.{ObjectFault}
 use Rattle.pc_view.specs.Graph.{graph_text}
 use Rattle.pc_view.specs.Listing.{listing_text}
-use Rattle.pc_viewer.specs.Objects.{HasObjectFault, Holds, HoldsText}
-use Rattle.pc_viewer.specs.Outside.{SendsFront, Streamed, Surroundings}
+use Rattle.pc_program.specs.Files.{HoldsText}
+use Rattle.pc_program.specs.Objects.{HasObjectFault, Holds}
+use Rattle.pc_program.specs.Streams.{SendsFront, Streamed}
+use Rattle.pc_viewer.specs.Outside.{Surroundings}
 use Rattle.pc_viewer.specs.Told.{Told}
 use Rattle.pc_viewer.specs.declared.fault.ViewFault.{ViewFault}
 use Rattle.pc_viewer.specs.declared.fault.ViewFault.TheVariants.{NoMemory, Usage, ReadObject, Object, WriteOutput}

@@ -3,7 +3,8 @@ ghost use Rattle.std.specs.Prelude.{◌≡◌, ◌≤◌, length, MatchResult, I
 ghost use Rattle.pc_command.specs.Requests.{view_request};
 ghost use Rattle.pc_object.specs.ObjectText.{object_of, IsObject};
 ghost use Rattle.pc_outside.specs.Shelf.{ReadKeeps};
-ghost use Rattle.pc_viewer.specs.Objects.{HasText, Holds};
+ghost use Rattle.pc_program.specs.Files.{HasText};
+ghost use Rattle.pc_program.specs.Objects.{Holds};
 ghost use Rattle.pc_viewer.specs.Viewer.{view_text};
 ghost use Rattle.pc_viewer.specs.models.Steps.{StopsAt, ShowsObject};
 ghost use Rattle.pc_word.specs.MachineLimits.{most_object};

@@ -1,8 +1,9 @@
 //! The end of the viewer: its line on the error output, and its status.
 ghost use Rattle.std.specs.Prelude.{◌≡◌, ◌⊎◌, IsSome, Some};
 ghost use Rattle.pc_viewer.specs.declared.fault.ViewFault.TheVariants.{NoMemory};
-ghost use Rattle.pc_viewer.specs.Outside.{streamed};
-ghost use Rattle.pc_viewer.specs.Told.{Told, TellsLine};
+ghost use Rattle.pc_program.specs.Streams.{streamed};
+ghost use Rattle.pc_program.specs.Telling.{TellsLine};
+ghost use Rattle.pc_viewer.specs.Told.{Told};
 
 use crate::fault::{ViewFault, fault_told, view_status};
 use pc_outside::{Sink, send};

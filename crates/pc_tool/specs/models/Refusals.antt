@@ -24,7 +24,7 @@ use Rattle.pc_tool.specs.declared.refusal.Refusal.TheVariants as refusal
 use Rattle.pc_tool.specs.declared.stop.Stop.{Stop}
 use Rattle.pc_tool.specs.declared.stop.Stop.TheVariants as stop
 use Rattle.pc_tool.specs.SourceFaults.{told_of_lex, told_of_check}
-use Rattle.pc_tool.specs.Simulation.{told_of_object}
+use Rattle.pc_program.specs.Objects.{told_of_object}
 
 -- ---- of the compiler
 

@@ -2,7 +2,8 @@
 use Rattle.std.proofs.Common.{refl}
 use Rattle.pc_command.specs.Requests.{compile_command_of, simulate_command_of}
 use Rattle.pc_command.specs.Words.{spelled}
-use Rattle.pc_tool.specs.Outside.{outside_of, streamed}
+use Rattle.pc_program.specs.Streams.{streamed}
+use Rattle.pc_tool.specs.Outside.{outside_of}
 use Rattle.pc_tool.proofs.CompilerEndings.{compiler_promise}
 use Rattle.pc_tool.proofs.SimulatorEndings.{simulator_promise}
 use Rattle.pc_tool.proofs.program.tool.Goals as goal

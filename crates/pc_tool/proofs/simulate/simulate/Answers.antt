@@ -1,6 +1,6 @@
 -- What a run comes to, and what a stop before it does.
 use Rattle.pc_command.specs.Requests.{simulate_request}
-use Rattle.pc_tool.specs.Outside.{streamed}
+use Rattle.pc_program.specs.Streams.{streamed}
 use Rattle.pc_tool.proofs.SimulatorEndings.{run_ends, stop_ends}
 use Rattle.pc_tool.proofs.simulate.simulate.Goals as goal
 

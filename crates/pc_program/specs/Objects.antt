@@ -1,7 +1,5 @@
--- Objects that load, the files that hold them, and why bytes are refused, as a user is told it. What is said of a file is said where
--- the shelf tells what it holds, and where it does not, nothing is.
-use Rattle.std.specs.Prelude.{◌≡◌, ℕ, ◌<◌, ◌≤◌, List, length, Option, Some, None, IfSome, Err}
-use Rattle.std.specs.FinMap.{get}
+-- Objects that load, the files that hold them, and why bytes are refused, as a user is told it.
+use Rattle.std.specs.Prelude.{◌≡◌, ℕ, ◌<◌, ◌≤◌, List, length, Option, Some, None, Err}
 use Rattle.pc_word.specs.MachineLimits.{most_object}
 use Rattle.pc_object.specs.ObjectText.{CodeWithNotes, IsObject, object_text}
 use Rattle.pc_object.specs.Numbers.{HasWords}
@@ -11,18 +9,7 @@ use Rattle.pc_object.specs.declared.refusal.ObjectError.TheVariants as error
 use Rattle.pc_outside.specs.Shelf.{Files}
 use Rattle.pc_report.specs.declared.fault.ObjectFault.{ObjectFault}
 use Rattle.pc_report.specs.declared.fault.ObjectFault.TheVariants as object
-
--- ---- files
-
--- the named file has this text
-abbrev pub HasText : Option Files → List ℕ → List ℕ → Type 0
-HasText held name text = IfSome held (λ files. get files name ≡ Some text)
-
--- the named file is held, with a text of which P holds
-abbrev pub HoldsText : Option Files → List ℕ → (List ℕ → Type 0) → Type 0
-HoldsText held name P = IfSome held (λ files. (text : List ℕ) × (get files name ≡ Some text) × P text)
-
--- ---- objects
+use Rattle.pc_program.specs.Files.{HasText, HoldsText}
 
 -- the object loads; it is the one that its text is read as, since its literals are words and its lines and numbers below 2^32
 pub record Loads (object : CodeWithNotes) : Type 0 where
@@ -42,6 +29,10 @@ IsNoObject bytes = (object : CodeWithNotes) → IsTextOf bytes object → ⊥
 pub record Holds (held : Option Files) (name : List ℕ) (object : CodeWithNotes) : Type 0 where
   pub loads : Loads object
   pub text : HasText held name (object_text object)
+
+-- where the shelf tells its files, the named one has the text of an object that loads
+abbrev pub HoldsObject : Option Files → List ℕ → Type 0
+HoldsObject held name = HoldsText held name (λ bytes. (object : CodeWithNotes) × IsTextOf bytes object)
 
 -- ---- refusals
 

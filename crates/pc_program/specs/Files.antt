@@ -1,0 +1,12 @@
+-- What is said of a file where the shelf tells what it holds, and where it does not, nothing.
+use Rattle.std.specs.Prelude.{◌≡◌, ℕ, List, Option, Some, IfSome}
+use Rattle.std.specs.FinMap.{get}
+use Rattle.pc_outside.specs.Shelf.{Files}
+
+-- the named file has this text
+abbrev pub HasText : Option Files → List ℕ → List ℕ → Type 0
+HasText held name text = IfSome held (λ files. get files name ≡ Some text)
+
+-- the named file is held, with a text of which P holds
+abbrev pub HoldsText : Option Files → List ℕ → (List ℕ → Type 0) → Type 0
+HoldsText held name P = IfSome held (λ files. (text : List ℕ) × (get files name ≡ Some text) × P text)

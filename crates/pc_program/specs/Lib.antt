@@ -1,0 +1,4 @@
+pub mod Streams
+pub mod Files
+pub mod Objects
+pub mod Telling
