@@ -3,7 +3,6 @@ pub mod Tidied
 pub mod DeadStepKept
 pub mod Deleted
 pub mod DeletedKept
-pub mod Signatures
 pub mod FoundTwins
 pub mod TwoSides
 pub mod EnteringOnce

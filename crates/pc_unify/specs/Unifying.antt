@@ -3,6 +3,7 @@ use Rattle.std.specs.Prelude.{ℕ, ◌<◌, ◌+◌, ◌-◌, ◌^◌, ◌≡◌
 use Rattle.pc_word.specs.declared.item.Item.{Item}
 use Rattle.pc_word.specs.Items.{dest_of}
 use Rattle.pc_window.specs.Rename.{with_dest}
+use Rattle.pc_alike.specs.Alike.{AreAlike}
 use Rattle.pc_window.specs.Filled.{given_supply}
 use Rattle.pc_window.specs.declared.window.Window.{Window as StoredWindow}
 use Rattle.pc_window.specs.StoredWindow.{supply_in}
@@ -13,10 +14,6 @@ use Rattle.pc_moveop.specs.Climbing.{Mover, mover_at}
 use Rattle.pc_moveop.specs.Taking.{Coming, leaf_without}
 use Rattle.pc_moveop.specs.Refusing.{mover_of, IsWhyNot}
 use Rattle.pc_moveop.specs.Moving.{NodeChanges, SameBounds}
-
--- two items are equal but for the names that they write
-abbrev pub AreAlike : Item → Item → Type 0
-AreAlike x y = (name : ℕ) → with_dest name x ≡ with_dest name y
 
 -- ---- the two leaves
 

@@ -1,5 +1,4 @@
 pub mod Marks
 pub mod DeadStep
-pub mod Signature
 pub mod Twins
 pub mod EqualSums

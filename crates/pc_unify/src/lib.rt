@@ -5,7 +5,6 @@
 mod deleting;
 mod joining;
 mod marks;
-mod signature;
 #[cfg(test)]
 mod tests;
 mod tidying;

@@ -7,7 +7,7 @@ ghost use Rattle.pc_moveop.specs.Climbing.{mover_in, mover_at};
 ghost use Rattle.pc_unify.specs.Unifying.{leads_on, is_yes_leaf, are_sides};
 ghost use Rattle.pc_unify.specs.models.Twins.{FindsItem, FindsTwins};
 
-use crate::signature::are_alike;
+use pc_alike::are_alike;
 use pc_moveop::{leaf_count, node_at, node_size};
 use pc_window::{Window, WindowTree};
 use pc_word::Item;

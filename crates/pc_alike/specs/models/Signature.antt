@@ -5,7 +5,7 @@ use Rattle.pc_word.specs.declared.item.Item.TheVariants.{Bin, Copy, Load, Store,
 use Rattle.pc_word.specs.declared.item.OpCode.{OpCode}
 use Rattle.pc_word.specs.declared.item.OpCode.TheVariants as op
 use Rattle.pc_word.specs.declared.item.Operand.TheVariants.{Lit}
-use Rattle.pc_unify.specs.declared.signature.Signature.{Signature}
+use Rattle.pc_alike.specs.declared.signature.Signature.{Signature}
 
 -- the number of an operator
 abbrev pub op_number : OpCode → ℕ

@@ -8,9 +8,9 @@ use Rattle.pc_word.specs.declared.item.OpCode.TheVariants as op
 use Rattle.pc_word.specs.declared.item.Operand.{Operand}
 use Rattle.pc_word.specs.declared.item.Operand.TheVariants.{Name, Lit}
 use Rattle.pc_window.specs.Rename.{with_dest}
-use Rattle.pc_unify.specs.declared.signature.Signature.{Signature}
-use Rattle.pc_unify.specs.models.Signature.{op_number, signature_of}
-use Rattle.pc_unify.specs.Unifying.{AreAlike}
+use Rattle.pc_alike.specs.declared.signature.Signature.{Signature}
+use Rattle.pc_alike.specs.models.Signature.{op_number, signature_of}
+use Rattle.pc_alike.specs.Alike.{AreAlike}
 
 -- ---- tests and facts
 

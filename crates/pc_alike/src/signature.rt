@@ -1,8 +1,8 @@
 //! Whether two items are equal but for their names.
 ghost use Rattle.std.specs.Prelude.{◌≡◌, ◌↔◌, pos, true};
 ghost use Rattle.pc_word.specs.declared.item.Operand.TheVariants as Operand;
-ghost use Rattle.pc_unify.specs.Unifying.{AreAlike};
-ghost use Rattle.pc_unify.specs.models.Signature.{op_number, signature_of};
+ghost use Rattle.pc_alike.specs.Alike.{AreAlike};
+ghost use Rattle.pc_alike.specs.models.Signature.{op_number, signature_of};
 
 use pc_word::{Item, OpCode, Operand};
 
@@ -146,9 +146,10 @@ fn is_same(one: Signature, other: Signature) -> bool
     is_same_operand(one.other, other.other)
 }
 
-/// Whether two items are equal but for their names.
+/// Whether two items are equal but for the names that they write: their kind, operator, array and
+/// operands.
 #[tactic(auto, using(crate::proofs::Signatures::alike))]
-pub(crate) fn are_alike(one: Item, other: Item) -> bool
+pub fn are_alike(one: Item, other: Item) -> bool
     ensures { (result ≡ true) ↔ AreAlike one other }
 {
     is_same(signature_of(one), signature_of(other))

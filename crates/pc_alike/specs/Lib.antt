@@ -1,0 +1,2 @@
+pub mod models
+pub mod Alike
