@@ -1,6 +1,6 @@
 -- What a walk of a whole window leaves, for the tags that follow.
 use Rattle.std.proofs.Common.{◌≡◌, ℕ, suc, ◌+◌, ◌<◌, ◌≤◌, Option, Some, None, List, length, sym, ◌∙◌, ap, subst, arith}
-use Rattle.std.specs.Prelude.{Bool, true, false, if◌then◌else◌}
+use Rattle.std.specs.Prelude.{Bool, true, false, if◌then◌else◌, ◌-◌, ◌^◌}
 use Rattle.pc_table.specs.Table.{Table}
 use Rattle.pc_table.specs.TableKeeps.{TableKeeps}
 use Rattle.pc_window.specs.declared.home.Home.{Home}
@@ -11,7 +11,7 @@ use Rattle.pc_window.specs.Unwinding.{lesser_tag, least_inside, least_tag, or_ze
 use Rattle.pc_window.specs.StoredWindow.{tree_in, supply_in}
 use Rattle.pc_unwind.specs.declared.growth.Growth.{Growth}
 use Rattle.pc_unwind.specs.models.Named.{TagsAtMost}
-use Rattle.pc_unwind.specs.models.Walking.{with_growth, Replaces, MayReplace, Replacements, replaces_no_more, replaces_once, Walks, AtMostLeast, RootAtMost, RootStaysAtMost}
+use Rattle.pc_unwind.specs.models.Walking.{with_growth, Replaces, MayReplace, Replacements, replaces_no_more, replaces_once, Walks, AtMostLeast, RootAtMost, RootStaysAtMost, tags_from}
 use Rattle.pc_unwind.proofs.Ranking.{rank_most}
 use Rattle.pc_unwind.proofs.Replaced.{replaced_at, inside_kept, root_kept}
 use Rattle.pc_unwind.proofs.Reaching.{replaces_unwind, done_high, done_full, none_rises}
@@ -30,6 +30,15 @@ front_most most (Undecided t o on one other) h = let le = lesser_most t (lesser_
 front_most most (Exit region t homes) h = absurd h
 front_most most Stop_exit h = absurd h
 front_most most (Trap_exit kind line) h = absurd h
+
+-- the least one is not above itself
+pub least_itself : (tag : ℕ) (a : Option ℕ) → a ≡ Some tag → AtMostLeast tag a
+least_itself tag a is = let le : tag ≤ tag = omega arith in subst (AtMostLeast tag) (sym is) le
+
+-- fewer tags are left behind one
+pub fewer_tags : (tag : ℕ) (a : Option ℕ) → tag < 2 ^ 31 → AtMostLeast (suc tag) a → tags_from a < 2 ^ 31 - tag
+fewer_tags tag None small h = omega arith
+fewer_tags tag (Some least) small h = omega arith
 
 -- what the tags of a window say of its first item or test
 pub tags_stay : (table : Table) → TableKeeps table → (most : ℕ) (tree : Tree) → TagsAtMost most tree → RootStaysAtMost table (most + length table.regions) tree

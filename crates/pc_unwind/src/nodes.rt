@@ -5,8 +5,33 @@ ghost use Rattle.pc_window.specs.StoredWindow.{tree_in, InNodes};
 use pc_window::{WindowTree, in_node, is_leaf};
 use std::alloc::{AllocError, Global};
 
+/// Whether each item and each test of a tree is in a node of its own already.
+fn is_split(tree: &WindowTree, at_root: bool) -> bool
+    ensures { (result ≡ true) → InNodes at_root tree.now }
+{
+    match tree {
+        WindowTree::Step { rest, .. } => at_root && is_split(rest, false),
+        WindowTree::Test { yes, no, .. } => at_root && is_split(yes, false) && is_split(no, false),
+        WindowTree::Node { below } => !at_root && is_split(below, true),
+        WindowTree::Exit { .. } => true,
+        WindowTree::Stop => true,
+        WindowTree::Trap { .. } => true,
+    }
+}
+
+/// The tree with each item and each test in a node of its own; the tree itself where it is so already.
+pub(crate) fn split(alloc: Global, tree: WindowTree) -> Result<WindowTree, AllocError>
+    ensures tree { IfOk result (λ single. tree_in single ≡ tree_in tree) }
+    ensures nodes { IfOk result (λ single. InNodes true single) }
+{
+    if is_split(&tree, true) {
+        return Ok(tree);
+    }
+    in_single_nodes(alloc, tree)
+}
+
 /// The tree with each item and each test in a node of its own.
-pub(crate) fn in_single_nodes(alloc: Global, tree: WindowTree) -> Result<WindowTree, AllocError>
+fn in_single_nodes(alloc: Global, tree: WindowTree) -> Result<WindowTree, AllocError>
     ensures tree { IfOk result (λ single. tree_in single ≡ tree_in tree) }
     ensures nodes { IfOk result (λ single. InNodes true single) }
 {

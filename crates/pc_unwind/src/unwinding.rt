@@ -4,18 +4,18 @@ ghost use Rattle.pc_word.specs.SourceLimits.{most_nodes};
 ghost use Rattle.pc_table.specs.Table.{table_of};
 ghost use Rattle.pc_table.specs.TableKeeps.{TableKeeps};
 ghost use Rattle.pc_window.specs.Tree.{tree_size};
-ghost use Rattle.pc_window.specs.Unwinding.{least_inside, Unwinds};
+ghost use Rattle.pc_window.specs.Unwinding.{Unwinds};
 ghost use Rattle.pc_window.specs.Kept.{WindowKeeps};
 ghost use Rattle.pc_window.specs.Steps.{UnwindsTo, IsProper};
 ghost use Rattle.pc_window.specs.StoredWindow.{tree_in, window_in, InNodes};
 ghost use Rattle.pc_unwind.specs.models.Named.{StubsAreThere};
 ghost use Rattle.pc_unwind.specs.Unwindable.{CanUnwind, HasGrown};
-ghost use Rattle.pc_unwind.specs.models.Walking.{HasRoom, AtMostLeast, RootAtMost, RootStaysAtMost, most_tag, with_growth};
+ghost use Rattle.pc_unwind.specs.models.Walking.{HasRoom, RootAtMost, RootStaysAtMost, most_tag, with_growth};
 
 use crate::growth::Growth;
-use crate::nodes::in_single_nodes;
+use crate::nodes::split;
 use crate::replacing::replacement;
-use crate::tags::front_tag;
+use crate::tags::{front_tag, least_inside};
 use crate::walking::walk;
 use pc_table::RegionTable;
 use pc_window::{Window, WindowError, WindowTree, is_inside};
@@ -50,7 +50,7 @@ pub fn unwind(
         limits,
         inside,
     } = window;
-    let mut tree = in_single_nodes(alloc, tree)?;
+    let mut tree = split(alloc, tree)?;
     let mut growth = Growth { names, size };
     unwind_tree(alloc, table, inside, number as u32, &mut growth, &mut tree)?;
     Ok(Window {
@@ -133,25 +133,18 @@ fn unwind_stub(
         WindowTree::Stop => Ok(()),
         WindowTree::Trap { .. } => Ok(()),
         WindowTree::Node { .. } => Ok(()),
-        WindowTree::Step { .. } => {
-            let tag = front_tag(tree);
-            unwind_tags(alloc, table, inside, number, tag, growth, tree)
-        }
-        WindowTree::Test { .. } => {
-            let tag = front_tag(tree);
-            unwind_tags(alloc, table, inside, number, tag, growth, tree)
-        }
+        WindowTree::Step { .. } => unwind_tags(alloc, table, inside, number, growth, tree),
+        WindowTree::Test { .. } => unwind_tags(alloc, table, inside, number, growth, tree),
     }
 }
 
-/// Unwinds the stubs of this tag, and then those of greater ones, as long as a tag is less than
-/// `number` above the least one.
+/// Unwinds the stubs of the least tag, and then those of greater ones, as long as a stub's tag is less
+/// than `number` above the least one of the window.
 fn unwind_tags(
     alloc: Global,
     table: &RegionTable,
     inside: Option<u16>,
     number: u32,
-    tag: u32,
     growth: &mut Growth,
     tree: &mut WindowTree,
 ) -> Result<(), AllocError>
@@ -159,8 +152,6 @@ fn unwind_tags(
     requires few { length table.now.regions ≤ most_nodes }
     requires several { 2 ≤ number }
     requires number { number < 2 ^ 8 }
-    requires tag { tag ≤ most_tag + 2 ^ 8 }
-    requires least { AtMostLeast tag (least_inside (table_of table.now) inside (tree_in tree.old)) }
     requires nodes { InNodes true tree.old }
     requires stubs { StubsAreThere (table_of table.now) (tree_in tree.old) }
     requires room { HasRoom growth.old }
@@ -169,6 +160,9 @@ fn unwind_tags(
     ensures unwinds { OnOk result (Unwinds (table_of table.now) inside number (with_growth (tree_in tree.old) growth.old) (with_growth (tree_in tree.new) growth.new)) }
     ensures nodes { OnOk result (InNodes true tree.new) }
 {
+    let Some(tag) = least_inside(table, inside, tree) else {
+        return Ok(());
+    };
     if tag >= front_tag(tree) + number {
         return Ok(());
     }
@@ -176,5 +170,5 @@ fn unwind_tags(
     if full {
         return Ok(());
     }
-    unwind_tags(alloc, table, inside, number, tag + 1, growth, tree)
+    unwind_tags(alloc, table, inside, number, growth, tree)
 }

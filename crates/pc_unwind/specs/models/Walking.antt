@@ -1,5 +1,5 @@
 -- One walk of a tree, which unwinds all stubs of one tag.
-use Rattle.std.specs.Prelude.{◌≡◌, ℕ, suc, ◌+◌, ◌<◌, ◌≤◌, ◌^◌, Bool, true, false, List, length, Option, Some, None}
+use Rattle.std.specs.Prelude.{◌≡◌, ℕ, suc, ◌+◌, ◌<◌, ◌≤◌, ◌-◌, ◌^◌, Bool, true, false, List, length, Option, Some, None}
 use Rattle.pc_word.specs.SourceLimits.{most_nodes}
 use Rattle.pc_table.specs.Table.{TableTree, Does, Asks, Next, Stops_here, Traps_here, Table, region_tree}
 use Rattle.pc_word.specs.declared.item.Item.TheVariants.{Bin, Copy, Load, Store, Print, Read, More}
@@ -111,3 +111,8 @@ RootStaysAtMost table most (Trap_exit kind line) = Unit {0}
 abbrev pub AtMostLeast : ℕ → Option ℕ → Type 0
 AtMostLeast tag None = Unit {0}
 AtMostLeast tag (Some least) = tag ≤ least
+
+-- how many tags there are from one on, and none where there is no such tag
+abbrev pub tags_from : Option ℕ → ℕ
+tags_from None = 0
+tags_from (Some tag) = 2 ^ 31 - tag

@@ -4,14 +4,12 @@ use Rattle.std.proofs.lemmas.Result.{IfOk-weaker}
 use Rattle.pc_table.specs.Table.{table_of}
 use Rattle.pc_window.specs.Tree.{Tree, Exit, tree_size}
 use Rattle.pc_window.specs.Opening.{Grafted}
-use Rattle.pc_window.specs.Unwinding.{least_inside, least_tag, Unwinds}
+use Rattle.pc_window.specs.Unwinding.{least_inside, Unwinds}
 use Rattle.pc_window.specs.StoredWindow.{tree_in}
 use Rattle.pc_unwind.specs.models.Named.{StubsAreThere}
 use Rattle.pc_window.specs.There.{StubIsThere}
 use Rattle.pc_unwind.specs.models.Ranks.{stub_steps}
-use Rattle.pc_unwind.specs.models.Walking.{most_tag, with_growth, AtMostLeast, Replaces, MayReplace, RootStaysAtMost}
-use Rattle.pc_unwind.proofs.Replaced.{inside_least}
-use Rattle.pc_unwind.proofs.Reaching.{front_least}
+use Rattle.pc_unwind.specs.models.Walking.{most_tag, with_growth, Replaces, MayReplace, RootStaysAtMost}
 use Rattle.pc_unwind.proofs.WalkSteps.{replaced_there, replaced_room, replaced_steps, replaced_root}
 use Rattle.pc_unwind.proofs.TagWalks.{unwinds_out, unwinds_large, unwinds_stub, unwinds_none}
 use Rattle.pc_unwind.proofs.unwinding.+unwind_stub.Goals as goal
@@ -71,18 +69,6 @@ unwind_stub-requires t c =
         ),
       ),
     )
-
-pub unwind_tags-requires-clause-least : goal.unwind_tags-requires-clause-least
-unwind_tags-requires-clause-least t c =
-    let table = table_of c.args.table.now in
-    let tree = tree_in c.args.tree.now in
-    inside_least table c.args.inside c.front_tag-tag.result tree (subst (λ (n : ℕ). AtMostLeast n (least_tag tree)) (sym c.front_tag-tag.ensures) (front_least tree))
-
-pub unwind_tags-requires-in-Test-clause-least : goal.unwind_tags-requires-in-Test-clause-least
-unwind_tags-requires-in-Test-clause-least t c =
-    let table = table_of c.args.table.now in
-    let tree = tree_in c.args.tree.now in
-    inside_least table c.args.inside c.front_tag-tag-in-Test.result tree (subst (λ (n : ℕ). AtMostLeast n (least_tag tree)) (sym c.front_tag-tag-in-Test.ensures) (front_least tree))
 
 pub returns-in-Some-clause-unwinds : goal.returns-in-Some-clause-unwinds
 returns-in-Some-clause-unwinds t c =
