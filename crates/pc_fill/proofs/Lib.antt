@@ -5,6 +5,7 @@ pub mod Nodes
 pub mod Ways
 pub mod Marks
 pub mod Searching
+pub mod Walked
 pub mod Taken
 pub mod Landed
 pub mod Entered

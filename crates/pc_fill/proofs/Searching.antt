@@ -1,8 +1,7 @@
 -- The search for the first ready item or test, place by place.
 use Rattle.std.proofs.Common.{◌≡◌, ◌↔◌, ℕ, suc, ◌+◌, ◌<◌, ◌≤◌, ◌⊎◌, ◌^◌, inl, inr, Bool, true}
-use Rattle.std.proofs.Common.{false, List, [], ◌∷◌, Option, Some, None, refl, sym, ◌∙◌, ap, subst, arith}
+use Rattle.std.proofs.Common.{false, [], ◌∷◌, Option, Some, None, refl, sym, ◌∙◌, ap, subst, arith}
 use Rattle.std.specs.Prelude.{nat_eq, nat_lt, ◌||◌, ◌&&◌, slice_get, IfSome}
-use Rattle.std.specs.List.{AllByRecursion}
 use Rattle.std.proofs.lemmas.Bool.{eqb-true, ltb-true}
 use Rattle.std.proofs.lemmas.Bool.Decides.{nat_tests}
 use Rattle.pc_word.proofs.Truth.{or_false, and_true, decide_le, most_of}
@@ -14,7 +13,6 @@ use Rattle.pc_window.specs.Tree.{Tree, Pending, Undecided, Front, whole, tree_si
 use Rattle.pc_window.specs.declared.window.Window.{Window as StoredWindow}
 use Rattle.pc_window.specs.StoredWindow.{tree_in, front_in, window_in}
 use Rattle.pc_window.specs.WindowRun.{Window}
-use Rattle.pc_window.specs.Names.{IsKnown}
 use Rattle.pc_window.specs.Filled.{HasSpace}
 use Rattle.pc_window.specs.Ready.{ReadyPlace, NotBehind}
 use Rattle.pc_fill.specs.declared.room.Counts.{Counts}
@@ -22,13 +20,12 @@ use Rattle.pc_fill.specs.declared.first.ReadyNode.{ReadyNode}
 use Rattle.pc_fill.specs.FirstReady.{StandsReady, IsFirstReady}
 use Rattle.pc_fill.specs.models.Places.{Node, nodes_of, MayComeFrom, IsReadyHere}
 use Rattle.pc_fill.specs.models.Search.{AreCounts, HasRoom, StandsAt, comes_before, BestBefore}
-use Rattle.pc_fill.proofs.Sides.{fails_here, failed, held, same_fact}
+use Rattle.pc_fill.proofs.Sides.{failed, held}
 use Rattle.pc_window.proofs.WindowsStored.{whole_in}
 use Rattle.pc_fill.proofs.Nodes.{node_on_yes, node_on_no, node_within, StandsFree, stands_free, free_ready}
 
--- ---- ready here
+-- ---- room by counts
 
--- room by counts
 pub room_here : (limits : Limits) (what : Option Item) (counts : Counts) (front : Front) → AreCounts counts front → HasRoom limits what counts → HasSpace limits what front
 room_here limits (Some x) counts front are h = (let a = are.items in let b = h.0 in omega arith, λ is. let a = are.memory in let b = h.1 is in omega arith)
 room_here limits None counts front are h = let a = are.tests in omega arith
@@ -36,20 +33,6 @@ room_here limits None counts front are h = let a = are.tests in omega arith
 pub here_room : (limits : Limits) (what : Option Item) (counts : Counts) (front : Front) → AreCounts counts front → HasSpace limits what front → HasRoom limits what counts
 here_room limits (Some x) counts front are h = (let a = are.items in let b = h.0 in omega arith, λ is. let a = are.memory in let b = h.1 is in omega arith)
 here_room limits None counts front are h = let a = are.tests in omega arith
-
-module _ (known : ℕ → Bool) (w : Window) (place : ℕ) (what : Option Item) (operands : List Operand) where
-  pub unknown_here : (b : Bool) → (b ≡ true) ↔ AllByRecursion (IsKnown known) operands → b ≡ false → (false ≡ true) ↔ IsReadyHere known w place what operands
-  unknown_here b iff e = fails_here (IsReadyHere known w place what operands) (λ h. failed iff e h.reads)
-
-  pub full_here : (b : Bool) (counts : Counts) → AreCounts counts w.front → (b ≡ true) ↔ HasRoom w.limits what counts
-      → b ≡ false → (false ≡ true) ↔ IsReadyHere known w place what operands
-  full_here b counts are iff e = fails_here (IsReadyHere known w place what operands) (λ h. failed iff e (here_room w.limits what counts w.front are h.room))
-
-  pub ready_here : (a b c : Bool) (counts : Counts) → AreCounts counts w.front → (a ≡ true) ↔ AllByRecursion (IsKnown known) operands → a ≡ true
-      → (b ≡ true) ↔ HasRoom w.limits what counts → b ≡ true → (c ≡ true) ↔ MayComeFrom w.forms what w.front place → (c ≡ true) ↔ IsReadyHere known w place what operands
-  ready_here a b c counts are reads e room f way =
-      same_fact c (MayComeFrom w.forms what w.front place) (IsReadyHere known w place what operands)
-      (λ h. record { reads = held reads e; room = room_here w.limits what counts w.front are (held room f); way = h }) (λ h. h.way) way
 
 -- ---- one place more
 
@@ -266,9 +249,3 @@ module _ (known : ℕ → Bool) (w : StoredWindow) (place : ℕ) (best : Option 
       by_case : (found : Option ReadyNode) → BestBefore known (window_in w) place found → IfSome found (IsFirstReady known (window_in w))
       by_case None k = tt
       by_case (Some it) k = first_of_all known (window_in w) place it at_end k
-
-pub ruleset ready = (unknown_here, full_here, ready_here)
-
-pub ruleset looking = (stays_best, still_best, becomes_best)
-
-pub ruleset walking = (item_stands, rest_stands, test_stands, yes_stands, no_stands)

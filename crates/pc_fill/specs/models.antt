@@ -2,7 +2,9 @@ pub mod Touches
 pub mod Places
 pub mod Extent
 pub mod Known
+pub mod Path
 pub mod Search
+pub mod Walk
 pub mod Taking
 pub mod Landing
 pub mod Signature

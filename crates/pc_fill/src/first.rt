@@ -1,5 +1,5 @@
 //! The first item or test of a window that is ready and has room.
-ghost use Rattle.std.specs.Prelude.{◌≡◌, ◌↔◌, ◌<◌, ◌+◌, ◌^◌, true, Some, None, ◌∷◌, [], slice_get, IfOk, IfSome};
+ghost use Rattle.std.specs.Prelude.{◌≡◌, ◌↔◌, ◌<◌, ◌+◌, ◌^◌, true, Some, None, ◌∷◌, [], IfOk, IfSome};
 ghost use Rattle.pc_window.specs.Names.{uses};
 ghost use Rattle.pc_window.specs.Ready.{ReadyPlace};
 ghost use Rattle.pc_window.specs.Steps.{IsProper};
@@ -7,11 +7,12 @@ ghost use Rattle.pc_fill.specs.FirstReady.{IsFirstReady};
 ghost use Rattle.pc_word.specs.Items.{operands_of};
 ghost use Rattle.pc_window.specs.Tree.{tree_size, whole};
 ghost use Rattle.pc_window.specs.StoredWindow.{tree_in, front_in, window_in};
-ghost use Rattle.pc_fill.specs.models.Places.{known_in, nodes_of, IsReadyHere};
-ghost use Rattle.pc_fill.specs.models.Search.{AreCounts, StandsAt, comes_before, BestBefore};
+ghost use Rattle.pc_fill.specs.models.Places.{known_in};
+ghost use Rattle.pc_fill.specs.models.Search.{comes_before};
+ghost use Rattle.pc_fill.specs.models.Walk.{IsSetting, StandsThere, IsReadyThere, ComesInFront, ComesBehind, BestSoFar};
 
 use crate::known::{is_known, parameters, reads_known};
-use crate::readiness::may_come;
+use crate::path::{Path, is_plain, may_come_along};
 use crate::room::{Counts, count_front, has_room};
 use pc_window::{Window, WindowError, WindowTree};
 use pc_word::{Item, Operand};
@@ -25,6 +26,15 @@ pub struct ReadyNode {
     pub origin: u32,
     pub place: u32,
     pub item: Option<Item>,
+}
+
+/// What stays the same during a search: the window, the names that are known before it, and the
+/// counts of its front.
+#[derive(Drop)]
+pub(crate) struct Setting<'a> {
+    pub(crate) window: &'a Window,
+    pub(crate) known: &'a [bool],
+    pub(crate) counts: Counts,
 }
 
 /// How far a search has come: the place that comes next, and the first that was found before it.
@@ -44,63 +54,61 @@ fn comes_before(tag: u32, origin: u32, best: Option<ReadyNode>) -> bool
     }
 }
 
-/// Whether an item at a place is ready and has room.
-#[tactic(auto, using(crate::proofs::Searching::ready))]
-fn is_item_ready(window: &Window, known: &[bool], counts: Counts, item: Item, place: u32) -> bool
-    requires counts { AreCounts counts (front_in window.now.tree) }
-    requires small { tree_size (tree_in window.now.tree) < 2 ^ 31 }
-    ensures { (result ≡ true) ↔ IsReadyHere (known_in known.now) (window_in window.now) place (Some item) (operands_of item) }
+/// Whether an item is ready and has room where this path leads to it.
+#[tactic(auto, using(crate::proofs::Walked::ready))]
+fn is_item_ready(setting: &Setting, path: &Path, item: Item) -> bool
+    requires set { IsSetting setting.now }
+    ensures { (result ≡ true) ↔ IsReadyThere setting.now path.now (Some item) (operands_of item) }
 {
-    if !reads_known(known, item) {
+    if !reads_known(setting.known, item) {
         return false;
     }
-    if !has_room(counts, window.limits, Some(item)) {
+    if !has_room(setting.counts, setting.window.limits, Some(item)) {
         return false;
     }
-    may_come(&window.names, Some(item), &window.tree, place)
+    if is_plain(item) {
+        return true;
+    }
+    may_come_along(&setting.window.names, path, Some(item))
 }
 
-/// Whether a test at a place is ready and has room.
-#[tactic(auto, using(crate::proofs::Searching::ready))]
-fn is_test_ready(window: &Window, known: &[bool], counts: Counts, on: Operand, place: u32) -> bool
-    requires counts { AreCounts counts (front_in window.now.tree) }
-    requires small { tree_size (tree_in window.now.tree) < 2 ^ 31 }
-    ensures { (result ≡ true) ↔ IsReadyHere (known_in known.now) (window_in window.now) place None (on ∷ []) }
+/// Whether a test is ready and has room where this path leads to it.
+#[tactic(auto, using(crate::proofs::Walked::ready))]
+fn is_test_ready(setting: &Setting, path: &Path, on: Operand) -> bool
+    requires set { IsSetting setting.now }
+    ensures { (result ≡ true) ↔ IsReadyThere setting.now path.now None (on ∷ []) }
 {
-    if !is_known(known, on) {
+    if !is_known(setting.known, on) {
         return false;
     }
-    if !has_room(counts, window.limits, None) {
+    if !has_room(setting.counts, setting.window.limits, None) {
         return false;
     }
-    may_come(&window.names, None, &window.tree, place)
+    may_come_along(&setting.window.names, path, None)
 }
 
 /// What is found once an item was looked at.
-#[tactic(auto, using(crate::proofs::Searching::looking))]
 fn look_at_item(
-    window: &Window,
-    known: &[bool],
-    counts: Counts,
+    setting: &Setting,
+    path: &Path,
     search: &mut Search,
     tag: u32,
     origin: u32,
     item: Item,
 )
-    requires counts { AreCounts counts (front_in window.now.tree) }
-    requires small { tree_size (tree_in window.now.tree) < 2 ^ 31 }
+    requires set { IsSetting setting.now }
     requires place { search.old.place < 2 ^ 31 }
-    requires stands { slice_get (nodes_of (tree_in window.now.tree)) search.old.place ≡ Some (record { tag = tag; origin = origin; what = Some item; operands = operands_of item }) }
-    requires best { BestBefore (known_in known.now) (window_in window.now) search.old.place search.old.best }
+    requires stands { StandsThere setting.now path.now search.old.place (record { tag = tag; origin = origin; what = Some item; operands = operands_of item }) }
+    requires best { BestSoFar setting.now search.old }
     ensures place { search.new.place ≡ search.old.place + 1 }
-    ensures best { BestBefore (known_in known.now) (window_in window.now) search.new.place search.new.best }
+    ensures best { BestSoFar setting.now search.new }
 {
     let place = search.place;
     search.place += 1;
     if !comes_before(tag, origin, search.best) {
         return;
     }
-    if !is_item_ready(window, known, counts, item, place) {
+    if !is_item_ready(setting, path, item) {
         return;
     }
     search.best = Some(ReadyNode {
@@ -112,30 +120,27 @@ fn look_at_item(
 }
 
 /// What is found once a test was looked at.
-#[tactic(auto, using(crate::proofs::Searching::looking))]
 fn look_at_test(
-    window: &Window,
-    known: &[bool],
-    counts: Counts,
+    setting: &Setting,
+    path: &Path,
     search: &mut Search,
     tag: u32,
     origin: u32,
     on: Operand,
 )
-    requires counts { AreCounts counts (front_in window.now.tree) }
-    requires small { tree_size (tree_in window.now.tree) < 2 ^ 31 }
+    requires set { IsSetting setting.now }
     requires place { search.old.place < 2 ^ 31 }
-    requires stands { slice_get (nodes_of (tree_in window.now.tree)) search.old.place ≡ Some (record { tag = tag; origin = origin; what = None; operands = on ∷ [] }) }
-    requires best { BestBefore (known_in known.now) (window_in window.now) search.old.place search.old.best }
+    requires stands { StandsThere setting.now path.now search.old.place (record { tag = tag; origin = origin; what = None; operands = on ∷ [] }) }
+    requires best { BestSoFar setting.now search.old }
     ensures place { search.new.place ≡ search.old.place + 1 }
-    ensures best { BestBefore (known_in known.now) (window_in window.now) search.new.place search.new.best }
+    ensures best { BestSoFar setting.now search.new }
 {
     let place = search.place;
     search.place += 1;
     if !comes_before(tag, origin, search.best) {
         return;
     }
-    if !is_test_ready(window, known, counts, on, place) {
+    if !is_test_ready(setting, path, on) {
         return;
     }
     search.best = Some(ReadyNode {
@@ -146,22 +151,13 @@ fn look_at_test(
     });
 }
 
-/// What is found once each item and test of a tree was looked at.
-#[tactic(auto, using(crate::proofs::Searching::walking))]
-fn look_through(
-    tree: &WindowTree,
-    window: &Window,
-    known: &[bool],
-    counts: Counts,
-    search: &mut Search,
-)
-    requires counts { AreCounts counts (front_in window.now.tree) }
-    requires small { tree_size (tree_in window.now.tree) < 2 ^ 31 }
-    requires place { search.old.place + tree_size (tree_in tree.now) < 2 ^ 31 }
-    requires stands { StandsAt (tree_in tree.now) search.old.place (tree_in window.now.tree) }
-    requires best { BestBefore (known_in known.now) (window_in window.now) search.old.place search.old.best }
+/// What is found once each item and test of a tree behind the front was looked at.
+fn look_behind(tree: &WindowTree, setting: &Setting, path: &Path, search: &mut Search)
+    requires set { IsSetting setting.now }
+    requires comes { ComesBehind setting.now path.now search.old.place (tree_in tree.now) }
+    requires best { BestSoFar setting.now search.old }
     ensures place { search.new.place ≡ search.old.place + tree_size (tree_in tree.now) }
-    ensures best { BestBefore (known_in known.now) (window_in window.now) search.new.place search.new.best }
+    ensures best { BestSoFar setting.now search.new }
 {
     match tree {
         WindowTree::Step {
@@ -170,8 +166,16 @@ fn look_through(
             item,
             rest,
         } => {
-            look_at_item(window, known, counts, search, *tag, *origin, *item);
-            look_through(rest, window, known, counts, search);
+            look_at_item(setting, path, search, *tag, *origin, *item);
+            if is_plain(*item) {
+                look_behind(rest, setting, path, search);
+            } else {
+                let below = Path::Passed {
+                    item: *item,
+                    above: &*path,
+                };
+                look_behind(rest, setting, &below, search);
+            }
         }
         WindowTree::Test {
             tag,
@@ -180,11 +184,45 @@ fn look_through(
             yes,
             no,
         } => {
-            look_at_test(window, known, counts, search, *tag, *origin, *on);
-            look_through(yes, window, known, counts, search);
-            look_through(no, window, known, counts, search);
+            look_at_test(setting, path, search, *tag, *origin, *on);
+            let below = Path::Crossed { above: &*path };
+            look_behind(yes, setting, &below, search);
+            look_behind(no, setting, &below, search);
         }
-        WindowTree::Node { below } => look_through(below, window, known, counts, search),
+        WindowTree::Node { below } => look_behind(below, setting, path, search),
+        WindowTree::Exit { .. } => {}
+        WindowTree::Stop => {}
+        WindowTree::Trap { .. } => {}
+    }
+}
+
+/// What is found once the front was gone through, and what stands behind it looked at.
+fn look_through(tree: &WindowTree, setting: &Setting, path: &Path, search: &mut Search)
+    requires set { IsSetting setting.now }
+    requires comes { ComesInFront setting.now path.now search.old.place (tree_in tree.now) (front_in tree.now) }
+    requires best { BestSoFar setting.now search.old }
+    ensures place { search.new.place ≡ search.old.place + tree_size (tree_in tree.now) }
+    ensures best { BestSoFar setting.now search.new }
+{
+    match tree {
+        WindowTree::Step { item, rest, .. } => {
+            search.place += 1;
+            if is_plain(*item) {
+                look_through(rest, setting, path, search);
+            } else {
+                let below = Path::Issued {
+                    item: *item,
+                    above: &*path,
+                };
+                look_through(rest, setting, &below, search);
+            }
+        }
+        WindowTree::Test { yes, no, .. } => {
+            search.place += 1;
+            look_through(yes, setting, path, search);
+            look_through(no, setting, path, search);
+        }
+        WindowTree::Node { below } => look_behind(below, setting, path, search),
         WindowTree::Exit { .. } => {}
         WindowTree::Stop => {}
         WindowTree::Trap { .. } => {}
@@ -211,11 +249,15 @@ pub(crate) fn first_known(window: &Window, known: &[bool]) -> Option<ReadyNode>
     ensures first { IfSome result (IsFirstReady (known_in known.now) (window_in window.now)) }
     ensures none { result ≡ None → ReadyPlace (known_in known.now) (window_in window.now) → ⊥ }
 {
-    let counts = count_front(&window.tree);
+    let setting = Setting {
+        window,
+        known,
+        counts: count_front(&window.tree),
+    };
     let mut search = Search {
         place: 0,
         best: None,
     };
-    look_through(&window.tree, window, known, counts, &mut search);
+    look_through(&window.tree, &setting, &Path::Root, &mut search);
     search.best
 }

@@ -8,6 +8,7 @@ mod jump;
 mod known;
 mod landing;
 mod laws;
+mod path;
 mod readiness;
 mod room;
 mod signature;

@@ -1,9 +1,9 @@
-//! Whether an item or test may come into the front from where it stands.
+//! What an item or test may pass on its way up.
 ghost use Rattle.std.specs.Prelude.{◌≡◌, ◌↔◌, ◌<◌, ◌^◌, true};
 ghost use Rattle.pc_window.specs.Tree.{tree_size};
 ghost use Rattle.pc_window.specs.Ready.{MayStandBehind};
-ghost use Rattle.pc_window.specs.StoredWindow.{tree_in, front_in, forms_in};
-ghost use Rattle.pc_fill.specs.models.Places.{MayPass, MayCross, MayRise, MayComeFrom};
+ghost use Rattle.pc_window.specs.StoredWindow.{tree_in, forms_in};
+ghost use Rattle.pc_fill.specs.models.Places.{MayPass, MayCross, MayRise};
 
 use crate::conflict::{is_quiet, may_follow, no_conflict};
 use pc_window::{NameTable, WindowTree};
@@ -25,7 +25,7 @@ pub(crate) fn size(tree: &WindowTree) -> u32
 }
 
 /// Whether an item, or a test, may rise past an item.
-fn may_pass(names: &NameTable, passed: Item, what: Option<Item>) -> bool
+pub(crate) fn may_pass(names: &NameTable, passed: Item, what: Option<Item>) -> bool
     ensures { (result ≡ true) ↔ MayPass (forms_in names.now.forms) passed what }
 {
     match what {
@@ -35,7 +35,7 @@ fn may_pass(names: &NameTable, passed: Item, what: Option<Item>) -> bool
 }
 
 /// Whether an item, or a test, may rise past a test.
-fn may_cross(what: Option<Item>) -> bool
+pub(crate) fn may_cross(what: Option<Item>) -> bool
     ensures { (result ≡ true) ↔ MayCross what }
 {
     match what {
@@ -45,7 +45,7 @@ fn may_cross(what: Option<Item>) -> bool
 }
 
 /// Whether an item, or a test, may stand behind an item of the front.
-fn may_stand_behind(names: &NameTable, above: Item, what: Option<Item>) -> bool
+pub(crate) fn may_stand_behind(names: &NameTable, above: Item, what: Option<Item>) -> bool
     ensures { (result ≡ true) ↔ MayStandBehind (forms_in names.now.forms) above what }
 {
     match what {
@@ -82,39 +82,6 @@ pub(crate) fn may_rise(names: &NameTable, what: Option<Item>, tree: &WindowTree,
                 return may_rise(names, what, yes, place - 1);
             }
             may_rise(names, what, no, place - 1 - on_yes)
-        }
-        WindowTree::Node { below } => may_rise(names, what, below, place),
-        WindowTree::Exit { .. } => true,
-        WindowTree::Stop => true,
-        WindowTree::Trap { .. } => true,
-    }
-}
-
-/// Whether an item, or a test, may come into the front from a place behind it.
-#[tactic(auto, using(crate::proofs::Ways::coming))]
-pub(crate) fn may_come(names: &NameTable, what: Option<Item>, tree: &WindowTree, place: u32) -> bool
-    requires { tree_size (tree_in tree.now) < 2 ^ 31 }
-    ensures { (result ≡ true) ↔ MayComeFrom (forms_in names.now.forms) what (front_in tree.now) place }
-{
-    match tree {
-        WindowTree::Step { item, rest, .. } => {
-            if place == 0 {
-                return false;
-            }
-            if !may_stand_behind(names, *item, what) {
-                return false;
-            }
-            may_come(names, what, rest, place - 1)
-        }
-        WindowTree::Test { yes, no, .. } => {
-            if place == 0 {
-                return false;
-            }
-            let on_yes = size(yes);
-            if place - 1 < on_yes {
-                return may_come(names, what, yes, place - 1);
-            }
-            may_come(names, what, no, place - 1 - on_yes)
         }
         WindowTree::Node { below } => may_rise(names, what, below, place),
         WindowTree::Exit { .. } => true,
