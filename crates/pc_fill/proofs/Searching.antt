@@ -148,6 +148,28 @@ module _ (known : ℕ → Bool) (w : Window) (place : ℕ) (node : Node) (at : s
       before_all tag origin later (inr p) (inr (q, inl r)) = let a = p.1 in inr (p.0 ∙ q, inl (omega arith))
       before_all tag origin later (inr p) (inr (q, inr r)) = let a = p.1 in let b = r.0 in inr (p.0 ∙ q, inl (omega arith))
 
+-- where nothing that stands before the next place is ready, the first stays the first
+pub best_behind : (known : ℕ → Bool) (w : Window) (place next : ℕ) (best : Option ReadyNode) → place ≤ next
+    → ((r : ReadyPlace known w) → place ≤ r.place → r.place < next → ⊥) → BestBefore known w place best → BestBefore known w next best
+best_behind known w place next None le never h = record {
+  is = λ r less. elim (decide_le place r.place) [
+    | inl from ↦ never r from less
+    | inr lt ↦ h.is r lt
+  ];
+}
+best_behind known w place next (Some best) le never h =
+    let earlier = h.is.1 in
+    record {
+      is = (
+        h.is.0,
+        omega arith,
+        λ r less. elim (decide_le place r.place) [
+          | inl from ↦ absurd (never r from less)
+          | inr lt ↦ h.is.2 r lt
+        ],
+      );
+    }
+
 -- the same in memory
 module _ (known : ℕ → Bool) (w : StoredWindow) (place next : ℕ) (node : Node)
     (at : slice_get (nodes_of (tree_in w.tree)) place ≡ Some node) (step : next ≡ place + 1) (best : Option ReadyNode)

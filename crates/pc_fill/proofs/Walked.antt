@@ -1,10 +1,12 @@
 -- The walk through a window, step by step.
-use Rattle.std.proofs.Common.{◌≡◌, ◌∙◌, ◌↔◌, ℕ, suc, ◌+◌, ◌-◌, ◌<◌, Bool, true}
+use Rattle.std.proofs.Common.{◌≡◌, ◌∙◌, ◌↔◌, ℕ, suc, ◌+◌, ◌-◌, ◌<◌, ◌≤◌, inl, inr, Bool, true}
 use Rattle.std.proofs.Common.{false, List, [], ◌∷◌, Option, Some, None, refl, sym, ap, subst, arith}
 use Rattle.std.specs.Prelude.{nat_lt, ◌&&◌}
 use Rattle.std.specs.List.{AllByRecursion}
+use Rattle.pc_word.proofs.Truth.{decide_le}
 use Rattle.pc_word.specs.declared.item.Item.{Item}
 use Rattle.pc_word.specs.declared.item.Item.TheVariants.{Bin, Copy, Load, Store, Print, Read, More}
+use Rattle.pc_word.specs.declared.item.Limits.{Limits}
 use Rattle.pc_word.specs.declared.item.Operand.{Operand}
 use Rattle.pc_word.specs.Items.{operands_of, is_effect}
 use Rattle.pc_linear.specs.Form.{Form}
@@ -13,18 +15,21 @@ use Rattle.pc_window.specs.Tree.{Tree, Pending, Undecided, Front, Issued, Split,
 use Rattle.pc_window.specs.Names.{IsKnown}
 use Rattle.pc_window.specs.Conflict.{Touch, touch_of, NoDependence, NoStoreDependence, NoConflict, MayFollow}
 use Rattle.pc_window.specs.Jump.{is_quiet}
-use Rattle.pc_window.specs.Ready.{MayStandBehind}
+use Rattle.pc_window.specs.Filled.{HasSpace}
+use Rattle.pc_window.specs.Ready.{MayStandBehind, ReadyPlace}
 use Rattle.pc_window.specs.StoredWindow.{front_in, window_in}
 use Rattle.pc_fill.specs.declared.first.Setting.{Setting}
 use Rattle.pc_fill.specs.declared.first.ReadyNode.{ReadyNode}
 use Rattle.pc_fill.specs.declared.path.Path.{Path}
 use Rattle.pc_fill.specs.declared.path.Path.TheVariants as path
+use Rattle.pc_fill.specs.declared.room.Counts.{Counts}
 use Rattle.pc_fill.specs.models.Path.{is_plain, MayComeAlong}
 use Rattle.pc_fill.specs.models.Places.{Node, known_in, MayPass, MayCross, MayRise, MayComeFrom, IsReadyHere}
-use Rattle.pc_fill.specs.models.Search.{HasRoom, BestBefore}
+use Rattle.pc_fill.specs.models.Search.{AreCounts, HasRoom, BestBefore}
 use Rattle.pc_fill.specs.models.Walk.{all_in, forms_of, MayComeHere, IsSetting, IsReadyThere, StandsThere, ComesBehind, ComesInFront}
 use Rattle.pc_fill.proofs.Sides.{to_below, from_below, to_yes, from_yes, to_no, from_no, fails_here, failed, held, same_fact}
-use Rattle.pc_fill.proofs.Searching.{room_here, here_room, look_unready, item_stands, rest_stands, test_stands, yes_stands, no_stands, all_stands}
+use Rattle.pc_fill.proofs.Nodes.{stands_free}
+use Rattle.pc_fill.proofs.Searching.{room_here, here_room, best_behind, look_unready, item_stands, rest_stands, test_stands, yes_stands, no_stands, all_stands}
 
 -- ---- plain items
 
@@ -101,6 +106,7 @@ issued_plain forms y above e what = (λ h. (plain_stands forms y (plain y e) wha
 
 -- ---- ready where a path leads
 
+-- what is not ready, and what is
 module _ (s : Setting) (way : Path) (what : Option Item) (operands : List Operand) where
   pub unknown_there : (b : Bool) → (b ≡ true) ↔ AllByRecursion (IsKnown (known_in s.known.now)) operands → b ≡ false → (false ≡ true) ↔ IsReadyThere s way what operands
   unknown_there b iff e = fails_here (IsReadyThere s way what operands) (λ h. failed iff e h.reads)
@@ -167,18 +173,30 @@ module _ (s : Setting) (way : Path) (place : ℕ) where
             );
       }
 
+pub is_full : (b : Bool) (m n : ℕ) → (b ≡ true) ↔ (m < n) → b ≡ false → n ≤ m
+is_full b m n iff e = elim (decide_le n m) [
+  | inl le ↦ le
+  | inr less ↦ absurd (failed iff e less)
+]
+
+-- what crosses a test has no room where items have none
+no_room : (limits : Limits) (what : Option Item) (front : Front) (counts : Counts) → AreCounts counts front → limits.ops ≤ counts.items → HasSpace limits what front → MayCross what → ⊥
+no_room limits None front counts are full room cross = cross
+no_room limits (Some x) front counts are full room cross = let a = are.items in let b = room.0 in omega arith
+
 -- below a test
-module _ (s : Setting) (way below : Path) (place next : ℕ) (tree p q : Tree) (tag origin : ℕ) (on : Operand) (is : tree ≡ Undecided tag origin on p q) (step : next ≡ place + 1)
-    (leads : LeadsOn (forms_of s) MayCross way below) (h : ComesBehind s way place tree) where
+module _ (s : Setting) (way : Path) (place next : ℕ) (tree p q : Tree) (tag origin : ℕ) (on : Operand) (is : tree ≡ Undecided tag origin on p q) (step : next ≡ place + 1)
+    (h : ComesBehind s way place tree) where
   comes : ComesBehind s way place (Undecided tag origin on p q)
   comes = subst (ComesBehind s way place) is h
 
   Sides : Option Item → ℕ → Type 0
   Sides what j = MayCross what × Side (nat_lt j (tree_size p)) (MayRise (forms_of s) what p j) (MayRise (forms_of s) what q (j - tree_size p))
 
-  pub past_test_yes : ComesBehind s below next p
+  -- on its yes side
+  pub past_test_yes : (below : Path) → LeadsOn (forms_of s) MayCross way below → ComesBehind s below next p
   unfolding Sides
-  past_test_yes =
+  past_test_yes below leads =
       let within = comes.within in
       record {
         stands = yes_stands tag origin on p q place next (all_in s) step comes.stands;
@@ -197,9 +215,10 @@ module _ (s : Setting) (way below : Path) (place next : ℕ) (tree p q : Tree) (
             );
       }
 
-  pub past_test_no : (after : ℕ) → after ≡ next + tree_size p → ComesBehind s below after q
+  -- on its no side
+  pub past_test_no : (below : Path) → LeadsOn (forms_of s) MayCross way below → (after : ℕ) → after ≡ next + tree_size p → ComesBehind s below after q
   unfolding Sides
-  past_test_no after step' =
+  past_test_no below leads after step' =
       let within = comes.within in
       record {
         stands = no_stands tag origin on p q place next after (all_in s) step step' comes.stands;
@@ -217,6 +236,22 @@ module _ (s : Setting) (way below : Path) (place next : ℕ) (tree p q : Tree) (
                   (at.1 (a.1, to_below (Unit {0}) (Sides what) (tree_size p + n) (a.0, to_no (MayRise (forms_of s) what p) (MayRise (forms_of s) what q) n (tree_size p) m.1))),
             );
       }
+
+  -- nothing is ready there where items have no room
+  none_below : IsSetting s → s.window.now.limits.ops ≤ s.counts.items → (r : ReadyPlace (known_in s.known.now) (window_in s.window.now))
+      → (n : ℕ) → next + n ≡ r.place → n < tree_size p + tree_size q → ⊥
+  unfolding Sides
+  none_below set full r n at less =
+      let free = stands_free (known_in s.known.now) (forms_of s) r.tag r.origin r.place r.what (front_in s.window.now.tree) r.ready in
+      let e : r.place ≡ place + suc n = omega arith in
+      let m = (comes.way r.what (suc n) (omega arith)).0 (subst (MayComeHere s r.what) e free.way) in
+      let b = from_below (Unit {0}) (Sides r.what) n m.1 in
+      no_room s.window.now.limits r.what (front_in s.window.now.tree) s.counts set.counts full r.room b.0
+
+  pub test_passed_over : IsSetting s → s.window.now.limits.ops ≤ s.counts.items → (after : ℕ) → after ≡ next + (tree_size p + tree_size q) → (best : Option ReadyNode)
+      → BestBefore (known_in s.known.now) (window_in s.window.now) next best → BestBefore (known_in s.known.now) (window_in s.window.now) after best
+  test_passed_over set full after step' best before =
+      best_behind (known_in s.known.now) (window_in s.window.now) next after best (omega arith) (λ r from to. none_below set full r (r.place - next) (omega arith) (omega arith)) before
 
 -- ---- in the front
 
@@ -268,6 +303,7 @@ module _ (s : Setting) (way : Path) (place next : ℕ) (tree p q : Tree) (front 
   Front_sides : Option Item → ℕ → Type 0
   Front_sides what j = Side (nat_lt j (tree_size (whole on_yes))) (MayComeFrom (forms_of s) what on_yes j) (MayComeFrom (forms_of s) what on_no (j - tree_size (whole on_yes)))
 
+  -- on its yes side
   pub past_split_yes : ComesInFront s way next p on_yes
   unfolding Front_sides
   past_split_yes =
@@ -290,6 +326,7 @@ module _ (s : Setting) (way : Path) (place next : ℕ) (tree p q : Tree) (front 
             );
       }
 
+  -- on its no side
   pub past_split_no : (after : ℕ) → after ≡ next + tree_size p → ComesInFront s way after q on_no
   unfolding Front_sides
   past_split_no after step' =

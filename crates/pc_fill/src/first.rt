@@ -13,7 +13,8 @@ ghost use Rattle.pc_fill.specs.models.Walk.{IsSetting, StandsThere, IsReadyThere
 
 use crate::known::{is_known, parameters, reads_known};
 use crate::path::{Path, is_plain, may_come_along};
-use crate::room::{Counts, count_front, has_room};
+use crate::readiness::size;
+use crate::room::{Counts, count_front, has_item_room, has_room};
 use pc_window::{Window, WindowError, WindowTree};
 use pc_word::{Item, Operand};
 use std::alloc::Global;
@@ -152,6 +153,9 @@ fn look_at_test(
 }
 
 /// What is found once each item and test of a tree behind the front was looked at.
+///
+/// Nothing below a test is ready where items have no room, since a test may not come up above
+/// another one: there the walk only counts places.
 fn look_behind(tree: &WindowTree, setting: &Setting, path: &Path, search: &mut Search)
     requires set { IsSetting setting.now }
     requires comes { ComesBehind setting.now path.now search.old.place (tree_in tree.now) }
@@ -185,6 +189,10 @@ fn look_behind(tree: &WindowTree, setting: &Setting, path: &Path, search: &mut S
             no,
         } => {
             look_at_test(setting, path, search, *tag, *origin, *on);
+            if !has_item_room(setting.counts, setting.window.limits) {
+                search.place += size(yes) + size(no);
+                return;
+            }
             let below = Path::Crossed { above: &*path };
             look_behind(yes, setting, &below, search);
             look_behind(no, setting, &below, search);

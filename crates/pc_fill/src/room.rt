@@ -73,6 +73,13 @@ fn with_test(yes: Counts, no: Counts) -> Counts
     }
 }
 
+/// Whether a front with these counts has room for one more item that is no load or store.
+pub(crate) fn has_item_room(counts: Counts, limits: Limits) -> bool
+    ensures { (result ≡ true) ↔ (counts.items < limits.ops) }
+{
+    counts.items < limits.ops as u32
+}
+
 /// Whether an item, or a test, has room in a front with these counts.
 pub(crate) fn has_room(counts: Counts, limits: Limits, what: Option<Item>) -> bool
     ensures { (result ≡ true) ↔ HasRoom limits what counts }
