@@ -17,4 +17,4 @@ pub mod Named
 pub mod StaysNew
 pub mod Jumps
 pub mod Opened
-pub mod TwoStepsKept
+pub mod ConflictsKept

@@ -9,4 +9,4 @@ pub mod Taking
 pub mod Landing
 pub mod Signature
 pub mod CanFill
-pub mod TwoSteps
+pub mod Conflicts
