@@ -1,5 +1,6 @@
 pub mod Walked
 pub mod Listed
+pub mod MarkedNames
 pub mod FormTable
 pub mod TermPlaces
 pub mod Replacing

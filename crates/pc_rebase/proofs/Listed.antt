@@ -18,9 +18,13 @@ use Rattle.pc_rebase.specs.models.Listing.{is_marked, unmarked, and_names}
 
 -- ---- or
 
-right_false : (a : Bool) → (a || false) ≡ a
-right_false true = refl
-right_false false = refl
+pub or_false : (a : Bool) → (a || false) ≡ a
+or_false true = refl
+or_false false = refl
+
+pub or_true : (a : Bool) → (a || true) ≡ true
+or_true true = refl
+or_true false = refl
 
 joined : (a b c : Bool) → (a || (b || c)) ≡ ((a || b) || c)
 joined true b c = refl
@@ -41,12 +45,8 @@ others found (x ∷ xs) = if is_in x found then others found xs else x ∷ other
 
 -- in a list with one name more
 pub in_more : (y x : ℕ) (found : List ℕ) → is_in y (found ++ x ∷ []) ≡ (is_in y found || nat_eq y x)
-in_more y x [] = right_false (nat_eq y x)
+in_more y x [] = or_false (nat_eq y x)
 in_more y x (z ∷ found) = ap (λ (b : Bool). nat_eq y z || b) (in_more y x found) ∙ joined (nat_eq y z) (is_in y found) (nat_eq y x)
-
-or_true : (a : Bool) → (a || true) ≡ true
-or_true true = refl
-or_true false = refl
 
 -- with one name more, that name is left out besides
 others-more : (found : List ℕ) (x : ℕ) (ys : List ℕ) → others (found ++ x ∷ []) ys ≡ others found (without_name (Some x) ys)
@@ -61,7 +61,7 @@ others-more found x (y ∷ ys) = by (nat_eq x y) refl (others-more found x ys)
         (in_more y x found ∙ ap (λ (c : Bool). is_in y found || c) (sym (flipped x y) ∙ e) ∙ or_true (is_in y found)) ∙ h
     by false e h =
         ap (λ (c : Bool). if c then others (found ++ x ∷ []) ys else y ∷ others (found ++ x ∷ []) ys)
-        (in_more y x found ∙ ap (λ (c : Bool). is_in y found || c) (sym (flipped x y) ∙ e) ∙ right_false (is_in y found))
+        (in_more y x found ∙ ap (λ (c : Bool). is_in y found || c) (sym (flipped x y) ∙ e) ∙ or_false (is_in y found))
         ∙ ap (λ (list : List ℕ). if is_in y found then list else y ∷ list) h
 
 -- a name of the list may be left out before

@@ -2,6 +2,7 @@
 #![tactic(auto)]
 
 mod bases;
+mod listed_names;
 mod listing;
 mod rebasing;
 mod rewriting;

@@ -4,11 +4,12 @@ ghost use Rattle.std.specs.List.{AllByRecursion};
 ghost use Rattle.pc_word.specs.Items.{dest_of};
 ghost use Rattle.pc_window.specs.Names.{name_in, names_read, names_in_homes, free_uses, definitions_of, parameters_of, first_uses};
 ghost use Rattle.pc_window.specs.Opening.{TreeBelow};
-ghost use Rattle.pc_window.specs.Rebasing.{is_in, all_names};
+ghost use Rattle.pc_window.specs.Rebasing.{all_names};
 ghost use Rattle.pc_window.specs.StoredWindow.{tree_in};
-ghost use Rattle.pc_rebase.specs.models.Listing.{is_marked, and_name, and_names, unmarked};
+ghost use Rattle.pc_rebase.specs.models.Listing.{is_marked, and_names, unmarked};
 
 use crate::NumberList;
+use crate::listed_names::ListedNames;
 use pc_window::{Home, WindowTree};
 use pc_word::{Item, Operand};
 use std::alloc::{AllocError, Global};
@@ -24,25 +25,27 @@ pub fn parameters_of(
     ensures { IfOk result (λ parameters. parameters ≡ parameters_of (tree_in tree.now)) }
 {
     let mut on_path = vec![in alloc; false; names]?;
-    let mut found = NumberList::new(alloc);
+    let mut found = ListedNames::new(alloc, names)?;
     add_parameters(tree, &mut on_path, &mut found)?;
-    Ok(found)
+    Ok(found.into_names())
 }
 
-/// These parameters of a tree, and then the names that it defines, in preorder, each once.
+/// These parameters of a tree, and then the names that it defines, in preorder, each once, with marks
+/// for the names below a number.
 #[tactic(auto, using(crate::proofs::Listed::definitions))]
 pub(crate) fn all_names(
     alloc: Global,
     tree: &WindowTree,
     parameters: &[u32],
+    names: usize,
 ) -> Result<NumberList, AllocError>
     requires { parameters.now ≡ parameters_of (tree_in tree.now) }
     ensures { IfOk result (λ all. all ≡ all_names (tree_in tree.now)) }
 {
-    let mut defined = NumberList::new(alloc);
+    let mut defined = ListedNames::new(alloc, names)?;
     add_definitions(tree, &mut defined)?;
     let mut all = Vec::from_slice(alloc, parameters)?;
-    all.extend_from_slice(defined.as_slice())?;
+    all.extend_from_slice(defined.into_names().as_slice())?;
     Ok(NumberList::from_vec(all))
 }
 
@@ -52,7 +55,7 @@ pub(crate) fn all_names(
 fn add_parameters(
     tree: &WindowTree,
     on_path: &mut [bool],
-    found: &mut NumberList,
+    found: &mut ListedNames,
 ) -> Result<(), AllocError>
     requires { TreeBelow (length on_path.old) (tree_in tree.now) }
     ensures path { OnOk result (on_path.new ≡ on_path.old) }
@@ -87,13 +90,13 @@ fn add_parameters(
 
 /// Adds the names that a tree defines.
 #[tactic(auto, using(crate::proofs::Walked::definitions))]
-fn add_definitions(tree: &WindowTree, found: &mut NumberList) -> Result<(), AllocError>
+fn add_definitions(tree: &WindowTree, found: &mut ListedNames) -> Result<(), AllocError>
     ensures { OnOk result (found.new ≡ and_names found.old (definitions_of (tree_in tree.now))) }
 {
     match tree {
         WindowTree::Step { item, rest, .. } => {
             if let Some(dest) = written_by(*item) {
-                add_name(found, dest)?;
+                found.add(dest)?;
             }
             add_definitions(rest, found)?;
             Ok(())
@@ -112,7 +115,7 @@ fn add_definitions(tree: &WindowTree, found: &mut NumberList) -> Result<(), Allo
 
 /// Adds the names that an item reads, but for those that are marked.
 #[tactic(auto, using(crate::proofs::Walked::names))]
-fn add_read(on_path: &[bool], item: Item, found: &mut NumberList) -> Result<(), AllocError>
+fn add_read(on_path: &[bool], item: Item, found: &mut ListedNames) -> Result<(), AllocError>
     ensures { OnOk result (found.new ≡ and_names found.old (unmarked on_path.now (names_read item))) }
 {
     match item {
@@ -134,7 +137,7 @@ fn add_read(on_path: &[bool], item: Item, found: &mut NumberList) -> Result<(), 
 
 /// Adds the names that homes read, but for those that are marked.
 #[tactic(auto, using(crate::proofs::Walked::names))]
-fn add_homes(on_path: &[bool], homes: &[Home], found: &mut NumberList) -> Result<(), AllocError>
+fn add_homes(on_path: &[bool], homes: &[Home], found: &mut ListedNames) -> Result<(), AllocError>
     ensures { OnOk result (found.new ≡ and_names found.old (unmarked on_path.now (names_in_homes homes.now))) }
 {
     for home in homes {
@@ -144,7 +147,7 @@ fn add_homes(on_path: &[bool], homes: &[Home], found: &mut NumberList) -> Result
 }
 
 /// Adds the name that an operand reads, unless it is marked.
-fn add_used(on_path: &[bool], operand: Operand, found: &mut NumberList) -> Result<(), AllocError>
+fn add_used(on_path: &[bool], operand: Operand, found: &mut ListedNames) -> Result<(), AllocError>
     ensures { OnOk result (found.new ≡ and_names found.old (unmarked on_path.now (name_in operand))) }
 {
     match operand {
@@ -152,21 +155,10 @@ fn add_used(on_path: &[bool], operand: Operand, found: &mut NumberList) -> Resul
             if is_marked(on_path, name) {
                 Ok(())
             } else {
-                add_name(found, name)
+                found.add(name)
             }
         }
         Operand::Lit(_) => Ok(()),
-    }
-}
-
-/// Puts a name behind the others, where it is not among them.
-fn add_name(found: &mut NumberList, name: u32) -> Result<(), AllocError>
-    ensures { OnOk result (found.new ≡ and_name found.old name) }
-{
-    if is_in(found.as_slice(), name) {
-        Ok(())
-    } else {
-        found.push(name)
     }
 }
 
@@ -178,13 +170,6 @@ fn is_marked(marks: &[bool], name: u32) -> bool
         Some(mark) => *mark,
         None => false,
     }
-}
-
-/// Whether a number is in a list.
-pub(crate) fn is_in(numbers: &[u32], number: u32) -> bool
-    ensures { result ≡ is_in number numbers.now }
-{
-    numbers.contains(&number)
 }
 
 /// The name that an item writes.

@@ -41,8 +41,9 @@ pub fn rebase(alloc: Global, window: Window) -> Result<Window, WindowError>
         limits,
         inside,
     } = window;
-    let parameters = parameters_of(alloc, &tree, names.forms.len())?;
-    let all = all_names(alloc, &tree, parameters.as_slice())?;
+    let count = names.forms.len();
+    let parameters = parameters_of(alloc, &tree, count)?;
+    let all = all_names(alloc, &tree, parameters.as_slice(), count)?;
     let names = rebased(alloc, names, parameters.as_slice(), all.as_slice())?;
     Ok(Window {
         tree,

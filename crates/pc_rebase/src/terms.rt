@@ -5,7 +5,7 @@ ghost use Rattle.pc_window.specs.Rebasing.{new_base, first_base, free_terms};
 ghost use Rattle.pc_window.specs.StoredWindow.{forms_in};
 ghost use Rattle.pc_rebase.specs.models.Turning.{few_of, and_term};
 
-use crate::listing::is_in;
+use crate::listed_names::is_in;
 use pc_linear::{LinForm, Term};
 
 /// No term, one, or several.

@@ -1,5 +1,5 @@
 -- Lists of names without one twice, and names that are marked.
-use Rattle.std.specs.Prelude.{ℕ, Bool, false, if◌then◌else◌, List, [], ◌∷◌, ◌++◌, slice_index_or}
+use Rattle.std.specs.Prelude.{◌≡◌, ℕ, Bool, false, if◌then◌else◌, List, [], ◌∷◌, ◌++◌, Some, slice_get, slice_index_or}
 use Rattle.pc_window.specs.Rebasing.{is_in}
 
 -- whether a name is marked
@@ -19,3 +19,7 @@ and_name found x = if is_in x found then found else found ++ x ∷ []
 abbrev pub and_names : List ℕ → List ℕ → List ℕ
 and_names found [] = found
 and_names found (x ∷ xs) = and_names (and_name found x) xs
+
+-- names of which each that has a mark is marked exactly where it is in the list
+pub record AreMarked (names : List ℕ) (marks : List Bool) : Type 0 where
+  pub says : (name : ℕ) (mark : Bool) → slice_get marks name ≡ Some mark → is_in name names ≡ mark

@@ -10,7 +10,7 @@ use Rattle.pc_rebase.proofs.rebasing.rebase.Goals as goal
 pub parameters_of-requires : goal.parameters_of-requires
 parameters_of-requires c =
     let window = c.args.window in
-    let many : c.len.result ≡ length window.names.forms = search rules in
+    let many : c.len-count.result ≡ length window.names.forms = search rules in
     subst (λ (n : ℕ). TreeBelow n (tree_in window.tree)) (sym many) (names_below window.tree window.names window.limits window.inside c.requires.proper)
 
 pub rebased-requires-clause-all : goal.rebased-requires-clause-all
