@@ -16,7 +16,8 @@ use Rattle.pc_window.specs.WindowRun.{Window}
 use Rattle.pc_canon.specs.Shift.{SameFront}
 use Rattle.pc_canon.specs.Canonical.{place_of, placed, placed_item, placed_homes, canonical_tree, canonical_front, tags_of, first_tag, canonical}
 use Rattle.pc_canon.specs.Key.{op_number, trap_number, list_numbers, operand_numbers, item_numbers, home_numbers, tree_numbers, shape_numbers, truth_number, constant_numbers}
-use Rattle.pc_canon.specs.Key.{column_numbers, limit_numbers, loop_numbers, key_of}
+use Rattle.pc_canon.specs.Key.{column_numbers, limit_numbers, loop_numbers, canonical_numbers, key_of}
+use Rattle.pc_canon.proofs.Bytes.{same_numbers}
 use Rattle.pc_canon.proofs.FormsKept.{fronts_to}
 use Rattle.pc_canon.proofs.FormsTell.{whole_canonical}
 
@@ -269,9 +270,9 @@ same_loop (Some m) None e = absurd (cc)
 
 -- ---- keys
 
--- windows with one key have one canonical form
-pub same_key : (w v : Window) → key_of w ≡ key_of v → canonical w ≡ canonical v
-same_key w v e =
+-- canonical forms that are written in the same numbers are equal
+same_form : (w v : Window) → canonical_numbers (canonical w) ≡ canonical_numbers (canonical v) → canonical w ≡ canonical v
+same_form w v e =
     let c = canonical w in
     let d = canonical v in
     let front = front_code (first_tag (tags_of (whole w.front))) (first_tag (tags_of (whole v.front)))
@@ -296,3 +297,7 @@ same_key w v e =
       limits = limits.0 i;
       inside = inside i;
     }
+
+-- windows with one key have one canonical form
+pub same_key : (w v : Window) → key_of w ≡ key_of v → canonical w ≡ canonical v
+same_key w v e = same_form w v (same_numbers (canonical_numbers (canonical w)) (canonical_numbers (canonical v)) e)

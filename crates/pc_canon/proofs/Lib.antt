@@ -11,6 +11,7 @@ pub mod FactorColumns
 pub mod Sorting
 pub mod FormsTell
 pub mod FormsKept
+pub mod Bytes
 pub mod Codes
 pub mod Keys
 pub mod Gathering

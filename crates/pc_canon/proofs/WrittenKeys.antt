@@ -1,4 +1,4 @@
--- What is written of a window is its key.
+-- What is written of a window are the numbers of its key.
 use Rattle.std.proofs.Common.{◌≡◌, ℕ, ◌<◌, ◌≤◌, List, [], ◌∷◌, ◌++◌, length, refl, sym, ◌∙◌, ap, subst}
 use Rattle.std.specs.Prelude.{ℤ, Bool, true, false, ◌||◌, nat_eq, map, replicate}
 use Rattle.std.specs.List.{AllByRecursion}
@@ -10,8 +10,8 @@ use Rattle.pc_window.specs.Opening.{TreeBelow}
 use Rattle.pc_window.specs.Rebasing.{is_in}
 use Rattle.pc_window.specs.WindowRun.{Window}
 use Rattle.pc_rebase.proofs.Listed.{parameters-below}
-use Rattle.pc_canon.specs.Canonical.{constant_in, canonical_front, tags_of, first_tag, columns_of, forms_of_parameters, forms_of_definitions}
-use Rattle.pc_canon.specs.Key.{list_numbers, tree_numbers, shape_numbers, constant_numbers, column_numbers, limit_numbers, loop_numbers, key_of}
+use Rattle.pc_canon.specs.Canonical.{canonical, constant_in, canonical_front, tags_of, first_tag, columns_of, forms_of_parameters, forms_of_definitions}
+use Rattle.pc_canon.specs.Key.{list_numbers, tree_numbers, shape_numbers, constant_numbers, column_numbers, limit_numbers, loop_numbers, canonical_numbers}
 use Rattle.pc_canon.specs.models.Written.{levels_of, written, forms_numbers}
 use Rattle.pc_canon.proofs.Codes.{joined, canonical_shape}
 use Rattle.pc_canon.proofs.FormsTell.{whole_canonical}
@@ -44,7 +44,7 @@ all_written n w tree =
 joined_forms : (a b c rest : List ℤ) → a ++ (b ++ (c ++ rest)) ≡ (a ++ (b ++ c)) ++ rest
 joined_forms a b c rest = ap (λ (l : List ℤ). a ++ l) (sym (joined b c rest)) ∙ sym (joined a (b ++ c) rest)
 
-whole_written : (n : ℕ) (w : Window) → TreeBelow n (whole w.front) → all_written n w (whole w.front) ≡ key_of w
+whole_written : (n : ℕ) (w : Window) → TreeBelow n (whole w.front) → all_written n w (whole w.front) ≡ canonical_numbers (canonical w)
 whole_written n w below =
     let tree = whole w.front in
     let names = parameters_of tree in
@@ -59,7 +59,7 @@ whole_written n w below =
     (list_numbers column_numbers (columns_of (forms_of_parameters w ++ forms_of_definitions w))) rest) in
     λ i. trees i ++ (sym (canonical_shape first names w.front) i ++ forms i)
 
-pub key_written : (n : ℕ) (w : Window) (tree : Tree) → whole w.front ≡ tree → TreeBelow n tree → all_written n w tree ≡ key_of w
+pub key_written : (n : ℕ) (w : Window) (tree : Tree) → whole w.front ≡ tree → TreeBelow n tree → all_written n w tree ≡ canonical_numbers (canonical w)
 key_written n w tree is below =
     ap (λ (t : Tree). all_written n w t) (sym is) ∙ whole_written n w (subst (λ (t : Tree). TreeBelow n t) (sym is) below)
 

@@ -1,4 +1,4 @@
--- The key of a window: its canonical form, written in numbers. No two forms are written in the same numbers.
+-- The key of a window: its canonical form, written in numbers, and these in bytes. No two forms have the same bytes.
 use Rattle.std.specs.Prelude.{ℕ, ℤ, pos, Bool, true, false, List, [], ◌∷◌, ◌++◌, Option, Some, None}
 use Rattle.pc_word.specs.declared.item.Item.{Item}
 use Rattle.pc_word.specs.declared.item.Item.TheVariants.{Bin, Copy, Load, Store, Print, Read, More}
@@ -12,6 +12,7 @@ use Rattle.pc_word.specs.declared.item.TrapKind.TheVariants.{DivideByZero, OutOf
 use Rattle.pc_window.specs.declared.home.Home.{Home}
 use Rattle.pc_window.specs.Tree.{Tree, Pending, Undecided, Exit, Stop_exit, Trap_exit, Front, Issued, Split, Unfinished, whole}
 use Rattle.pc_window.specs.WindowRun.{Window}
+use Rattle.pc_canon.specs.Bytes.{bytes_of}
 use Rattle.pc_canon.specs.Canonical.{Constant, Canonical, canonical}
 
 -- the number of an operator
@@ -108,6 +109,6 @@ canonical_numbers c =
     ++ (list_numbers constant_numbers c.definitions
     ++ (list_numbers column_numbers c.columns ++ (limit_numbers c.limits ++ loop_numbers c.inside)))))
 
--- the key of a window
-abbrev pub key_of : Window → List ℤ
-key_of w = canonical_numbers (canonical w)
+-- the key of a window, in bytes
+abbrev pub key_of : Window → List ℕ
+key_of w = bytes_of (canonical_numbers (canonical w))

@@ -1,5 +1,5 @@
 -- What a window in memory needs to have a key.
-use Rattle.std.specs.Prelude.{ℕ, ◌<◌, ◌^◌, length}
+use Rattle.std.specs.Prelude.{◌<◌, ◌^◌, length}
 use Rattle.pc_window.specs.declared.window.Window.{Window as StoredWindow}
 use Rattle.pc_window.specs.Tree.{tree_size}
 use Rattle.pc_window.specs.Opening.{TreeBelow, FormsBelow}

@@ -6,6 +6,7 @@ ghost use Rattle.pc_canon.specs.Canonical.{constant_in, stands_before, with_colu
 ghost use Rattle.pc_canon.specs.Key.{constant_numbers, list_numbers, column_numbers};
 ghost use Rattle.pc_canon.specs.models.Gathered.{column_in, and_term, and_terms, with_factors, place_for};
 
+use crate::number_bytes::NumberBytes;
 use pc_linear::{LinForm, Term};
 use pc_word::Seq;
 use std::alloc::{AllocError, Global};
@@ -18,11 +19,11 @@ pub(crate) fn add_form(
     form: &LinForm,
     place: u32,
     columns: &mut [Column],
-    numbers: &mut Vec<i64>,
+    numbers: &mut NumberBytes,
 ) -> Result<(), AllocError>
     requires { FormBelow (length columns.old) form.now }
     ensures columns { OnOk result (columns.new ≡ with_factors place form.now.terms 0 columns.old) }
-    ensures numbers { OnOk result (numbers.new.items ≡ numbers.old.items ++ pos 1 ∷ constant_numbers (constant_in form.now)) }
+    ensures numbers { OnOk result (numbers.new ≡ numbers.old ++ pos 1 ∷ constant_numbers (constant_in form.now)) }
     ensures kept { IsForm form.now }
 {
     let has_terms = form.term(0).is_some();
@@ -102,22 +103,22 @@ fn stands_before(one: &[i64], other: &[i64]) -> bool
 }
 
 /// Writes columns.
-pub(crate) fn write_columns(columns: &[Column], numbers: &mut Vec<i64>) -> Result<(), AllocError>
-    ensures { OnOk result (numbers.new.items ≡ numbers.old.items ++ list_numbers column_numbers columns.now) }
+pub(crate) fn write_columns(columns: &[Column], numbers: &mut NumberBytes) -> Result<(), AllocError>
+    ensures { OnOk result (numbers.new ≡ numbers.old ++ list_numbers column_numbers columns.now) }
 {
     for column in columns {
         numbers.push(1)?;
         write_column(column.as_slice(), numbers)?;
     }
-    Ok(numbers.push(0)?)
+    numbers.push(0)
 }
 
 /// Writes a column.
-fn write_column(column: &[i64], numbers: &mut Vec<i64>) -> Result<(), AllocError>
-    ensures { OnOk result (numbers.new.items ≡ numbers.old.items ++ column_numbers column.now) }
+fn write_column(column: &[i64], numbers: &mut NumberBytes) -> Result<(), AllocError>
+    ensures { OnOk result (numbers.new ≡ numbers.old ++ column_numbers column.now) }
 {
     for number in column {
         numbers.extend_from_slice(&[1, *number])?;
     }
-    Ok(numbers.push(0)?)
+    numbers.push(0)
 }

@@ -10,6 +10,7 @@ ghost use Rattle.pc_canon.specs.models.Gathered.{and_forms};
 ghost use Rattle.pc_canon.specs.models.Written.{elements_numbers, forms_numbers};
 
 use crate::columns::{Column, add_form, in_order, write_columns};
+use crate::number_bytes::NumberBytes;
 use crate::writing::written_by;
 use pc_window::{NameTable, Window, WindowTree};
 use pc_word::Operand;
@@ -20,11 +21,11 @@ pub(crate) fn write_forms(
     alloc: Global,
     window: &Window,
     parameters: &[u32],
-    numbers: &mut Vec<i64>,
+    numbers: &mut NumberBytes,
 ) -> Result<(), AllocError>
     requires variables { FormsBelow (supply_in window.now.names) }
     requires few { length parameters.now + tree_size (tree_in window.now.tree) < 2 ^ 32 }
-    ensures { OnOk result (numbers.new.items ≡ numbers.old.items ++ forms_numbers (map (forms_in window.now.names.forms) parameters.now) (map (forms_in window.now.names.forms) (definitions_of (tree_in window.now.tree)))) }
+    ensures { OnOk result (numbers.new ≡ numbers.old ++ forms_numbers (map (forms_in window.now.names.forms) parameters.now) (map (forms_in window.now.names.forms) (definitions_of (tree_in window.now.tree)))) }
 {
     let mut columns = no_columns(alloc, window.names.next_variable)?;
     write_forms_with(alloc, window, parameters, &mut columns, numbers)?;
@@ -37,12 +38,12 @@ fn write_forms_with(
     window: &Window,
     parameters: &[u32],
     columns: &mut [Column],
-    numbers: &mut Vec<i64>,
+    numbers: &mut NumberBytes,
 ) -> Result<(), AllocError>
     requires empty { columns.old ≡ replicate window.now.names.next_variable [] }
     requires variables { FormsBelow (supply_in window.now.names) }
     requires few { length parameters.now + tree_size (tree_in window.now.tree) < 2 ^ 32 }
-    ensures { OnOk result (numbers.new.items ≡ numbers.old.items ++ forms_numbers (map (forms_in window.now.names.forms) parameters.now) (map (forms_in window.now.names.forms) (definitions_of (tree_in window.now.tree)))) }
+    ensures { OnOk result (numbers.new ≡ numbers.old ++ forms_numbers (map (forms_in window.now.names.forms) parameters.now) (map (forms_in window.now.names.forms) (definitions_of (tree_in window.now.tree)))) }
 {
     write_constants(window, parameters, columns, numbers)?;
     let sorted = in_order(alloc, columns)?;
@@ -55,12 +56,12 @@ fn write_constants(
     window: &Window,
     parameters: &[u32],
     columns: &mut [Column],
-    numbers: &mut Vec<i64>,
+    numbers: &mut NumberBytes,
 ) -> Result<(), AllocError>
     requires below { (name : ℕ) → FormBelow (length columns.old) (forms_in window.now.names.forms name) }
     requires few { length parameters.now + tree_size (tree_in window.now.tree) < 2 ^ 32 }
     ensures columns { OnOk result (columns.new ≡ and_forms 0 (map (forms_in window.now.names.forms) parameters.now ++ map (forms_in window.now.names.forms) (definitions_of (tree_in window.now.tree))) columns.old) }
-    ensures numbers { OnOk result (numbers.new.items ≡ numbers.old.items ++ (list_numbers constant_numbers (map constant_in (map (forms_in window.now.names.forms) parameters.now)) ++ list_numbers constant_numbers (map constant_in (map (forms_in window.now.names.forms) (definitions_of (tree_in window.now.tree)))))) }
+    ensures numbers { OnOk result (numbers.new ≡ numbers.old ++ (list_numbers constant_numbers (map constant_in (map (forms_in window.now.names.forms) parameters.now)) ++ list_numbers constant_numbers (map constant_in (map (forms_in window.now.names.forms) (definitions_of (tree_in window.now.tree)))))) }
 {
     write_parameters(&window.names, parameters, columns, numbers)?;
     let place = parameters.len() as u32;
@@ -86,18 +87,18 @@ fn write_parameters(
     table: &NameTable,
     names: &[u32],
     columns: &mut [Column],
-    numbers: &mut Vec<i64>,
+    numbers: &mut NumberBytes,
 ) -> Result<(), AllocError>
     requires below { (name : ℕ) → FormBelow (length columns.old) (forms_in table.now.forms name) }
     requires few { length names.now < 2 ^ 32 }
     ensures columns { OnOk result (columns.new ≡ and_forms 0 (map (forms_in table.now.forms) names.now) columns.old) }
-    ensures numbers { OnOk result (numbers.new.items ≡ numbers.old.items ++ list_numbers constant_numbers (map constant_in (map (forms_in table.now.forms) names.now))) }
+    ensures numbers { OnOk result (numbers.new ≡ numbers.old ++ list_numbers constant_numbers (map constant_in (map (forms_in table.now.forms) names.now))) }
 {
     for at in 0..names.len() {
         let form = table.form(Operand::Name(names[at]));
         add_form(&form, at as u32, columns, numbers)?;
     }
-    Ok(numbers.push(0)?)
+    numbers.push(0)
 }
 
 /// The same of the names that a tree defines, from a place on; and the place behind them.
@@ -106,14 +107,14 @@ fn write_definitions(
     table: &NameTable,
     place: u32,
     columns: &mut [Column],
-    numbers: &mut Vec<i64>,
+    numbers: &mut NumberBytes,
 ) -> Result<u32, AllocError>
     requires below { (name : ℕ) → FormBelow (length columns.old) (forms_in table.now.forms name) }
     requires few { place + tree_size (tree_in tree.now) < 2 ^ 32 }
     ensures within { IfOk result (λ behind. behind ≤ place + tree_size (tree_in tree.now)) }
     ensures place { IfOk result (λ behind. behind ≡ place + length (definitions_of (tree_in tree.now))) }
     ensures columns { OnOk result (columns.new ≡ and_forms place (map (forms_in table.now.forms) (definitions_of (tree_in tree.now))) columns.old) }
-    ensures numbers { OnOk result (numbers.new.items ≡ numbers.old.items ++ elements_numbers constant_numbers (map constant_in (map (forms_in table.now.forms) (definitions_of (tree_in tree.now))))) }
+    ensures numbers { OnOk result (numbers.new ≡ numbers.old ++ elements_numbers constant_numbers (map constant_in (map (forms_in table.now.forms) (definitions_of (tree_in tree.now))))) }
 {
     match tree {
         WindowTree::Step { item, rest, .. } => match written_by(*item) {

@@ -6,6 +6,7 @@ mod columns;
 mod forms;
 mod laws;
 mod levels;
+mod number_bytes;
 mod tags;
 #[cfg(test)]
 mod tests;

@@ -4,6 +4,7 @@ ghost use Rattle.pc_window.specs.Opening.{TreeBelow, FormsBelow};
 ghost use Rattle.pc_window.specs.StoredWindow.{tree_in, supply_in};
 
 use super::*;
+use crate::number_bytes::NumberBytes;
 use pc_linear::LinForm;
 use pc_window::{FormList, NameTable, Window, WindowError, WindowTree};
 use pc_word::{Item, Limits, OpCode, Operand};
@@ -93,22 +94,37 @@ fn sum_key(
 /// What is written of `v1 = v0 + 1; print(v1);` by hand: the sum of the first name and 1, the print of
 /// the last name that was defined, the end; the sum alone is the front; a parameter and a definition,
 /// each with the constant 0 and terms; the columns of their variables, the later one first; the
-/// limits, and no loop.
-const NUMBERS: &[i64] = &[
-    0, 0, 0, 0, 0, 0, 0, 1, 1, 0, 0, 1, 4, 0, 0, 3, 0, 2, 1, 0, 1, 0, 1, 0, 1, 0, 1, 1, 1, 1, 1, 0,
-    1, 1, 0, 1, 1, 0, 0, 4, 1, 2, 0,
+/// limits, and no loop. Each of these numbers is a byte twice as large.
+const BYTES: &[u8] = &[
+    0, 0, 0, 0, 0, 0, 0, 2, 2, 0, 0, 2, 8, 0, 0, 6, 0, 4, 2, 0, 2, 0, 2, 0, 2, 0, 2, 2, 2, 2, 2, 0,
+    2, 2, 0, 2, 2, 0, 0, 8, 2, 4, 0,
 ];
 
+/// Numbers at which bytes end: the last ones below and the first ones of one more byte, and the ends of 32 bits.
+const SPREAD: &[i64] = &[0, -1, 1, 63, -64, 64, -65, 150, 2147483647, -2147483648];
+
+/// Their bytes, as Protocol Buffers encode signed integers.
+const SPREAD_BYTES: &[u8] = &[
+    0, 1, 2, 126, 127, 128, 1, 129, 1, 172, 2, 254, 255, 255, 255, 15, 255, 255, 255, 255, 15,
+];
+
+/// Whether numbers have these bytes.
+fn have_bytes(alloc: Global, list: &[i64], bytes: &[u8]) -> Result<bool, AllocError> {
+    let mut numbers = NumberBytes::new(alloc);
+    numbers.extend_from_slice(list)?;
+    Ok(numbers.into_bytes().as_slice() == bytes)
+}
+
 /// Whether a key is this, with this parameter and this first tag.
-fn is_key(key: &WindowKey, numbers: &[i64], name: u32, tag: u32) -> bool {
-    key.numbers.as_slice() == numbers && key.names.as_slice() == [name].as_slice() && key.tag == tag
+fn is_key(key: &WindowKey, bytes: &[u8], name: u32, tag: u32) -> bool {
+    key.bytes.as_slice() == bytes && key.names.as_slice() == [name].as_slice() && key.tag == tag
 }
 
 /// Whether windows that differ in their names and tags alone have one key.
 fn names_and_tags_do_not_show(alloc: Global) -> Result<bool, WindowError> {
     let one = sum_key(alloc, 0, 1, 1, 0)?;
     let other = sum_key(alloc, 3, 5, 1, 7)?;
-    Ok(is_key(&one, NUMBERS, 0, 0) && is_key(&other, NUMBERS, 3, 7))
+    Ok(is_key(&one, BYTES, 0, 0) && is_key(&other, BYTES, 3, 7))
 }
 
 /// Whether a window with other names and tags is the same up to a shift, and one with another literal is
@@ -118,6 +134,13 @@ fn literals_show(alloc: Global) -> Result<bool, WindowError> {
     let shifted = sum_window(alloc, 3, 5, 1, 7)?;
     let other = sum_window(alloc, 0, 1, 2, 0)?;
     Ok(same_up_to_shift(alloc, &one, &shifted)? && !same_up_to_shift(alloc, &one, &other)?)
+}
+
+#[test]
+fn numbers_near_0_take_one_byte(rt: HostRuntime) -> Result<(), Fail> {
+    let is_so = have_bytes(rt.alloc(), SPREAD, SPREAD_BYTES)?;
+    assert!(&rt; is_so);
+    Ok(())
 }
 
 #[test]

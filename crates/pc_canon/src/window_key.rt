@@ -11,6 +11,7 @@ ghost use Rattle.pc_canon.specs.Shift.{Shifted};
 
 use crate::forms::write_forms;
 use crate::levels::levels_of;
+use crate::number_bytes::NumberBytes;
 use crate::tags::first_tag;
 use crate::writing::{write_shape, write_tree};
 use pc_rebase::{NumberList, parameters_of};
@@ -21,9 +22,9 @@ use std::alloc::{AllocError, Global};
 /// The key of a window, and what the key does not tell.
 #[derive(Debug, Drop)]
 pub struct WindowKey {
-    /// The key itself. Two windows have equal keys exactly where they are equal up to their names,
-    /// their form variables and a shift of all tags.
-    pub numbers: Vec<i64>,
+    /// The key itself, most of its numbers in one byte each. Two windows have equal keys exactly
+    /// where they are equal up to their names, their form variables and a shift of all tags.
+    pub bytes: Vec<u8>,
     /// The parameters, in the order of first use: those of windows with equal keys correspond.
     pub names: NumberList,
     /// The least tag of items, tests and stubs, and 0 where there is none.
@@ -38,7 +39,7 @@ pub fn key(alloc: Global, window: &Window) -> Result<WindowKey, WindowError>
     requires few_names { length window.now.names.forms < 2 ^ 31 }
     requires variables { FormsBelow (supply_in window.now.names) }
     requires small { tree_size (tree_in window.now.tree) < 2 ^ 31 }
-    ensures numbers { IfOk result (λ key. key.numbers.items ≡ key_of (window_in window.now)) }
+    ensures bytes { IfOk result (λ key. key.bytes.items ≡ key_of (window_in window.now)) }
     ensures names { IfOk result (λ key. key.names ≡ parameters_of (whole (window_in window.now).front)) }
     ensures tag { IfOk result (λ key. key.tag ≡ first_tag (tags_of (whole (window_in window.now).front))) }
 {
@@ -47,14 +48,14 @@ pub fn key(alloc: Global, window: &Window) -> Result<WindowKey, WindowError>
     let tag = first_tag(&window.tree);
     let mut levels = levels_of(alloc, names.as_slice(), count)?;
     let depth = names.len() as u32;
-    let mut numbers = Vec::new(alloc);
+    let mut numbers = NumberBytes::new(alloc);
     write_tree(&window.tree, tag, depth, &mut levels, &mut numbers)?;
     write_shape(&window.tree, &mut numbers)?;
     write_forms(alloc, window, names.as_slice(), &mut numbers)?;
     write_limits(window.limits, &mut numbers)?;
     write_loop(window.inside, &mut numbers)?;
     Ok(WindowKey {
-        numbers,
+        bytes: numbers.into_bytes(),
         names,
         tag,
     })
@@ -69,12 +70,12 @@ pub fn same_up_to_shift(alloc: Global, one: &Window, other: &Window) -> Result<b
 {
     let one = key(alloc, one)?;
     let other = key(alloc, other)?;
-    Ok(one.numbers.as_slice() == other.numbers.as_slice())
+    Ok(one.bytes.as_slice() == other.bytes.as_slice())
 }
 
 /// Writes limits.
-fn write_limits(limits: Limits, numbers: &mut Vec<i64>) -> Result<(), AllocError>
-    ensures { OnOk result (numbers.new.items ≡ numbers.old.items ++ limit_numbers limits) }
+fn write_limits(limits: Limits, numbers: &mut NumberBytes) -> Result<(), AllocError>
+    ensures { OnOk result (numbers.new ≡ numbers.old ++ limit_numbers limits) }
 {
     numbers.extend_from_slice(&[
         i64::from(limits.ops),
@@ -84,11 +85,11 @@ fn write_limits(limits: Limits, numbers: &mut Vec<i64>) -> Result<(), AllocError
 }
 
 /// Writes the loop of a window.
-fn write_loop(inside: Option<u16>, numbers: &mut Vec<i64>) -> Result<(), AllocError>
-    ensures { OnOk result (numbers.new.items ≡ numbers.old.items ++ loop_numbers inside) }
+fn write_loop(inside: Option<u16>, numbers: &mut NumberBytes) -> Result<(), AllocError>
+    ensures { OnOk result (numbers.new ≡ numbers.old ++ loop_numbers inside) }
 {
     match inside {
-        None => Ok(numbers.push(0)?),
+        None => numbers.push(0),
         Some(inside) => numbers.extend_from_slice(&[1, i64::from(inside)]),
     }
 }

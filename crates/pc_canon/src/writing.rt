@@ -8,6 +8,7 @@ ghost use Rattle.pc_canon.specs.Canonical.{placed, placed_item, placed_homes};
 ghost use Rattle.pc_canon.specs.Key.{op_number, trap_number, list_numbers, operand_numbers, item_numbers, home_numbers, shape_numbers};
 ghost use Rattle.pc_canon.specs.models.Written.{place_at, written};
 
+use crate::number_bytes::NumberBytes;
 use pc_window::{Home, WindowTree};
 use pc_word::{Item, OpCode, Operand, TrapKind};
 use std::alloc::AllocError;
@@ -19,12 +20,12 @@ pub(crate) fn write_tree(
     first: u32,
     depth: u32,
     levels: &mut [u32],
-    numbers: &mut Vec<i64>,
+    numbers: &mut NumberBytes,
 ) -> Result<(), AllocError>
     requires below { TreeBelow (length levels.old) (tree_in tree.now) }
     requires room { depth + tree_size (tree_in tree.now) < 2 ^ 32 }
     ensures levels { OnOk result (levels.new ≡ levels.old) }
-    ensures numbers { OnOk result (numbers.new.items ≡ numbers.old.items ++ written first depth levels.old (tree_in tree.now)) }
+    ensures numbers { OnOk result (numbers.new ≡ numbers.old ++ written first depth levels.old (tree_in tree.now)) }
 {
     match tree {
         WindowTree::Step {
@@ -64,7 +65,7 @@ pub(crate) fn write_tree(
             numbers.extend_from_slice(&[2, i64::from(*region), tag_number(*tag, first)])?;
             write_homes(homes.as_slice(), depth, levels, numbers)
         }
-        WindowTree::Stop => Ok(numbers.push(3)?),
+        WindowTree::Stop => numbers.push(3),
         WindowTree::Trap { kind, line } => {
             numbers.extend_from_slice(&[4, trap_number(*kind), i64::from(*line)])
         }
@@ -72,8 +73,8 @@ pub(crate) fn write_tree(
 }
 
 /// Writes how far the front of a tree goes.
-pub(crate) fn write_shape(tree: &WindowTree, numbers: &mut Vec<i64>) -> Result<(), AllocError>
-    ensures { OnOk result (numbers.new.items ≡ numbers.old.items ++ shape_numbers (front_in tree.now)) }
+pub(crate) fn write_shape(tree: &WindowTree, numbers: &mut NumberBytes) -> Result<(), AllocError>
+    ensures { OnOk result (numbers.new ≡ numbers.old ++ shape_numbers (front_in tree.now)) }
 {
     match tree {
         WindowTree::Step { rest, .. } => {
@@ -85,7 +86,7 @@ pub(crate) fn write_shape(tree: &WindowTree, numbers: &mut Vec<i64>) -> Result<(
             write_shape(yes, numbers)?;
             write_shape(no, numbers)
         }
-        _ => Ok(numbers.push(2)?),
+        _ => numbers.push(2),
     }
 }
 
@@ -94,9 +95,9 @@ fn write_item(
     item: Item,
     depth: u32,
     levels: &[u32],
-    numbers: &mut Vec<i64>,
+    numbers: &mut NumberBytes,
 ) -> Result<(), AllocError>
-    ensures { OnOk result (numbers.new.items ≡ numbers.old.items ++ item_numbers (placed_item (place_at levels.now depth) item)) }
+    ensures { OnOk result (numbers.new ≡ numbers.old ++ item_numbers (placed_item (place_at levels.now depth) item)) }
 {
     match item {
         Item::Bin {
@@ -130,8 +131,8 @@ fn write_item(
             numbers.push(4)?;
             write_operand(value, depth, levels, numbers)
         }
-        Item::Read { .. } => Ok(numbers.push(5)?),
-        Item::More { .. } => Ok(numbers.push(6)?),
+        Item::Read { .. } => numbers.push(5),
+        Item::More { .. } => numbers.push(6),
     }
 }
 
@@ -140,15 +141,15 @@ fn write_homes(
     homes: &[Home],
     depth: u32,
     levels: &[u32],
-    numbers: &mut Vec<i64>,
+    numbers: &mut NumberBytes,
 ) -> Result<(), AllocError>
-    ensures { OnOk result (numbers.new.items ≡ numbers.old.items ++ list_numbers home_numbers (placed_homes (place_at levels.now depth) homes.now)) }
+    ensures { OnOk result (numbers.new ≡ numbers.old ++ list_numbers home_numbers (placed_homes (place_at levels.now depth) homes.now)) }
 {
     for home in homes {
         numbers.extend_from_slice(&[1, i64::from(home.variable)])?;
         write_operand(home.value, depth, levels, numbers)?;
     }
-    Ok(numbers.push(0)?)
+    numbers.push(0)
 }
 
 /// Writes an operand: a name as its place among the names.
@@ -156,9 +157,9 @@ fn write_operand(
     operand: Operand,
     depth: u32,
     levels: &[u32],
-    numbers: &mut Vec<i64>,
+    numbers: &mut NumberBytes,
 ) -> Result<(), AllocError>
-    ensures { OnOk result (numbers.new.items ≡ numbers.old.items ++ operand_numbers (placed (place_at levels.now depth) operand)) }
+    ensures { OnOk result (numbers.new ≡ numbers.old ++ operand_numbers (placed (place_at levels.now depth) operand)) }
 {
     match operand {
         Operand::Name(name) => {

@@ -4,4 +4,4 @@ use Rattle.pc_canon.proofs.columns.write_column.Given as goal
 
 -- what is written so far, and then what is left, is the whole
 abbrev pub invariant-loop-number : goal.invariant-loop-number
-invariant-loop-number l = l.numbers.items ++ column_numbers (drop l.number-index l.column) ≡ l.fn.numbers.items ++ column_numbers l.column
+invariant-loop-number l = l.numbers ++ column_numbers (drop l.number-index l.column) ≡ l.fn.numbers ++ column_numbers l.column

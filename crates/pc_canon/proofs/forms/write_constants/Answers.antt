@@ -26,10 +26,10 @@ returns-clause-numbers c =
     let forms = forms_in window.names.forms in
     let parameters = map forms c.args.parameters.now in
     let definitions = map forms (definitions_of (tree_in window.tree)) in
-    let old = c.args.numbers.now.items in
-    let one = c.write_parameters.new.numbers.items in
-    let two = c.write_definitions.new.numbers.items in
+    let old = c.args.numbers.now in
+    let one = c.write_parameters.new.numbers in
+    let two = c.write_definitions.new.numbers in
     let first : one ≡ old ++ list_numbers constant_numbers (map constant_in parameters) = search rules in
     let second : two ≡ one ++ elements_numbers constant_numbers (map constant_in definitions) = search rules in
-    let third : c.push.new.self.items ≡ two ++ pos 0 ∷ [] = search rules in
-    constants_written parameters definitions old one two c.push.new.self.items first second third
+    let third : c.push.new.self ≡ two ++ pos 0 ∷ [] = search rules in
+    constants_written parameters definitions old one two c.push.new.self first second third

@@ -19,15 +19,15 @@ returns c =
     let definitions = map forms defined in
     let count = window.names.next_variable in
     let none : List ℤ = [] in
-    let old = c.args.numbers.now.items in
-    let one = c.write_constants.new.numbers.items in
+    let old = c.args.numbers.now in
+    let one = c.write_constants.new.numbers in
     let sorted = c.in_ok-sorted.sorted.items in
     let columns = c.write_constants.new.columns in
     let first : one ≡ old ++ (list_numbers constant_numbers (map constant_in parameters) ++ list_numbers constant_numbers (map constant_in definitions)) = search rules in
-    let last : c.write_columns.new.numbers.items ≡ one ++ list_numbers column_numbers sorted = search rules in
+    let last : c.write_columns.new.numbers ≡ one ++ list_numbers column_numbers sorted = search rules in
     let lent : columns ≡ and_forms 0 (parameters ++ definitions) c.args.columns.now = search rules in
     let gathered = lent ∙ ap (λ (zeros : List (List ℤ)). and_forms 0 (parameters ++ definitions) zeros) c.requires.empty in
     let in_order : sorted ≡ columns_below (column_in columns) (length columns) = search rules in
     let above = above-append count parameters definitions (forms_above count forms names c.requires.variables.form) (forms_above count forms defined c.requires.variables.form) in
-    all_forms_written parameters definitions old one c.write_columns.new.numbers.items sorted first last
+    all_forms_written parameters definitions old one c.write_columns.new.numbers sorted first last
     (in_order ∙ gathered_from_none count (parameters ++ definitions) columns none refl above gathered)

@@ -10,6 +10,6 @@ use Rattle.pc_canon.proofs.forms.write_parameters.Given as goal
 abbrev pub invariant-loop-at : goal.invariant-loop-at
 invariant-loop-at l = record {
   columns : and_forms l.at (map (forms_in l.table.forms) (drop l.at l.names)) l.columns ≡ and_forms 0 (map (forms_in l.table.forms) l.names) l.fn.columns;
-  numbers : l.numbers.items ++ list_numbers constant_numbers (map constant_in (map (forms_in l.table.forms) (drop l.at l.names)))
-      ≡ l.fn.numbers.items ++ list_numbers constant_numbers (map constant_in (map (forms_in l.table.forms) l.names));
+  numbers : l.numbers ++ list_numbers constant_numbers (map constant_in (map (forms_in l.table.forms) (drop l.at l.names)))
+      ≡ l.fn.numbers ++ list_numbers constant_numbers (map constant_in (map (forms_in l.table.forms) l.names));
 }

@@ -7,6 +7,7 @@ use Rattle.pc_window.specs.Opening.{TreeBelow}
 use Rattle.pc_window.specs.StoredWindow.{tree_in, front_in, forms_in, window_in}
 use Rattle.pc_window.proofs.WindowsStored.{whole_in}
 use Rattle.pc_rebase.proofs.Listed.{parameters-below}
+use Rattle.pc_canon.specs.Bytes.{bytes_of}
 use Rattle.pc_canon.specs.Canonical.{tags_of, first_tag}
 use Rattle.pc_canon.specs.Key.{shape_numbers, limit_numbers, loop_numbers}
 use Rattle.pc_canon.specs.models.Written.{levels_of, written, forms_numbers}
@@ -73,8 +74,8 @@ returns-clause-tag c =
     let is : c.first_tag-tag.result ≡ first_tag (tags_of (tree_in c.args.window.now.tree)) = search rules in
     is ∙ ap (λ (tree : Tree). first_tag (tags_of tree)) (sym (whole_in c.args.window.now.tree))
 
-pub returns-clause-numbers : goal.returns-clause-numbers
-returns-clause-numbers c =
+pub returns-clause-bytes : goal.returns-clause-bytes
+returns-clause-bytes c =
     let window = c.args.window.now in
     let tree = tree_in window.tree in
     let n = length window.names.forms in
@@ -82,11 +83,11 @@ returns-clause-numbers c =
     let names = parameters_of tree in
     let trees = written (first_tag (tags_of tree)) (length names) (levels_of names (replicate n 0)) tree in
     let constants = forms_numbers (map forms names) (map forms (definitions_of tree)) in
-    let one = c.write_tree.new.numbers.items in
-    let two = c.write_shape.new.numbers.items in
-    let three = c.write_forms.new.numbers.items in
-    let four = c.write_limits.new.numbers.items in
-    let five = c.write_loop.new.numbers.items in
+    let one = c.write_tree.new.numbers in
+    let two = c.write_shape.new.numbers in
+    let three = c.write_forms.new.numbers in
+    let four = c.write_limits.new.numbers in
+    let five = c.write_loop.new.numbers in
     let are : c.in_ok-names.names ≡ names = search rules in
     let tag : c.first_tag-tag.result ≡ first_tag (tags_of tree) = search rules in
     let levels : c.deref_mut.result.now ≡ levels_of c.in_ok-names.names (replicate n 0) = search rules in
@@ -98,6 +99,8 @@ returns-clause-numbers c =
     let third : three ≡ two ++ constants = by_names ∙ ap (λ (list : List ℕ). two ++ forms_numbers (map forms list) (map forms (definitions_of tree))) are in
     let fourth : four ≡ three ++ limit_numbers window.limits = search rules in
     let fifth : five ≡ four ++ loop_numbers window.inside = search rules in
-    parts_written trees (shape_numbers (front_in window.tree)) constants (limit_numbers window.limits) (loop_numbers window.inside)
+    let numbers = parts_written trees (shape_numbers (front_in window.tree)) constants (limit_numbers window.limits) (loop_numbers window.inside)
     one two three four five first second third fourth fifth
-    ∙ key_written n (window_in window) tree (whole_in window.tree) c.requires.below
+    ∙ key_written n (window_in window) tree (whole_in window.tree) c.requires.below in
+    let bytes : c.into_bytes.result.items ≡ bytes_of five = search rules in
+    bytes ∙ ap bytes_of numbers
