@@ -111,7 +111,7 @@ fn keeps_its_key(alloc: Global) -> Result<bool, WindowError> {
     let before = key_of(alloc, &window)?;
     let window = renumber(alloc, window)?;
     let after = key_of(alloc, &window)?;
-    Ok(is_dense(&window) && before.numbers.as_slice() == after.numbers.as_slice())
+    Ok(is_dense(&window) && before.bytes.as_slice() == after.bytes.as_slice())
 }
 
 #[test]

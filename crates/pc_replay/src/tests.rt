@@ -229,10 +229,10 @@ pub(crate) fn compare(
     let at_once = key_of(alloc, &filled)?;
     let replayed = replay(alloc, same)?;
     let by_moves = key_of(alloc, &replayed)?;
-    if at_once.numbers.as_slice() != before.numbers.as_slice() {
+    if at_once.bytes.as_slice() != before.bytes.as_slice() {
         all.changed = all.changed.saturating_add(1);
     }
-    if by_moves.numbers.as_slice() != at_once.numbers.as_slice() {
+    if by_moves.bytes.as_slice() != at_once.bytes.as_slice() {
         all.alike = false;
     }
     Ok(filled)
