@@ -1,6 +1,6 @@
 -- No two members of a search have one key.
 use Rattle.std.proofs.Common.{◌≡◌, ℕ, zero, suc, List, [], ◌∷◌, ◌++◌, length, map, ◌⊎◌, inl, inr, refl, sym, ◌∙◌, ap, subst}
-use Rattle.std.specs.Prelude.{ℤ, Some, slice_get}
+use Rattle.std.specs.Prelude.{Some, slice_get}
 use Rattle.std.proofs.lemmas.List.{map-append}
 use Rattle.pc_table.specs.TableKeeps.{TableKeeps}
 use Rattle.pc_window.specs.WindowRun.{Window}
@@ -51,7 +51,7 @@ map_at f (y ∷ xs) (suc i) x at = map_at f xs i x at
 -- ---- keys
 
 -- a key of a list of windows is that of one of them
-pub key_at : (members : List Window) (i : ℕ) (key : List ℤ) → slice_get (map key_of members) i ≡ Some key
+pub key_at : (members : List Window) (i : ℕ) (key : List ℕ) → slice_get (map key_of members) i ≡ Some key
     → (member : Window) × (slice_get members i ≡ Some member) × (key_of member ≡ key)
 key_at [] i key at = absurd (cc)
 key_at (w ∷ members) zero key at = (w, refl, cc)

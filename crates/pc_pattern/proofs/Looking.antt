@@ -1,6 +1,6 @@
 -- The row of a state looks at the leaves of a cut row: the search goes on by as many members as come of it, or has too many.
 use Rattle.std.proofs.Common.{◌≡◌, ℕ, suc, List, [], ◌∷◌, ◌++◌, length, length-append, append-nil, append_assoc, map, refl, sym, ◌∙◌, ap, subst, arith}
-use Rattle.std.specs.Prelude.{ℤ, Some, slice_get}
+use Rattle.std.specs.Prelude.{Some, slice_get}
 use Rattle.std.proofs.lemmas.List.{length-map, map-append}
 use Rattle.pc_word.specs.Row.{Row, leaves_of}
 use Rattle.pc_table.specs.TableKeeps.{TableKeeps}
@@ -63,15 +63,15 @@ module _ (rules : Rules) (keeps : TableKeeps rules.table) (room : Positive rules
   -- a window whose key is new is no member
   new_member : (members : List Window) (pool : Pool) (w : Window) → AreKeys members pool → IsNowhere pool.keys (key_of w) → IsNoMember members w
   new_member members pool w keys new i member at shifted =
-      new i (ap (λ (ks : List (List ℤ)). slice_get ks i) keys ∙ map_at key_of members i member at
-      ∙ ap (λ (k : List ℤ). Some k) (sym ((keys_tell w member).1 shifted)))
+      new i (ap (λ (ks : List (List ℕ)). slice_get ks i) keys ∙ map_at key_of members i member at
+      ∙ ap (λ (k : List ℕ). Some k) (sym ((keys_tell w member).1 shifted)))
 
   more_keys : (members : List Window) (pool : Pool) (rest brought member : Window) → AreKeys members pool → BringsOn rules rest brought → IsProper brought
       → Renumbers brought member → pool.keys ++ (key_of brought ∷ []) ≡ map key_of (members ++ (member ∷ []))
   more_keys members pool rest brought member keys brings proper renumbers =
       let shifted = member_shifted rules rest brought member brings renumbers proper in
       let same : key_of brought ≡ key_of member = (keys_tell brought member).1 (parameter_pairs brought member, shifted) in
-      ap (λ (ks : List (List ℤ)). ks ++ (key_of brought ∷ [])) keys ∙ ap (λ (k : List ℤ). map key_of members ++ (k ∷ [])) same
+      ap (λ (ks : List (List ℕ)). ks ++ (key_of brought ∷ [])) keys ∙ ap (λ (k : List ℕ). map key_of members ++ (k ∷ [])) same
       ∙ sym (map-append key_of members (member ∷ []))
 
   window_looked : {written : List Pair} {pool after : Pool} {leaf : AutomatonLeaf} (steps : ℕ) (members : List Window) (lefts : List Left) (rest brought : Window)
@@ -80,7 +80,7 @@ module _ (rules : Rules) (keeps : TableKeeps rules.table) (room : Positive rules
   window_looked {written} {pool} {leaf} steps members lefts rest brought brings (leads_bare some) keys search =
       looked_none (suc steps) members pool lefts keys (looks search (looks_bare brings (some_bare written (bare_leaf (whole brought.front)) leaf some).1))
   window_looked {written} {pool} steps members lefts rest brought brings (leads_member none (numbered_known {number = at} there)) keys search =
-      let m = key_at members at (key_of brought) (sym (ap (λ (ks : List (List ℤ)). slice_get ks at) keys) ∙ there) in
+      let m = key_at members at (key_of brought) (sym (ap (λ (ks : List (List ℕ)). slice_get ks at) keys) ∙ there) in
       looked_none (suc steps) members pool lefts keys
       (looks search (looks_known brings (none_bare written (bare_leaf (whole brought.front)) none)
       (at, m.0, m.1, (parameter_pairs brought m.0, keys_pair brought m.0 (sym m.2)))))
@@ -139,7 +139,7 @@ module _ (rules : Rules) (keeps : TableKeeps rules.table) (room : Positive rules
         let more = looks search (looks_new brings none (new_member members pool brought keys new) refl) in
         let keys_more = is ∙ more_keys members pool rest brought member keys brings (brought_proper brought search brings) refl in
         let count = length-append members (member ∷ []) in
-        let as_many = ap (λ (ks : List (List ℤ)). length ks) keys ∙ length-map members key_of in
+        let as_many = ap (λ (ks : List (List ℕ)). length ks) keys ∙ length-map members key_of in
         record {
           none = record {
             members = members ++ (member ∷ []);

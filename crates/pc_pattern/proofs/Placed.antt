@@ -1,10 +1,8 @@
 -- The number of a key that is put into an ordered set of keys.
 use Rattle.std.proofs.Common.{◌≡◌, ℕ, zero, suc, ◌+◌, ◌≤◌, ◌<◌, List, [], ◌∷◌, ◌++◌, length, length-append, refl, sym, ◌∙◌, ap, subst, arith}
-use Rattle.std.specs.Ordering.{int_eq}
-use Rattle.std.specs.Prelude.{ℤ, Bool, true, false, not, ◌||◌, if◌then◌else◌, cond, None, Some, slice_get, Vec}
+use Rattle.std.specs.Prelude.{nat_eq, Bool, true, false, not, ◌||◌, if◌then◌else◌, cond, None, Some, slice_get, Vec}
 use Rattle.std.specs.List.{list_any, position_or_len}
-use Rattle.std.specs.Cmp.Lexicographic.{pointwise}
-use Rattle.std.specs.Cmp.Rules.{signed_items}
+use Rattle.std.specs.Cmp.Lexicographic.{pointwise, bytes_decides}
 use Rattle.std.specs.declared.alloc.Global.{Global}
 use Rattle.std.proofs.lemmas.List.{length-map, map-append}
 use Rattle.std.proofs.lemmas.Option.{slice_get_within}
@@ -25,17 +23,17 @@ use Rattle.pc_pattern.specs.models.Leading.{KeyRefused, key_memory, key_many, Wi
 
 -- a key in memory
 abbrev StoredKey : Type 0
-StoredKey = Vec ℤ Global
+StoredKey = Vec ℕ Global
 
 -- whether a key is this one
 abbrev is_key : StoredKey → StoredKey → Bool
-is_key key other = pointwise int_eq key.items other.items
+is_key key other = pointwise nat_eq key.items other.items
 
-same_numbers : (xs ys : List ℤ) → pointwise int_eq xs ys ≡ true → xs ≡ ys
-same_numbers xs ys e = (signed_items xs ys).0 e
+same_bytes : (xs ys : List ℕ) → pointwise nat_eq xs ys ≡ true → xs ≡ ys
+same_bytes xs ys e = (bytes_decides xs ys).0 e
 
-numbers_same : (xs ys : List ℤ) → xs ≡ ys → pointwise int_eq xs ys ≡ true
-numbers_same xs ys e = (signed_items xs ys).1 e
+bytes_same : (xs ys : List ℕ) → xs ≡ ys → pointwise nat_eq xs ys ≡ true
+bytes_same xs ys e = (bytes_decides xs ys).1 e
 
 either_false : (b c : Bool) → (b || c) ≡ false → (b ≡ false) × (c ≡ false)
 either_false true c e = absurd (cc)
@@ -47,7 +45,7 @@ nowhere key [] none i at = absurd (cc)
 nowhere key (k ∷ keys) none zero at =
     let parts = either_false (is_key key k) (list_any (is_key key) keys) none in
     let same : k.items ≡ key.items = cc in
-    let is : is_key key k ≡ true = numbers_same key.items k.items (sym same) in
+    let is : is_key key k ≡ true = bytes_same key.items k.items (sym same) in
     absurd (let e : true ≡ false = sym is ∙ parts.0 in cc)
 nowhere key (k ∷ keys) none (suc i) at =
     nowhere key keys (either_false (is_key key k) (list_any (is_key key) keys) none).1 i at
@@ -72,14 +70,14 @@ placed_of key olds news number is_new new are at stored = by (list_any (is_key k
     by true e n are =
         let there : slice_get (keys_in olds) number ≡ Some key.items =
         sym (ap (λ (ks : List StoredKey). slice_get (keys_in ks) number) are) ∙ map_at (λ (k : StoredKey). k.items) news number stored.0 stored.1
-        ∙ ap (λ (xs : List ℤ). Some xs) (sym (same_numbers key.items stored.0.items stored.2)) in
+        ∙ ap (λ (xs : List ℕ). Some xs) (sym (same_bytes key.items stored.0.items stored.2)) in
         subst (λ (b : Bool). IsPlaced (keys_in olds) key.items number b (keys_in news)) (sym n)
         (subst (λ (ks : List StoredKey). IsPlaced (keys_in olds) key.items number false (keys_in ks)) (sym are) (placed_known there))
     by false e n are =
         let last : length (keys_in olds) ≡ number = length-map olds (λ (k : StoredKey). k.items) ∙ sym (last_index key olds e) ∙ sym at in
         subst (λ (b : Bool). IsPlaced (keys_in olds) key.items number b (keys_in news)) (sym n)
         (subst (λ (ks : List StoredKey). IsPlaced (keys_in olds) key.items number true (keys_in ks)) (sym are)
-        (subst (λ (ks : List (List ℤ)). IsPlaced (keys_in olds) key.items number true ks)
+        (subst (λ (ks : List (List ℕ)). IsPlaced (keys_in olds) key.items number true ks)
         (sym (map-append (λ (k : StoredKey). k.items) olds (key ∷ [])))
         (subst (λ (i : ℕ). IsPlaced (keys_in olds) key.items i true (keys_in olds ++ key.items ∷ [])) last
         (placed_new (nowhere key olds e)))))
@@ -89,13 +87,13 @@ pub ruleset placed = (placed_of)
 -- ---- how many keys there are
 
 -- a known key is one of them
-is_known : (keys more : List (List ℤ)) (key : List ℤ) (number : ℕ) (is_new : Bool) → is_new ≡ false → IsPlaced keys key number is_new more
+is_known : (keys more : List (List ℕ)) (key : List ℕ) (number : ℕ) (is_new : Bool) → is_new ≡ false → IsPlaced keys key number is_new more
     → (more ≡ keys) × (slice_get keys number ≡ Some key)
 is_known keys more key number false e (placed_known at) = (refl, at)
 is_known keys more key number true e placed = absurd (cc)
 
 -- a new key stands behind them
-is_last : (keys more : List (List ℤ)) (key : List ℤ) (number : ℕ) (is_new : Bool) → is_new ≡ true → IsPlaced keys key number is_new more
+is_last : (keys more : List (List ℕ)) (key : List ℕ) (number : ℕ) (is_new : Bool) → is_new ≡ true → IsPlaced keys key number is_new more
     → IsNowhere keys key × (number ≡ length keys) × (more ≡ keys ++ key ∷ [])
 is_last keys more key number true e (placed_new none) = (none, refl, refl)
 is_last keys more key number false e placed = absurd (cc)
@@ -104,25 +102,25 @@ many_in : (keys : List StoredKey) → length (keys_in keys) ≡ length keys
 many_in keys = length-map keys (λ (k : StoredKey). k.items)
 
 -- where a number is within the rows, so are the keys
-pub placed_within : (olds news : List StoredKey) (key : List ℤ) (number : ℕ) (is_new : Bool) (rows : ℕ) → length olds ≤ rows → number < rows
+pub placed_within : (olds news : List StoredKey) (key : List ℕ) (number : ℕ) (is_new : Bool) (rows : ℕ) → length olds ≤ rows → number < rows
     → IsPlaced (keys_in olds) key number is_new (keys_in news) → length news ≤ rows
 placed_within olds news key number false rows room within placed =
     let h = is_known (keys_in olds) (keys_in news) key number false refl placed in
-    let same = ap (λ (l : List (List ℤ)). length l) h.0 in
+    let same = ap (λ (l : List (List ℕ)). length l) h.0 in
     let n = many_in olds in
     let m = many_in news in
     omega (arith, same, n, m, room)
 placed_within olds news key number true rows room within placed =
     let h = is_last (keys_in olds) (keys_in news) key number true refl placed in
     let last = h.1 in
-    let same = ap (λ (l : List (List ℤ)). length l) h.2 in
+    let same = ap (λ (l : List (List ℕ)). length l) h.2 in
     let more = length-append (keys_in olds) (key ∷ []) in
     let n = many_in olds in
     let m = many_in news in
     omega (arith, same, more, last, n, m, within)
 
 -- where it is not, the key is one too many
-pub placed_beyond : (olds news reached : List StoredKey) (key : List ℤ) (number : ℕ) (is_new : Bool) (rows : ℕ) → length olds ≤ rows → rows ≤ number
+pub placed_beyond : (olds news reached : List StoredKey) (key : List ℕ) (number : ℕ) (is_new : Bool) (rows : ℕ) → length olds ≤ rows → rows ≤ number
     → IsPlaced (keys_in olds) key number is_new (keys_in news) → keys_in reached ≡ keys_in news → KeyRefused rows (keys_in olds) key (NoPattern reached)
 placed_beyond olds news reached key number false rows room beyond placed are =
     let h = is_known (keys_in olds) (keys_in news) key number false refl placed in
@@ -135,7 +133,7 @@ placed_beyond olds news reached key number true rows room beyond placed are =
     let n = many_in olds in
     key_many h.0 (omega (arith, n, last, room, beyond)) (are ∙ h.2)
 
-pub key_out : (rows : ℕ) (keys : List (List ℤ)) (key : List ℤ) (error : SearchError) → error ≡ Memory → KeyRefused rows keys key error
+pub key_out : (rows : ℕ) (keys : List (List ℕ)) (key : List ℕ) (error : SearchError) → error ≡ Memory → KeyRefused rows keys key error
 key_out rows keys key error is = subst (KeyRefused rows keys key) (sym is) key_memory
 
 pub ruleset numbers = (placed_within, placed_beyond, key_out)
@@ -151,14 +149,14 @@ settled_again w later proper renumbers settled nodes =
     let variables = settled.variables in
     record { nodes = nodes; variables = omega (arith, same, fewer, variables) }
 
-pub member_known : (keys news : List (List ℤ)) (waiting : List Window) (w : Window) (key : List ℤ) (number : ℕ) (is_new : Bool) → is_new ≡ false
+pub member_known : (keys news : List (List ℕ)) (waiting : List Window) (w : Window) (key : List ℕ) (number : ℕ) (is_new : Bool) → is_new ≡ false
     → IsPlaced keys key number is_new news → key ≡ key_of w
     → IsNumbered (record { keys = keys; waiting = waiting }) w number (record { keys = news; waiting = waiting })
 member_known keys news waiting w key number false e (placed_known at) is =
-    numbered_known (at ∙ ap (λ (k : List ℤ). Some k) is)
+    numbered_known (at ∙ ap (λ (k : List ℕ). Some k) is)
 member_known keys news waiting w key number true e placed is = absurd (cc)
 
-pub member_new : (keys news : List (List ℤ)) (waiting later : List Window) (w : Window) (key : List ℤ) (number : ℕ) (is_new : Bool) → is_new ≡ true
+pub member_new : (keys news : List (List ℕ)) (waiting later : List Window) (w : Window) (key : List ℕ) (number : ℕ) (is_new : Bool) → is_new ≡ true
     → IsPlaced keys key number is_new news → key ≡ key_of w → Joins waiting w later
     → IsNumbered (record { keys = keys; waiting = waiting }) w number (record { keys = news; waiting = later })
 member_new keys news waiting later w key number is_new e placed is joins =
@@ -166,16 +164,16 @@ member_new keys news waiting later w key number is_new e placed is joins =
     let new : IsNumbered (record { keys = keys; waiting = waiting }) w (length keys) (record { keys = keys ++ key_of w ∷ []; waiting = waiting ++ joins.member ∷ [] }) =
     numbered_new (subst (IsNowhere keys) is h.0) joins.renumbers in
     let after : record { keys = keys ++ key_of w ∷ []; waiting = waiting ++ joins.member ∷ [] } ≡ record { keys = news; waiting = later } =
-    λ i. record { keys = sym (h.2 ∙ ap (λ (k : List ℤ). keys ++ k ∷ []) is) i; waiting = sym joins.waits i } in
+    λ i. record { keys = sym (h.2 ∙ ap (λ (k : List ℕ). keys ++ k ∷ []) is) i; waiting = sym joins.waits i } in
     subst (IsNumbered (record { keys = keys; waiting = waiting }) w number) after
     (subst (λ (n : ℕ). IsNumbered (record { keys = keys; waiting = waiting }) w n (record { keys = keys ++ key_of w ∷ []; waiting = waiting ++ joins.member ∷ [] }))
     (sym h.1) new)
 
-pub member_many : (rows : ℕ) (keys : List (List ℤ)) (waiting : List Window) (w : Window) (key : List ℤ) (error : SearchError) → KeyRefused rows keys key error
+pub member_many : (rows : ℕ) (keys : List (List ℕ)) (waiting : List Window) (w : Window) (key : List ℕ) (error : SearchError) → KeyRefused rows keys key error
     → key ≡ key_of w → bare_leaf (whole w.front) ≡ None → WindowRefused rows (record { keys = keys; waiting = waiting }) w error
 member_many rows keys waiting w key error key_memory is bare = refused_memory
 member_many rows keys waiting w key error (key_many {reached} none many are) is bare =
-    refused_many bare (subst (IsNowhere keys) is none) many (are ∙ ap (λ (k : List ℤ). keys ++ k ∷ []) is)
+    refused_many bare (subst (IsNowhere keys) is none) many (are ∙ ap (λ (k : List ℕ). keys ++ k ∷ []) is)
 
 pub member_out : (rows : ℕ) (pool : Pool) (w : Window) (error : SearchError) → error ≡ Memory → WindowRefused rows pool w error
 member_out rows pool w error is = subst (WindowRefused rows pool w) (sym is) refused_memory

@@ -1,6 +1,6 @@
 -- What comes of the keys and of the windows that wait where the row of a state leads on.
 use Rattle.std.proofs.Common.{◌≡◌, ℕ, ◌≤◌, ◌<◌, List, [], ◌∷◌, ◌++◌, length, length-append, ◌⊎◌, inl, inr, refl, subst, arith}
-use Rattle.std.specs.Prelude.{ℤ, Some, slice_get, Contains}
+use Rattle.std.specs.Prelude.{Some, slice_get, Contains}
 use Rattle.std.proofs.lemmas.List.Elements.{Contains-append_left, Contains-append_right, Contains-push}
 use Rattle.pc_word.specs.declared.item.Operand.{Operand}
 use Rattle.pc_word.specs.Row.{Row, leaves_of}
@@ -29,8 +29,8 @@ last_in (y ∷ xs) x = last_in xs x
 -- ---- keys
 
 -- each key is that of the window at its place
-abbrev pub KeysStand : List Window → List (List ℤ) → Type 0
-KeysStand final keys = (number : ℕ) (key : List ℤ) → slice_get keys number ≡ Some key
+abbrev pub KeysStand : List Window → List (List ℕ) → Type 0
+KeysStand final keys = (number : ℕ) (key : List ℕ) → slice_get keys number ≡ Some key
     → (member : Window) × (slice_get final number ≡ Some member) × (key_of member ≡ key)
 
 -- the key of a window stands at its number
@@ -40,7 +40,7 @@ number_there pool later w number (numbered_new new renumbers) = last_in pool.key
 
 -- keys stay where they are
 abbrev pub KeysStay : Pool → Pool → Type 0
-KeysStay pool later = (number : ℕ) (key : List ℤ) → slice_get pool.keys number ≡ Some key → slice_get later.keys number ≡ Some key
+KeysStay pool later = (number : ℕ) (key : List ℕ) → slice_get pool.keys number ≡ Some key → slice_get later.keys number ≡ Some key
 
 numbered_keys : {pool later : Pool} {w : Window} {number : ℕ} → IsNumbered pool w number later → KeysStay pool later
 numbered_keys (numbered_known at) i key there = there

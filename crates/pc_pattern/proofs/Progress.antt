@@ -1,7 +1,7 @@
 -- How far a search has come: which members were taken and have their states, and which wait.
 use Rattle.std.proofs.Common.{◌≡◌, ℕ, zero, suc, ◌+◌, ◌≤◌, ◌<◌, List, [], ◌∷◌, ◌++◌, length, length-append, append-nil, append_assoc, map}
 use Rattle.std.proofs.Common.{inl, inr, refl, sym, ◌∙◌, ap, subst, arith}
-use Rattle.std.specs.Prelude.{ℤ, nat_eq, Some, slice_get}
+use Rattle.std.specs.Prelude.{nat_eq, Some, slice_get}
 use Rattle.std.specs.List.{AllByRecursion, IsDistinct}
 use Rattle.std.proofs.lemmas.List.{length-map}
 use Rattle.pc_word.specs.MachineLimits.{most_window}
@@ -145,8 +145,8 @@ behind (x ∷ xs) ys i y at = ap (λ (n : ℕ). slice_get (x ∷ (xs ++ ys)) n) 
     ∙ behind xs ys i y at
 
 -- where keys are those of members, each stands
-keys_stand : (members : List Window) (keys : List (List ℤ)) → keys ≡ map key_of members → KeysStand members keys
-keys_stand members keys same number key at = key_at members number key (sym (ap (λ (ks : List (List ℤ)). slice_get ks number) same) ∙ at)
+keys_stand : (members : List Window) (keys : List (List ℕ)) → keys ≡ map key_of members → KeysStand members keys
+keys_stand members keys same number key at = key_at members number key (sym (ap (λ (ks : List (List ℕ)). slice_get ks number) same) ∙ at)
 
 module _ (rules : Rules) (keeps : TableKeeps rules.table) (few_regions : length rules.table.regions ≤ most_nodes) (number : rules.number ≤ most_window)
     (room : Positive rules.limits) (region rows : ℕ) where
@@ -166,7 +166,7 @@ module _ (rules : Rules) (keeps : TableKeeps rules.table) (few_regions : length 
     led = λ at below. absurd (omega (arith, below));
   }
 
-  module _ (states : List AutomatonState) (w : Window) (rest : List Window) (keys : List (List ℤ))
+  module _ (states : List AutomatonState) (w : Window) (rest : List Window) (keys : List (List ℕ))
       (s : Searching rules region rows states (record { keys = keys; waiting = w ∷ rest })) where
     -- without the window that waits first
     abbrev left_pool : Pool
@@ -186,7 +186,7 @@ module _ (rules : Rules) (keeps : TableKeeps rules.table) (few_regions : length 
     pub some_left : length states < rows
     some_left =
         let few = s.few in
-        let all = ap (λ (ks : List (List ℤ)). length ks) s.keys ∙ length-map (s.took ++ (w ∷ rest)) key_of in
+        let all = ap (λ (ks : List (List ℕ)). length ks) s.keys ∙ length-map (s.took ++ (w ∷ rest)) key_of in
         let both = length-append s.took (w ∷ rest) in
         let took = many in
         omega (arith, few, all, both, took)
@@ -213,7 +213,7 @@ module _ (rules : Rules) (keeps : TableKeeps rules.table) (few_regions : length 
     led_on state after m at below = elim (either_side (suc at) (length keys)) [
       | inl before ↦ led_still states (state ∷ []) (suc at) (s.led at before)
       | inr last ↦ (
-          let all = ap (λ (ks : List (List ℤ)). length ks) s.keys ∙ length-map (s.took ++ (w ∷ rest)) key_of in
+          let all = ap (λ (ks : List (List ℕ)). length ks) s.keys ∙ length-map (s.took ++ (w ∷ rest)) key_of in
           let both = length-append s.took (w ∷ rest) in
           let took = many in
           led_by_last states state (suc at) (omega (arith, last, all, both, took)) (row_leads_to m.row (suc at) last below)
@@ -260,22 +260,22 @@ module _ (rules : Rules) (keeps : TableKeeps rules.table) (few_regions : length 
         (taken cut (record { filled = filled; fills = fills; cuts = cuts }))
 
 -- where no window waits, each state but the first is led to
-pub states_led : (rules : Rules) (region rows : ℕ) (states : List AutomatonState) (keys : List (List ℤ))
+pub states_led : (rules : Rules) (region rows : ℕ) (states : List AutomatonState) (keys : List (List ℕ))
     → Searching rules region rows states (record { keys = keys; waiting = [] }) → EachIsLedTo states
 states_led rules region rows states keys s at below =
     let many = made_many rules (s.took ++ []) s.took states s.made in
-    let all = ap (λ (ks : List (List ℤ)). length ks) s.keys ∙ length-map (s.took ++ []) key_of ∙ ap (λ (ws : List Window). length ws) (append-nil s.took) in
+    let all = ap (λ (ks : List (List ℕ)). length ks) s.keys ∙ length-map (s.took ++ []) key_of ∙ ap (λ (ws : List Window). length ws) (append-nil s.took) in
     s.led at (omega (arith, below, many, all))
 
 -- and the states are those of a pattern
-pub pattern_found : (rules : Rules) (region rows : ℕ) (states : List AutomatonState) (keys : List (List ℤ))
+pub pattern_found : (rules : Rules) (region rows : ℕ) (states : List AutomatonState) (keys : List (List ℕ))
     → Searching rules region rows states (record { keys = keys; waiting = [] }) → IsPattern rules region rows states
 pattern_found rules region rows states keys s =
     let all : s.took ++ [] ≡ s.took = append-nil s.took in
     let made = subst (λ (l : List Window). EachMade rules l s.took states) all s.made in
     let many = made_many rules s.took s.took states made in
     let few = s.few in
-    let count = ap (λ (ks : List (List ℤ)). length ks) s.keys ∙ length-map (s.took ++ []) key_of ∙ ap (λ (ws : List Window). length ws) all in
+    let count = ap (λ (ks : List (List ℕ)). length ks) s.keys ∙ length-map (s.took ++ []) key_of ∙ ap (λ (ws : List Window). length ws) all in
     record {
       members = s.took;
       closed = (

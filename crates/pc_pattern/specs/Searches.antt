@@ -1,5 +1,5 @@
 -- The windows that a search from a region comes to, and the automaton that they are.
-use Rattle.std.specs.Prelude.{◌≡◌, ℕ, suc, ◌≤◌, ℤ, List, [], ◌∷◌, ◌++◌, length, map, nat_eq, Option, Some, None, slice_get}
+use Rattle.std.specs.Prelude.{◌≡◌, ℕ, suc, ◌≤◌, List, [], ◌∷◌, ◌++◌, length, map, nat_eq, Option, Some, None, slice_get}
 use Rattle.std.specs.List.{IsDistinct}
 use Rattle.pc_word.specs.declared.item.Limits.{Limits}
 use Rattle.pc_word.specs.declared.item.Operand.{Operand}
@@ -153,7 +153,7 @@ abbrev pub AreDifferent : {A : Type 0} → List A → Type 0
 AreDifferent {A} xs = (i j : ℕ) (x : A) → slice_get xs i ≡ Some x → slice_get xs j ≡ Some x → i ≡ j
 
 -- the search comes to have more members than so many: one more, with these keys, no two of which are equal
-pub record HasKeys (rules : Rules) (region rows : ℕ) (keys : List (List ℤ)) : Type 0 where
+pub record HasKeys (rules : Rules) (region rows : ℕ) (keys : List (List ℕ)) : Type 0 where
   pub none : HasNoPattern rules region rows
   pub keys_of : keys ≡ map key_of none.members
   pub differ : AreDifferent keys

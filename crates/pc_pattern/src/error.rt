@@ -7,9 +7,9 @@ use pc_word::Seq;
 use std::alloc::AllocError;
 use thiserror::Error;
 
-/// Keys of windows, each the numbers in which the window is written but for its names, its form
+/// Keys of windows, each the bytes in which the window is written but for its names, its form
 /// variables and its first tag.
-pub type KeyList = Seq<Vec<i64>>;
+pub type KeyList = Seq<Vec<u8>>;
 
 /// Why no automaton was found.
 #[derive(Debug, Drop, Error)]

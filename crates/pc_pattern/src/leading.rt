@@ -116,12 +116,12 @@ fn led_window(
         Some(leaf) => Ok(leaf),
         None => {
             let WindowKey {
-                numbers,
+                bytes,
                 names: parameters,
                 ..
             } = key(alloc, &window)?;
             let arguments = arguments_for(alloc, names, parameters.as_slice())?;
-            let state = numbered(alloc, window, numbers, pool, rows)?;
+            let state = numbered(alloc, window, bytes, pool, rows)?;
             Ok(AutomatonLeaf::To { state, arguments })
         }
     }

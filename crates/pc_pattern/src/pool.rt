@@ -17,12 +17,13 @@ use pc_renumber::renumber;
 use pc_window::{Window, WindowError};
 use std::alloc::{AllocError, Global};
 use std::collections::VecDeque;
+use std::mem::replace;
 
 /// The members of a search so far.
 #[derive(Drop)]
 pub(crate) struct Pool {
     /// The keys of all, in the order of their numbers.
-    pub(crate) keys: IndexSet<Vec<i64>>,
+    pub(crate) keys: IndexSet<Vec<u8>>,
     /// The windows of those that wait for their rows.
     pub(crate) waiting: VecDeque<Window>,
 }
@@ -47,9 +48,9 @@ pub(crate) fn begun(alloc: Global, first: Window) -> Result<Pool, WindowError>
     ensures keys { IfOk result (λ pool. keys_in pool.keys.keys ≡ key_of (window_in first) ∷ []) }
     ensures waiting { IfOk result (λ pool. pool.waiting.items ≡ first ∷ []) }
 {
-    let WindowKey { numbers, .. } = key(alloc, &first)?;
+    let WindowKey { bytes, .. } = key(alloc, &first)?;
     let mut keys = IndexSet::new(alloc);
-    placed(numbers, &mut keys)?;
+    placed(bytes, &mut keys)?;
     let mut waiting = VecDeque::new(alloc);
     put_behind(first, &mut waiting)?;
     Ok(Pool { keys, waiting })
@@ -57,19 +58,19 @@ pub(crate) fn begun(alloc: Global, first: Window) -> Result<Pool, WindowError>
 
 /// The number of a key among the keys, and whether it is new; then it stands last from there on.
 #[tactic(auto, using(crate::proofs::Placed::placed))]
-fn placed(key: Vec<i64>, keys: &mut IndexSet<Vec<i64>>) -> Result<(usize, bool), AllocError>
+fn placed(key: Vec<u8>, keys: &mut IndexSet<Vec<u8>>) -> Result<(usize, bool), AllocError>
     ensures { IfOk result (λ r. IsPlaced (keys_in keys.old.keys) key.items r.0 r.1 (keys_in keys.new.keys)) }
 {
     Ok(keys.insert_full(key)?)
 }
 
-/// All keys, in a list of their own.
-fn all_keys(alloc: Global, keys: &[Vec<i64>]) -> Result<KeyList, AllocError>
-    ensures { IfOk result (λ all. keys_in all ≡ keys_in keys.now) }
+/// All keys, taken out into a list.
+fn all_keys(alloc: Global, keys: IndexSet<Vec<u8>>) -> Result<KeyList, AllocError>
+    ensures { IfOk result (λ all. keys_in all ≡ keys_in keys.keys) }
 {
     let mut all = KeyList::new(alloc);
     for key in keys {
-        all.push(Vec::from_slice(alloc, key.as_slice())?)?;
+        all.push(key)?;
     }
     Ok(all)
 }
@@ -82,12 +83,13 @@ fn put_behind(window: Window, waiting: &mut VecDeque<Window>) -> Result<(), Allo
     Ok(())
 }
 
-/// The number of a key among the keys, and whether it is new, unless there are as many as there may be.
+/// The number of a key among the keys, and whether it is new, unless there are as many as there may be:
+/// then the keys are taken out.
 #[tactic(auto, using(crate::proofs::Placed::numbers))]
 fn number_of(
     alloc: Global,
-    key: Vec<i64>,
-    keys: &mut IndexSet<Vec<i64>>,
+    key: Vec<u8>,
+    keys: &mut IndexSet<Vec<u8>>,
     rows: u16,
 ) -> Result<(u32, bool), SearchError>
     requires room { length keys.old.keys ≤ rows }
@@ -97,7 +99,7 @@ fn number_of(
 {
     let (number, is_new) = placed(key, keys)?;
     if number >= rows as usize {
-        let reached = all_keys(alloc, keys.as_slice())?;
+        let reached = all_keys(alloc, replace(keys, IndexSet::new(alloc)))?;
         return Err(SearchError::NoPattern { reached });
     }
     Ok((number as u32, is_new))
@@ -122,7 +124,7 @@ fn join(alloc: Global, window: Window, waiting: &mut VecDeque<Window>) -> Result
 pub(crate) fn numbered(
     alloc: Global,
     window: Window,
-    key: Vec<i64>,
+    key: Vec<u8>,
     pool: &mut Pool,
     rows: u16,
 ) -> Result<u32, SearchError>

@@ -1,5 +1,5 @@
 -- The row of a state, made from a cut row: with new names, and with leaves that lead to members; and the members that come of it.
-use Rattle.std.specs.Prelude.{◌≡◌, ℕ, suc, ◌+◌, ◌≤◌, ℤ, List, [], ◌∷◌, ◌++◌, length, Some, None, Vec}
+use Rattle.std.specs.Prelude.{◌≡◌, ℕ, suc, ◌+◌, ◌≤◌, List, [], ◌∷◌, ◌++◌, length, Some, None, Vec}
 use Rattle.std.specs.declared.alloc.Global.{Global}
 use Rattle.pc_word.specs.declared.item.Item.{Item}
 use Rattle.pc_word.specs.declared.item.Operand.{Operand}
@@ -70,15 +70,15 @@ pub data RowLeads (rules : Rules) : List Pair → ℕ → Pool → Row Left → 
 -- ---- more members than there may be
 
 -- a key is one too many, and these are the keys; or memory ran out
-pub data KeyRefused (rows : ℕ) (keys : List (List ℤ)) (key : List ℤ) : SearchError → Type 0 where
+pub data KeyRefused (rows : ℕ) (keys : List (List ℕ)) (key : List ℕ) : SearchError → Type 0 where
   key_memory : KeyRefused rows keys key Memory
-  key_many : {reached : List (Vec ℤ Global)} → IsNowhere keys key → length keys ≡ rows → keys_in reached ≡ keys ++ key ∷ []
+  key_many : {reached : List (Vec ℕ Global)} → IsNowhere keys key → length keys ≡ rows → keys_in reached ≡ keys ++ key ∷ []
       → KeyRefused rows keys key (NoPattern reached)
 
 -- a window that was brought on is one member too many, and these are the keys; or memory ran out
 pub data WindowRefused (rows : ℕ) (pool : Pool) (w : Window) : SearchError → Type 0 where
   refused_memory : WindowRefused rows pool w Memory
-  refused_many : {reached : List (Vec ℤ Global)} → bare_leaf (whole w.front) ≡ None → IsNowhere pool.keys (key_of w) → length pool.keys ≡ rows
+  refused_many : {reached : List (Vec ℕ Global)} → bare_leaf (whole w.front) ≡ None → IsNowhere pool.keys (key_of w) → length pool.keys ≡ rows
       → keys_in reached ≡ pool.keys ++ key_of w ∷ [] → WindowRefused rows pool w (NoPattern reached)
 
 -- the same of what is left at a leaf

@@ -1,5 +1,5 @@
 -- The members that a search has come to, as the code keeps them: the keys of all, and the windows that wait for their rows.
-use Rattle.std.specs.Prelude.{◌≡◌, ℕ, ◌+◌, ◌*◌, ◌≤◌, ◌^◌, ℤ, Bool, true, false, List, [], ◌∷◌, ◌++◌, length, map, Some, slice_get, Vec}
+use Rattle.std.specs.Prelude.{◌≡◌, ℕ, ◌+◌, ◌*◌, ◌≤◌, ◌^◌, Bool, true, false, List, [], ◌∷◌, ◌++◌, length, map, Some, slice_get, Vec}
 use Rattle.std.specs.declared.alloc.Global.{Global}
 use Rattle.pc_table.specs.Table.{Table}
 use Rattle.pc_window.specs.declared.window.Window.{Window as StoredWindow}
@@ -15,19 +15,19 @@ use Rattle.pc_pattern.specs.declared.pool.Pool.{Pool as StoredPool}
 
 -- the keys of all members, and the windows that wait
 pub record Pool : Type 0 where
-  pub keys : List (List ℤ)
+  pub keys : List (List ℕ)
   pub waiting : List Window
 
 -- keys in memory
-abbrev pub keys_in : List (Vec ℤ Global) → List (List ℤ)
-keys_in keys = map (λ (key : Vec ℤ Global). key.items) keys
+abbrev pub keys_in : List (Vec ℕ Global) → List (List ℕ)
+keys_in keys = map (λ (key : Vec ℕ Global). key.items) keys
 
 -- members in memory
 abbrev pub pool_in : StoredPool → Pool
 pool_in pool = record { keys = keys_in pool.keys.keys; waiting = map window_in pool.waiting.items }
 
 -- one member more, which waits
-abbrev pub with_member : Pool → List ℤ → Window → Pool
+abbrev pub with_member : Pool → List ℕ → Window → Pool
 with_member pool key w = record { keys = pool.keys ++ key ∷ []; waiting = pool.waiting ++ w ∷ [] }
 
 -- what stands at no number of a list
@@ -35,7 +35,7 @@ abbrev pub IsNowhere : {A : Type 0} → List A → A → Type 0
 IsNowhere {A} xs x = (i : ℕ) → slice_get xs i ≡ Some x → ⊥
 
 -- a key has a number among keys: that of the equal one, or, where it is new, the next one, and then it stands last
-pub data IsPlaced (keys : List (List ℤ)) (key : List ℤ) : ℕ → Bool → List (List ℤ) → Type 0 where
+pub data IsPlaced (keys : List (List ℕ)) (key : List ℕ) : ℕ → Bool → List (List ℕ) → Type 0 where
   placed_known : {number : ℕ} → slice_get keys number ≡ Some key → IsPlaced keys key number false keys
   placed_new : IsNowhere keys key → IsPlaced keys key (length keys) true (keys ++ key ∷ [])
 
