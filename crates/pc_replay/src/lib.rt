@@ -7,6 +7,8 @@ mod copying;
 mod error;
 #[cfg(test)]
 mod following;
+#[cfg(test)]
+mod leaves;
 mod locating;
 #[cfg(test)]
 mod naming;
@@ -19,6 +21,8 @@ mod sources;
 #[cfg(test)]
 mod tests;
 mod twins;
+#[cfg(test)]
+mod worked_tests;
 
 pub use error::ReplayError;
 pub use replaying::replay;

@@ -6,7 +6,8 @@ ghost use Rattle.pc_table.specs.Table.{table_of};
 ghost use Rattle.pc_table.specs.TableKeeps.{TableKeeps};
 
 use crate::ReplayError;
-use crate::following::{compare_on, unwound};
+use crate::following::{TURNS, unwound};
+use crate::leaves::compare_leaves;
 use crate::sources::{EXAMPLES, PROGRAMS};
 use crate::tests::{Compared, NOTHING};
 use pc_check::check;
@@ -21,8 +22,8 @@ use pc_word::{Limits, MOST_NODES, MOST_SOURCE, MOST_TOKENS};
 use std::alloc::Global;
 use std::test::Fail;
 
-/// How many windows follow that of a region on one side.
-const MORE: u32 = 15;
+/// The most windows of a region: its first one, and those that follow at all leaves.
+const MOST_WINDOWS: u32 = 40;
 
 /// How many samples there are.
 const SAMPLES: u32 = 21;
@@ -68,7 +69,7 @@ fn regions_of(alloc: Global, text: &[u8]) -> Result<RegionTable, Fail>
     Ok(table)
 }
 
-/// Compares the window of a region, and those that follow it on either side.
+/// Compares the window of a region, and those that follow it at all leaves.
 fn compare_region(
     alloc: Global,
     table: &RegionTable,
@@ -81,10 +82,8 @@ fn compare_region(
     requires there { region < length table.now.regions }
     requires limits { AreLimits limits }
 {
-    let window = unwound(alloc, table, region, limits)?;
-    compare_on(alloc, table, window, MORE, true, all)?;
-    let window = unwound(alloc, table, region, limits)?;
-    compare_on(alloc, table, window, MORE, false, all)
+    let window = unwound(alloc, table, region, limits, TURNS)?;
+    compare_leaves(alloc, table, window, MOST_WINDOWS, all)
 }
 
 /// Compares those of each region of a source.

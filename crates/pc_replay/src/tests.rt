@@ -18,8 +18,16 @@ use pc_word::{Item, LengthList, Limits, LoopList, OpCode, Operand};
 use std::alloc::{AllocError, Global};
 use std::test::Fail;
 
+/// What each test of the regions here is on.
+const ALWAYS: Operand = Operand::Lit(1);
+
 /// An item above a tree.
-fn does(alloc: Global, origin: u32, item: Item, below: RegionTree) -> Result<RegionTree, AllocError>
+pub(crate) fn does(
+    alloc: Global,
+    origin: u32,
+    item: Item,
+    below: RegionTree,
+) -> Result<RegionTree, AllocError>
     ensures { IfOk result (λ tree. table_tree tree ≡ Does origin item (table_tree below)) }
 {
     let next = Box::new(alloc, below)?;
@@ -27,19 +35,20 @@ fn does(alloc: Global, origin: u32, item: Item, below: RegionTree) -> Result<Reg
 }
 
 /// A test above two trees.
-fn asks(
+pub(crate) fn asks(
     alloc: Global,
     origin: u32,
+    on: Operand,
     yes: RegionTree,
     no: RegionTree,
 ) -> Result<RegionTree, AllocError>
-    ensures { IfOk result (λ tree. table_tree tree ≡ Asks origin (Lit (pos 1)) (table_tree yes) (table_tree no)) }
+    ensures { IfOk result (λ tree. table_tree tree ≡ Asks origin on (table_tree yes) (table_tree no)) }
 {
     let yes = Box::new(alloc, yes)?;
     let no = Box::new(alloc, no)?;
     Ok(RegionTree::Test {
         origin,
-        on: Operand::Lit(1),
+        on,
         yes,
         no,
     })
@@ -107,9 +116,9 @@ fn load_below_tests(alloc: Global) -> Result<RegionTree, AllocError>
     ensures { IfOk result (λ tree. table_tree tree ≡ over_tests) }
 {
     let tree = load_and_print(alloc)?;
-    let tree = asks(alloc, 2, tree, RegionTree::Stop)?;
-    let tree = asks(alloc, 1, tree, RegionTree::Stop)?;
-    asks(alloc, 0, tree, RegionTree::Stop)
+    let tree = asks(alloc, 2, ALWAYS, tree, RegionTree::Stop)?;
+    let tree = asks(alloc, 1, ALWAYS, tree, RegionTree::Stop)?;
+    asks(alloc, 0, ALWAYS, tree, RegionTree::Stop)
 }
 
 /// `print(1); print(2); if (1) { a = 3 + 1; print(a); }`.
@@ -117,7 +126,7 @@ fn test_below_print(alloc: Global) -> Result<RegionTree, AllocError>
     ensures { IfOk result (λ tree. table_tree tree ≡ test_over_print) }
 {
     let tree = sum_and_print(alloc)?;
-    let tree = asks(alloc, 2, tree, RegionTree::Stop)?;
+    let tree = asks(alloc, 2, ALWAYS, tree, RegionTree::Stop)?;
     let tree = does(alloc, 1, print(2), tree)?;
     does(alloc, 0, print(1), tree)
 }
@@ -130,7 +139,7 @@ fn sums_on_both_sides(alloc: Global) -> Result<RegionTree, AllocError>
     let yes = sum_and_print(alloc)?;
     let yes = does(alloc, 5, print(2), yes)?;
     let no = sum_and_print(alloc)?;
-    asks(alloc, 0, yes, no)
+    asks(alloc, 0, ALWAYS, yes, no)
 }
 
 /// A region in no loop, at whose head nothing is live.
@@ -187,7 +196,7 @@ fn opened(alloc: Global, table: &RegionTable, region: u32) -> Result<Window, Win
 
 /// The key of a window that is not too large.
 #[tactic(auto, using(crate::proofs::Moved::wholes))]
-fn key_of(alloc: Global, window: &Window) -> Result<WindowKey, ReplayError>
+pub(crate) fn key_of(alloc: Global, window: &Window) -> Result<WindowKey, ReplayError>
     requires { IsProper (window_in window.now) }
 {
     if !is_small(window) {
