@@ -141,6 +141,10 @@ same_signature n (Print v) = refl
 same_signature n (Read d) = refl
 same_signature n (More d) = refl
 
+-- items that are equal with one name are so with each
+pub alike_by_one : (n : ℕ) (x y : Item) → with_dest n x ≡ with_dest n y → AreAlike x y
+alike_by_one n x y h m = sym (item_again m x) ∙ ap (item_of m) (sym (same_signature n x) ∙ ap signature_of h ∙ same_signature n y) ∙ item_again m y
+
 pub alike_items : (x y : Item) (a b : Signature) (c : Bool) → a ≡ signature_of x → b ≡ signature_of y → (c ≡ true) ↔ (a ≡ b) → (c ≡ true) ↔ AreAlike x y
 alike_items x y a b c p q iff =
     same_fact c (a ≡ b) (AreAlike x y) (λ h n. sym (item_again n x) ∙ ap (item_of n) (sym p ∙ h ∙ q) ∙ item_again n y)

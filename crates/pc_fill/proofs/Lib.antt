@@ -9,7 +9,6 @@ pub mod Walked
 pub mod Taken
 pub mod Landed
 pub mod Entered
-pub mod Signatures
 pub mod Twins
 pub mod FirstJump
 pub mod Coming

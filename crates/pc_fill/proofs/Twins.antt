@@ -9,6 +9,8 @@ use Rattle.pc_word.specs.Items.{operands_of}
 use Rattle.pc_linear.specs.Form.{Form}
 use Rattle.pc_window.specs.Tree.{Tree, Pending, Undecided, Front, Issued, Split, Unfinished, whole, tree_size}
 use Rattle.pc_window.specs.Rename.{with_dest}
+use Rattle.pc_alike.specs.Alike.{AreAlike}
+use Rattle.pc_alike.proofs.Signatures.{alike_by_one}
 use Rattle.pc_fill.specs.models.Places.{Node, nodes_of, MayRise}
 use Rattle.pc_fill.specs.models.Search.{StandsAt}
 use Rattle.pc_fill.specs.models.Landing.{TwinsAt, TwinHere, TwinIn, both_unfinished, FirstFrom, FirstIn}
@@ -25,16 +27,16 @@ module _ (forms : ℕ → Form) (next tag origin : ℕ) (item : Item) (tag' orig
   pub other_origin : (origin' ≢ origin) → (false ≡ true) ↔ TwinsAt forms next tag origin item tag' origin' other tree place
   other_origin ne = fails_here (TwinsAt forms next tag origin item tag' origin' other tree place) (λ h. ne h.origins)
 
-  pub other_item : (b : Bool) → (b ≡ true) ↔ (with_dest next other ≡ with_dest next item) → b ≡ false
+  pub other_item : (b : Bool) → (b ≡ true) ↔ AreAlike other item → b ≡ false
       → (false ≡ true) ↔ TwinsAt forms next tag origin item tag' origin' other tree place
-  other_item b iff e = fails_here (TwinsAt forms next tag origin item tag' origin' other tree place) (λ h. failed iff e h.alike)
+  other_item b iff e = fails_here (TwinsAt forms next tag origin item tag' origin' other tree place) (λ h. failed iff e (alike_by_one next other item h.alike))
 
-  pub is_one : (b c : Bool) → tag' ≡ tag → origin' ≡ origin → (b ≡ true) ↔ (with_dest next other ≡ with_dest next item)
+  pub is_one : (b c : Bool) → tag' ≡ tag → origin' ≡ origin → (b ≡ true) ↔ AreAlike other item
       → b ≡ true → (c ≡ true) ↔ MayRise forms (Some other) tree place
       → (c ≡ true) ↔ TwinsAt forms next tag origin item tag' origin' other tree place
   is_one b c p q iff e way =
       same_fact c (MayRise forms (Some other) tree place) (TwinsAt forms next tag origin item tag' origin' other tree place)
-      (λ h. record { tags = p; origins = q; alike = held iff e; way = h }) (λ h. h.way) way
+      (λ h. record { tags = p; origins = q; alike = held iff e next; way = h }) (λ h. h.way) way
 
   -- it stands there
   pub twin_here : slice_get (nodes_of tree) place ≡ Some (record { tag = tag'; origin = origin'; what = Some other; operands = operands_of other })

@@ -7,6 +7,5 @@ pub mod Search
 pub mod Walk
 pub mod Taking
 pub mod Landing
-pub mod Signature
 pub mod CanFill
 pub mod Conflicts

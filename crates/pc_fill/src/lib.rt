@@ -11,7 +11,6 @@ mod laws;
 mod path;
 mod readiness;
 mod room;
-mod signature;
 mod taking;
 #[cfg(test)]
 mod tests;

@@ -9,7 +9,7 @@ ghost use Rattle.pc_fill.specs.models.Landing.{TwinsAt, FirstFrom, FirstIn};
 
 use crate::landing::both_unfinished;
 use crate::readiness::{may_rise, size};
-use crate::signature::are_alike;
+use pc_alike::are_alike;
 use pc_window::{NameTable, WindowTree};
 use pc_word::Item;
 
