@@ -32,7 +32,7 @@ module _ (forms : ℕ → Form) (what : Option Item) (tag origin place : ℕ) wh
       → b ≡ false → (false ≡ true) ↔ MayRise forms what (Undecided tag origin on p q) place
   test_stops on p q b ne iff e = fails_here (MayRise forms what (Undecided tag origin on p q) place) (λ h. failed iff e (below_only place (Unit {0}) _ ne h).0)
 
-  pub yes_passed : (on : Operand) (p q : Tree) (b c : Bool) (n : ℕ) → place ≢ 0 → (b ≡ true) ↔ MayCross what → b ≡ true → n ≡ tree_size p → place - 1 < n
+  pub yes_passed : (on : Operand) (p q : Tree) (b c : Bool) (n : ℕ) → place ≢ 0 → (b ≡ true) ↔ MayCross what → b ≡ true → n ≤ tree_size p → place - 1 < n
       → (c ≡ true) ↔ MayRise forms what p (place - 1) → (c ≡ true) ↔ MayRise forms what (Undecided tag origin on p q) place
   yes_passed on p q b c n ne iff e size less iff' =
       let test : nat_lt (place - 1) (tree_size p) ≡ true = lt-ltb (place - 1) (tree_size p) (omega arith) in
@@ -40,9 +40,10 @@ module _ (forms : ℕ → Form) (what : Option Item) (tag origin place : ℕ) wh
       (λ h. under_root place (Unit {0}) _ ne (held iff e, side_first (nat_lt (place - 1) (tree_size p)) _ _ test h))
       (λ h. first_only (nat_lt (place - 1) (tree_size p)) _ _ test (below_only place (Unit {0}) _ ne h).1) iff'
 
-  pub no_passed : (on : Operand) (p q : Tree) (b c : Bool) (n : ℕ) → place ≢ 0 → (b ≡ true) ↔ MayCross what → b ≡ true → n ≡ tree_size p → n ≤ place - 1
+  pub no_passed : (on : Operand) (p q : Tree) (b c : Bool) (n : ℕ) → place ≢ 0 → (b ≡ true) ↔ MayCross what → b ≡ true → (n < place → n ≡ tree_size p) → n ≤ place - 1
       → (c ≡ true) ↔ MayRise forms what q (place - 1 - n) → (c ≡ true) ↔ MayRise forms what (Undecided tag origin on p q) place
-  no_passed on p q b c n ne iff e size most iff' =
+  no_passed on p q b c n ne iff e exact most iff' =
+      let size = exact (omega arith) in
       let test : nat_lt (place - 1) (tree_size p) ≡ false = of_most (place - 1) (tree_size p) (omega arith) in
       same_fact c (MayRise forms what q (place - 1 - n)) (MayRise forms what (Undecided tag origin on p q) place)
       (λ h. under_root place (Unit {0}) _ ne (held iff e, side_second (nat_lt (place - 1) (tree_size p)) _ _ test (subst (λ (k : ℕ). MayRise forms what q (place - 1 - k)) size h)))

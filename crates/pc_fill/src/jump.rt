@@ -8,7 +8,7 @@ ghost use Rattle.pc_fill.specs.models.Landing.{crossed, crosses, came, new_name,
 
 use crate::first::ReadyNode;
 use crate::landing::{Coming, land};
-use crate::readiness::size;
+use crate::readiness::size_up_to;
 use crate::taking::dest_of;
 use crate::twin::{Seeker, twin_of, with_dest};
 use pc_linear::LinForm;
@@ -57,7 +57,7 @@ fn crosses(tree: &WindowTree, place: u32) -> bool
             if place == 0 {
                 return false;
             }
-            let on_yes = size(yes);
+            let on_yes = size_up_to(yes, place);
             if place - 1 < on_yes {
                 return crosses(yes, place - 1);
             }

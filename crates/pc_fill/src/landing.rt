@@ -6,7 +6,7 @@ ghost use Rattle.pc_window.specs.StoredWindow.{tree_in, front_in, InNodes, Nodes
 ghost use Rattle.pc_fill.specs.models.Taking.{taken_out, divided_on, divided_yes, divided_no};
 ghost use Rattle.pc_fill.specs.models.Landing.{both_unfinished, joins, behind_leaf, above_test, place_or_root, landed, joins_at};
 
-use crate::readiness::size;
+use crate::readiness::size_up_to;
 use crate::taking::{Divided, dest_of, divide, take_out};
 use pc_window::{WindowTree, is_leaf};
 use pc_word::{Item, Operand};
@@ -120,7 +120,7 @@ fn joins_at(twin: Option<u32>, tree: &WindowTree, place: u32) -> bool
             if place == 0 {
                 return false;
             }
-            if place - 1 >= size(yes) {
+            if place - 1 >= size_up_to(yes, place) {
                 return false;
             }
             joins(twin, yes, no)
@@ -267,7 +267,7 @@ pub(crate) fn land(
     match tree {
         WindowTree::Step { rest, .. } => land(alloc, rest, coming, place - 1),
         WindowTree::Test { yes, no, .. } => {
-            let on_yes = size(yes);
+            let on_yes = size_up_to(yes, place);
             if place - 1 < on_yes {
                 return land(alloc, yes, coming, place - 1);
             }

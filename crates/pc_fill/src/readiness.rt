@@ -1,5 +1,5 @@
 //! What an item or test may pass on its way up.
-ghost use Rattle.std.specs.Prelude.{◌≡◌, ◌↔◌, ◌<◌, ◌^◌, true};
+ghost use Rattle.std.specs.Prelude.{◌≡◌, ◌↔◌, ◌<◌, ◌≤◌, ◌^◌, true};
 ghost use Rattle.pc_window.specs.Tree.{tree_size};
 ghost use Rattle.pc_window.specs.Ready.{MayStandBehind};
 ghost use Rattle.pc_window.specs.StoredWindow.{tree_in, forms_in};
@@ -18,6 +18,28 @@ pub(crate) fn size(tree: &WindowTree) -> u32
         WindowTree::Step { rest, .. } => 1 + size(rest),
         WindowTree::Test { yes, no, .. } => 1 + size(yes) + size(no),
         WindowTree::Node { below } => size(below),
+        WindowTree::Exit { .. } => 0,
+        WindowTree::Stop => 0,
+        WindowTree::Trap { .. } => 0,
+    }
+}
+
+/// The number of items and tests of a tree, counted no further than this many.
+pub(crate) fn size_up_to(tree: &WindowTree, most: u32) -> u32
+    ensures most { result ≤ most }
+    ensures within { result ≤ tree_size (tree_in tree.now) }
+    ensures exact { result < most → result ≡ tree_size (tree_in tree.now) }
+{
+    if most == 0 {
+        return 0;
+    }
+    match tree {
+        WindowTree::Step { rest, .. } => 1 + size_up_to(rest, most - 1),
+        WindowTree::Test { yes, no, .. } => {
+            let on_yes = size_up_to(yes, most - 1);
+            1 + on_yes + size_up_to(no, most - 1 - on_yes)
+        }
+        WindowTree::Node { below } => size_up_to(below, most),
         WindowTree::Exit { .. } => 0,
         WindowTree::Stop => 0,
         WindowTree::Trap { .. } => 0,
@@ -77,7 +99,7 @@ pub(crate) fn may_rise(names: &NameTable, what: Option<Item>, tree: &WindowTree,
             if !may_cross(what) {
                 return false;
             }
-            let on_yes = size(yes);
+            let on_yes = size_up_to(yes, place);
             if place - 1 < on_yes {
                 return may_rise(names, what, yes, place - 1);
             }

@@ -6,7 +6,7 @@ ghost use Rattle.pc_window.specs.Rename.{map_operands, map_homes, mapped, rename
 ghost use Rattle.pc_window.specs.StoredWindow.{tree_in, InNodes};
 ghost use Rattle.pc_fill.specs.models.Taking.{taken_out, starts_with_item, divided_on, divided_yes, divided_no};
 
-use crate::readiness::size;
+use crate::readiness::size_up_to;
 use pc_window::{Home, HomeList, WindowTree};
 use pc_word::{Item, Operand};
 use std::alloc::{AllocError, Global};
@@ -203,7 +203,7 @@ pub(crate) fn take_out(tree: &mut WindowTree, place: u32, name: Option<u32>)
     match tree {
         WindowTree::Step { rest, .. } => take_out(rest, place - 1, name),
         WindowTree::Test { yes, no, .. } => {
-            let on_yes = size(yes);
+            let on_yes = size_up_to(yes, place);
             if place - 1 < on_yes {
                 take_out(yes, place - 1, name)
             } else {

@@ -8,7 +8,7 @@ ghost use Rattle.pc_fill.specs.models.Search.{StandsAt};
 ghost use Rattle.pc_fill.specs.models.Landing.{TwinsAt, FirstFrom, FirstIn};
 
 use crate::landing::both_unfinished;
-use crate::readiness::{may_rise, size};
+use crate::readiness::{may_rise, size, size_up_to};
 use pc_alike::are_alike;
 use pc_window::{NameTable, WindowTree};
 use pc_word::Item;
@@ -149,7 +149,7 @@ pub(crate) fn twin_of(
             if place == 0 {
                 return None;
             }
-            let on_yes = size(yes);
+            let on_yes = size_up_to(yes, place);
             if place - 1 >= on_yes {
                 return twin_of(no, names, seeker, place - 1 - on_yes);
             }
