@@ -58,7 +58,6 @@ fn comes_before(tag: u32, origin: u32, best: Option<ReadyNode>) -> bool
 /// Whether an item is ready and has room where this path leads to it.
 #[tactic(auto, using(crate::proofs::Walked::ready))]
 fn is_item_ready(setting: &Setting, path: &Path, item: Item) -> bool
-    requires set { IsSetting setting.now }
     ensures { (result ≡ true) ↔ IsReadyThere setting.now path.now (Some item) (operands_of item) }
 {
     if !reads_known(setting.known, item) {
@@ -76,7 +75,6 @@ fn is_item_ready(setting: &Setting, path: &Path, item: Item) -> bool
 /// Whether a test is ready and has room where this path leads to it.
 #[tactic(auto, using(crate::proofs::Walked::ready))]
 fn is_test_ready(setting: &Setting, path: &Path, on: Operand) -> bool
-    requires set { IsSetting setting.now }
     ensures { (result ≡ true) ↔ IsReadyThere setting.now path.now None (on ∷ []) }
 {
     if !is_known(setting.known, on) {

@@ -8,7 +8,8 @@ use crate::readiness::{may_cross, may_pass, may_stand_behind};
 use pc_window::NameTable;
 use pc_word::Item;
 
-/// What an item or test meets on its way from a place up to the root of the window.
+/// What an item or test meets on its way from a place up to the root of the window, but for plain
+/// items, which let everything pass. It lies on the stack of the walk that goes down to the place.
 #[derive(Drop)]
 pub(crate) enum Path<'a> {
     /// The root.

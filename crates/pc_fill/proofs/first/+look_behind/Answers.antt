@@ -9,8 +9,8 @@ use Rattle.pc_fill.proofs.first.+look_behind.Goals as goal
 
 pub look_at_item-requires-clause-stands : goal.look_at_item-requires-clause-stands
 look_at_item-requires-clause-stands t c =
-    item_there c.args.setting.now c.args.path.now c.args.search.now.place (tree_in c.args.tree.now) (tree_in c.in-Step.rest.value) c.in-Step.tag c.in-Step.origin c.in-Step.item (ap tree_in c.in-Step.is)
-    c.requires.comes
+    item_there c.args.setting.now c.args.path.now c.args.search.now.place (tree_in c.args.tree.now) (tree_in c.in-Step.rest.value) c.in-Step.tag c.in-Step.origin c.in-Step.item
+    (ap tree_in c.in-Step.is) c.requires.comes
 
 pub look_behind-requires : goal.look_behind-requires
 look_behind-requires t c =

@@ -46,6 +46,6 @@ returns-else-both_unfinished t c =
     let apart : both_unfinished (front_in p) (front_in q) ≡ false =
     (λ i. both_unfinished (front_in (sym c.deref-in-Test-2.ensures i)) (front_in (sym c.deref-in-Test-3.ensures i))) ∙ sym c.both_unfinished.ensures ∙ c.if-both_unfinished.false in
     subst (λ (it : WindowTree). FirstIn forms next s.tag s.origin s.item (front_in it) c.args.place found) (sym c.in-Test.is)
-    (front_yes_side forms next s.tag s.origin s.item c.args.place c.in-Test.tag c.in-Test.origin c.in-Test.on (front_in p) (front_in q) (tree_size (whole (front_in p))) refl found c.if-place-eq0-2.false
-    (omega arith) apart
+    (front_yes_side forms next s.tag s.origin s.item c.args.place c.in-Test.tag c.in-Test.origin c.in-Test.on (front_in p) (front_in q) (tree_size (whole (front_in p))) refl found
+    c.if-place-eq0-2.false (omega arith) apart
     (subst (λ (it : WindowTree). FirstIn forms next s.tag s.origin s.item (front_in it) (c.args.place - 1) found) c.deref-in-Test-4.ensures c.twin_of-in-Test.ensures))
