@@ -4,6 +4,12 @@ pub mod MarkedNames
 pub mod FormTable
 pub mod TermPlaces
 pub mod Replacing
+pub mod Substituting
+pub mod Stored
+pub mod Entries
+pub mod GivenForms
+pub mod FirstBases
+pub mod FoundInOrder
 pub mod MadeBases
 pub mod ParameterTurns
 pub mod RebasedWindows

@@ -14,13 +14,13 @@ use Rattle.pc_window.specs.StoredWindow.{forms_in, supply_in}
 use Rattle.pc_rebase.specs.declared.terms.FewTerms.{FewTerms}
 use Rattle.pc_rebase.specs.declared.terms.FewTerms.TheVariants.{Nothing, One, Several}
 use Rattle.pc_rebase.specs.declared.turns.Turning.{Turning}
-use Rattle.pc_rebase.specs.models.Turning.{few_of, reversed, turned, unturned, first_turned, second_turned}
+use Rattle.pc_rebase.specs.models.Turning.{few_of, reversed, turned, unturned, second_turned}
 use Rattle.pc_rebase.proofs.Listed.{in_more}
 use Rattle.pc_rebase.proofs.MadeBases.{make_base-below, make_base-next, with_variable-below}
 
 -- ---- bases from the newest on
 
-reversed-more : (xs : List ℕ) (y : ℕ) → reversed (xs ++ y ∷ []) ≡ y ∷ reversed xs
+pub reversed-more : (xs : List ℕ) (y : ℕ) → reversed (xs ++ y ∷ []) ≡ y ∷ reversed xs
 reversed-more [] y = refl
 reversed-more (x ∷ xs) y = ap (λ (list : List ℕ). list ++ x ∷ []) (reversed-more xs y)
 
@@ -37,35 +37,18 @@ in_reversed x (y ∷ xs) = in_more x y (reversed xs) ∙ ap (λ (b : Bool). b ||
 new_base-reversed : (bases : List ℕ) (t : Term) → new_base (reversed bases) t ≡ new_base bases t
 new_base-reversed bases t = ap (λ (b : Bool). if int_eq t.factor (pos 1) && not b then Some t.variable else None) (in_reversed t.variable bases)
 
-first_base-reversed : (bases : List ℕ) (ts : List Term) → first_base (reversed bases) ts ≡ first_base bases ts
-first_base-reversed bases [] = refl
-first_base-reversed bases (t ∷ []) = new_base-reversed bases t
-first_base-reversed bases (t ∷ u ∷ ts) = refl
-
 free_terms-reversed : (bases : List ℕ) (ts : List Term) → free_terms (reversed bases) ts ≡ free_terms bases ts
 free_terms-reversed bases [] = refl
 free_terms-reversed bases (t ∷ ts) =
     (λ i. if in_reversed t.variable bases i then free_terms-reversed bases ts i else t ∷ free_terms-reversed bases ts i)
 
--- ---- the first turn of a parameter
+-- ---- the second turn of a parameter
 
 module _ (all : List ℕ) (p : ℕ) (old : Turning) (form : Form) (is : form ≡ forms_in old.names.forms p) where
-  first_choice : (found : Option ℕ) → found ≡ first_base old.bases form.terms → first_base (reversed old.bases) (forms_in old.names.forms p).terms ≡ found
-  first_choice found made = first_base-reversed old.bases (forms_in old.names.forms p).terms ∙ ap (λ (f : Form). first_base old.bases f.terms) (sym is) ∙ sym made
-
-  pub first_left : (left later : List ℕ) → None ≡ first_base old.bases form.terms → later ≡ left ++ p ∷ [] → turned old later ≡ first_turned all p (turned old left)
-  first_left left later made put =
-      (λ i. turned old (put i)) ∙ sym (ap (λ (found : Option ℕ). first_turn all p found (turned old left)) (first_choice None made))
-
   module _ (new : Turning) (x : ℕ) (names : supply_in new.names ≡ make_base all p x (supply_in old.names)) (bases : new.bases ≡ old.bases ++ old.names.next_variable ∷ []) where
     -- it becomes a base
     based : (left : List ℕ) → turned new left ≡ (record { names = make_base all p x (supply_in old.names); bases = old.names.next_variable ∷ reversed old.bases; left = left })
     based left = λ i. record { names = names i; bases = (ap reversed bases ∙ reversed-more old.bases old.names.next_variable) i; left = left }
-
-    pub first_based : (left : List ℕ) → Some x ≡ first_base old.bases form.terms → turned new left ≡ first_turned all p (turned old left)
-    first_based left made = based left ∙ sym (ap (λ (found : Option ℕ). first_turn all p found (turned old left)) (first_choice (Some x) made))
-
-  -- ---- and the second
 
   -- by few terms
   abbrev second_few : FewTerms → Turned → Turned
@@ -111,14 +94,12 @@ module _ (all : List ℕ) (p : ℕ) (old : Turning) (form : Form) (is : form ≡
         ∙ sym (second_is (One term) made left
         ∙ ap (λ (found : Option ℕ). second_choice all p found (turned old left)) (new_base-reversed old.bases term ∙ sym some))
 
-pub ruleset first = (first_left, first_based)
-
 pub ruleset second = (second_nothing, second_several, second_given, second_based)
 
 -- ---- what is kept
 
 module _ (all : List ℕ) (p : ℕ) where
-  first_below : (found : Option ℕ) (t : Turned) → FormsBelow t.names → FormsBelow (first_turn all p found t).names
+  pub first_below : (found : Option ℕ) (t : Turned) → FormsBelow t.names → FormsBelow (first_turn all p found t).names
   first_below None t b = b
   first_below (Some x) t b = make_base-below all p x t.names b
 
@@ -154,11 +135,6 @@ keeps_by n new left t is many below = record {
 }
 
 module _ (n : ℕ) (all : List ℕ) (p : ℕ) (old new : Turning) (keeps : Keeps n old) where
-  pub first_keeps : (left later : List ℕ) → turned new later ≡ first_turned all p (turned old left) → Keeps n new
-  first_keeps left later is =
-      let found = first_base (reversed old.bases) (forms_in old.names.forms p).terms in
-      keeps_by n new later (first_turned all p (turned old left)) is (first_next all p found (turned old left) ∙ keeps.as_many) (first_below all p found (turned old left) keeps.below)
-
   pub second_keeps : ((left : List ℕ) → turned new left ≡ second_turned all p (turned old left)) → Keeps n new
   second_keeps is =
       let ts = free_terms (reversed old.bases) (forms_in old.names.forms p).terms in
@@ -167,9 +143,6 @@ module _ (n : ℕ) (all : List ℕ) (p : ℕ) (old new : Turning) (keeps : Keeps
 -- ---- one parameter after another
 
 module _ (all ps : List ℕ) (at : ℕ) (there : at < length ps) where
-  pub first_turns-more : (whole s t : Turned) → whole ≡ first_turns all (drop at ps) s → t ≡ first_turned all (slice_index_or ps at 0) s → whole ≡ first_turns all (drop (at + 1) ps) t
-  first_turns-more whole s t so_far made = so_far ∙ at_drop_more (λ (list : List ℕ). first_turns all list s) ps at 0 there ∙ ap (first_turns all (drop (at + 1) ps)) (sym made)
-
   pub second_turns-more : (whole s t : Turned) → whole ≡ second_turns all (drop at ps) s → t ≡ second_turned all (slice_index_or ps at 0) s
       → whole ≡ second_turns all (drop (at + 1) ps) t
   second_turns-more whole s t so_far made = so_far ∙ at_drop_more (λ (list : List ℕ). second_turns all list s) ps at 0 there ∙ ap (second_turns all (drop (at + 1) ps)) (sym made)

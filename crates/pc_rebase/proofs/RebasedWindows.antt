@@ -1,7 +1,8 @@
 -- Windows in memory, rebased.
-use Rattle.std.proofs.Common.{◌≡◌, ℕ, ◌<◌, List, length, sym, ◌∙◌, ap, subst}
-use Rattle.std.specs.Prelude.{Option, true}
+use Rattle.std.proofs.Common.{◌≡◌, ℕ, ◌<◌, List, [], ◌∷◌, ◌++◌, length, sym, ◌∙◌, ap, subst, arith}
+use Rattle.std.specs.Prelude.{Option, Bool, true, ◌||◌, nat_eq}
 use Rattle.std.specs.List.{AllByRecursion}
+use Rattle.pc_word.proofs.Lists.{all_imply}
 use Rattle.pc_word.specs.declared.item.Limits.{Limits}
 use Rattle.pc_window.specs.declared.tree.WindowTree.{WindowTree}
 use Rattle.pc_window.specs.declared.names.NameTable.{NameTable}
@@ -9,9 +10,9 @@ use Rattle.pc_window.specs.declared.window.Window.{Window as StoredWindow}
 use Rattle.pc_window.specs.Tree.{Tree, whole}
 use Rattle.pc_table.specs.Table.{Table}
 use Rattle.pc_window.specs.Kept.{WindowKeeps}
-use Rattle.pc_window.specs.Names.{parameters_of}
+use Rattle.pc_window.specs.Names.{parameters_of, first_uses, definitions_of}
 use Rattle.pc_window.specs.Opening.{Supply, TreeBelow, FormsBelow}
-use Rattle.pc_window.specs.Rebasing.{all_names, first_turns, after_first, rebased}
+use Rattle.pc_window.specs.Rebasing.{is_in, all_names, first_turns, after_first, rebased}
 use Rattle.pc_window.specs.Steps.{IsProper, Rebases}
 use Rattle.pc_window.specs.StoredWindow.{InNodes, window_in, tree_in, front_in, supply_in}
 use Rattle.pc_window.proofs.Rebasing.{rebased-kept}
@@ -19,11 +20,23 @@ use Rattle.pc_window.proofs.Proper.{rebases_proper}
 use Rattle.pc_window.proofs.Settling.{rebases_keep}
 use Rattle.pc_window.proofs.WindowsStored.{single_window, whole_in}
 use Rattle.pc_rebase.specs.models.Turning.{unturned}
-use Rattle.pc_rebase.proofs.Listed.{parameters-below, all_names-below}
+use Rattle.pc_rebase.proofs.Listed.{or_true, parameters-below, all_names-below}
 
 -- a window in memory, by its parts
 abbrev pub with_parts : WindowTree → NameTable → Limits → Option ℕ → StoredWindow
 with_parts tree names limits inside = record { tree = tree; names = names; limits = limits; inside = inside }
+
+-- each of some names is among these and others
+each_among : (xs ys : List ℕ) → AllByRecursion (λ (name : ℕ). is_in name (xs ++ ys) ≡ true) xs
+each_among [] ys = tt
+each_among (x ∷ xs) ys =
+    (ap (λ (b : Bool). b || is_in x (xs ++ ys)) itself, all_imply (λ (name : ℕ). is_in name (xs ++ ys) ≡ true) (λ (name : ℕ). is_in name (x ∷ (xs ++ ys)) ≡ true) xs more (each_among xs ys))
+  where
+    itself : nat_eq x x ≡ true
+    itself = grind arith
+
+    more : (name : ℕ) → is_in name (xs ++ ys) ≡ true → (nat_eq name x || is_in name (xs ++ ys)) ≡ true
+    more name there = ap (λ (b : Bool). nat_eq name x || b) there ∙ or_true (nat_eq name x)
 
 module _ (tree : WindowTree) (names : NameTable) (limits : Limits) (inside : Option ℕ) (proper : IsProper (window_in (with_parts tree names limits inside))) where
   pub names_below : TreeBelow (length names.forms) (tree_in tree)
@@ -39,6 +52,12 @@ module _ (tree : WindowTree) (names : NameTable) (limits : Limits) (inside : Opt
   pub all_there : (all : List ℕ) → all ≡ all_names (tree_in tree) → AllByRecursion (λ (name : ℕ). name < length names.forms) all
   all_there all is =
       subst (λ (list : List ℕ). AllByRecursion (λ (name : ℕ). name < length names.forms) list) (sym is) (all_names-below (length names.forms) (tree_in tree) names_below)
+
+  pub among_there : (parameters all : List ℕ) → parameters ≡ parameters_of (tree_in tree) → all ≡ all_names (tree_in tree) → AllByRecursion (λ (name : ℕ). is_in name all ≡ true) parameters
+  among_there parameters all parameters_are all_are =
+      subst (λ (list : List ℕ). AllByRecursion (λ (name : ℕ). is_in name list ≡ true) parameters) (sym all_are)
+      (subst (λ (list : List ℕ). AllByRecursion (λ (name : ℕ). is_in name (all_names (tree_in tree)) ≡ true) list) (sym parameters_are)
+      (each_among (parameters_of (tree_in tree)) (first_uses (definitions_of (tree_in tree)))))
 
   module _ (later : NameTable) (parameters all : List ℕ) (parameters_are : parameters ≡ parameters_of (tree_in tree)) (all_are : all ≡ all_names (tree_in tree))
       (made : supply_in later ≡ after_first all (first_turns all parameters (unturned (supply_in names)))) where

@@ -19,7 +19,7 @@ use Rattle.pc_rebase.specs.models.Rewriting.{then_form, replaced}
 
 -- ---- sums that are combined
 
-fitting_few : (f : Form) → length f.terms ≤ most_terms → fitting f ≡ Some f
+pub fitting_few : (f : Form) → length f.terms ≤ most_terms → fitting f ≡ Some f
 fitting_few f few = by (nat_lt most_terms (length f.terms)) refl
   where
     by : (b : Bool) → nat_lt most_terms (length f.terms) ≡ b → (if b then None else Some f) ≡ Some f
@@ -36,7 +36,7 @@ combine_sub f g = by f.terms g.terms f.constant g.constant
     by [] (u ∷ us) c d = refl
     by (t ∷ ts) us c d = refl
 
-combine_add : (f g : Form) → combine Add f g ≡ fitting (plus f (pos 1) g)
+pub combine_add : (f g : Form) → combine Add f g ≡ fitting (plus f (pos 1) g)
 combine_add f g = by f.terms g.terms f.constant g.constant
   where
     by : (ts us : List Term) (c d : ℤ) → combine Add (record { terms = ts; constant = c }) (record { terms = us; constant = d })
@@ -52,7 +52,7 @@ combine_times k g = by g.terms g.constant
     by [] d = ap (λ (z : ℤ). Some (constant_form z)) (word_mul-is k d) ∙ ap (λ (z : ℤ). Some (constant_form (int_wrap w32 z))) (sym (+ℤ_idl (k *ℤ d)))
     by (u ∷ us) d = refl
 
-add_times-length : (n : ℤ) (ts us : List Term) → length (add_times n ts us) ≤ length ts + length us
+pub add_times-length : (n : ℤ) (ts us : List Term) → length (add_times n ts us) ≤ length ts + length us
 add_times-length n [] us = omega arith
 add_times-length n (t ∷ ts) us =
     let one = add_term-length t.variable (n *ℤ t.factor) us in
@@ -60,7 +60,7 @@ add_times-length n (t ∷ ts) us =
     omega arith
 
 -- a form of few terms, so many times
-times_few : (k : ℤ) (g : Form) → length g.terms ≤ most_terms → combine Mul (constant_form k) g ≡ Some (times_form g k)
+pub times_few : (k : ℤ) (g : Form) → length g.terms ≤ most_terms → combine Mul (constant_form k) g ≡ Some (times_form g k)
 times_few k g few = combine_times k g ∙ fitting_few (times_form g k) (let le = add_times-length k g.terms [] in omega arith)
 
 -- ---- a new variable is one term more
@@ -112,7 +112,7 @@ numbers_same F G V k =
         ∙ ap (λ (z : ℤ). F +ℤ ((k *ℤ V) +ℤ z)) (sym turned)
         ∙ ap (λ (z : ℤ). F +ℤ z) (sym (distribute_left V (negsuc 0 *ℤ G) k))
 
-zero_normal : IsNormal (constant_form (pos 0))
+pub zero_normal : IsNormal (constant_form (pos 0))
 zero_normal = constant-normal (pos 0) (record { sfits = omega arith })
 
 variable_normal : (y : ℕ) → IsNormal (variable_form y)

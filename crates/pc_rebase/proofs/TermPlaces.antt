@@ -6,20 +6,21 @@ use Rattle.std.proofs.lemmas.Bool.Decides.{eqb_tells}
 use lib.IntN.{+ℤ_idl, +ℤ_idr}
 use Rattle.pc_linear.specs.declared.term.Term.{Term}
 use Rattle.pc_linear.specs.Form.{Form, IsForm, Rising, factor_of}
-use Rattle.pc_window.specs.Rebasing.{is_in, new_base, first_base, free_terms}
+use Rattle.pc_window.specs.Rebasing.{is_in, free_terms}
 use Rattle.pc_rebase.specs.declared.terms.FewTerms.{FewTerms}
-use Rattle.pc_rebase.specs.declared.terms.FewTerms.TheVariants.{Nothing, One, Several}
+use Rattle.pc_rebase.specs.declared.terms.FewTerms.TheVariants.{Nothing}
+use Rattle.pc_rebase.specs.models.Finding.{variable_below, old_variable}
 use Rattle.pc_rebase.specs.models.Turning.{few_of, and_term}
 
 -- ---- what stands at a place
 
-none_from : (ts : List Term) (at : ℕ) → slice_get ts at ≡ None → drop at ts ≡ []
+pub none_from : (ts : List Term) (at : ℕ) → slice_get ts at ≡ None → drop at ts ≡ []
 none_from [] zero h = refl
 none_from [] (suc at) h = refl
 none_from (t ∷ ts) zero h = absurd (cc)
 none_from (t ∷ ts) (suc at) h = none_from ts at h
 
-one_from : (ts : List Term) (at : ℕ) (t : Term) → slice_get ts at ≡ Some t → drop at ts ≡ t ∷ drop (suc at) ts
+pub one_from : (ts : List Term) (at : ℕ) (t : Term) → slice_get ts at ≡ Some t → drop at ts ≡ t ∷ drop (suc at) ts
 one_from [] at t h = absurd (cc)
 one_from (u ∷ ts) zero t h = let same : u ≡ t = (cc) in ap (λ (x : Term). x ∷ ts) same
 one_from (u ∷ ts) (suc at) t h = one_from ts at t h
@@ -121,33 +122,28 @@ pub ruleset places = (no_factor, its_factor, later_factor, few_places, fewer_pla
 
 -- ---- a term alone
 
-none_taken : (ts : List Term) → free_terms [] ts ≡ ts
-none_taken [] = refl
-none_taken (t ∷ ts) = ap (λ (us : List Term). t ∷ us) (none_taken ts)
+module _ (first : ℕ) (ts : List Term) where
+  pub no_variable : slice_get ts 0 ≡ None → None ≡ old_variable first ts
+  no_variable none = by ts none
+    where
+      by : (ts : List Term) → slice_get ts 0 ≡ None → None ≡ old_variable first ts
+      by [] h = refl
+      by (t ∷ ts) h = absurd (cc)
 
--- what few terms give
-abbrev by_few : List ℕ → FewTerms → Option ℕ
-by_few bases Nothing = None
-by_few bases (One t) = new_base bases t
-by_few bases Several = None
+  pub one_variable : (t : Term) (found : Option ℕ) → slice_get ts 0 ≡ Some t → slice_get ts 1 ≡ None → found ≡ variable_below first t → found ≡ old_variable first ts
+  one_variable t found one none is = is ∙ by ts one none
+    where
+      by : (ts : List Term) → slice_get ts 0 ≡ Some t → slice_get ts 1 ≡ None → variable_below first t ≡ old_variable first ts
+      by [] h k = absurd (cc)
+      by (u ∷ []) h k = let same : t ≡ u = (cc) in ap (variable_below first) same
+      by (u ∷ v ∷ ts) h k = absurd (cc)
 
--- what the terms give
-base_by_few : (bases : List ℕ) (ts : List Term) → by_few bases (few_of ts) ≡ first_base bases ts
-base_by_few bases [] = refl
-base_by_few bases (t ∷ []) = refl
-base_by_few bases (t ∷ u ∷ ts) = refl
+  pub several : (t u : Term) → slice_get ts 0 ≡ Some t → slice_get ts 1 ≡ Some u → None ≡ old_variable first ts
+  several t u one more = by ts more
+    where
+      by : (ts : List Term) → slice_get ts 1 ≡ Some u → None ≡ old_variable first ts
+      by [] k = absurd (cc)
+      by (w ∷ []) k = absurd (cc)
+      by (w ∷ v ∷ ts) k = refl
 
-module _ (bases : List ℕ) (ts : List Term) where
-  all_few : (few : FewTerms) → few ≡ few_of (free_terms [] (drop 0 ts)) → by_few bases few ≡ first_base bases ts
-  all_few few is = ap (by_few bases) (is ∙ ap few_of (none_taken ts)) ∙ base_by_few bases ts
-
-  pub no_base : Nothing ≡ few_of (free_terms [] (drop 0 ts)) → None ≡ first_base bases ts
-  no_base is = all_few Nothing is
-
-  pub one_base : (t : Term) (found : Option ℕ) → One t ≡ few_of (free_terms [] (drop 0 ts)) → found ≡ new_base bases t → found ≡ first_base bases ts
-  one_base t found is new = new ∙ all_few (One t) is
-
-  pub too_many : Several ≡ few_of (free_terms [] (drop 0 ts)) → None ≡ first_base bases ts
-  too_many is = all_few Several is
-
-pub ruleset choices = (no_base, one_base, too_many)
+pub ruleset choices = (no_variable, one_variable, several)

@@ -2,10 +2,12 @@
 #![tactic(auto)]
 
 mod bases;
+mod finding;
 mod listed_names;
 mod listing;
 mod rebasing;
 mod rewriting;
+mod standing;
 mod terms;
 #[cfg(test)]
 mod tests;

@@ -4,15 +4,15 @@ ghost use Rattle.std.specs.List.{AllByRecursion};
 ghost use Rattle.pc_table.specs.Table.{Table};
 ghost use Rattle.pc_window.specs.Kept.{WindowKeeps};
 ghost use Rattle.pc_window.specs.Opening.{FormsBelow};
-ghost use Rattle.pc_window.specs.Rebasing.{after_first, first_turns};
+ghost use Rattle.pc_window.specs.Rebasing.{is_in, after_first, first_turns};
 ghost use Rattle.pc_window.specs.Steps.{Rebases, IsProper};
 ghost use Rattle.pc_window.specs.StoredWindow.{supply_in, window_in, InNodes};
 ghost use Rattle.pc_rebase.specs.models.Turning.{unturned};
 
-use crate::NumberList;
 use crate::bases::MOST_VARIABLES;
+use crate::finding::first_turns;
 use crate::listing::{all_names, parameters_of};
-use crate::turns::{Turning, first_turns, second_turns};
+use crate::turns::{Turning, second_turns};
 use pc_window::{NameTable, Window, WindowError};
 use std::alloc::Global;
 
@@ -62,6 +62,7 @@ fn rebased(
 ) -> Result<NameTable, WindowError>
     requires all { AllByRecursion (λ name. name < length names.forms) all.now }
     requires parameters { AllByRecursion (λ name. name < length names.forms) parameters.now }
+    requires among { AllByRecursion (λ name. is_in name all.now ≡ true) parameters.now }
     requires below { FormsBelow (supply_in names) }
     ensures names { IfOk result (λ later. supply_in later ≡ after_first all.now (first_turns all.now parameters.now (unturned (supply_in names)))) }
     ensures variables { IfOk result (λ later. later.next_variable ≤ 2 ^ 30) }
@@ -83,15 +84,11 @@ fn turned(
 ) -> Result<NameTable, WindowError>
     requires all { AllByRecursion (λ name. name < length names.forms) all.now }
     requires parameters { AllByRecursion (λ name. name < length names.forms) parameters.now }
+    requires among { AllByRecursion (λ name. is_in name all.now ≡ true) parameters.now }
     requires below { FormsBelow (supply_in names) }
     ensures { IfOk result (λ later. supply_in later ≡ after_first all.now (first_turns all.now parameters.now (unturned (supply_in names)))) }
 {
-    let mut turning = Turning {
-        names,
-        bases: NumberList::new(alloc),
-    };
-    let mut left = NumberList::new(alloc);
-    first_turns(alloc, &mut turning, &mut left, all, parameters)?;
+    let (mut turning, left) = first_turns(alloc, names, all, parameters)?;
     second_turns(alloc, &mut turning, all, left.as_slice())?;
     let Turning { names, .. } = turning;
     Ok(names)

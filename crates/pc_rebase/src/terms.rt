@@ -1,8 +1,9 @@
 //! The terms of a form.
 ghost use Rattle.std.specs.Prelude.{◌≡◌, ◌<◌, length, drop};
 ghost use Rattle.pc_linear.specs.Form.{IsForm, factor_of};
-ghost use Rattle.pc_window.specs.Rebasing.{new_base, first_base, free_terms};
+ghost use Rattle.pc_window.specs.Rebasing.{new_base, free_terms};
 ghost use Rattle.pc_window.specs.StoredWindow.{forms_in};
+ghost use Rattle.pc_rebase.specs.models.Finding.{variable_below, old_variable};
 ghost use Rattle.pc_rebase.specs.models.Turning.{few_of, and_term};
 
 use crate::listed_names::is_in;
@@ -77,16 +78,28 @@ fn and_term(term: Term, more: FewTerms) -> FewTerms
     }
 }
 
-/// The variable that a form is, with factor 1 and a constant, where it is no base.
+/// The variable that a form is, with factor 1 and a constant, where it is below a number.
 #[tactic(auto, using(crate::proofs::TermPlaces::choices))]
-pub(crate) fn first_base(form: &LinForm, bases: &[u32]) -> Option<u32>
-    requires { IsForm form.now }
-    ensures { result ≡ first_base bases.now form.now.terms }
+pub(crate) fn old_variable(form: &LinForm, first: usize) -> Option<u32>
+    ensures { result ≡ old_variable first form.now.terms }
 {
-    match free_terms(form, &[], 0) {
-        FewTerms::Nothing => None,
-        FewTerms::One { term } => new_base(bases, term),
-        FewTerms::Several => None,
+    match form.term(0) {
+        None => None,
+        Some(term) => match form.term(1) {
+            None => variable_below(term, first),
+            Some(_) => None,
+        },
+    }
+}
+
+/// The variable of a term with factor 1, where it is below a number.
+fn variable_below(term: Term, first: usize) -> Option<u32>
+    ensures { result ≡ variable_below first term }
+{
+    if term.factor == 1 && (term.variable as usize) < first {
+        Some(term.variable)
+    } else {
+        None
     }
 }
 

@@ -5,7 +5,7 @@ ghost use Rattle.pc_rebase.specs.models.TwoVariables.{two_variables_table};
 use super::*;
 use pc_linear::{LinForm, Term};
 use pc_table::{Region, RegionList, RegionTable, RegionTree, VarList};
-use pc_window::{Window, WindowError};
+use pc_window::{Window, WindowError, WindowTree};
 use pc_word::{Item, LengthList, Limits, LoopList, OpCode, Operand};
 use std::alloc::{AllocError, Global};
 use std::test::Fail;
@@ -115,6 +115,33 @@ fn parameters_become_bases(rt: HostRuntime) -> Result<(), Fail> {
     let table = two_variables(rt.alloc())?;
     let is_so = match rebased(rt.alloc(), &table) {
         Ok(window) => has_forms(&window),
+        Err(_) => false,
+    };
+    assert!(&rt; is_so);
+    Ok(())
+}
+
+/// The parameters of `c = b + a;`, where a, b and c are the names 0, 1 and 2.
+fn parameters(alloc: Global) -> Result<NumberList, AllocError> {
+    let sum = Item::Bin {
+        op: OpCode::Add,
+        dest: 2,
+        left: Operand::Name(1),
+        right: Operand::Name(0),
+    };
+    let tree = WindowTree::Step {
+        tag: 0,
+        origin: 0,
+        item: sum,
+        rest: Box::new(alloc, WindowTree::Stop)?,
+    };
+    parameters_of(alloc, &tree, 3)
+}
+
+#[test]
+fn parameters_stand_in_the_order_of_first_use(rt: HostRuntime) -> Result<(), Fail> {
+    let is_so = match parameters(rt.alloc()) {
+        Ok(names) => names.as_slice() == [1, 0].as_slice(),
         Err(_) => false,
     };
     assert!(&rt; is_so);

@@ -1,14 +1,14 @@
-//! The two turns of parameters.
+//! The second turns of parameters.
 ghost use Rattle.std.specs.Prelude.{◌≡◌, ◌<◌, ◌++◌, ◌∷◌, [], ℕ, List, length, OnOk};
 ghost use Rattle.std.specs.List.{AllByRecursion};
 ghost use Rattle.pc_window.specs.Opening.{FormsBelow};
-ghost use Rattle.pc_window.specs.Rebasing.{first_turns, second_turns, make_base};
+ghost use Rattle.pc_window.specs.Rebasing.{second_turns, make_base};
 ghost use Rattle.pc_window.specs.StoredWindow.{supply_in};
-ghost use Rattle.pc_rebase.specs.models.Turning.{turned, first_turned, second_turned};
+ghost use Rattle.pc_rebase.specs.models.Turning.{turned, second_turned};
 
 use crate::NumberList;
 use crate::bases::{make_base, set_variable};
-use crate::terms::{FewTerms, first_base, form_of, free_terms, new_base};
+use crate::terms::{FewTerms, form_of, free_terms, new_base};
 use pc_window::{NameTable, WindowError};
 use std::alloc::Global;
 
@@ -18,25 +18,6 @@ use std::alloc::Global;
 pub(crate) struct Turning {
     pub(crate) names: NameTable,
     pub(crate) bases: NumberList,
-}
-
-/// The first turns of parameters, in order: each becomes a base, or is left for the second turn.
-pub(crate) fn first_turns(
-    alloc: Global,
-    turning: &mut Turning,
-    left: &mut NumberList,
-    all: &[u32],
-    parameters: &[u32],
-) -> Result<(), WindowError>
-    requires all { AllByRecursion (λ name. name < length turning.old.names.forms) all.now }
-    requires parameters { AllByRecursion (λ name. name < length turning.old.names.forms) parameters.now }
-    requires below { FormsBelow (supply_in turning.old.names) }
-    ensures { OnOk result (turned turning.new left.new ≡ first_turns all.now parameters.now (turned turning.old left.old)) }
-{
-    for at in 0..parameters.len() {
-        first_turn(alloc, turning, left, all, parameters[at])?;
-    }
-    Ok(())
 }
 
 /// The second turns of parameters, in order: each whose form has a variable that is no base becomes a
@@ -54,30 +35,6 @@ pub(crate) fn second_turns(
 {
     for at in 0..parameters.len() {
         second_turn(alloc, turning, all, parameters[at])?;
-    }
-    Ok(())
-}
-
-/// The first turn of a parameter.
-#[tactic(auto, using(crate::proofs::ParameterTurns::first))]
-fn first_turn(
-    alloc: Global,
-    turning: &mut Turning,
-    left: &mut NumberList,
-    all: &[u32],
-    parameter: u32,
-) -> Result<(), WindowError>
-    requires all { AllByRecursion (λ name. name < length turning.old.names.forms) all.now }
-    requires parameter { parameter < length turning.old.names.forms }
-    requires below { FormsBelow (supply_in turning.old.names) }
-    ensures { OnOk result (turned turning.new left.new ≡ first_turned all.now parameter (turned turning.old left.old)) }
-{
-    let form = form_of(turning.names.forms.as_slice(), parameter);
-    match first_base(&form, turning.bases.as_slice()) {
-        None => {
-            left.push(parameter)?;
-        }
-        Some(variable) => become_base(alloc, turning, all, parameter, variable)?,
     }
     Ok(())
 }

@@ -2,7 +2,7 @@
 use Rattle.std.specs.Prelude.{ℕ, List, [], ◌∷◌, ◌++◌}
 use Rattle.pc_linear.specs.declared.term.Term.{Term}
 use Rattle.pc_window.specs.Opening.{Supply}
-use Rattle.pc_window.specs.Rebasing.{Turned, first_base, free_terms, first_turn, second_turn}
+use Rattle.pc_window.specs.Rebasing.{Turned, free_terms, second_turn}
 use Rattle.pc_window.specs.StoredWindow.{supply_in}
 use Rattle.pc_rebase.specs.declared.terms.FewTerms.{FewTerms}
 use Rattle.pc_rebase.specs.declared.terms.FewTerms.TheVariants.{Nothing, One, Several}
@@ -32,10 +32,6 @@ turned turning left = record { names = supply_in turning.names; bases = reversed
 -- names before any turn
 abbrev pub unturned : Supply → Turned
 unturned names = record { names = names; bases = []; left = [] }
-
--- the first turn of a parameter
-abbrev pub first_turned : List ℕ → ℕ → Turned → Turned
-first_turned all p t = first_turn all p (first_base t.bases (t.names.forms p).terms) t
 
 -- the second turn of a parameter
 abbrev pub second_turned : List ℕ → ℕ → Turned → Turned

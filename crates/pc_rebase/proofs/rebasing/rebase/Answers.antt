@@ -4,7 +4,7 @@ use Rattle.pc_window.specs.Opening.{TreeBelow}
 use Rattle.pc_window.specs.Rebasing.{all_names, first_turns, after_first}
 use Rattle.pc_window.specs.StoredWindow.{tree_in, supply_in}
 use Rattle.pc_rebase.specs.models.Turning.{unturned}
-use Rattle.pc_rebase.proofs.RebasedWindows.{names_below, parameters_there, all_there, is_rebased, stays_proper, keeps, as_many}
+use Rattle.pc_rebase.proofs.RebasedWindows.{names_below, parameters_there, all_there, among_there, is_rebased, stays_proper, keeps, as_many}
 use Rattle.pc_rebase.proofs.rebasing.rebase.Goals as goal
 
 pub parameters_of-requires : goal.parameters_of-requires
@@ -24,6 +24,15 @@ rebased-requires-clause-parameters c =
     let window = c.args.window in
     let is : c.as_slice-2.result.now ≡ parameters_of (tree_in window.tree) = search rules in
     parameters_there window.tree window.names window.limits window.inside c.requires.proper c.as_slice-2.result.now is
+
+pub rebased-requires-clause-among : goal.rebased-requires-clause-among
+rebased-requires-clause-among c =
+    let window = c.args.window in
+    let all = c.as_slice-3.result.now in
+    let parameters = c.as_slice-2.result.now in
+    let all_are : all ≡ all_names (tree_in window.tree) = search rules in
+    let parameters_are : parameters ≡ parameters_of (tree_in window.tree) = search rules in
+    among_there window.tree window.names window.limits window.inside c.requires.proper parameters all parameters_are all_are
 
 pub returns-clause-rebases : goal.returns-clause-rebases
 returns-clause-rebases c =

@@ -1,0 +1,12 @@
+use Rattle.std.proofs.Common.{◌≡◌, drop, length}
+use Rattle.pc_window.specs.StoredWindow.{forms_in, supply_in}
+use Rattle.pc_rebase.specs.models.Finding.{all_written}
+use Rattle.pc_rebase.specs.models.Standing.{stands_in}
+use Rattle.pc_rebase.proofs.finding.write_all.Given as goal
+
+-- the rest of the names, written, come to what all come to
+abbrev pub invariant-loop-at : goal.invariant-loop-at
+invariant-loop-at l = record {
+  as_many : length l.names.forms ≡ length l.fn.names.forms;
+  same : all_written (stands_in l.stands) (forms_in l.old) l.all (supply_in l.fn.names) ≡ all_written (stands_in l.stands) (forms_in l.old) (drop l.at l.all) (supply_in l.names);
+}
