@@ -4,8 +4,8 @@ use Rattle.pc_linear.specs.Combine.{constant_form, variable_form, combine}
 use Rattle.pc_rebase.proofs.Stored.{shifted_unwrapped}
 use Rattle.pc_rebase.proofs.standing.shifted.Goals as goal
 
-pub returns : goal.returns
-returns c =
+pub returns-clause-value : goal.returns-clause-value
+returns-clause-value c =
     let variable = c.variable-variable.result in
     let number = c.constant.result in
     let last = c.unwrap.result in
