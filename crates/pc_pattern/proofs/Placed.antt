@@ -1,9 +1,8 @@
 -- The number of a key that is put into an ordered set of keys.
 use Rattle.std.proofs.Common.{◌≡◌, ℕ, zero, suc, ◌+◌, ◌≤◌, ◌<◌, List, [], ◌∷◌, ◌++◌, length, length-append, refl, sym, ◌∙◌, ap, subst, arith}
-use Rattle.std.specs.Prelude.{nat_eq, Bool, true, false, not, ◌||◌, if◌then◌else◌, cond, None, Some, slice_get, Vec}
+use Rattle.std.specs.Prelude.{nat_eq, Bool, true, false, not, ◌||◌, if◌then◌else◌, cond, None, Some, slice_get}
 use Rattle.std.specs.List.{list_any, position_or_len}
 use Rattle.std.specs.Cmp.Lexicographic.{pointwise, bytes_decides}
-use Rattle.std.specs.declared.alloc.Global.{Global}
 use Rattle.std.proofs.lemmas.List.{length-map, map-append}
 use Rattle.std.proofs.lemmas.Option.{slice_get_within}
 use Rattle.pc_window.specs.declared.window.Window.{Window as StoredWindow}
@@ -14,6 +13,7 @@ use Rattle.pc_window.specs.StoredWindow.{window_in, InNodes}
 use Rattle.pc_canon.specs.Key.{key_of}
 use Rattle.pc_renumber.specs.Renumbering.{renumbered, Renumbers}
 use Rattle.pc_renumber.proofs.Renumbered.{renumbered_variables}
+use Rattle.pc_pattern.specs.declared.member_key.MemberKey.{MemberKey}
 use Rattle.pc_pattern.specs.declared.error.SearchError.{SearchError}
 use Rattle.pc_pattern.specs.declared.error.SearchError.TheVariants.{Memory, NoPattern}
 use Rattle.pc_pattern.specs.Searches.{bare_leaf}
@@ -21,13 +21,9 @@ use Rattle.pc_pattern.proofs.Keys.{map_at}
 use Rattle.pc_pattern.specs.models.Pools.{Pool, keys_in, IsNowhere, IsPlaced, placed_known, placed_new, Joins, IsNumbered, numbered_known, numbered_new, IsSettled}
 use Rattle.pc_pattern.specs.models.Leading.{KeyRefused, key_memory, key_many, WindowRefused, refused_memory, refused_many}
 
--- a key in memory
-abbrev StoredKey : Type 0
-StoredKey = Vec ℕ Global
-
 -- whether a key is this one
-abbrev is_key : StoredKey → StoredKey → Bool
-is_key key other = pointwise nat_eq key.items other.items
+abbrev is_key : MemberKey → MemberKey → Bool
+is_key key other = pointwise nat_eq key.bytes.items other.bytes.items
 
 same_bytes : (xs ys : List ℕ) → pointwise nat_eq xs ys ≡ true → xs ≡ ys
 same_bytes xs ys e = (bytes_decides xs ys).0 e
@@ -40,18 +36,18 @@ either_false true c e = absurd (cc)
 either_false false c e = (refl, e)
 
 -- a key that none of a list is stands nowhere in it
-nowhere : (key : StoredKey) (keys : List StoredKey) → list_any (is_key key) keys ≡ false → IsNowhere (keys_in keys) key.items
+nowhere : (key : MemberKey) (keys : List MemberKey) → list_any (is_key key) keys ≡ false → IsNowhere (keys_in keys) key.bytes.items
 nowhere key [] none i at = absurd (cc)
 nowhere key (k ∷ keys) none zero at =
     let parts = either_false (is_key key k) (list_any (is_key key) keys) none in
-    let same : k.items ≡ key.items = cc in
-    let is : is_key key k ≡ true = bytes_same key.items k.items (sym same) in
+    let same : k.bytes.items ≡ key.bytes.items = cc in
+    let is : is_key key k ≡ true = bytes_same key.bytes.items k.bytes.items (sym same) in
     absurd (let e : true ≡ false = sym is ∙ parts.0 in cc)
 nowhere key (k ∷ keys) none (suc i) at =
     nowhere key keys (either_false (is_key key k) (list_any (is_key key) keys) none).1 i at
 
 -- and its index is the length
-last_index : (key : StoredKey) (keys : List StoredKey) → list_any (is_key key) keys ≡ false → position_or_len (is_key key) keys ≡ length keys
+last_index : (key : MemberKey) (keys : List MemberKey) → list_any (is_key key) keys ≡ false → position_or_len (is_key key) keys ≡ length keys
 last_index key [] none = refl
 last_index key (k ∷ keys) none =
     let parts = either_false (is_key key k) (list_any (is_key key) keys) none in
@@ -60,26 +56,26 @@ last_index key (k ∷ keys) none =
     let next = last_index key keys parts.1 in
     omega (arith, step, next)
 
-pub placed_of : (key : StoredKey) (olds news : List StoredKey) (number : ℕ) (is_new : Bool) → is_new ≡ not (list_any (is_key key) olds)
+pub placed_of : (key : MemberKey) (olds news : List MemberKey) (number : ℕ) (is_new : Bool) → is_new ≡ not (list_any (is_key key) olds)
     → news ≡ (if list_any (is_key key) olds then olds else olds ++ key ∷ []) → number ≡ position_or_len (is_key key) olds
-    → (k : StoredKey) × (slice_get news number ≡ Some k) × (is_key key k ≡ true) → IsPlaced (keys_in olds) key.items number is_new (keys_in news)
+    → (k : MemberKey) × (slice_get news number ≡ Some k) × (is_key key k ≡ true) → IsPlaced (keys_in olds) key.bytes.items number is_new (keys_in news)
 placed_of key olds news number is_new new are at stored = by (list_any (is_key key) olds) refl new are
   where
     by : (b : Bool) → list_any (is_key key) olds ≡ b → is_new ≡ not b → news ≡ (if b then olds else olds ++ key ∷ [])
-        → IsPlaced (keys_in olds) key.items number is_new (keys_in news)
+        → IsPlaced (keys_in olds) key.bytes.items number is_new (keys_in news)
     by true e n are =
-        let there : slice_get (keys_in olds) number ≡ Some key.items =
-        sym (ap (λ (ks : List StoredKey). slice_get (keys_in ks) number) are) ∙ map_at (λ (k : StoredKey). k.items) news number stored.0 stored.1
-        ∙ ap (λ (xs : List ℕ). Some xs) (sym (same_bytes key.items stored.0.items stored.2)) in
-        subst (λ (b : Bool). IsPlaced (keys_in olds) key.items number b (keys_in news)) (sym n)
-        (subst (λ (ks : List StoredKey). IsPlaced (keys_in olds) key.items number false (keys_in ks)) (sym are) (placed_known there))
+        let there : slice_get (keys_in olds) number ≡ Some key.bytes.items =
+        sym (ap (λ (ks : List MemberKey). slice_get (keys_in ks) number) are) ∙ map_at (λ (k : MemberKey). k.bytes.items) news number stored.0 stored.1
+        ∙ ap (λ (xs : List ℕ). Some xs) (sym (same_bytes key.bytes.items stored.0.bytes.items stored.2)) in
+        subst (λ (b : Bool). IsPlaced (keys_in olds) key.bytes.items number b (keys_in news)) (sym n)
+        (subst (λ (ks : List MemberKey). IsPlaced (keys_in olds) key.bytes.items number false (keys_in ks)) (sym are) (placed_known there))
     by false e n are =
-        let last : length (keys_in olds) ≡ number = length-map olds (λ (k : StoredKey). k.items) ∙ sym (last_index key olds e) ∙ sym at in
-        subst (λ (b : Bool). IsPlaced (keys_in olds) key.items number b (keys_in news)) (sym n)
-        (subst (λ (ks : List StoredKey). IsPlaced (keys_in olds) key.items number true (keys_in ks)) (sym are)
-        (subst (λ (ks : List (List ℕ)). IsPlaced (keys_in olds) key.items number true ks)
-        (sym (map-append (λ (k : StoredKey). k.items) olds (key ∷ [])))
-        (subst (λ (i : ℕ). IsPlaced (keys_in olds) key.items i true (keys_in olds ++ key.items ∷ [])) last
+        let last : length (keys_in olds) ≡ number = length-map olds (λ (k : MemberKey). k.bytes.items) ∙ sym (last_index key olds e) ∙ sym at in
+        subst (λ (b : Bool). IsPlaced (keys_in olds) key.bytes.items number b (keys_in news)) (sym n)
+        (subst (λ (ks : List MemberKey). IsPlaced (keys_in olds) key.bytes.items number true (keys_in ks)) (sym are)
+        (subst (λ (ks : List (List ℕ)). IsPlaced (keys_in olds) key.bytes.items number true ks)
+        (sym (map-append (λ (k : MemberKey). k.bytes.items) olds (key ∷ [])))
+        (subst (λ (i : ℕ). IsPlaced (keys_in olds) key.bytes.items i true (keys_in olds ++ key.bytes.items ∷ [])) last
         (placed_new (nowhere key olds e)))))
 
 pub ruleset placed = (placed_of)
@@ -98,11 +94,11 @@ is_last : (keys more : List (List ℕ)) (key : List ℕ) (number : ℕ) (is_new 
 is_last keys more key number true e (placed_new none) = (none, refl, refl)
 is_last keys more key number false e placed = absurd (cc)
 
-many_in : (keys : List StoredKey) → length (keys_in keys) ≡ length keys
-many_in keys = length-map keys (λ (k : StoredKey). k.items)
+many_in : (keys : List MemberKey) → length (keys_in keys) ≡ length keys
+many_in keys = length-map keys (λ (k : MemberKey). k.bytes.items)
 
 -- where a number is within the rows, so are the keys
-pub placed_within : (olds news : List StoredKey) (key : List ℕ) (number : ℕ) (is_new : Bool) (rows : ℕ) → length olds ≤ rows → number < rows
+pub placed_within : (olds news : List MemberKey) (key : List ℕ) (number : ℕ) (is_new : Bool) (rows : ℕ) → length olds ≤ rows → number < rows
     → IsPlaced (keys_in olds) key number is_new (keys_in news) → length news ≤ rows
 placed_within olds news key number false rows room within placed =
     let h = is_known (keys_in olds) (keys_in news) key number false refl placed in
@@ -120,7 +116,7 @@ placed_within olds news key number true rows room within placed =
     omega (arith, same, more, last, n, m, within)
 
 -- where it is not, the key is one too many
-pub placed_beyond : (olds news reached : List StoredKey) (key : List ℕ) (number : ℕ) (is_new : Bool) (rows : ℕ) → length olds ≤ rows → rows ≤ number
+pub placed_beyond : (olds news reached : List MemberKey) (key : List ℕ) (number : ℕ) (is_new : Bool) (rows : ℕ) → length olds ≤ rows → rows ≤ number
     → IsPlaced (keys_in olds) key number is_new (keys_in news) → keys_in reached ≡ keys_in news → KeyRefused rows (keys_in olds) key (NoPattern reached)
 placed_beyond olds news reached key number false rows room beyond placed are =
     let h = is_known (keys_in olds) (keys_in news) key number false refl placed in

@@ -111,7 +111,7 @@ module _ (stored : RegionTable) (keeps : TableKeeps (table_of stored)) (few : le
         → Made rules (window_in w) (pool_in new) (state_in state) (pool_in after) → length after.keys.keys ≤ rows
         → Searching rules region rows states' (pool_in after)
     turn_on state after states' more made within =
-        let many = length-map after.keys.keys (λ key. key.items) in
+        let many = length-map after.keys.keys (λ key. key.bytes.items) in
         subst (λ (l : List AutomatonState). Searching rules region rows l (pool_in after)) (sym more)
         (searching_on rules keeps few_regions extent.window.1 room region rows (states_in states) (window_in w) (map window_in new.waiting.items)
         (keys_in new.keys.keys) here (state_in state) (pool_in after) made (omega (arith, many, within)))

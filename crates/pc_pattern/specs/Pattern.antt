@@ -1,6 +1,5 @@
 -- What a search finds: the automaton of a region, and what it keeps.
-use Rattle.std.specs.Prelude.{◌≡◌, ℕ, suc, ◌<◌, ◌≤◌, true, nat_eq, List, length, map, Contains, Some, slice_get, Vec}
-use Rattle.std.specs.declared.alloc.Global.{Global}
+use Rattle.std.specs.Prelude.{◌≡◌, ℕ, suc, ◌<◌, ◌≤◌, true, nat_eq, List, length, map, Contains, Some, slice_get}
 use Rattle.std.specs.List.{AllByRecursion, count_by, list_any}
 use Rattle.pc_word.specs.declared.item.Limits.{Limits}
 use Rattle.pc_word.specs.declared.item.Operand.{Operand}
@@ -15,6 +14,7 @@ use Rattle.pc_automaton.specs.Automaton.{AutomatonState, IsAutomaton}
 use Rattle.pc_automaton.specs.There.{StateIsThere}
 use Rattle.pc_automaton.specs.RunsAsRegion.{RunsAlike, LeadsUntested}
 use Rattle.pc_pattern.specs.declared.error.SearchError.{SearchError}
+use Rattle.pc_pattern.specs.declared.member_key.MemberKey.{MemberKey}
 use Rattle.pc_pattern.specs.declared.error.SearchError.TheVariants.{Memory, NoPattern}
 use Rattle.pc_pattern.specs.Searches.{Rules, IsPattern, HasKeys}
 
@@ -72,4 +72,4 @@ pub record IsFound (rules : Rules) (region rows : ℕ) (states : List AutomatonS
 -- why there is none: want of memory, or more members than so many, with their keys
 abbrev pub IsNotFound : Rules → (region rows : ℕ) → SearchError → Type 0
 IsNotFound rules region rows Memory = Unit {0}
-IsNotFound rules region rows (NoPattern reached) = HasKeys rules region rows (map (λ (key : Vec ℕ Global). key.items) reached)
+IsNotFound rules region rows (NoPattern reached) = HasKeys rules region rows (map (λ (key : MemberKey). key.bytes.items) reached)

@@ -2,14 +2,14 @@
 ghost use Rattle.std.specs.Prelude.{◌≡◌};
 ghost use Rattle.pc_pattern.specs.declared.error.SearchError.TheVariants.{Memory};
 
+use crate::member_key::MemberKey;
 use pc_window::WindowError;
 use pc_word::Seq;
 use std::alloc::AllocError;
 use thiserror::Error;
 
-/// Keys of windows, each the bytes in which the window is written but for its names, its form
-/// variables and its first tag.
-pub type KeyList = Seq<Vec<u8>>;
+/// Keys of members.
+pub type KeyList = Seq<MemberKey>;
 
 /// Why no automaton was found.
 #[derive(Debug, Drop, Error)]

@@ -18,6 +18,7 @@ ghost use Rattle.pc_pattern.specs.models.Pools.{pool_in, CanBringOn, IsSettled};
 ghost use Rattle.pc_pattern.specs.models.Leading.{rules_within, WindowLeads, LeftLeads, RowLeads, WindowRefused, LeftRefused, RowRefused};
 
 use crate::error::SearchError;
+use crate::member_key::MemberKey;
 use crate::pool::{Pool, numbered};
 use crate::renaming::{Renaming, arguments_for, renamed_homes, with_dest, written_by};
 use pc_automaton::{AutomatonLeaf, Left, RowTree};
@@ -121,7 +122,7 @@ fn led_window(
                 ..
             } = key(alloc, &window)?;
             let arguments = arguments_for(alloc, names, parameters.as_slice())?;
-            let state = numbered(alloc, window, bytes, pool, rows)?;
+            let state = numbered(alloc, window, MemberKey { bytes }, pool, rows)?;
             Ok(AutomatonLeaf::To { state, arguments })
         }
     }

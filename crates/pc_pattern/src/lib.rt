@@ -6,6 +6,7 @@
 mod error;
 mod laws;
 mod leading;
+mod member_key;
 mod pool;
 mod renaming;
 mod searching;
@@ -14,4 +15,5 @@ mod tests;
 
 pub use error::{KeyList, SearchError};
 pub use laws::{laws_of_patterns, laws_of_searches};
+pub use member_key::MemberKey;
 pub use searching::search;

@@ -11,6 +11,7 @@ ghost use Rattle.pc_pattern.specs.models.Pools.{keys_in, pool_in, IsPlaced, Join
 ghost use Rattle.pc_pattern.specs.models.Leading.{KeyRefused, WindowRefused};
 
 use crate::error::{KeyList, SearchError};
+use crate::member_key::MemberKey;
 use indexmap::IndexSet;
 use pc_canon::{WindowKey, key};
 use pc_renumber::renumber;
@@ -23,7 +24,7 @@ use std::mem::replace;
 #[derive(Drop)]
 pub(crate) struct Pool {
     /// The keys of all, in the order of their numbers.
-    pub(crate) keys: IndexSet<Vec<u8>>,
+    pub(crate) keys: IndexSet<MemberKey>,
     /// The windows of those that wait for their rows.
     pub(crate) waiting: VecDeque<Window>,
 }
@@ -50,7 +51,7 @@ pub(crate) fn begun(alloc: Global, first: Window) -> Result<Pool, WindowError>
 {
     let WindowKey { bytes, .. } = key(alloc, &first)?;
     let mut keys = IndexSet::new(alloc);
-    placed(bytes, &mut keys)?;
+    placed(MemberKey { bytes }, &mut keys)?;
     let mut waiting = VecDeque::new(alloc);
     put_behind(first, &mut waiting)?;
     Ok(Pool { keys, waiting })
@@ -58,14 +59,14 @@ pub(crate) fn begun(alloc: Global, first: Window) -> Result<Pool, WindowError>
 
 /// The number of a key among the keys, and whether it is new; then it stands last from there on.
 #[tactic(auto, using(crate::proofs::Placed::placed))]
-fn placed(key: Vec<u8>, keys: &mut IndexSet<Vec<u8>>) -> Result<(usize, bool), AllocError>
-    ensures { IfOk result (λ r. IsPlaced (keys_in keys.old.keys) key.items r.0 r.1 (keys_in keys.new.keys)) }
+fn placed(key: MemberKey, keys: &mut IndexSet<MemberKey>) -> Result<(usize, bool), AllocError>
+    ensures { IfOk result (λ r. IsPlaced (keys_in keys.old.keys) key.bytes.items r.0 r.1 (keys_in keys.new.keys)) }
 {
     Ok(keys.insert_full(key)?)
 }
 
 /// All keys, taken out into a list.
-fn all_keys(alloc: Global, keys: IndexSet<Vec<u8>>) -> Result<KeyList, AllocError>
+fn all_keys(alloc: Global, keys: IndexSet<MemberKey>) -> Result<KeyList, AllocError>
     ensures { IfOk result (λ all. keys_in all ≡ keys_in keys.keys) }
 {
     let mut all = KeyList::new(alloc);
@@ -88,14 +89,14 @@ fn put_behind(window: Window, waiting: &mut VecDeque<Window>) -> Result<(), Allo
 #[tactic(auto, using(crate::proofs::Placed::numbers))]
 fn number_of(
     alloc: Global,
-    key: Vec<u8>,
-    keys: &mut IndexSet<Vec<u8>>,
+    key: MemberKey,
+    keys: &mut IndexSet<MemberKey>,
     rows: u16,
 ) -> Result<(u32, bool), SearchError>
     requires room { length keys.old.keys ≤ rows }
-    ensures placed { IfOk result (λ r. IsPlaced (keys_in keys.old.keys) key.items r.0 r.1 (keys_in keys.new.keys)) }
+    ensures placed { IfOk result (λ r. IsPlaced (keys_in keys.old.keys) key.bytes.items r.0 r.1 (keys_in keys.new.keys)) }
     ensures room { OnOk result (length keys.new.keys ≤ rows) }
-    ensures refused { IfErr result (λ error. KeyRefused rows (keys_in keys.old.keys) key.items error) }
+    ensures refused { IfErr result (λ error. KeyRefused rows (keys_in keys.old.keys) key.bytes.items error) }
 {
     let (number, is_new) = placed(key, keys)?;
     if number >= rows as usize {
@@ -124,14 +125,14 @@ fn join(alloc: Global, window: Window, waiting: &mut VecDeque<Window>) -> Result
 pub(crate) fn numbered(
     alloc: Global,
     window: Window,
-    key: Vec<u8>,
+    key: MemberKey,
     pool: &mut Pool,
     rows: u16,
 ) -> Result<u32, SearchError>
     requires proper { IsProper (window_in window) }
     requires settled { IsSettled window }
     requires bare { bare_leaf (whole (window_in window).front) ≡ None }
-    requires key { key.items ≡ key_of (window_in window) }
+    requires key { key.bytes.items ≡ key_of (window_in window) }
     requires room { length pool.old.keys.keys ≤ rows }
     ensures numbered { IfOk result (λ number. IsNumbered (pool_in pool.old) (window_in window) number (pool_in pool.new)) }
     ensures settled { OnOk result (AllByRecursion IsSettled pool.old.waiting.items → AllByRecursion IsSettled pool.new.waiting.items) }

@@ -1,6 +1,5 @@
 -- The row of a state, made from a cut row: with new names, and with leaves that lead to members; and the members that come of it.
-use Rattle.std.specs.Prelude.{◌≡◌, ℕ, suc, ◌+◌, ◌≤◌, List, [], ◌∷◌, ◌++◌, length, Some, None, Vec}
-use Rattle.std.specs.declared.alloc.Global.{Global}
+use Rattle.std.specs.Prelude.{◌≡◌, ℕ, suc, ◌+◌, ◌≤◌, List, [], ◌∷◌, ◌++◌, length, Some, None}
 use Rattle.pc_word.specs.declared.item.Item.{Item}
 use Rattle.pc_word.specs.declared.item.Operand.{Operand}
 use Rattle.pc_word.specs.declared.item.TrapKind.{TrapKind}
@@ -23,6 +22,7 @@ use Rattle.pc_automaton.specs.declared.automaton.AutomatonLeaf.{AutomatonLeaf}
 use Rattle.pc_automaton.specs.declared.automaton.AutomatonLeaf.TheVariants.{To, Out, Stop, Trap}
 use Rattle.pc_automaton.specs.Automaton.{AutomatonState}
 use Rattle.pc_pattern.specs.declared.error.SearchError.{SearchError}
+use Rattle.pc_pattern.specs.declared.member_key.MemberKey.{MemberKey}
 use Rattle.pc_pattern.specs.declared.error.SearchError.TheVariants.{Memory, NoPattern}
 use Rattle.pc_pattern.specs.declared.leading.Bounds.{Bounds}
 use Rattle.pc_pattern.specs.Searches.{Rules, Settles, BringsOn, bare_leaf}
@@ -72,13 +72,13 @@ pub data RowLeads (rules : Rules) : List Pair → ℕ → Pool → Row Left → 
 -- a key is one too many, and these are the keys; or memory ran out
 pub data KeyRefused (rows : ℕ) (keys : List (List ℕ)) (key : List ℕ) : SearchError → Type 0 where
   key_memory : KeyRefused rows keys key Memory
-  key_many : {reached : List (Vec ℕ Global)} → IsNowhere keys key → length keys ≡ rows → keys_in reached ≡ keys ++ key ∷ []
+  key_many : {reached : List MemberKey} → IsNowhere keys key → length keys ≡ rows → keys_in reached ≡ keys ++ key ∷ []
       → KeyRefused rows keys key (NoPattern reached)
 
 -- a window that was brought on is one member too many, and these are the keys; or memory ran out
 pub data WindowRefused (rows : ℕ) (pool : Pool) (w : Window) : SearchError → Type 0 where
   refused_memory : WindowRefused rows pool w Memory
-  refused_many : {reached : List (Vec ℕ Global)} → bare_leaf (whole w.front) ≡ None → IsNowhere pool.keys (key_of w) → length pool.keys ≡ rows
+  refused_many : {reached : List MemberKey} → bare_leaf (whole w.front) ≡ None → IsNowhere pool.keys (key_of w) → length pool.keys ≡ rows
       → keys_in reached ≡ pool.keys ++ key_of w ∷ [] → WindowRefused rows pool w (NoPattern reached)
 
 -- the same of what is left at a leaf

@@ -1,6 +1,5 @@
 -- The members that a search has come to, as the code keeps them: the keys of all, and the windows that wait for their rows.
-use Rattle.std.specs.Prelude.{◌≡◌, ℕ, ◌+◌, ◌*◌, ◌≤◌, ◌^◌, Bool, true, false, List, [], ◌∷◌, ◌++◌, length, map, Some, slice_get, Vec}
-use Rattle.std.specs.declared.alloc.Global.{Global}
+use Rattle.std.specs.Prelude.{◌≡◌, ℕ, ◌+◌, ◌*◌, ◌≤◌, ◌^◌, Bool, true, false, List, [], ◌∷◌, ◌++◌, length, map, Some, slice_get}
 use Rattle.pc_table.specs.Table.{Table}
 use Rattle.pc_window.specs.declared.window.Window.{Window as StoredWindow}
 use Rattle.pc_window.specs.Tree.{whole, tree_size}
@@ -11,6 +10,7 @@ use Rattle.pc_window.specs.There.{PartsAreThere}
 use Rattle.pc_window.specs.StoredWindow.{window_in, InNodes}
 use Rattle.pc_canon.specs.Key.{key_of}
 use Rattle.pc_renumber.specs.Renumbering.{Renumbers}
+use Rattle.pc_pattern.specs.declared.member_key.MemberKey.{MemberKey}
 use Rattle.pc_pattern.specs.declared.pool.Pool.{Pool as StoredPool}
 
 -- the keys of all members, and the windows that wait
@@ -19,8 +19,8 @@ pub record Pool : Type 0 where
   pub waiting : List Window
 
 -- keys in memory
-abbrev pub keys_in : List (Vec ℕ Global) → List (List ℕ)
-keys_in keys = map (λ (key : Vec ℕ Global). key.items) keys
+abbrev pub keys_in : List MemberKey → List (List ℕ)
+keys_in keys = map (λ (key : MemberKey). key.bytes.items) keys
 
 -- members in memory
 abbrev pub pool_in : StoredPool → Pool
