@@ -1,6 +1,6 @@
 -- Columns in order: the order in which they are put in does not show.
 use Rattle.std.proofs.Common.{◌≡◌, ℕ, zero, suc, ◌<◌, ◌≤◌, List, [], ◌∷◌, ◌⊎◌, inl, inr, refl, sym, ◌∙◌, ap, subst, arith}
-use Rattle.std.specs.Prelude.{ℤ, ◌<ℤ◌, Bool, true, false, ◌||◌, if◌then◌else◌, nat_eq, map}
+use Rattle.std.specs.Prelude.{ℤ, ◌<ℤ◌, Bool, true, false, ◌||◌, if◌then◌else◌, nat_eq, map, length, slice_index_or}
 use Rattle.std.specs.declared.cmp.Ordering.{Ordering}
 use Rattle.std.specs.declared.cmp.Ordering.TheVariants.{Less, Equal, Greater}
 use Rattle.std.specs.Cmp.{IsTotalOrder, int_cmp_total, int_ranks}
@@ -8,7 +8,10 @@ use Rattle.std.specs.Cmp.Lexicographic.{slice_cmp, lists_total}
 use Rattle.std.specs.Ordering.{int_cmp, is_lt, ordering_reverse, ordering_then, MatchOrdering}
 use Rattle.std.proofs.lemmas.Bool.{eqb-true, eq-eqb}
 use Rattle.pc_word.proofs.Truth.{or_false, or_made_false}
+use Rattle.std.specs.List.{AllByRecursion}
+use Rattle.std.specs.List.Sorted.{IsPartitionPoint, IsPartitionedBy}
 use Rattle.pc_canon.specs.Canonical.{stands_before, with_column, with_occurring, columns_below}
+use Rattle.pc_canon.specs.models.Gathered.{AreInOrder, place_for}
 use Rattle.pc_canon.proofs.Membership.{has, Distinct}
 
 -- ---- the order of columns
@@ -65,6 +68,72 @@ before_past a b y h k = by (stands_before b y) refl
     by : (t : Bool) → stands_before b y ≡ t → stands_before b a ≡ true
     by true e = before_chain b y a e h
     by false e = ap (λ (z : List ℤ). stands_before z a) (before_tie b y e k) ∙ h
+
+-- ---- columns stay in order
+
+none_before : (x y z : List ℤ) → stands_before z y ≡ false → stands_before y x ≡ false → stands_before z x ≡ false
+none_before x y z h k = by (stands_before z x) refl
+  where
+    by : (b : Bool) → stands_before z x ≡ b → stands_before z x ≡ false
+    by true e = let past = before_past x y z e h in absurd (cc)
+    by false e = e
+
+all_with : (P : List ℤ → Type 0) (one : List ℤ) (columns : List (List ℤ)) → P one → AllByRecursion P columns → AllByRecursion P (with_column one columns)
+all_with P one [] p all = (p, tt)
+all_with P one (other ∷ others) p all = by (stands_before other one) (all_with P one others p all.1)
+  where
+    by : (b : Bool) → AllByRecursion P (with_column one others) → AllByRecursion P (if b then other ∷ with_column one others else one ∷ other ∷ others)
+    by true rest = (all.0, rest)
+    by false rest = (p, all)
+
+all_behind : (one other : List ℤ) (columns : List (List ℤ)) → stands_before other one ≡ false → AllByRecursion (λ column. stands_before column other ≡ false) columns
+    → AllByRecursion (λ column. stands_before column one ≡ false) columns
+all_behind one other [] h all = tt
+all_behind one other (column ∷ columns) h all = (none_before one other column all.0 h, all_behind one other columns h all.1)
+
+one_more_in_order : (one : List ℤ) (columns : List (List ℤ)) → AreInOrder columns → AreInOrder (with_column one columns)
+one_more_in_order one [] order = (tt, tt)
+one_more_in_order one (other ∷ others) order = by (stands_before other one) refl (one_more_in_order one others order.1)
+  where
+    by : (b : Bool) → stands_before other one ≡ b → AreInOrder (with_column one others) → AreInOrder (if b then other ∷ with_column one others else one ∷ other ∷ others)
+    by true e rest = (all_with (λ column. stands_before column other ≡ false) one others (before_one_way other one e) order.0, rest)
+    by false e rest = ((e, all_behind one other others e order.0), order)
+
+occurring_in_order : (one : List ℤ) (columns : List (List ℤ)) → AreInOrder columns → AreInOrder (with_occurring one columns)
+occurring_in_order [] columns order = order
+occurring_in_order (z ∷ zs) columns order = one_more_in_order (z ∷ zs) columns order
+
+-- columns that were put in order one by one are in order
+pub below_in_order : (column_of : ℕ → List ℤ) (count : ℕ) → AreInOrder (columns_below column_of count)
+below_in_order column_of zero = tt
+below_in_order column_of (suc x) = occurring_in_order (column_of x) (columns_below column_of x) (below_in_order column_of x)
+
+-- ---- where one belongs
+
+at_in_order : (P : List ℤ → Type 0) (columns : List (List ℤ)) (j : ℕ) (d : List ℤ) → j < length columns → AllByRecursion P columns → P (slice_index_or columns j d)
+at_in_order P [] j d less all = absurd (omega (arith, less))
+at_in_order P (column ∷ columns) zero d less all = all.0
+at_in_order P (column ∷ columns) (suc j) d less all = at_in_order P columns j d (omega (arith, less)) all.1
+
+-- none that stands before it comes after one that does not
+pub order_parts : (one : List ℤ) (columns : List (List ℤ)) → AreInOrder columns → IsPartitionedBy (λ other. stands_before other one) columns
+order_parts one [] order i j d le less h = absurd (omega (arith, less))
+order_parts one (column ∷ columns) order zero zero d le less h = h
+order_parts one (column ∷ columns) order zero (suc j) d le less h =
+    before_past one column (slice_index_or columns j d) h (at_in_order (λ other. stands_before other column ≡ false) columns j d (omega (arith, less)) order.0)
+order_parts one (column ∷ columns) order (suc i) zero d le less h = absurd (omega (arith, le))
+order_parts one (column ∷ columns) order (suc i) (suc j) d le less h = order_parts one columns order.1 i j d (omega (arith, le)) (omega (arith, less)) h
+
+-- so the place where they part is the one where it belongs
+pub parting_place : (one : List ℤ) (columns : List (List ℤ)) (place : ℕ) → place ≤ length columns
+    → IsPartitionPoint (λ other. stands_before other one ≡ true) (λ other. stands_before other one ≡ false) columns place → place ≡ place_for one columns
+parting_place one [] place le point = omega (arith, le)
+parting_place one (column ∷ columns) zero le point =
+    sym (ap (λ (b : Bool). if b then suc (place_for one columns) else 0) (point.1 0 column (omega arith) (omega arith)))
+parting_place one (column ∷ columns) (suc place) le point =
+    let rest = parting_place one columns place (omega (arith, le))
+    ((λ k d from to. point.0 (suc k) d (omega arith) (omega (arith, to))), (λ k d from to. point.1 (suc k) d (omega (arith, from)) (omega (arith, to)))) in
+    ap suc rest ∙ sym (ap (λ (b : Bool). if b then suc (place_for one columns) else 0) (point.0 0 column (omega arith) (omega arith)))
 
 -- ---- two columns are put in
 

@@ -4,7 +4,7 @@ ghost use Rattle.pc_linear.specs.Form.{IsForm};
 ghost use Rattle.pc_window.specs.Opening.{FormBelow, TermsBelow};
 ghost use Rattle.pc_canon.specs.Canonical.{constant_in, stands_before, with_column, with_occurring, columns_below};
 ghost use Rattle.pc_canon.specs.Key.{constant_numbers, list_numbers, column_numbers};
-ghost use Rattle.pc_canon.specs.models.Gathered.{column_in, and_term, and_terms, with_factors, place_for};
+ghost use Rattle.pc_canon.specs.models.Gathered.{AreInOrder, column_in, and_term, and_terms, with_factors, place_for};
 
 use crate::number_bytes::NumberBytes;
 use pc_linear::{LinForm, Term};
@@ -73,6 +73,7 @@ pub(crate) fn in_order(alloc: Global, columns: &[Column]) -> Result<Vec<Column>,
 /// Puts a column among others in order, unless it is empty.
 #[tactic(auto, using(crate::proofs::Gathering::order))]
 fn put_occurring(alloc: Global, column: &[i64], sorted: &mut Vec<Column>) -> Result<(), AllocError>
+    requires { AreInOrder sorted.old.items }
     ensures { OnOk result (sorted.new.items ≡ with_occurring column.now sorted.old.items) }
 {
     if column.is_empty() {
@@ -84,15 +85,12 @@ fn put_occurring(alloc: Global, column: &[i64], sorted: &mut Vec<Column>) -> Res
     Ok(())
 }
 
-/// How many of the first columns stand before one.
+/// How many of the columns, which are in order, stand before one.
 fn place_for(column: &[i64], sorted: &[Column]) -> usize
+    requires { AreInOrder sorted.now }
     ensures { result ≡ place_for column.now sorted.now }
 {
-    let mut place = 0;
-    while place < sorted.len() && stands_before(sorted[place].as_slice(), column) {
-        place += 1;
-    }
-    place
+    sorted.partition_point(|other| stands_before(other.as_slice(), column))
 }
 
 /// Whether a column stands before another.

@@ -1,5 +1,6 @@
 -- Columns of form variables in a list by variable.
-use Rattle.std.specs.Prelude.{ℕ, suc, ◌+◌, ℤ, pos, if◌then◌else◌, List, [], ◌∷◌, ◌++◌, slice_index_or, slice_set}
+use Rattle.std.specs.List.{AllByRecursion}
+use Rattle.std.specs.Prelude.{◌≡◌, false, ℕ, suc, ◌+◌, ℤ, pos, if◌then◌else◌, List, [], ◌∷◌, ◌++◌, slice_index_or, slice_set}
 use Rattle.pc_linear.specs.declared.term.Term.{Term}
 use Rattle.pc_linear.specs.Form.{Form, factor_of}
 use Rattle.pc_canon.specs.Canonical.{with_factor, stands_before}
@@ -26,6 +27,11 @@ with_factors place terms x (column ∷ columns) = (column ++ with_factor place (
 abbrev pub and_forms : ℕ → List Form → List (List ℤ) → List (List ℤ)
 and_forms place [] columns = columns
 and_forms place (form ∷ forms) columns = and_forms (place + 1) forms (with_factors place form.terms 0 columns)
+
+-- columns are in order: none stands before one that is ahead of it
+abbrev pub AreInOrder : List (List ℤ) → Type 0
+AreInOrder [] = Unit {0}
+AreInOrder (column ∷ columns) = AllByRecursion (λ other. stands_before other column ≡ false) columns × AreInOrder columns
 
 -- how many of the first columns stand before one
 abbrev pub place_for : List ℤ → List (List ℤ) → ℕ
