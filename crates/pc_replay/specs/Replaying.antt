@@ -6,12 +6,13 @@ use Rattle.pc_window.specs.Ready.{ReadyPlace}
 use Rattle.pc_window.specs.Tree.{tree_size, whole}
 use Rattle.pc_window.specs.Steps.{IsProper}
 use Rattle.pc_window.specs.StoredWindow.{tree_in, window_in}
-use Rattle.pc_moveop.specs.Moving.{WalkKept}
+use Rattle.pc_moveop.specs.Moving.{SameBounds, WalkKept}
 
--- a window comes to another by legal moves: that one is proper, and from each state in which forms hold and the walk is no fault
--- it has the same walk, and its forms hold
+-- a window comes to another by legal moves: that one is proper, has the same limits and the same loop, and from each state in
+-- which forms hold and the walk is no fault it has the same walk, and its forms hold
 pub record ComesTo (w v : StoredWindow) : Type 0 where
   pub proper : IsProper (window_in v)
+  pub bounds : SameBounds w v
   pub walk : WalkKept w v
 
 -- a window that is small enough for a move

@@ -23,7 +23,7 @@ use std::collections::{BTreeSet, VecDeque};
 #[derive(Drop)]
 struct Met {
     /// The keys of all.
-    keys: BTreeSet<Vec<i64>>,
+    keys: BTreeSet<Vec<u8>>,
     /// Those that wait to be filled.
     waiting: VecDeque<Window>,
 }
@@ -38,7 +38,7 @@ impl Met {
 }
 
 /// Puts a key among the keys. Whether it is new.
-fn put_key(key: Vec<i64>, keys: &mut BTreeSet<Vec<i64>>) -> Result<bool, AllocError> {
+fn put_key(key: Vec<u8>, keys: &mut BTreeSet<Vec<u8>>) -> Result<bool, AllocError> {
     Ok(keys.insert(key)?)
 }
 
@@ -60,8 +60,8 @@ fn put(alloc: Global, window: Window, met: &mut Met) -> Result<(), ReplayError>
     if !is_little(&window) {
         return Err(ReplayError::TooLarge);
     }
-    let WindowKey { numbers, .. } = key_of(alloc, &window)?;
-    if put_key(numbers, &mut met.keys)? {
+    let WindowKey { bytes, .. } = key_of(alloc, &window)?;
+    if put_key(bytes, &mut met.keys)? {
         put_behind(window, &mut met.waiting)?;
     }
     Ok(())

@@ -25,6 +25,9 @@ use std::test::Fail;
 /// The most windows of a region: its first one, and those that follow at all leaves.
 const MOST_WINDOWS: u32 = 40;
 
+/// So many windows of sources, at least, are changed by filling.
+const LEAST_CHANGED: u32 = 100;
+
 /// How many samples there are.
 const SAMPLES: u32 = 21;
 
@@ -105,7 +108,7 @@ fn compare_source(
     Ok(())
 }
 
-/// Whether filling changes some of the windows of sources, and all are filled so by single moves.
+/// Whether filling changes enough of the windows of sources, and all are filled so by single moves.
 fn are_replayed(alloc: Global, sources: &[&[u8]], limits: Limits) -> Result<bool, Fail>
     requires { AreLimits limits }
 {
@@ -113,7 +116,7 @@ fn are_replayed(alloc: Global, sources: &[&[u8]], limits: Limits) -> Result<bool
     for text in sources {
         compare_source(alloc, text, limits, &mut all)?;
     }
-    Ok(all.alike && all.changed > 0)
+    Ok(all.alike && all.changed >= LEAST_CHANGED)
 }
 
 /// The same of the first samples.
@@ -125,12 +128,17 @@ fn samples_are_replayed(alloc: Global, limits: Limits) -> Result<bool, Fail>
         let text = sample(alloc, number)?;
         compare_source(alloc, text.as_slice(), limits, &mut all)?;
     }
-    Ok(all.alike && all.changed > 0)
+    Ok(all.alike && all.changed >= LEAST_CHANGED)
 }
 
 #[test]
 fn windows_of_examples_are_filled_by_single_moves(rt: HostRuntime) -> Result<(), Fail> {
     assert!(rt; are_replayed(rt.alloc(), &EXAMPLES, wide())?);
+    Ok(())
+}
+
+#[test]
+fn windows_of_examples_are_filled_within_less_by_single_moves(rt: HostRuntime) -> Result<(), Fail> {
     assert!(rt; are_replayed(rt.alloc(), &EXAMPLES, narrow())?);
     Ok(())
 }
