@@ -27,7 +27,7 @@ use Rattle.pc_rebase.proofs.GivenForms.{given_in, rewritten_at_once, written_at_
 
 -- ---- one parameter's turn
 
--- what was found stands for what comes of first turns: its variables, its bases, and forms that have no variable that is new
+-- what holds after some first turns: what each old variable stands for, that bases are the variables that are not old, and that no form has a variable that is new
 pub record IsFound (all : List ℕ) (old : Supply) (found : Found) : Type 0 where
   many : length found.stands ≡ old.next_variable
   later : old.next_variable ≤ found.next_variable
