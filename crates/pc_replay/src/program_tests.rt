@@ -23,7 +23,7 @@ use std::alloc::Global;
 use std::test::Fail;
 
 /// The most windows of a region: its first one, and those that follow at all leaves.
-const MOST_WINDOWS: u32 = 40;
+const MOST_WINDOWS: u32 = 256;
 
 /// So many windows of sources, at least, are changed by filling.
 const LEAST_CHANGED: u32 = 100;
