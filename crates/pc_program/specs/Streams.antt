@@ -2,7 +2,7 @@
 use Rattle.std.specs.Prelude.{ℕ, ◌≤◌, List, length, take, Option}
 use Rattle.std.specs.Io.KnownBytes.{Appends}
 
--- a stream: what it has left or has taken, where it tells this, and how often it failed
+-- a stream: what it has left or has taken, where it tells this, and its count of faults
 pub record Streamed : Type 0 where
   pub told : Option (List ℕ)
   pub faults : ℕ

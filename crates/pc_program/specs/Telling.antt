@@ -10,7 +10,7 @@ pub record TellsWhole (line : List ℕ) (status : ℕ) (old new : Streamed) (cod
   pub ended : code ≡ status
   pub sent : Appends old.told new.told line
 
--- the status is 5: a proper prefix of the line was sent, and then the error output failed
+-- the status is 5: a proper prefix of the line was sent, and the error output's count of faults rose
 pub record TellsPart (line : List ℕ) (old new : Streamed) (code : ℕ) : Type 0 where
   pub ended : code ≡ 5
   pub failed : Rose old.faults new.faults

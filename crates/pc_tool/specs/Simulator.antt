@@ -16,10 +16,9 @@ use Rattle.pc_report.specs.declared.fault.ToolFault.{ToolFault}
 use Rattle.pc_report.specs.declared.fault.ToolFault.TheVariants as fault
 use Rattle.pc_tool.specs.Due.{Told}
 use Rattle.pc_program.specs.Files.{HoldsText}
-use Rattle.pc_program.specs.Objects.{HoldsObject}
 use Rattle.pc_program.specs.Streams.{Streamed, SendsFront}
 use Rattle.pc_tool.specs.Outside.{Outside}
-use Rattle.pc_program.specs.Objects.{HasObjectFault}
+use Rattle.pc_program.specs.Objects.{HasObjectFault, HoldsObject}
 use Rattle.pc_tool.specs.Simulation.{HasInputFault, Loaded, due_of, run_seen}
 
 -- What stands where memory ran out: nothing was taken from the input and nothing sent; or OBJ holds an object that loads, and
