@@ -1,13 +1,13 @@
 -- The columns of form variables, gathered a term at a time.
-use Rattle.std.proofs.Common.{◌≡◌, ℕ, zero, suc, ◌+◌, ◌<◌, ◌≤◌, List, [], ◌∷◌, ◌++◌, Some, None, length, drop, refl, sym, ◌∙◌, ap, subst, arith}
-use Rattle.std.specs.Prelude.{ℤ, pos, Bool, true, false, if◌then◌else◌, insert, map, replicate, slice_get}
+use Rattle.std.proofs.Common.{◌≡◌, ℕ, zero, suc, ◌+◌, ◌<◌, List, [], ◌∷◌, ◌++◌, Some, None, length, drop, refl, sym, ◌∙◌, ap, subst, arith}
+use Rattle.std.specs.Prelude.{ℤ, pos, map, replicate, slice_get}
 use Rattle.pc_linear.specs.declared.term.Term.{Term}
 use Rattle.pc_linear.specs.Form.{Form}
 use Rattle.pc_window.specs.Opening.{TermsBelow}
 use Rattle.pc_rebase.proofs.TermPlaces.{few_places, fewer_places}
-use Rattle.pc_canon.specs.Canonical.{Constant, constant_in, columns_of, stands_before, with_column, with_occurring}
+use Rattle.pc_canon.specs.Canonical.{Constant, constant_in, columns_of}
 use Rattle.pc_canon.specs.Key.{constant_numbers, column_numbers, list_numbers}
-use Rattle.pc_canon.specs.models.Gathered.{and_term, and_terms, with_factors, and_forms, place_for}
+use Rattle.pc_canon.specs.models.Gathered.{and_term, and_terms, with_factors, and_forms}
 use Rattle.pc_canon.specs.models.Written.{elements_numbers, forms_numbers}
 use Rattle.pc_canon.proofs.Codes.{joined}
 
@@ -40,32 +40,6 @@ module _ (ts : List Term) (at : ℕ) where
   terms_below n t is below = (subst (λ (us : List Term). TermsBelow n us) (one_from ts at t is) below).1
 
 pub ruleset terms = (no_terms_left, term_added, term_below, terms_below, few_places, fewer_places)
-
--- ---- columns in order
-
-pub place_for-le : (one : List ℤ) (columns : List (List ℤ)) → place_for one columns ≤ length columns
-place_for-le one [] = omega arith
-place_for-le one (other ∷ others) = by (stands_before other one) (place_for-le one others)
-  where
-    by : (b : Bool) → place_for one others ≤ length others → (if b then suc (place_for one others) else 0) ≤ suc (length others)
-    by true h = omega (arith, h)
-    by false h = omega arith
-
-pub with_column-is : (one : List ℤ) (columns : List (List ℤ)) → insert columns (place_for one columns) one ≡ with_column one columns
-with_column-is one [] = refl
-with_column-is one (other ∷ others) = by (stands_before other one) (with_column-is one others)
-  where
-    by : (b : Bool) → insert others (place_for one others) one ≡ with_column one others
-        → insert (other ∷ others) (if b then suc (place_for one others) else 0) one ≡ (if b then other ∷ with_column one others else one ∷ other ∷ others)
-    by true h = ap (λ (l : List (List ℤ)). other ∷ l) h
-    by false h = refl
-
-pub put_in : (one : List ℤ) (columns new : List (List ℤ)) (place : ℕ) → 0 < length one → place ≡ place_for one columns → new ≡ insert columns place one
-    → new ≡ with_occurring one columns
-put_in [] columns new place some is more = absurd (omega (arith, some))
-put_in (z ∷ zs) columns new place some is more = more ∙ ap (λ (n : ℕ). insert columns n (z ∷ zs)) is ∙ with_column-is (z ∷ zs) columns
-
-pub ruleset order = (place_for-le, put_in)
 
 -- ---- no columns
 

@@ -9,6 +9,7 @@ pub mod ShiftForms
 pub mod CanonicalTrees
 pub mod FactorColumns
 pub mod Sorting
+pub mod SortedColumns
 pub mod FormsTell
 pub mod FormsKept
 pub mod Bytes

@@ -1,6 +1,6 @@
 -- Columns in order: the order in which they are put in does not show.
 use Rattle.std.proofs.Common.{◌≡◌, ℕ, zero, suc, ◌<◌, ◌≤◌, List, [], ◌∷◌, ◌⊎◌, inl, inr, refl, sym, ◌∙◌, ap, subst, arith}
-use Rattle.std.specs.Prelude.{ℤ, ◌<ℤ◌, Bool, true, false, ◌||◌, if◌then◌else◌, nat_eq, map, length, slice_index_or}
+use Rattle.std.specs.Prelude.{ℤ, ◌<ℤ◌, Bool, true, false, ◌||◌, if◌then◌else◌, nat_eq, map}
 use Rattle.std.specs.declared.cmp.Ordering.{Ordering}
 use Rattle.std.specs.declared.cmp.Ordering.TheVariants.{Less, Equal, Greater}
 use Rattle.std.specs.Cmp.{IsTotalOrder, int_cmp_total, int_ranks}
@@ -9,9 +9,8 @@ use Rattle.std.specs.Ordering.{int_cmp, is_lt, ordering_reverse, ordering_then, 
 use Rattle.std.proofs.lemmas.Bool.{eqb-true, eq-eqb}
 use Rattle.pc_word.proofs.Truth.{or_false, or_made_false}
 use Rattle.std.specs.List.{AllByRecursion}
-use Rattle.std.specs.List.Sorted.{IsPartitionPoint, IsPartitionedBy}
 use Rattle.pc_canon.specs.Canonical.{stands_before, with_column, with_occurring, columns_below}
-use Rattle.pc_canon.specs.models.Gathered.{AreInOrder, place_for}
+use Rattle.pc_canon.specs.models.Gathered.{AreInOrder}
 use Rattle.pc_canon.proofs.Membership.{has, Distinct}
 
 -- ---- the order of columns
@@ -30,7 +29,7 @@ is_less Greater e = absurd (cc)
 not_both : (o : Ordering) → o ≡ Less → is_lt (ordering_reverse o) ≡ false
 not_both o e = ap (λ (p : Ordering). is_lt (ordering_reverse p)) e
 
-before_one_way : (x y : List ℤ) → stands_before x y ≡ true → stands_before y x ≡ false
+pub before_one_way : (x y : List ℤ) → stands_before x y ≡ true → stands_before y x ≡ false
 before_one_way x y h = ap is_lt (ranked_total.antisymm x y) ∙ not_both (ranked y x) (is_less (ranked y x) h)
 
 before_chain : (x y z : List ℤ) → stands_before x y ≡ true → stands_before y z ≡ true → stands_before x z ≡ true
@@ -58,7 +57,7 @@ neither_less Less h k = absurd (cc)
 neither_less Greater h k = absurd (cc)
 
 -- of two columns one stands before the other, or they are equal
-before_tie : (x y : List ℤ) → stands_before x y ≡ false → stands_before y x ≡ false → x ≡ y
+pub before_tie : (x y : List ℤ) → stands_before x y ≡ false → stands_before y x ≡ false → x ≡ y
 before_tie x y h k =
     ranked_equal x y (neither_less (ranked x y) k (ap is_lt (sym (ranked_total.antisymm y x)) ∙ h))
 
@@ -71,7 +70,7 @@ before_past a b y h k = by (stands_before b y) refl
 
 -- ---- columns stay in order
 
-none_before : (x y z : List ℤ) → stands_before z y ≡ false → stands_before y x ≡ false → stands_before z x ≡ false
+pub none_before : (x y z : List ℤ) → stands_before z y ≡ false → stands_before y x ≡ false → stands_before z x ≡ false
 none_before x y z h k = by (stands_before z x) refl
   where
     by : (b : Bool) → stands_before z x ≡ b → stands_before z x ≡ false
@@ -86,7 +85,7 @@ all_with P one (other ∷ others) p all = by (stands_before other one) (all_with
     by true rest = (all.0, rest)
     by false rest = (p, all)
 
-all_behind : (one other : List ℤ) (columns : List (List ℤ)) → stands_before other one ≡ false → AllByRecursion (λ column. stands_before column other ≡ false) columns
+pub all_behind : (one other : List ℤ) (columns : List (List ℤ)) → stands_before other one ≡ false → AllByRecursion (λ column. stands_before column other ≡ false) columns
     → AllByRecursion (λ column. stands_before column one ≡ false) columns
 all_behind one other [] h all = tt
 all_behind one other (column ∷ columns) h all = (none_before one other column all.0 h, all_behind one other columns h all.1)
@@ -107,33 +106,6 @@ occurring_in_order (z ∷ zs) columns order = one_more_in_order (z ∷ zs) colum
 pub below_in_order : (column_of : ℕ → List ℤ) (count : ℕ) → AreInOrder (columns_below column_of count)
 below_in_order column_of zero = tt
 below_in_order column_of (suc x) = occurring_in_order (column_of x) (columns_below column_of x) (below_in_order column_of x)
-
--- ---- where one belongs
-
-at_in_order : (P : List ℤ → Type 0) (columns : List (List ℤ)) (j : ℕ) (d : List ℤ) → j < length columns → AllByRecursion P columns → P (slice_index_or columns j d)
-at_in_order P [] j d less all = absurd (omega (arith, less))
-at_in_order P (column ∷ columns) zero d less all = all.0
-at_in_order P (column ∷ columns) (suc j) d less all = at_in_order P columns j d (omega (arith, less)) all.1
-
--- none that stands before it comes after one that does not
-pub order_parts : (one : List ℤ) (columns : List (List ℤ)) → AreInOrder columns → IsPartitionedBy (λ other. stands_before other one) columns
-order_parts one [] order i j d le less h = absurd (omega (arith, less))
-order_parts one (column ∷ columns) order zero zero d le less h = h
-order_parts one (column ∷ columns) order zero (suc j) d le less h =
-    before_past one column (slice_index_or columns j d) h (at_in_order (λ other. stands_before other column ≡ false) columns j d (omega (arith, less)) order.0)
-order_parts one (column ∷ columns) order (suc i) zero d le less h = absurd (omega (arith, le))
-order_parts one (column ∷ columns) order (suc i) (suc j) d le less h = order_parts one columns order.1 i j d (omega (arith, le)) (omega (arith, less)) h
-
--- so the place where they part is the one where it belongs
-pub parting_place : (one : List ℤ) (columns : List (List ℤ)) (place : ℕ) → place ≤ length columns
-    → IsPartitionPoint (λ other. stands_before other one ≡ true) (λ other. stands_before other one ≡ false) columns place → place ≡ place_for one columns
-parting_place one [] place le point = omega (arith, le)
-parting_place one (column ∷ columns) zero le point =
-    sym (ap (λ (b : Bool). if b then suc (place_for one columns) else 0) (point.1 0 column (omega arith) (omega arith)))
-parting_place one (column ∷ columns) (suc place) le point =
-    let rest = parting_place one columns place (omega (arith, le))
-    ((λ k d from to. point.0 (suc k) d (omega arith) (omega (arith, to))), (λ k d from to. point.1 (suc k) d (omega (arith, from)) (omega (arith, to)))) in
-    ap suc rest ∙ sym (ap (λ (b : Bool). if b then suc (place_for one columns) else 0) (point.0 0 column (omega arith) (omega arith)))
 
 -- ---- two columns are put in
 

@@ -1,15 +1,17 @@
 //! The columns of form variables.
-ghost use Rattle.std.specs.Prelude.{◌≡◌, ◌<◌, ◌≤◌, ◌∷◌, ◌++◌, [], pos, drop, length, OnOk, IfOk};
+ghost use Rattle.std.specs.Prelude.{◌≡◌, ◌<◌, ◌∷◌, ◌++◌, [], pos, drop, length, OnOk};
+ghost use Rattle.std.specs.Ordering.{is_lt};
 ghost use Rattle.pc_linear.specs.Form.{IsForm};
 ghost use Rattle.pc_window.specs.Opening.{FormBelow, TermsBelow};
-ghost use Rattle.pc_canon.specs.Canonical.{constant_in, stands_before, with_column, with_occurring, columns_below};
+ghost use Rattle.pc_canon.specs.Canonical.{constant_in, stands_before, columns_below};
 ghost use Rattle.pc_canon.specs.Key.{constant_numbers, list_numbers, column_numbers};
-ghost use Rattle.pc_canon.specs.models.Gathered.{AreInOrder, column_in, and_term, and_terms, with_factors, place_for};
+ghost use Rattle.pc_canon.specs.models.Gathered.{column_in, and_term, and_terms, with_factors, occurs};
 
 use crate::number_bytes::NumberBytes;
 use pc_linear::{LinForm, Term};
 use pc_word::Seq;
-use std::alloc::{AllocError, Global};
+use std::alloc::AllocError;
+use std::cmp::Ordering;
 
 /// The column of a form variable: the places of the forms in which it stands, each with its factor.
 pub(crate) type Column = Seq<i64>;
@@ -60,44 +62,27 @@ fn add_term(term: Term, place: u32, columns: &mut [Column]) -> Result<(), AllocE
 }
 
 /// The columns that are not empty, in order.
-pub(crate) fn in_order(alloc: Global, columns: &[Column]) -> Result<Vec<Column>, AllocError>
-    ensures { IfOk result (λ sorted. sorted.items ≡ columns_below (column_in columns.now) (length columns.now)) }
+pub(crate) fn in_order(columns: Vec<Column>) -> Vec<Column>
+    ensures { result.items ≡ columns_below (column_in columns.items) (length columns.items) }
 {
-    let mut sorted = Vec::new(alloc);
-    for at in 0..columns.len() {
-        put_occurring(alloc, columns[at].as_slice(), &mut sorted)?;
-    }
-    Ok(sorted)
+    let mut sorted = columns;
+    sorted.retain(|column| occurs(column.as_slice()));
+    sorted.sort_unstable_by(|one, other| in_turn(one.as_slice(), other.as_slice()));
+    sorted
 }
 
-/// Puts a column among others in order, unless it is empty.
-#[tactic(auto, using(crate::proofs::Gathering::order))]
-fn put_occurring(alloc: Global, column: &[i64], sorted: &mut Vec<Column>) -> Result<(), AllocError>
-    requires { AreInOrder sorted.old.items }
-    ensures { OnOk result (sorted.new.items ≡ with_occurring column.now sorted.old.items) }
+/// Whether a column is not empty.
+fn occurs(column: &[i64]) -> bool
+    ensures { result ≡ occurs column.now }
 {
-    if column.is_empty() {
-        return Ok(());
-    }
-    let place = place_for(column, sorted.as_slice());
-    let column = Column::from_slice(alloc, column)?;
-    sorted.insert(place, column)?;
-    Ok(())
+    !column.is_empty()
 }
 
-/// How many of the columns, which are in order, stand before one.
-fn place_for(column: &[i64], sorted: &[Column]) -> usize
-    requires { AreInOrder sorted.now }
-    ensures { result ≡ place_for column.now sorted.now }
+/// How a column comes with another: the greater one first.
+fn in_turn(one: &[i64], other: &[i64]) -> Ordering
+    ensures { is_lt result ≡ stands_before one.now other.now }
 {
-    sorted.partition_point(|other| stands_before(other.as_slice(), column))
-}
-
-/// Whether a column stands before another.
-fn stands_before(one: &[i64], other: &[i64]) -> bool
-    ensures { result ≡ stands_before one.now other.now }
-{
-    other.cmp(one).is_lt()
+    other.cmp(one)
 }
 
 /// Writes columns.

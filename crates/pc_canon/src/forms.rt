@@ -28,25 +28,8 @@ pub(crate) fn write_forms(
     ensures { OnOk result (numbers.new ≡ numbers.old ++ forms_numbers (map (forms_in window.now.names.forms) parameters.now) (map (forms_in window.now.names.forms) (definitions_of (tree_in window.now.tree)))) }
 {
     let mut columns = no_columns(alloc, window.names.next_variable)?;
-    write_forms_with(alloc, window, parameters, &mut columns, numbers)?;
-    Ok(())
-}
-
-/// The same, where these columns are empty: the form variables are gathered in them.
-fn write_forms_with(
-    alloc: Global,
-    window: &Window,
-    parameters: &[u32],
-    columns: &mut [Column],
-    numbers: &mut NumberBytes,
-) -> Result<(), AllocError>
-    requires empty { columns.old ≡ replicate window.now.names.next_variable [] }
-    requires variables { FormsBelow (supply_in window.now.names) }
-    requires few { length parameters.now + tree_size (tree_in window.now.tree) < 2 ^ 32 }
-    ensures { OnOk result (numbers.new ≡ numbers.old ++ forms_numbers (map (forms_in window.now.names.forms) parameters.now) (map (forms_in window.now.names.forms) (definitions_of (tree_in window.now.tree)))) }
-{
-    write_constants(window, parameters, columns, numbers)?;
-    let sorted = in_order(alloc, columns)?;
+    write_constants(window, parameters, columns.as_mut_slice(), numbers)?;
+    let sorted = in_order(columns);
     write_columns(sorted.as_slice(), numbers)?;
     Ok(())
 }

@@ -32,7 +32,7 @@ pub struct WindowKey {
 }
 
 /// The key of a window. It takes time linear in the window, its names and its form variables, but for
-/// putting the columns of form variables in order, each by a binary search.
+/// putting the columns of form variables in order, by a sort that moves none of their numbers.
 pub fn key(alloc: Global, window: &Window) -> Result<WindowKey, WindowError>
     requires below { TreeBelow (length window.now.names.forms) (tree_in window.now.tree) }
     requires few_names { length window.now.names.forms < 2 ^ 31 }

@@ -1,6 +1,6 @@
 -- Columns of form variables in a list by variable.
 use Rattle.std.specs.List.{AllByRecursion}
-use Rattle.std.specs.Prelude.{◌≡◌, false, ℕ, suc, ◌+◌, ℤ, pos, if◌then◌else◌, List, [], ◌∷◌, ◌++◌, slice_index_or, slice_set}
+use Rattle.std.specs.Prelude.{◌≡◌, Bool, false, true, ℕ, suc, ◌+◌, ℤ, pos, List, [], ◌∷◌, ◌++◌, slice_index_or, slice_set}
 use Rattle.pc_linear.specs.declared.term.Term.{Term}
 use Rattle.pc_linear.specs.Form.{Form, factor_of}
 use Rattle.pc_canon.specs.Canonical.{with_factor, stands_before}
@@ -33,7 +33,7 @@ abbrev pub AreInOrder : List (List ℤ) → Type 0
 AreInOrder [] = Unit {0}
 AreInOrder (column ∷ columns) = AllByRecursion (λ other. stands_before other column ≡ false) columns × AreInOrder columns
 
--- how many of the first columns stand before one
-abbrev pub place_for : List ℤ → List (List ℤ) → ℕ
-place_for one [] = 0
-place_for one (other ∷ others) = if stands_before other one then suc (place_for one others) else 0
+-- whether a column is not empty
+abbrev pub occurs : List ℤ → Bool
+occurs [] = false
+occurs (z ∷ zs) = true

@@ -1,7 +1,13 @@
-use Rattle.std.proofs.Common.{sym, subst}
-use Rattle.pc_canon.specs.models.Gathered.{AreInOrder, column_in}
-use Rattle.pc_canon.proofs.Sorting.{below_in_order}
+use Rattle.std.proofs.Common.{rules, of_calls}
+use Rattle.std.proofs.lemmas.Fn.{always_returns_same, filter_same}
+use Rattle.pc_canon.specs.Canonical.{stands_before}
+use Rattle.pc_canon.specs.models.Gathered.{occurs}
+use Rattle.pc_canon.proofs.SortedColumns.{before_orders, sorted_below}
 use Rattle.pc_canon.proofs.columns.in_order.Goals as goal
 
-pub put_occurring-requires : goal.put_occurring-requires
-put_occurring-requires c = subst AreInOrder (sym c.loop-at.invariant) (below_in_order (column_in c.args.columns.now) c.loop-at.at)
+pub returns : goal.returns
+returns c =
+    let kept = filter_same _ occurs _ (λ x b f k. search (rules, of_calls)) _ _ c.retain.ensures.filtered in
+    let compares = always_returns_same _ _ _ (λ a r f k. search (rules, of_calls)) in
+    sorted_below c.args.columns.items c.retain.new.self.items c.sort_unstable_by.new.self.items kept c.sort_unstable_by.ensures.permutation
+    (c.sort_unstable_by.ensures.sorted stands_before before_orders compares)
