@@ -1,5 +1,5 @@
 //! Tidying.
-ghost use Rattle.std.specs.Prelude.{◌≡◌, ◌≤◌, length, true, IfOk};
+ghost use Rattle.std.specs.Prelude.{◌≡◌, ◌≤◌, length, true, false, IfOk, OnOk};
 ghost use Rattle.pc_word.specs.Items.{dest_of};
 ghost use Rattle.pc_table.specs.Table.{Table};
 ghost use Rattle.pc_window.specs.Tree.{tree_size};
@@ -12,7 +12,7 @@ ghost use Rattle.pc_window.specs.StoredWindow.{tree_in, window_in, InNodes};
 ghost use Rattle.pc_unify.specs.models.Marks.{is_marked, Marks, WritesNone, SidesApart};
 
 use crate::marks::{is_needed, mark, mark_homes, mark_item};
-use pc_window::{Window, WindowError, WindowTree, in_node};
+use pc_window::{Window, WindowError, WindowTree, is_leaf};
 use std::alloc::{AllocError, Global};
 
 /// Deletes each Bin, Load and More whose name is used nowhere below, until there is none. Each item
@@ -27,78 +27,81 @@ pub fn tidy(alloc: Global, window: Window) -> Result<Window, WindowError>
     ensures proper { IfOk result (λ later. IsProper (window_in later)) }
     ensures keeps { IfOk result (λ later. (table : Table) → WindowKeeps table (window_in window) (window_in later)) }
 {
-    let Window {
-        tree,
-        names,
-        limits,
-        inside,
-    } = window;
-    let mut marks = vec![in alloc; false; names.forms.len()]?;
-    let tree = tidied(alloc, tree, &mut marks)?;
-    Ok(Window {
-        tree,
-        names,
-        limits,
-        inside,
-    })
+    let mut window = window;
+    let mut marks = vec![in alloc; false; window.names.forms.len()]?;
+    tidy_tree(alloc, &mut window.tree, true, &mut marks)?;
+    Ok(window)
 }
 
-/// A tree, tidied. Marks what is used in it, beside what is marked already.
+/// Tidies a tree, at the root of a node or else below an item or test. Marks what is used in it,
+/// beside what is marked already. The boxes of what stays are kept.
 #[tactic(auto, using(crate::proofs::Tidied::trees))]
-fn tidied(alloc: Global, tree: WindowTree, marks: &mut [bool]) -> Result<WindowTree, AllocError>
-    requires below { TreeBelow (length marks.old) (tree_in tree) }
-    requires unmarked { WritesNone (is_marked marks.old) (tree_in tree) }
-    requires apart { SidesApart (tree_in tree) }
-    ensures tree { IfOk result (λ later. tree_in later ≡ tidied (tree_in tree)) }
-    ensures marks { IfOk result (λ later. Marks marks.old marks.new (uses (tidied (tree_in tree)))) }
-    ensures nodes { IfOk result (λ later. InNodes true later) }
+fn tidy_tree(
+    alloc: Global,
+    tree: &mut WindowTree,
+    at_root: bool,
+    marks: &mut [bool],
+) -> Result<(), AllocError>
+    requires below { TreeBelow (length marks.old) (tree_in tree.old) }
+    requires unmarked { WritesNone (is_marked marks.old) (tree_in tree.old) }
+    requires apart { SidesApart (tree_in tree.old) }
+    ensures tree { OnOk result (tree_in tree.new ≡ tidied (tree_in tree.old)) }
+    ensures marks { OnOk result (Marks marks.old marks.new (uses (tidied (tree_in tree.old)))) }
+    ensures nodes { OnOk result (InNodes at_root tree.new) }
 {
     match tree {
-        WindowTree::Step {
-            tag,
-            origin,
-            item,
-            rest,
-        } => {
-            let rest = tidied(alloc, Box::into_inner(rest), marks)?;
-            if !is_needed(marks, item) {
-                return Ok(rest);
+        WindowTree::Step { item, rest, .. } => {
+            tidy_tree(alloc, rest, false, marks)?;
+            if is_needed(marks, *item) {
+                mark_item(marks, *item);
+                return put_in_node(alloc, tree, at_root);
             }
-            mark_item(marks, item);
-            let rest = in_node(alloc, rest)?;
-            Ok(WindowTree::Step {
-                tag,
-                origin,
-                item,
-                rest,
-            })
+            let rest = std::mem::replace(&mut **rest, WindowTree::Stop);
+            *tree = lifted(rest, at_root);
         }
-        WindowTree::Test {
-            tag,
-            origin,
-            on,
-            yes,
-            no,
-        } => {
-            let yes = tidied(alloc, Box::into_inner(yes), marks)?;
-            let no = tidied(alloc, Box::into_inner(no), marks)?;
-            mark(marks, on);
-            let yes = in_node(alloc, yes)?;
-            let no = in_node(alloc, no)?;
-            Ok(WindowTree::Test {
-                tag,
-                origin,
-                on,
-                yes,
-                no,
-            })
+        WindowTree::Test { on, yes, no, .. } => {
+            tidy_tree(alloc, yes, false, marks)?;
+            tidy_tree(alloc, no, false, marks)?;
+            mark(marks, *on);
+            return put_in_node(alloc, tree, at_root);
         }
-        WindowTree::Node { below } => tidied(alloc, Box::into_inner(below), marks),
-        WindowTree::Exit { region, tag, homes } => {
-            mark_homes(marks, homes.as_slice());
-            Ok(WindowTree::Exit { region, tag, homes })
+        WindowTree::Node { below } => {
+            tidy_tree(alloc, below, true, marks)?;
+            if at_root || is_leaf(below) {
+                *tree = std::mem::replace(&mut **below, WindowTree::Stop);
+            }
         }
-        WindowTree::Stop => Ok(WindowTree::Stop),
-        WindowTree::Trap { kind, line } => Ok(WindowTree::Trap { kind, line }),
+        WindowTree::Exit { homes, .. } => mark_homes(marks, homes.as_slice()),
+        WindowTree::Stop => {}
+        WindowTree::Trap { .. } => {}
+    }
+    Ok(())
+}
+
+/// Puts an item or test in a node of its own, where it does not stand at the root of one.
+fn put_in_node(alloc: Global, tree: &mut WindowTree, at_root: bool) -> Result<(), AllocError>
+    requires { InNodes true tree.old }
+    ensures tree { OnOk result (tree_in tree.new ≡ tree_in tree.old) }
+    ensures nodes { OnOk result (InNodes at_root tree.new) }
+{
+    if at_root {
+        return Ok(());
+    }
+    let whole = std::mem::replace(tree, WindowTree::Stop);
+    let below = Box::new(alloc, whole)?;
+    *tree = WindowTree::Node { below };
+    Ok(())
+}
+
+/// What stands below an item that goes, as what stands in its place: no longer in a node of its own,
+/// where that is the root of one.
+fn lifted(tree: WindowTree, at_root: bool) -> WindowTree
+    requires { InNodes false tree }
+    ensures tree { tree_in result ≡ tree_in tree }
+    ensures nodes { InNodes at_root result }
+{
+    match tree {
+        WindowTree::Node { below } if at_root => Box::into_inner(below),
+        other => other,
     }
 }
