@@ -35,7 +35,6 @@ pub fn tidy(alloc: Global, window: Window) -> Result<Window, WindowError>
 
 /// Tidies a tree, at the root of a node or else below an item or test. Marks what is used in it,
 /// beside what is marked already. The boxes of what stays are kept.
-#[tactic(auto, using(crate::proofs::Tidied::trees))]
 fn tidy_tree(
     alloc: Global,
     tree: &mut WindowTree,
