@@ -5,10 +5,14 @@ pub mod Nodes
 pub mod Ways
 pub mod Marks
 pub mod Searching
+pub mod Plain
+pub mod Looked
 pub mod Walked
+pub mod WalkedFront
 pub mod Taken
 pub mod Landed
 pub mod Entered
+pub mod Along
 pub mod Twins
 pub mod FirstJump
 pub mod Coming

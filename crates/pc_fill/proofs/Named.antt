@@ -1,5 +1,6 @@
 -- What comes, with its name, and the window that it comes to.
-use Rattle.std.proofs.Common.{◌≡◌, ℕ, Bool, true, false, Option, Some, None, length, refl, sym, ◌∙◌, ap, subst}
+use Rattle.std.proofs.Common.{◌≡◌, ℕ, Bool, true, false, List, Option, Some, None, length, refl, sym, ◌∙◌, ap, subst}
+use Rattle.std.specs.Prelude.{◌||◌, is_some}
 use Rattle.pc_word.specs.declared.item.Item.{Item}
 use Rattle.pc_word.specs.declared.item.Item.TheVariants.{Bin, Copy, Load, Store, Print, Read, More}
 use Rattle.pc_word.specs.Items.{dest_of}
@@ -13,8 +14,12 @@ use Rattle.pc_window.specs.Opening.{Supply, with_name}
 use Rattle.pc_window.specs.Jump.{combined}
 use Rattle.pc_window.specs.Filled.{given_supply}
 use Rattle.pc_window.specs.StoredWindow.{front_in, forms_in, supply_in, window_in}
-use Rattle.pc_fill.specs.declared.first.ReadyNode.{ReadyNode}
-use Rattle.pc_fill.specs.models.Landing.{landed, came, new_name, FirstIn, FirstTwinOf, renames, coming_of, names_after, HasCome}
+use Rattle.pc_fill.specs.declared.first.Found.{Found}
+use Rattle.pc_fill.specs.models.Landing.{landed, came, new_name, FirstTwinOf, renames, coming_of, names_after, HasCome}
+use Rattle.pc_fill.specs.models.Way.{Reaches, crosses_along, landed_along}
+use Rattle.pc_fill.specs.models.Walk.{found_at}
+use Rattle.pc_fill.proofs.Along.{crosses_reached, landed_reached}
+use Rattle.pc_fill.proofs.Twins.{FirstAlong}
 
 -- ---- names
 
@@ -80,31 +85,37 @@ test_names names false = refl
 
 -- ---- twins
 
-pub item_twin : (forms : ℕ → Form) (n tag origin : ℕ) (what : Option Item) (item : Item) (front : Front) (place : ℕ) (found : Option ℕ) → what ≡ Some item
-    → FirstIn forms n tag origin item front place found → FirstTwinOf forms n tag origin what front place found
-item_twin forms n tag origin what item front place found is h = subst (λ (w : Option Item). FirstTwinOf forms n tag origin w front place found) (sym is) h
+module _ (forms : ℕ → Form) (n tag origin : ℕ) (what : Option Item) (front : Front) (way : List Bool) (depth : ℕ) where
+  pub item_twin : (item : Item) (found : Option ℕ) → what ≡ Some item → FirstAlong forms n tag origin item front way found
+      → (place : ℕ) → Reaches front way depth place → FirstTwinOf forms n tag origin what front place found
+  item_twin item found is h place r = subst (λ (w : Option Item). FirstTwinOf forms n tag origin w front place found) (sym is) (h depth place r)
 
-pub test_twin : (forms : ℕ → Form) (n tag origin : ℕ) (what : Option Item) (front : Front) (place : ℕ) → what ≡ None → FirstTwinOf forms n tag origin what front place None
-test_twin forms n tag origin what front place is = subst (λ (w : Option Item). FirstTwinOf forms n tag origin w front place None) (sym is) refl
+  pub test_twin : what ≡ None → (place : ℕ) → Reaches front way depth place → FirstTwinOf forms n tag origin what front place None
+  test_twin is place r = subst (λ (w : Option Item). FirstTwinOf forms n tag origin w front place None) (sym is) refl
 
 -- ---- the window
 
-pub has_come : (w : StoredWindow) (r : ReadyNode) (twin : Option ℕ) (renamed : Bool) (item : Option Item) (tree : WindowTree) (names : NameTable)
-    → FirstTwinOf (forms_in w.names.forms) (length w.names.forms) r.tag r.origin r.item (front_in w.tree) r.place twin
-    → renamed ≡ renames (window_in w) r twin
-    → item ≡ came (length w.names.forms) renamed r.item
-    → supply_in names ≡ given_supply (supply_in w.names) (new_name (length w.names.forms) renamed r.item) (came (length w.names.forms) renamed r.item)
-    → front_in tree ≡ landed (record { tag = r.tag; origin = r.origin; item = item; twin = twin }) (front_in w.tree) r.place
-    → HasCome (window_in w) r (window_in (record { tree = tree; names = names; limits = w.limits; inside = w.inside }))
-has_come w r twin renamed item tree names first is comes given lands =
-    let item_is : item ≡ came (length w.names.forms) (renames (window_in w) r twin) r.item = comes ∙ ap (λ (b : Bool). came (length w.names.forms) b r.item) is in
-    let front_is : front_in tree ≡ landed (coming_of (window_in w) r twin) (front_in w.tree) r.place =
-    lands ∙ ap (λ (o : Option Item). landed (record { tag = r.tag; origin = r.origin; item = o; twin = twin }) (front_in w.tree) r.place) item_is in
-    let names_is : supply_in names ≡ names_after (window_in w) r twin =
-    given ∙ ap (λ (b : Bool). given_supply (supply_in w.names) (new_name (length w.names.forms) b r.item) (came (length w.names.forms) b r.item)) is in
+pub has_come : (w : StoredWindow) (it : Found) (way : List Bool) (twin : Option ℕ) (renamed : Bool) (item : Option Item) (tree : WindowTree) (names : NameTable)
+    → ((place : ℕ) → Reaches (front_in w.tree) way it.depth place → FirstTwinOf (forms_in w.names.forms) (length w.names.forms) it.tag it.origin it.item (front_in w.tree) place twin)
+    → renamed ≡ (is_some twin || crosses_along (front_in w.tree) way)
+    → item ≡ came (length w.names.forms) renamed it.item
+    → supply_in names ≡ given_supply (supply_in w.names) (new_name (length w.names.forms) renamed it.item) (came (length w.names.forms) renamed it.item)
+    → front_in tree ≡ landed_along (record { tag = it.tag; origin = it.origin; item = item; twin = twin }) (front_in w.tree) way it.depth
+    → (place : ℕ) → Reaches (front_in w.tree) way it.depth place
+    → HasCome (window_in w) (found_at it place) (window_in (record { tree = tree; names = names; limits = w.limits; inside = w.inside }))
+has_come w it way twin renamed item tree names first is comes given lands place r =
+    let n = length w.names.forms in
+    let same : renamed ≡ renames (window_in w) (found_at it place) twin =
+    is ∙ ap (λ (b : Bool). is_some twin || b) (crosses_reached (front_in w.tree) way it.depth place r) in
+    let item_is : item ≡ came n (renames (window_in w) (found_at it place) twin) it.item = comes ∙ ap (λ (b : Bool). came n b it.item) same in
+    let front_is : front_in tree ≡ landed (coming_of (window_in w) (found_at it place) twin) (front_in w.tree) place =
+    lands ∙ landed_reached (record { tag = it.tag; origin = it.origin; item = item; twin = twin }) (front_in w.tree) way it.depth place r
+    ∙ ap (λ (o : Option Item). landed (record { tag = it.tag; origin = it.origin; item = o; twin = twin }) (front_in w.tree) place) item_is in
+    let names_is : supply_in names ≡ names_after (window_in w) (found_at it place) twin =
+    given ∙ ap (λ (b : Bool). given_supply (supply_in w.names) (new_name n b it.item) (came n b it.item)) same in
     record {
       twin = twin;
-      first = first;
+      first = first place r;
       is = λ i. record {
         front = front_is i;
         forms = (names_is i).forms;

@@ -71,9 +71,6 @@ same_fact b P Q forth back iff = (λ e. forth (iff.0 e), λ q. iff.1 (back q))
 pub at_root : (place : ℕ) (At Below : Type 0) → place ≡ 0 → At → Side (nat_eq place 0) At Below
 at_root place At Below e h = subst (λ (n : ℕ). Side (nat_eq n 0) At Below) (sym e) h
 
-pub root_only : (place : ℕ) (At Below : Type 0) → place ≡ 0 → Side (nat_eq place 0) At Below → At
-root_only place At Below e h = subst (λ (n : ℕ). Side (nat_eq n 0) At Below) e h
-
 zero_test : (place : ℕ) → place ≢ 0 → nat_eq place 0 ≡ false
 zero_test zero ne = absurd (ne refl)
 zero_test (suc n) ne = not_zero n

@@ -1,8 +1,8 @@
 -- The search for the twin of an item.
-use Rattle.std.proofs.Common.{◌≡◌, ◌≢◌, ◌↔◌, ℕ, ◌+◌, ◌-◌, ◌<◌, ◌≤◌, inl, inr, Bool, true}
-use Rattle.std.proofs.Common.{false, [], ◌∷◌, Option, Some, None, sym, ◌∙◌, ap, subst, lt-ltb, arith}
+use Rattle.std.proofs.Common.{◌≡◌, ◌≢◌, ◌↔◌, ℕ, suc, ◌+◌, ◌-◌, ◌<◌, ◌≤◌, inl, inr, Bool, true}
+use Rattle.std.proofs.Common.{false, List, [], ◌∷◌, Option, Some, None, sym, ◌∙◌, ap, subst, lt-ltb, arith}
 use Rattle.std.specs.Prelude.{nat_lt, slice_get}
-use Rattle.pc_word.proofs.Truth.{decide_le, of_most}
+use Rattle.pc_word.proofs.Truth.{decide_le}
 use Rattle.pc_word.specs.declared.item.Item.{Item}
 use Rattle.pc_word.specs.declared.item.Operand.{Operand}
 use Rattle.pc_word.specs.Items.{operands_of}
@@ -14,7 +14,10 @@ use Rattle.pc_alike.proofs.Signatures.{alike_by_one}
 use Rattle.pc_fill.specs.models.Places.{Node, nodes_of, MayRise}
 use Rattle.pc_fill.specs.models.Search.{StandsAt}
 use Rattle.pc_fill.specs.models.Landing.{TwinsAt, TwinHere, TwinIn, both_unfinished, FirstFrom, FirstIn}
-use Rattle.pc_fill.proofs.Sides.{fails_here, failed, held, same_fact, root_only, below_only, under_root, first_only, side_first, second_only, side_second}
+use Rattle.pc_fill.specs.models.Way.{Reaches, Behind_item, Behind_yes}
+use Rattle.pc_fill.proofs.Sides.{fails_here, failed, held, same_fact, to_below, from_below, first_only, side_first, second_only, side_second}
+use Rattle.pc_fill.proofs.Along.{reaches_within}
+use Rattle.pc_window.specs.Hold.{Side}
 use Rattle.pc_fill.proofs.Nodes.{node_within}
 use Rattle.pc_fill.proofs.Searching.{item_stands, test_stands}
 
@@ -154,63 +157,65 @@ twin_within forms next tag origin item tree k h = node_within tree k _ h.at
 
 -- ---- the front
 
-module _ (forms : ℕ → Form) (next tag origin : ℕ) (item : Item) (place : ℕ) where
-  pub leaf_alone : (rest : Tree) → FirstIn forms next tag origin item (Unfinished rest) place None
-  leaf_alone rest = record { is = λ k h. h }
+module _ (forms : ℕ → Form) (next tag origin : ℕ) (item : Item) where
+  -- this is the first twin of what stands where these sides lead
+  abbrev pub FirstAlong : Front → List Bool → Option ℕ → Type 0
+  FirstAlong front sides found = (depth place : ℕ) → Reaches front sides depth place → FirstIn forms next tag origin item front place found
 
-  pub item_root_alone : (t o : ℕ) (y : Item) (rest : Front) → place ≡ 0 → FirstIn forms next tag origin item (Issued t o y rest) place None
-  item_root_alone t o y rest e = record { is = λ k h. root_only place ⊥ _ e h }
+  -- the same of a front and sides that are known to be so
+  pub known_so : (front front' : Front) (sides sides' : List Bool) (found : Option ℕ) → front ≡ front' → sides ≡ sides' → FirstAlong front' sides' found → FirstAlong front sides found
+  known_so front front' sides sides' found e f h = subst (λ (it : Front). FirstAlong it sides found) (sym e) (subst (λ (l : List Bool). FirstAlong front' l found) (sym f) h)
 
-  pub test_root_alone : (t o : ℕ) (on : Operand) (p q : Front) → place ≡ 0 → FirstIn forms next tag origin item (Split t o on p q) place None
-  test_root_alone t o on p q e = record { is = λ k h. root_only place ⊥ _ e h }
-
-  carried : (front front' : Front) (n : ℕ) (found : Option ℕ) → ((k : ℕ) → TwinIn forms next tag origin item front' n k → TwinIn forms next tag origin item front place k)
+  carried : (front front' : Front) (place n : ℕ) (found : Option ℕ) → ((k : ℕ) → TwinIn forms next tag origin item front' n k → TwinIn forms next tag origin item front place k)
       → ((k : ℕ) → TwinIn forms next tag origin item front place k → TwinIn forms next tag origin item front' n k)
       → FirstIn forms next tag origin item front' n found → FirstIn forms next tag origin item front place found
-  carried front front' n None up down h = record { is = λ k t. h.is k (down k t) }
-  carried front front' n (Some f) up down h = record { is = (up f h.is.0, λ k t. h.is.1 k (down k t)) }
+  carried front front' place n None up down h = record { is = λ k t. h.is k (down k t) }
+  carried front front' place n (Some f) up down h = record { is = (up f h.is.0, λ k t. h.is.1 k (down k t)) }
 
-  pub below_front_item : (t o : ℕ) (y : Item) (rest : Front) (found : Option ℕ) → place ≢ 0 → FirstIn forms next tag origin item rest (place - 1) found
-      → FirstIn forms next tag origin item (Issued t o y rest) place found
-  below_front_item t o y rest found ne h =
-      carried (Issued t o y rest) rest (place - 1) found (λ k t'. under_root place ⊥ _ ne t') (λ k t'. below_only place ⊥ _ ne t') h
+  pub leaf_alone : (rest : Tree) (sides : List Bool) → FirstAlong (Unfinished rest) sides None
+  leaf_alone rest sides depth place h = record { is = λ k t. t }
 
-  module _ (t o : ℕ) (on : Operand) (p q : Front) (n : ℕ) (size : n ≡ tree_size (whole p)) (found : Option ℕ) (ne : place ≢ 0) where
-    pub front_no_side : n ≤ place - 1 → FirstIn forms next tag origin item q (place - 1 - n) found → FirstIn forms next tag origin item (Split t o on p q) place found
-    front_no_side most h =
-        let test : nat_lt (place - 1) (tree_size (whole p)) ≡ false = of_most (place - 1) (tree_size (whole p)) (omega arith) in
-        carried (Split t o on p q) q (place - 1 - n) found
-        (λ k t'. under_root place ⊥ _ ne (side_second (nat_lt (place - 1) (tree_size (whole p))) _ _ test (subst (λ (m : ℕ). TwinIn forms next tag origin item q (place - 1 - m) k) size t')))
-        (λ k t'. subst (λ (m : ℕ). TwinIn forms next tag origin item q (place - 1 - m) k) (sym size)
-        (second_only (nat_lt (place - 1) (tree_size (whole p))) _ _ test (below_only place ⊥ _ ne t'))) h
+  pub below_front_item : (t o : ℕ) (y : Item) (rest : Front) (sides : List Bool) (found : Option ℕ) → FirstAlong rest sides found → FirstAlong (Issued t o y rest) sides found
+  below_front_item t o y rest sides found h depth place (Behind_item t' o' y' rest' sides' d n r) =
+      carried (Issued t o y rest) rest (suc n) n found (λ k u. to_below ⊥ (λ j. TwinIn forms next tag origin item rest j k) n u)
+      (λ k u. from_below ⊥ (λ j. TwinIn forms next tag origin item rest j k) n u) (h d n r)
 
-    pub front_yes_side : place - 1 < n → both_unfinished p q ≡ false → FirstIn forms next tag origin item p (place - 1) found
-        → FirstIn forms next tag origin item (Split t o on p q) place found
-    front_yes_side less apart h =
-        let test : nat_lt (place - 1) (tree_size (whole p)) ≡ true = lt-ltb (place - 1) (tree_size (whole p)) (omega arith) in
-        carried (Split t o on p q) p (place - 1) found
-        (λ k t'. under_root place ⊥ _ ne (side_first (nat_lt (place - 1) (tree_size (whole p))) _ _ test (side_second (both_unfinished p q) _ _ apart t')))
-        (λ k t'. second_only (both_unfinished p q) _ _ apart (first_only (nat_lt (place - 1) (tree_size (whole p))) _ _ test (below_only place ⊥ _ ne t'))) h
+  module _ (t o : ℕ) (on : Operand) (p q : Front) where
+    OnSides : ℕ → ℕ → Type 0
+    OnSides k j = Side (nat_lt j (tree_size (whole p)))
+        (Side (both_unfinished p q) (TwinHere forms next tag origin item (whole q) k) (TwinIn forms next tag origin item p j k)) (TwinIn forms next tag origin item q (j - tree_size (whole p)) k)
 
-    pub front_across : place - 1 < n → both_unfinished p q ≡ true → FirstFrom forms next tag origin item (whole q) 0 (0 + tree_size (whole q)) found
-        → FirstIn forms next tag origin item (Split t o on p q) place found
-    front_across less both h =
-        let test : nat_lt (place - 1) (tree_size (whole p)) ≡ true = lt-ltb (place - 1) (tree_size (whole p)) (omega arith) in
-        let up : (k : ℕ) → TwinHere forms next tag origin item (whole q) k → TwinIn forms next tag origin item (Split t o on p q) place k =
-        λ k t'. under_root place ⊥ _ ne (side_first (nat_lt (place - 1) (tree_size (whole p))) _ _ test (side_first (both_unfinished p q) _ _ both t')) in
-        let down : (k : ℕ) → TwinIn forms next tag origin item (Split t o on p q) place k → TwinHere forms next tag origin item (whole q) k =
-        λ k t'. first_only (both_unfinished p q) _ _ both (first_only (nat_lt (place - 1) (tree_size (whole p))) _ _ test (below_only place ⊥ _ ne t')) in
-        by_case found up down h
+    module _ (n : ℕ) (less : n < tree_size (whole p)) (k : ℕ) where
+      up_yes : Side (both_unfinished p q) (TwinHere forms next tag origin item (whole q) k) (TwinIn forms next tag origin item p n k) → TwinIn forms next tag origin item (Split t o on p q) (suc n) k
+      unfolding OnSides
+      up_yes u = to_below ⊥ (OnSides k) n (side_first (nat_lt n (tree_size (whole p))) _ _ (lt-ltb n (tree_size (whole p)) less) u)
+
+      down_yes : TwinIn forms next tag origin item (Split t o on p q) (suc n) k → Side (both_unfinished p q) (TwinHere forms next tag origin item (whole q) k) (TwinIn forms next tag origin item p n k)
+      unfolding OnSides
+      down_yes u = first_only (nat_lt n (tree_size (whole p))) _ _ (lt-ltb n (tree_size (whole p)) less) (from_below ⊥ (OnSides k) n u)
+
+    pub front_yes_side : both_unfinished p q ≡ false → (sides : List Bool) (found : Option ℕ) → FirstAlong p sides found → FirstAlong (Split t o on p q) (true ∷ sides) found
+    front_yes_side apart sides found h depth place (Behind_yes t' o' on' p' q' sides' d n r) =
+        let less = reaches_within p sides' d n r in
+        carried (Split t o on p q) p (suc n) n found (λ k u. up_yes n less k (side_second (both_unfinished p q) _ _ apart u))
+        (λ k u. second_only (both_unfinished p q) _ _ apart (down_yes n less k u)) (h d n r)
+
+    pub front_across : both_unfinished p q ≡ true → (sides : List Bool) (found : Option ℕ) → FirstFrom forms next tag origin item (whole q) 0 (0 + tree_size (whole q)) found
+        → FirstAlong (Split t o on p q) (true ∷ sides) found
+    front_across both sides found h depth place (Behind_yes t' o' on' p' q' sides' d n r) =
+        let less = reaches_within p sides' d n r in
+        by_case (suc n) found (λ k u. up_yes n less k (side_first (both_unfinished p q) _ _ both u))
+        (λ k u. first_only (both_unfinished p q) _ _ both (down_yes n less k u)) h
       where
-        by_case : (f : Option ℕ) → ((k : ℕ) → TwinHere forms next tag origin item (whole q) k → TwinIn forms next tag origin item (Split t o on p q) place k)
+        by_case : (place : ℕ) (f : Option ℕ) → ((k : ℕ) → TwinHere forms next tag origin item (whole q) k → TwinIn forms next tag origin item (Split t o on p q) place k)
             → ((k : ℕ) → TwinIn forms next tag origin item (Split t o on p q) place k → TwinHere forms next tag origin item (whole q) k)
             → FirstFrom forms next tag origin item (whole q) 0 (0 + tree_size (whole q)) f → FirstIn forms next tag origin item (Split t o on p q) place f
-        by_case None up down h = record { is = λ k t'. let e = twin_within forms next tag origin item (whole q) k (down k t') in h.is k (omega arith) (omega arith) (down k t') }
-        by_case (Some f) up down h =
+        by_case place None up down h = record { is = λ k t'. let e = twin_within forms next tag origin item (whole q) k (down k t') in h.is k (omega arith) (omega arith) (down k t') }
+        by_case place (Some f) up down h =
             record { is = (up f h.is.0, λ k t'. let e = twin_within forms next tag origin item (whole q) k (down k t') in h.is.2 k (omega arith) (omega arith) (down k t')) }
 
 pub ruleset telling = (other_tag, other_origin, other_item, is_one)
 
 pub ruleset finding = (none_from)
 
-pub ruleset seeking = (leaf_alone, item_root_alone, test_root_alone, below_front_item)
+pub ruleset seeking = (leaf_alone, below_front_item)

@@ -4,8 +4,9 @@ pub mod Extent
 pub mod Known
 pub mod Path
 pub mod Search
-pub mod Walk
 pub mod Taking
 pub mod Landing
+pub mod Way
+pub mod Walk
 pub mod CanFill
 pub mod Conflicts

@@ -48,11 +48,11 @@ fn fill_on(alloc: Global, window: Window, known: &[bool]) -> Result<Window, Allo
     ensures fills { IfOk result (λ later. Filled (known_in known.now) (window_in window) (window_in later)) }
     ensures grows { IfOk result (λ later. GrowsTo window later) }
 {
-    match first_known(&window, known) {
-        None => Ok(window),
-        Some(ready) => {
-            let next = jump(alloc, window, ready)?;
-            fill_on(alloc, next, known)
-        }
-    }
+    let search = first_known(alloc, &window, known)?;
+    let Some(found) = search.best else {
+        return Ok(window);
+    };
+    let next = jump(alloc, window, found, &search.way)?;
+    std::mem::drop(search);
+    fill_on(alloc, next, known)
 }

@@ -1,5 +1,5 @@
 //! The first item or test of a window that is ready and has room.
-ghost use Rattle.std.specs.Prelude.{◌≡◌, ◌↔◌, ◌<◌, ◌+◌, ◌^◌, true, Some, None, ◌∷◌, [], IfOk, IfSome};
+ghost use Rattle.std.specs.Prelude.{◌≡◌, ◌↔◌, ◌<◌, ◌+◌, ◌^◌, ℕ, true, Some, None, ◌∷◌, [], OnOk, IfOk, IfSome};
 ghost use Rattle.pc_window.specs.Names.{uses};
 ghost use Rattle.pc_window.specs.Ready.{ReadyPlace};
 ghost use Rattle.pc_window.specs.Steps.{IsProper};
@@ -9,15 +9,16 @@ ghost use Rattle.pc_window.specs.Tree.{tree_size, whole};
 ghost use Rattle.pc_window.specs.StoredWindow.{tree_in, front_in, window_in};
 ghost use Rattle.pc_fill.specs.models.Places.{known_in};
 ghost use Rattle.pc_fill.specs.models.Search.{comes_before};
-ghost use Rattle.pc_fill.specs.models.Walk.{IsSetting, StandsThere, IsReadyThere, ComesInFront, ComesBehind, BestSoFar};
+ghost use Rattle.pc_fill.specs.models.Path.{sides_of};
+ghost use Rattle.pc_fill.specs.models.Walk.{IsReadyThere, placed, place_found, LooksAt, LooksBehind, LooksAtSide, LooksThrough, FindsFirst};
 
 use crate::known::{is_known, parameters, reads_known};
-use crate::path::{Path, is_plain, may_come_along};
-use crate::readiness::size;
+use crate::path::{Path, is_plain, may_come_along, write_sides};
 use crate::room::{Counts, count_front, has_item_room, has_room};
+use crate::way::place_behind;
 use pc_window::{Window, WindowError, WindowTree};
 use pc_word::{Item, Operand};
-use std::alloc::Global;
+use std::alloc::{AllocError, Global};
 
 /// An item or test that stands behind the front of a window and is ready: its tag, its origin and
 /// its preorder place, and the item, or `None` where it is a test.
@@ -38,16 +39,27 @@ pub(crate) struct Setting<'a> {
     pub(crate) counts: Counts,
 }
 
-/// How far a search has come: the place that comes next, and the first that was found before it.
+/// The same where a way leads to it: how many items stand above it behind the front, in place of its
+/// preorder place.
+#[derive(Clone, Copy, Debug)]
+pub(crate) struct Found {
+    pub(crate) tag: u32,
+    pub(crate) origin: u32,
+    pub(crate) depth: u32,
+    pub(crate) item: Option<Item>,
+}
+
+/// How far a search has come: the first that was found, and the sides of the tests above it, from
+/// the root down.
 #[derive(Debug, Drop)]
 pub(crate) struct Search {
-    pub(crate) place: u32,
-    pub(crate) best: Option<ReadyNode>,
+    pub(crate) best: Option<Found>,
+    pub(crate) way: Vec<bool>,
 }
 
 /// Whether a tag and an origin come before those of what was found.
-fn comes_before(tag: u32, origin: u32, best: Option<ReadyNode>) -> bool
-    ensures { result ≡ comes_before tag origin best }
+fn comes_before(tag: u32, origin: u32, best: Option<Found>) -> bool
+    ensures { (place : ℕ) → result ≡ comes_before tag origin (placed best place) }
 {
     match best {
         None => true,
@@ -56,7 +68,7 @@ fn comes_before(tag: u32, origin: u32, best: Option<ReadyNode>) -> bool
 }
 
 /// Whether an item is ready and has room where this path leads to it.
-#[tactic(auto, using(crate::proofs::Walked::ready))]
+#[tactic(auto, using(crate::proofs::Looked::ready))]
 fn is_item_ready(setting: &Setting, path: &Path, item: Item) -> bool
     ensures { (result ≡ true) ↔ IsReadyThere setting.now path.now (Some item) (operands_of item) }
 {
@@ -73,7 +85,7 @@ fn is_item_ready(setting: &Setting, path: &Path, item: Item) -> bool
 }
 
 /// Whether a test is ready and has room where this path leads to it.
-#[tactic(auto, using(crate::proofs::Walked::ready))]
+#[tactic(auto, using(crate::proofs::Looked::ready))]
 fn is_test_ready(setting: &Setting, path: &Path, on: Operand) -> bool
     ensures { (result ≡ true) ↔ IsReadyThere setting.now path.now None (on ∷ []) }
 {
@@ -86,80 +98,89 @@ fn is_test_ready(setting: &Setting, path: &Path, on: Operand) -> bool
     may_come_along(&setting.window.names, path, None)
 }
 
+/// Takes what is found where a path leads for the first.
+fn keep(search: &mut Search, path: &Path, found: Found) -> Result<(), AllocError>
+    ensures best { OnOk result (search.new.best ≡ Some found) }
+    ensures way { OnOk result (search.new.way.items ≡ sides_of path.now) }
+{
+    search.way.clear();
+    write_sides(path, &mut search.way)?;
+    search.best = Some(found);
+    Ok(())
+}
+
 /// What is found once an item was looked at.
+#[tactic(auto, using(crate::proofs::Looked::looking))]
 fn look_at_item(
     setting: &Setting,
     path: &Path,
     search: &mut Search,
     tag: u32,
     origin: u32,
+    depth: u32,
     item: Item,
-)
-    requires set { IsSetting setting.now }
-    requires place { search.old.place < 2 ^ 31 }
-    requires stands { StandsThere setting.now path.now search.old.place (record { tag = tag; origin = origin; what = Some item; operands = operands_of item }) }
-    requires best { BestSoFar setting.now search.old }
-    ensures place { search.new.place ≡ search.old.place + 1 }
-    ensures best { BestSoFar setting.now search.new }
+) -> Result<(), AllocError>
+    ensures { OnOk result (LooksAt setting.now path.now depth (record { tag = tag; origin = origin; what = Some item; operands = operands_of item }) search.old search.new) }
 {
-    let place = search.place;
-    search.place += 1;
     if !comes_before(tag, origin, search.best) {
-        return;
+        return Ok(());
     }
     if !is_item_ready(setting, path, item) {
-        return;
+        return Ok(());
     }
-    search.best = Some(ReadyNode {
+    let found = Found {
         tag,
         origin,
-        place,
+        depth,
         item: Some(item),
-    });
+    };
+    keep(search, path, found)
 }
 
 /// What is found once a test was looked at.
+#[tactic(auto, using(crate::proofs::Looked::looking))]
 fn look_at_test(
     setting: &Setting,
     path: &Path,
     search: &mut Search,
     tag: u32,
     origin: u32,
+    depth: u32,
     on: Operand,
-)
-    requires set { IsSetting setting.now }
-    requires place { search.old.place < 2 ^ 31 }
-    requires stands { StandsThere setting.now path.now search.old.place (record { tag = tag; origin = origin; what = None; operands = on ∷ [] }) }
-    requires best { BestSoFar setting.now search.old }
-    ensures place { search.new.place ≡ search.old.place + 1 }
-    ensures best { BestSoFar setting.now search.new }
+) -> Result<(), AllocError>
+    ensures { OnOk result (LooksAt setting.now path.now depth (record { tag = tag; origin = origin; what = None; operands = on ∷ [] }) search.old search.new) }
 {
-    let place = search.place;
-    search.place += 1;
     if !comes_before(tag, origin, search.best) {
-        return;
+        return Ok(());
     }
     if !is_test_ready(setting, path, on) {
-        return;
+        return Ok(());
     }
-    search.best = Some(ReadyNode {
+    let found = Found {
         tag,
         origin,
-        place,
+        depth,
         item: None,
-    });
+    };
+    keep(search, path, found)
 }
 
-/// What is found once each item and test of a tree behind the front was looked at.
+/// What is found once each item and test of a tree behind the front was looked at, below so many
+/// items.
 ///
 /// Nothing below a test is ready where items have no room, since a test may not come up above
-/// another one: there the walk only counts places.
-fn look_behind(tree: &WindowTree, setting: &Setting, path: &Path, search: &mut Search)
-    requires set { IsSetting setting.now }
-    requires comes { ComesBehind setting.now path.now search.old.place (tree_in tree.now) }
-    requires best { BestSoFar setting.now search.old }
-    ensures place { search.new.place ≡ search.old.place + tree_size (tree_in tree.now) }
-    ensures best { BestSoFar setting.now search.new }
+/// another one.
+#[cycle(looking)]
+#[tactic(auto, using(crate::proofs::Walked::walking))]
+fn look_behind(
+    tree: &WindowTree,
+    setting: &Setting,
+    path: &Path,
+    depth: u32,
+    search: &mut Search,
+) -> Result<(), AllocError>
+    requires { depth + tree_size (tree_in tree.now) < 2 ^ 31 }
+    ensures { OnOk result (LooksBehind setting.now path.now depth (tree_in tree.now) search.old search.new) }
 {
     match tree {
         WindowTree::Step {
@@ -168,16 +189,15 @@ fn look_behind(tree: &WindowTree, setting: &Setting, path: &Path, search: &mut S
             item,
             rest,
         } => {
-            look_at_item(setting, path, search, *tag, *origin, *item);
+            look_at_item(setting, path, search, *tag, *origin, depth, *item)?;
             if is_plain(*item) {
-                look_behind(rest, setting, path, search);
-            } else {
-                let below = Path::Passed {
-                    item: *item,
-                    above: &*path,
-                };
-                look_behind(rest, setting, &below, search);
+                return look_behind(rest, setting, path, depth + 1, search);
             }
+            let below = Path::Passed {
+                item: *item,
+                above: &*path,
+            };
+            look_behind(rest, setting, &below, depth + 1, search)
         }
         WindowTree::Test {
             tag,
@@ -186,59 +206,87 @@ fn look_behind(tree: &WindowTree, setting: &Setting, path: &Path, search: &mut S
             yes,
             no,
         } => {
-            look_at_test(setting, path, search, *tag, *origin, *on);
+            look_at_test(setting, path, search, *tag, *origin, depth, *on)?;
             if !has_item_room(setting.counts, setting.window.limits) {
-                search.place += size(yes) + size(no);
-                return;
+                return Ok(());
             }
-            let below = Path::Crossed { above: &*path };
-            look_behind(yes, setting, &below, search);
-            look_behind(no, setting, &below, search);
+            look_at_side(yes, setting, path, true, depth, search)?;
+            look_at_side(no, setting, path, false, depth, search)
         }
-        WindowTree::Node { below } => look_behind(below, setting, path, search),
-        WindowTree::Exit { .. } => {}
-        WindowTree::Stop => {}
-        WindowTree::Trap { .. } => {}
+        WindowTree::Node { below } => look_behind(below, setting, path, depth, search),
+        WindowTree::Exit { .. } => Ok(()),
+        WindowTree::Stop => Ok(()),
+        WindowTree::Trap { .. } => Ok(()),
     }
 }
 
+/// The same on a side of a test.
+#[cycle(looking)]
+#[tactic(auto, using(crate::proofs::Walked::walking))]
+fn look_at_side(
+    tree: &WindowTree,
+    setting: &Setting,
+    path: &Path,
+    side: bool,
+    depth: u32,
+    search: &mut Search,
+) -> Result<(), AllocError>
+    requires { depth + tree_size (tree_in tree.now) < 2 ^ 31 }
+    ensures { OnOk result (LooksAtSide setting.now path.now side depth (tree_in tree.now) search.old search.new) }
+{
+    let below = Path::Crossed {
+        side,
+        above: &*path,
+    };
+    look_behind(tree, setting, &below, depth, search)
+}
+
 /// What is found once the front was gone through, and what stands behind it looked at.
-fn look_through(tree: &WindowTree, setting: &Setting, path: &Path, search: &mut Search)
-    requires set { IsSetting setting.now }
-    requires comes { ComesInFront setting.now path.now search.old.place (tree_in tree.now) (front_in tree.now) }
-    requires best { BestSoFar setting.now search.old }
-    ensures place { search.new.place ≡ search.old.place + tree_size (tree_in tree.now) }
-    ensures best { BestSoFar setting.now search.new }
+#[tactic(auto, using(crate::proofs::WalkedFront::going))]
+fn look_through(
+    tree: &WindowTree,
+    setting: &Setting,
+    path: &Path,
+    search: &mut Search,
+) -> Result<(), AllocError>
+    requires { tree_size (tree_in tree.now) < 2 ^ 31 }
+    ensures { OnOk result (LooksThrough setting.now path.now (tree_in tree.now) (front_in tree.now) search.old search.new) }
 {
     match tree {
         WindowTree::Step { item, rest, .. } => {
-            search.place += 1;
             if is_plain(*item) {
-                look_through(rest, setting, path, search);
-            } else {
-                let below = Path::Issued {
-                    item: *item,
-                    above: &*path,
-                };
-                look_through(rest, setting, &below, search);
+                return look_through(rest, setting, path, search);
             }
+            let below = Path::Issued {
+                item: *item,
+                above: &*path,
+            };
+            look_through(rest, setting, &below, search)
         }
         WindowTree::Test { yes, no, .. } => {
-            search.place += 1;
-            look_through(yes, setting, path, search);
-            look_through(no, setting, path, search);
+            let on_yes = Path::Chosen {
+                side: true,
+                above: &*path,
+            };
+            look_through(yes, setting, &on_yes, search)?;
+            let on_no = Path::Chosen {
+                side: false,
+                above: &*path,
+            };
+            look_through(no, setting, &on_no, search)
         }
-        WindowTree::Node { below } => look_behind(below, setting, path, search),
-        WindowTree::Exit { .. } => {}
-        WindowTree::Stop => {}
-        WindowTree::Trap { .. } => {}
+        WindowTree::Node { below } => look_behind(below, setting, path, 0, search),
+        WindowTree::Exit { .. } => Ok(()),
+        WindowTree::Stop => Ok(()),
+        WindowTree::Trap { .. } => Ok(()),
     }
 }
 
 /// The first item or test, in the order of tag, origin and preorder place, that stands behind the
 /// front, is ready and has room; `None` exactly where there is none.
 ///
-/// It takes memory for a table of the names that are known before the window.
+/// It takes memory for a table of the names that are known before the window, and for the way to
+/// what is found.
 pub fn first_ready(alloc: Global, window: &Window) -> Result<Option<ReadyNode>, WindowError>
     requires proper { IsProper (window_in window.now) }
     requires small { tree_size (whole (window_in window.now).front) < 2 ^ 31 }
@@ -246,14 +294,34 @@ pub fn first_ready(alloc: Global, window: &Window) -> Result<Option<ReadyNode>, 
     ensures none { (result ≡ Ok None) → ReadyPlace (uses (whole (window_in window.now).front)) (window_in window.now) → ⊥ }
 {
     let known = parameters(alloc, window)?;
-    Ok(first_known(window, &known))
+    let search = first_known(alloc, window, &known)?;
+    Ok(placed(&window.tree, &search))
 }
 
-/// The same where these names are known before the window.
-pub(crate) fn first_known(window: &Window, known: &[bool]) -> Option<ReadyNode>
+/// What a search found in a window, with its place.
+fn placed(tree: &WindowTree, search: &Search) -> Option<ReadyNode>
+    requires { tree_size (tree_in tree.now) < 2 ^ 31 }
+    ensures { result ≡ placed search.now.best (place_found search.now.best search.now.way.items (front_in tree.now)) }
+{
+    match search.best {
+        None => None,
+        Some(found) => Some(ReadyNode {
+            tag: found.tag,
+            origin: found.origin,
+            place: place_behind(tree, &search.way, found.depth),
+            item: found.item,
+        }),
+    }
+}
+
+/// The first of all, and the way to it, where these names are known before the window.
+pub(crate) fn first_known(
+    alloc: Global,
+    window: &Window,
+    known: &[bool],
+) -> Result<Search, AllocError>
     requires small { tree_size (tree_in window.now.tree) < 2 ^ 31 }
-    ensures first { IfSome result (IsFirstReady (known_in known.now) (window_in window.now)) }
-    ensures none { result ≡ None → ReadyPlace (known_in known.now) (window_in window.now) → ⊥ }
+    ensures { IfOk result (λ search. FindsFirst (known_in known.now) (window_in window.now) search.best search.way.items) }
 {
     let setting = Setting {
         window,
@@ -261,9 +329,9 @@ pub(crate) fn first_known(window: &Window, known: &[bool]) -> Option<ReadyNode>
         counts: count_front(&window.tree),
     };
     let mut search = Search {
-        place: 0,
         best: None,
+        way: Vec::new(alloc),
     };
-    look_through(&window.tree, &setting, &Path::Root, &mut search);
-    search.best
+    look_through(&window.tree, &setting, &Path::Root, &mut search)?;
+    Ok(search)
 }

@@ -1,14 +1,15 @@
 //! One jump: what is first comes into the front.
-ghost use Rattle.std.specs.Prelude.{◌≡◌, ◌<◌, ◌≤◌, ◌+◌, ◌^◌, true, false, Some, IfOk, length};
+ghost use Rattle.std.specs.Prelude.{◌≡◌, ◌<◌, ◌≤◌, ◌+◌, ◌^◌, ℕ, ◌||◌, true, false, Some, is_some, IfOk, length};
 ghost use Rattle.pc_window.specs.Tree.{tree_size};
 ghost use Rattle.pc_window.specs.Filled.{given_supply};
 ghost use Rattle.pc_window.specs.Jump.{combined};
 ghost use Rattle.pc_window.specs.StoredWindow.{tree_in, front_in, forms_in, supply_in, window_in, NodesBehind};
-ghost use Rattle.pc_fill.specs.models.Landing.{crossed, crosses, came, new_name, FirstTwinOf, renames, HasCome};
+ghost use Rattle.pc_fill.specs.models.Landing.{came, new_name, FirstTwinOf, HasCome};
+ghost use Rattle.pc_fill.specs.models.Way.{Reaches, some_sides, crosses_along};
+ghost use Rattle.pc_fill.specs.models.Walk.{found_at};
 
-use crate::first::ReadyNode;
+use crate::first::Found;
 use crate::landing::{Coming, land};
-use crate::readiness::size_up_to;
 use crate::taking::dest_of;
 use crate::twin::{Seeker, twin_of, with_dest};
 use pc_linear::LinForm;
@@ -16,57 +17,35 @@ use pc_window::{NameTable, Window, WindowTree};
 use pc_word::Item;
 use std::alloc::{AllocError, Global};
 
-/// Whether an unfinished test stands above a place of a tree.
-fn crossed(tree: &WindowTree, place: u32) -> bool
-    ensures { result ≡ crossed (tree_in tree.now) place }
+/// Whether an unfinished test stands above where a way leads.
+fn crosses(tree: &WindowTree, way: &[bool]) -> bool
+    ensures { result ≡ crosses_along (front_in tree.now) way.now }
 {
     match tree {
-        WindowTree::Step { rest, .. } => {
-            if place == 0 {
-                return false;
+        WindowTree::Step { rest, .. } => crosses(rest, way),
+        WindowTree::Test { yes, no, .. } => match way.split_first() {
+            None => false,
+            Some((side, below)) => {
+                if *side {
+                    return crosses(yes, below);
+                }
+                crosses(no, below)
             }
-            crossed(rest, place - 1)
-        }
-        WindowTree::Test { .. } => {
-            if place == 0 {
-                return false;
-            }
-            true
-        }
-        WindowTree::Node { below } => crossed(below, place),
-        WindowTree::Exit { .. } => false,
-        WindowTree::Stop => false,
-        WindowTree::Trap { .. } => false,
+        },
+        WindowTree::Node { .. } => has_sides(way),
+        WindowTree::Exit { .. } => has_sides(way),
+        WindowTree::Stop => has_sides(way),
+        WindowTree::Trap { .. } => has_sides(way),
     }
 }
 
-/// Whether an unfinished test stands above a place behind a front.
-#[tactic(auto, using(crate::proofs::Landed::crossing))]
-fn crosses(tree: &WindowTree, place: u32) -> bool
-    requires { tree_size (tree_in tree.now) < 2 ^ 31 }
-    ensures { result ≡ crosses (front_in tree.now) place }
+/// Whether a way takes a side of a test.
+fn has_sides(way: &[bool]) -> bool
+    ensures { result ≡ some_sides way.now }
 {
-    match tree {
-        WindowTree::Step { rest, .. } => {
-            if place == 0 {
-                return false;
-            }
-            crosses(rest, place - 1)
-        }
-        WindowTree::Test { yes, no, .. } => {
-            if place == 0 {
-                return false;
-            }
-            let on_yes = size_up_to(yes, place);
-            if place - 1 < on_yes {
-                return crosses(yes, place - 1);
-            }
-            crosses(no, place - 1 - on_yes)
-        }
-        WindowTree::Node { below } => crossed(below, place),
-        WindowTree::Exit { .. } => false,
-        WindowTree::Stop => false,
-        WindowTree::Trap { .. } => false,
+    match way.split_first() {
+        None => false,
+        Some(_) => true,
     }
 }
 
@@ -142,51 +121,56 @@ fn name_coming(
     }
 }
 
-/// The place of the first twin of what is ready.
+/// The place of the first twin of what is ready where a way leads.
 #[tactic(auto, using(crate::proofs::Named::twinned))]
-fn first_twin(window: &Window, ready: ReadyNode) -> Option<u32>
+fn first_twin(window: &Window, found: Found, way: &[bool]) -> Option<u32>
     requires small { tree_size (tree_in window.now.tree) < 2 ^ 31 }
     requires names { length window.now.names.forms < 2 ^ 31 }
-    ensures { FirstTwinOf (forms_in window.now.names.forms) (length window.now.names.forms) ready.tag ready.origin ready.item (front_in window.now.tree) ready.place result }
+    ensures { (place : ℕ) → Reaches (front_in window.now.tree) way.now found.depth place → FirstTwinOf (forms_in window.now.names.forms)
+        (length window.now.names.forms) found.tag found.origin found.item (front_in window.now.tree) place result }
 {
-    match ready.item {
+    match found.item {
         None => None,
         Some(item) => {
             let seeker = Seeker {
-                tag: ready.tag,
-                origin: ready.origin,
+                tag: found.tag,
+                origin: found.origin,
                 item,
             };
-            twin_of(&window.tree, &window.names, seeker, ready.place)
+            twin_of(&window.tree, &window.names, seeker, way)
         }
     }
 }
 
 /// Whether what is ready gets a new name.
-fn renames(window: &Window, ready: ReadyNode, twin: Option<u32>) -> bool
-    requires { tree_size (tree_in window.now.tree) < 2 ^ 31 }
-    ensures { result ≡ renames (window_in window.now) ready twin }
+fn renames(window: &Window, way: &[bool], twin: Option<u32>) -> bool
+    ensures { result ≡ (is_some twin || crosses_along (front_in window.now.tree) way.now) }
 {
     match twin {
         Some(_) => true,
-        None => crosses(&window.tree, ready.place),
+        None => crosses(&window.tree, way),
     }
 }
 
-/// What is first of all that is ready comes into the front.
+/// What is first of all that is ready, where a way leads, comes into the front.
 #[tactic(auto, using(crate::proofs::Named::jumping))]
-pub(crate) fn jump(alloc: Global, window: Window, ready: ReadyNode) -> Result<Window, AllocError>
+pub(crate) fn jump(
+    alloc: Global,
+    window: Window,
+    found: Found,
+    way: &[bool],
+) -> Result<Window, AllocError>
     requires small { tree_size (tree_in window.tree) < 2 ^ 31 }
     requires nodes { NodesBehind window.tree }
     requires names { length window.names.forms < 2 ^ 31 }
     requires variables { window.names.next_variable < 2 ^ 31 }
-    ensures come { IfOk result (λ later. HasCome (window_in window) ready (window_in later)) }
+    ensures come { (place : ℕ) → Reaches (front_in window.tree) way.now found.depth place → IfOk result (λ later. HasCome (window_in window) (found_at found place) (window_in later)) }
     ensures nodes { IfOk result (λ later. NodesBehind later.tree) }
     ensures count { IfOk result (λ later. length later.names.forms ≤ length window.names.forms + 1) }
     ensures variables { IfOk result (λ later. later.names.next_variable ≤ window.names.next_variable + 1) }
 {
-    let twin = first_twin(&window, ready);
-    let renames = renames(&window, ready, twin);
+    let twin = first_twin(&window, found, way);
+    let renames = renames(&window, way, twin);
     let Window {
         tree,
         names,
@@ -195,14 +179,14 @@ pub(crate) fn jump(alloc: Global, window: Window, ready: ReadyNode) -> Result<Wi
     } = window;
     let mut tree = tree;
     let mut names = names;
-    let item = name_coming(&mut names, ready.item, renames)?;
+    let item = name_coming(&mut names, found.item, renames)?;
     let coming = Coming {
-        tag: ready.tag,
-        origin: ready.origin,
+        tag: found.tag,
+        origin: found.origin,
         item,
         twin,
     };
-    land(alloc, &mut tree, coming, ready.place)?;
+    land(alloc, &mut tree, coming, way, found.depth)?;
     Ok(Window {
         tree,
         names,

@@ -4,10 +4,10 @@ ghost use Rattle.pc_word.specs.Items.{dest_of};
 ghost use Rattle.pc_window.specs.Tree.{tree_size, Issued, Split, Unfinished, whole};
 ghost use Rattle.pc_window.specs.StoredWindow.{tree_in, front_in, InNodes, NodesBehind};
 ghost use Rattle.pc_fill.specs.models.Taking.{taken_out, divided_on, divided_yes, divided_no};
-ghost use Rattle.pc_fill.specs.models.Landing.{both_unfinished, joins, behind_leaf, above_test, place_or_root, landed, joins_at};
+ghost use Rattle.pc_fill.specs.models.Landing.{both_unfinished, joins};
+ghost use Rattle.pc_fill.specs.models.Way.{taken_along, joins_along, leaf_along, landed_along};
 
-use crate::readiness::size_up_to;
-use crate::taking::{Divided, dest_of, divide, take_out};
+use crate::taking::{Divided, dest_of, divide, take_along, take_out};
 use pc_window::{WindowTree, is_leaf};
 use pc_word::{Item, Operand};
 use std::alloc::{AllocError, Global};
@@ -49,14 +49,14 @@ fn land_item(
     tree: &mut WindowTree,
     coming: Coming,
     item: Item,
-    place: u32,
+    way: &[bool],
+    depth: u32,
 ) -> Result<(), AllocError>
-    requires small { tree_size (tree_in tree.old) < 2 ^ 31 }
     requires nodes { InNodes false tree.old }
-    ensures front { OnOk result (front_in tree.new ≡ Issued coming.tag coming.origin item (Unfinished (taken_out (dest_of item) (tree_in tree.old) place))) }
+    ensures front { OnOk result (front_in tree.new ≡ Issued coming.tag coming.origin item (Unfinished (taken_along (dest_of item) (tree_in tree.old) way.now depth))) }
     ensures nodes { OnOk result (NodesBehind tree.new) }
 {
-    take_out(tree, place, dest_of(item));
+    take_along(tree, way, depth, dest_of(item));
     let left = std::mem::replace(tree, WindowTree::Stop);
     let rest = Box::new(alloc, left)?;
     *tree = WindowTree::Step {
@@ -96,35 +96,34 @@ fn land_behind(
     alloc: Global,
     tree: &mut WindowTree,
     coming: Coming,
-    place: u32,
+    way: &[bool],
+    depth: u32,
 ) -> Result<(), AllocError>
-    requires small { tree_size (tree_in tree.old) < 2 ^ 31 }
     requires nodes { InNodes false tree.old }
-    ensures front { OnOk result (front_in tree.new ≡ behind_leaf coming coming.item (tree_in tree.old) place) }
+    ensures front { OnOk result (front_in tree.new ≡ leaf_along coming coming.item (tree_in tree.old) way.now depth) }
     ensures nodes { OnOk result (NodesBehind tree.new) }
 {
     match coming.item {
-        Some(item) => land_item(alloc, tree, coming, item, place),
+        Some(item) => land_item(alloc, tree, coming, item, way, depth),
         None => land_test(alloc, tree, coming),
     }
 }
 
-/// Whether an item is one with its twin right at the root of a front.
-fn joins_at(twin: Option<u32>, tree: &WindowTree, place: u32) -> bool
-    requires { tree_size (tree_in tree.now) < 2 ^ 31 }
-    ensures { result ≡ joins_at twin (front_in tree.now) place }
+/// Whether what comes along a way is one with its twin right at the root of a front.
+fn joins_at(twin: Option<u32>, tree: &WindowTree, way: &[bool]) -> bool
+    ensures { result ≡ joins_along twin (front_in tree.now) way.now }
 {
     match tree {
         WindowTree::Step { .. } => false,
-        WindowTree::Test { yes, no, .. } => {
-            if place == 0 {
-                return false;
+        WindowTree::Test { yes, no, .. } => match way.split_first() {
+            None => false,
+            Some((side, _)) => {
+                if *side {
+                    return joins(twin, yes, no);
+                }
+                false
             }
-            if place - 1 >= size_up_to(yes, place) {
-                return false;
-            }
-            joins(twin, yes, no)
-        }
+        },
         WindowTree::Node { .. } => false,
         WindowTree::Exit { .. } => false,
         WindowTree::Stop => false,
@@ -132,13 +131,15 @@ fn joins_at(twin: Option<u32>, tree: &WindowTree, place: u32) -> bool
     }
 }
 
-/// An item that stands on both sides of a test, at these places, becomes one above it.
+/// An item that stands on both sides of a test, where a way leads and at a place, becomes one above
+/// it.
 #[tactic(auto, using(crate::proofs::Landed::landing))]
 fn above(
     alloc: Global,
     coming: Coming,
     item: Item,
-    place: u32,
+    way: &[bool],
+    depth: u32,
     twin: u32,
     tag: u32,
     origin: u32,
@@ -146,17 +147,15 @@ fn above(
     yes: Box<WindowTree>,
     no: Box<WindowTree>,
 ) -> Result<WindowTree, AllocError>
-    requires yes_small { tree_size (tree_in yes.value) < 2 ^ 31 }
-    requires no_small { tree_size (tree_in no.value) < 2 ^ 31 }
     requires yes_nodes { InNodes false yes.value }
     requires no_nodes { InNodes false no.value }
     ensures front { IfOk result (λ it. front_in it ≡ Issued coming.tag coming.origin item
-        (Split tag origin on (Unfinished (taken_out (dest_of item) (tree_in yes.value) place)) (Unfinished (taken_out (dest_of item) (tree_in no.value) twin)))) }
+        (Split tag origin on (Unfinished (taken_along (dest_of item) (tree_in yes.value) way.now depth)) (Unfinished (taken_out (dest_of item) (tree_in no.value) twin)))) }
     ensures nodes { IfOk result (λ it. NodesBehind it) }
 {
     let mut yes = yes;
     let mut no = no;
-    take_out(&mut yes, place, dest_of(item));
+    take_along(&mut yes, way, depth, dest_of(item));
     take_out(&mut no, twin, dest_of(item));
     let rest = Box::new(
         alloc,
@@ -183,15 +182,15 @@ fn above_root(
     tree: WindowTree,
     coming: Coming,
     item: Item,
-    place: u32,
+    way: &[bool],
+    depth: u32,
     twin: u32,
 ) -> Result<WindowTree, AllocError>
-    requires small { tree_size (tree_in tree) < 2 ^ 31 }
     requires nodes { NodesBehind tree }
     requires item { coming.item ≡ Some item }
     requires twin { coming.twin ≡ Some twin }
-    requires joins { joins_at coming.twin (front_in tree) place ≡ true }
-    ensures front { IfOk result (λ it. front_in it ≡ landed coming (front_in tree) place) }
+    requires joins { joins_along coming.twin (front_in tree) way.now ≡ true }
+    ensures front { IfOk result (λ it. front_in it ≡ landed_along coming (front_in tree) way.now depth) }
     ensures nodes { IfOk result (λ it. NodesBehind it) }
 {
     match tree {
@@ -201,18 +200,12 @@ fn above_root(
             on,
             yes,
             no,
-        } => above(
-            alloc,
-            coming,
-            item,
-            place - 1,
-            twin,
-            tag,
-            origin,
-            on,
-            yes,
-            no,
-        ),
+        } => {
+            let (_, below) = way.split_first().unwrap();
+            above(
+                alloc, coming, item, below, depth, twin, tag, origin, on, yes, no,
+            )
+        }
         other => Ok(other),
     }
 }
@@ -223,12 +216,12 @@ fn land_above(
     alloc: Global,
     tree: &mut WindowTree,
     coming: Coming,
-    place: u32,
+    way: &[bool],
+    depth: u32,
 ) -> Result<(), AllocError>
-    requires small { tree_size (tree_in tree.old) < 2 ^ 31 }
     requires nodes { NodesBehind tree.old }
-    requires joins { joins_at coming.twin (front_in tree.old) place ≡ true }
-    ensures front { OnOk result (front_in tree.new ≡ landed coming (front_in tree.old) place) }
+    requires joins { joins_along coming.twin (front_in tree.old) way.now ≡ true }
+    ensures front { OnOk result (front_in tree.new ≡ landed_along coming (front_in tree.old) way.now depth) }
     ensures nodes { OnOk result (NodesBehind tree.new) }
 {
     let Some(item) = coming.item else {
@@ -238,41 +231,40 @@ fn land_above(
         return Ok(());
     };
     let whole = std::mem::replace(tree, WindowTree::Stop);
-    *tree = above_root(alloc, whole, coming, item, place, twin)?;
+    *tree = above_root(alloc, whole, coming, item, way, depth, twin)?;
     Ok(())
 }
 
-/// What is ready at a place comes into the front.
-#[tactic(auto, using(crate::proofs::Landed::landing, crate::proofs::Landed::descending))]
+/// What is ready where a way leads comes into the front.
+#[tactic(auto, using(crate::proofs::Landed::landing))]
 pub(crate) fn land(
     alloc: Global,
     tree: &mut WindowTree,
     coming: Coming,
-    place: u32,
+    way: &[bool],
+    depth: u32,
 ) -> Result<(), AllocError>
-    requires small { tree_size (tree_in tree.old) < 2 ^ 31 }
     requires nodes { NodesBehind tree.old }
-    ensures front { OnOk result (front_in tree.new ≡ landed coming (front_in tree.old) place) }
+    ensures front { OnOk result (front_in tree.new ≡ landed_along coming (front_in tree.old) way.now depth) }
     ensures nodes { OnOk result (NodesBehind tree.new) }
 {
     if is_leaf(tree) {
-        return land_behind(alloc, tree, coming, place);
+        return land_behind(alloc, tree, coming, way, depth);
     }
-    if joins_at(coming.twin, tree, place) {
-        return land_above(alloc, tree, coming, place);
-    }
-    if place == 0 {
-        return Ok(());
+    if joins_at(coming.twin, tree, way) {
+        return land_above(alloc, tree, coming, way, depth);
     }
     match tree {
-        WindowTree::Step { rest, .. } => land(alloc, rest, coming, place - 1),
-        WindowTree::Test { yes, no, .. } => {
-            let on_yes = size_up_to(yes, place);
-            if place - 1 < on_yes {
-                return land(alloc, yes, coming, place - 1);
+        WindowTree::Step { rest, .. } => land(alloc, rest, coming, way, depth),
+        WindowTree::Test { yes, no, .. } => match way.split_first() {
+            None => Ok(()),
+            Some((side, below)) => {
+                if *side {
+                    return land(alloc, yes, coming, below, depth);
+                }
+                land(alloc, no, coming, below, depth)
             }
-            land(alloc, no, coming, place - 1 - on_yes)
-        }
+        },
         WindowTree::Node { .. } => Ok(()),
         WindowTree::Exit { .. } => Ok(()),
         WindowTree::Stop => Ok(()),

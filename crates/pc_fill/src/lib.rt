@@ -15,6 +15,7 @@ mod taking;
 #[cfg(test)]
 mod tests;
 mod twin;
+mod way;
 
 pub use filling::fill;
 pub use first::{ReadyNode, first_ready};

@@ -1,9 +1,10 @@
 //! Taking an item out of a tree, and dividing a tree at a test.
-ghost use Rattle.std.specs.Prelude.{◌≡◌, ◌≢◌, Bool, ◌<◌, ◌^◌, true, false, Some, IfOk, length, slice_get};
+ghost use Rattle.std.specs.Prelude.{◌≡◌, ◌≢◌, ◌&&◌, nat_eq, Bool, ◌<◌, ◌^◌, true, false, Some, IfOk, length, slice_get};
 ghost use Rattle.pc_word.specs.Items.{dest_of};
 ghost use Rattle.pc_window.specs.Tree.{tree_size, Pending};
 ghost use Rattle.pc_window.specs.Rename.{map_operands, map_homes, mapped, renamed};
 ghost use Rattle.pc_window.specs.StoredWindow.{tree_in, InNodes};
+ghost use Rattle.pc_fill.specs.models.Way.{taken_along};
 ghost use Rattle.pc_fill.specs.models.Taking.{taken_out, starts_with_item, divided_on, divided_yes, divided_no};
 
 use crate::readiness::size_up_to;
@@ -163,6 +164,16 @@ fn starts_with_item(tree: &WindowTree) -> bool
     }
 }
 
+/// Whether the item below so many items stands at the root of a tree.
+fn is_here(tree: &WindowTree, depth: u32) -> bool
+    ensures { result ≡ (nat_eq depth 0 && starts_with_item (tree_in tree.now)) }
+{
+    if depth == 0 {
+        return starts_with_item(tree);
+    }
+    false
+}
+
 /// A tree without the item at its root.
 #[tactic(auto, using(crate::proofs::Taken::taking))]
 fn without_root(tree: WindowTree, name: Option<u32>) -> WindowTree
@@ -189,10 +200,45 @@ fn take_root(tree: &mut WindowTree, name: Option<u32>)
     }
 }
 
+/// Takes the item where a way leads out, where what it writes gets this name.
+#[tactic(auto, using(crate::proofs::Taken::taking))]
+pub(crate) fn take_along(tree: &mut WindowTree, way: &[bool], depth: u32, name: Option<u32>)
+    ensures tree { tree_in tree.new ≡ taken_along name (tree_in tree.old) way.now depth }
+    ensures below { InNodes false tree.old → InNodes false tree.new }
+    ensures root { (nat_eq depth 0 && starts_with_item (tree_in tree.old)) ≡ false → InNodes true tree.old → InNodes true tree.new }
+{
+    match tree {
+        WindowTree::Step { rest, .. } => {
+            if depth == 0 {
+                return take_root(tree, name);
+            }
+            take_along(rest, way, depth - 1, name)
+        }
+        WindowTree::Test { yes, no, .. } => match way.split_first() {
+            None => {}
+            Some((side, below)) => {
+                if *side {
+                    take_along(yes, below, depth, name)
+                } else {
+                    take_along(no, below, depth, name)
+                }
+            }
+        },
+        WindowTree::Node { below } => {
+            if is_here(below, depth) {
+                return take_root(tree, name);
+            }
+            take_along(below, way, depth, name)
+        }
+        WindowTree::Exit { .. } => {}
+        WindowTree::Stop => {}
+        WindowTree::Trap { .. } => {}
+    }
+}
+
 /// Takes the item at a place out, where what it writes gets this name.
 #[tactic(auto, using(crate::proofs::Taken::taking))]
 pub(crate) fn take_out(tree: &mut WindowTree, place: u32, name: Option<u32>)
-    requires { tree_size (tree_in tree.old) < 2 ^ 31 }
     ensures tree { tree_in tree.new ≡ taken_out name (tree_in tree.old) place }
     ensures below { InNodes false tree.old → InNodes false tree.new }
     ensures root { place ≢ 0 → InNodes true tree.old → InNodes true tree.new }

@@ -1,14 +1,15 @@
 //! The twin of an item: an equal one on the other side of the test behind which it stands.
-ghost use Rattle.std.specs.Prelude.{◌≡◌, ◌↔◌, ◌<◌, ◌+◌, ◌^◌, true, length};
+ghost use Rattle.std.specs.Prelude.{◌≡◌, ◌↔◌, ◌<◌, ◌+◌, ◌^◌, ℕ, true, length};
 ghost use Rattle.pc_window.specs.Tree.{tree_size, whole};
 ghost use Rattle.pc_window.specs.Rename.{with_dest};
 ghost use Rattle.pc_window.specs.StoredWindow.{tree_in, front_in, forms_in};
 ghost use Rattle.pc_fill.specs.models.Places.{MayRise};
 ghost use Rattle.pc_fill.specs.models.Search.{StandsAt};
+ghost use Rattle.pc_fill.specs.models.Way.{Reaches};
 ghost use Rattle.pc_fill.specs.models.Landing.{TwinsAt, FirstFrom, FirstIn};
 
 use crate::landing::both_unfinished;
-use crate::readiness::{may_rise, size, size_up_to};
+use crate::readiness::{may_rise, size};
 use pc_alike::are_alike;
 use pc_window::{NameTable, WindowTree};
 use pc_word::Item;
@@ -125,39 +126,34 @@ fn find_twin(
     }
 }
 
-/// The place of the first twin of an item that stands at a place behind a front: on the no side of
-/// the front's test, right behind which it stands on the yes side.
+/// The place of the first twin of an item that stands behind a front, where a way leads: on the no
+/// side of the front's test, right behind which it stands on the yes side.
 #[tactic(auto, using(crate::proofs::Twins::seeking))]
 pub(crate) fn twin_of(
     tree: &WindowTree,
     names: &NameTable,
     seeker: Seeker,
-    place: u32,
+    way: &[bool],
 ) -> Option<u32>
     requires small { tree_size (tree_in tree.now) < 2 ^ 31 }
     requires names { length names.now.forms < 2 ^ 31 }
-    ensures { FirstIn (forms_in names.now.forms) (length names.now.forms) seeker.tag seeker.origin seeker.item (front_in tree.now) place result }
+    ensures { (depth place : ℕ) → Reaches (front_in tree.now) way.now depth place
+        → FirstIn (forms_in names.now.forms) (length names.now.forms) seeker.tag seeker.origin seeker.item (front_in tree.now) place result }
 {
     match tree {
-        WindowTree::Step { rest, .. } => {
-            if place == 0 {
-                return None;
+        WindowTree::Step { rest, .. } => twin_of(rest, names, seeker, way),
+        WindowTree::Test { yes, no, .. } => match way.split_first() {
+            None => None,
+            Some((side, below)) => {
+                if !*side {
+                    return twin_of(no, names, seeker, below);
+                }
+                if both_unfinished(yes, no) {
+                    return find_twin(no, names, seeker, no, 0);
+                }
+                twin_of(yes, names, seeker, below)
             }
-            twin_of(rest, names, seeker, place - 1)
-        }
-        WindowTree::Test { yes, no, .. } => {
-            if place == 0 {
-                return None;
-            }
-            let on_yes = size_up_to(yes, place);
-            if place - 1 >= on_yes {
-                return twin_of(no, names, seeker, place - 1 - on_yes);
-            }
-            if both_unfinished(yes, no) {
-                return find_twin(no, names, seeker, no, 0);
-            }
-            twin_of(yes, names, seeker, place - 1)
-        }
+        },
         WindowTree::Node { .. } => None,
         WindowTree::Exit { .. } => None,
         WindowTree::Stop => None,

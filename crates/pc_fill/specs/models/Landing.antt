@@ -57,15 +57,6 @@ landed c (Split tag origin on on_yes on_no) place =
     else Split tag origin on on_yes (landed c on_no (place - 1 - tree_size (whole on_yes)))
 landed c (Unfinished from) place = behind_leaf c c.item from place
 
--- whether it is one with its twin right at this test
-abbrev pub joins_at : Option ℕ → Front → ℕ → Bool
-joins_at twin (Issued tag origin item rest) place = false
-joins_at twin (Split tag origin on on_yes on_no) place =
-    if nat_eq place 0 then false
-    else if nat_lt (place - 1) (tree_size (whole on_yes)) then joins twin on_yes on_no
-    else false
-joins_at twin (Unfinished rest) place = false
-
 -- ---- how it comes
 
 -- whether an unfinished test stands above a place

@@ -1,5 +1,5 @@
 -- The walk through a window that looks for the first ready item or test.
-use Rattle.std.specs.Prelude.{◌≡◌, ◌↔◌, ℕ, ◌+◌, ◌<◌, ◌^◌, List, Option, Some, slice_get}
+use Rattle.std.specs.Prelude.{◌≡◌, ◌↔◌, ℕ, suc, ◌+◌, ◌<◌, Bool, List, [], ◌∷◌, ◌++◌, Option, Some, None, slice_get}
 use Rattle.std.specs.List.{AllByRecursion}
 use Rattle.pc_word.specs.declared.item.Item.{Item}
 use Rattle.pc_word.specs.declared.item.Operand.{Operand}
@@ -7,12 +7,18 @@ use Rattle.pc_linear.specs.Form.{Form}
 use Rattle.pc_window.specs.StoredWindow.{tree_in, front_in, forms_in, window_in}
 use Rattle.pc_window.specs.Tree.{Tree, Front, tree_size}
 use Rattle.pc_window.specs.Names.{IsKnown}
+use Rattle.pc_window.specs.WindowRun.{Window}
+use Rattle.pc_window.specs.Ready.{ReadyPlace}
+use Rattle.pc_fill.specs.declared.first.Found.{Found}
+use Rattle.pc_fill.specs.declared.first.ReadyNode.{ReadyNode}
+use Rattle.pc_fill.specs.FirstReady.{IsFirstReady}
 use Rattle.pc_fill.specs.declared.first.Setting.{Setting}
 use Rattle.pc_fill.specs.declared.first.Search.{Search}
 use Rattle.pc_fill.specs.declared.path.Path.{Path}
-use Rattle.pc_fill.specs.models.Path.{MayComeAlong}
-use Rattle.pc_fill.specs.models.Places.{Node, nodes_of, known_in, MayRise, MayComeFrom}
+use Rattle.pc_fill.specs.models.Path.{MayComeAlong, sides_of, LeadsOn}
+use Rattle.pc_fill.specs.models.Places.{Node, nodes_of, known_in, MayCross, MayRise, MayComeFrom}
 use Rattle.pc_fill.specs.models.Search.{AreCounts, HasRoom, StandsAt, BestBefore}
+use Rattle.pc_fill.specs.models.Way.{Leads, Reaches, place_behind}
 
 -- ---- the window that is looked through
 
@@ -26,14 +32,40 @@ forms_of s = forms_in s.window.now.names.forms
 abbrev pub MayComeHere : Setting → Option Item → ℕ → Type 0
 MayComeHere s what place = MayComeFrom (forms_of s) what (front_in s.window.now.tree) place
 
--- the counts are those of its front, and it is small
+-- the counts are those of its front
 pub record IsSetting (s : Setting) : Type 0 where
   pub counts : AreCounts s.counts (front_in s.window.now.tree)
-  pub small : tree_size (all_in s) < 2 ^ 31
 
--- what was found is the first of what was looked at
-abbrev pub BestSoFar : Setting → Search → Type 0
-BestSoFar s search = BestBefore (known_in s.known.now) (window_in s.window.now) search.place search.best
+-- ---- what was found
+
+-- what was found, at a place
+abbrev pub found_at : Found → ℕ → ReadyNode
+found_at it place = record { tag = it.tag; origin = it.origin; place = place; item = it.item }
+
+abbrev pub placed : Option Found → ℕ → Option ReadyNode
+placed (Some it) place = Some (found_at it place)
+placed None place = None
+
+-- the place to which a way leads, 0 where nothing was found
+abbrev pub place_found : Option Found → List Bool → Front → ℕ
+place_found (Some it) way front = place_behind front way it.depth
+place_found None way front = 0
+
+-- a way leads to what was found
+abbrev pub LeadsToFound : Front → Option Found → List Bool → ℕ → Type 0
+LeadsToFound front (Some it) way place = Reaches front way it.depth place
+LeadsToFound front None way place = Unit {0}
+
+-- what was found is the first of what was looked at, before a place
+pub record BestSoFar (s : Setting) (place : ℕ) (search : Search) : Type 0 where
+  pub at : ℕ
+  pub best : BestBefore (known_in s.known.now) (window_in s.window.now) place (placed search.best at)
+  pub way : LeadsToFound (front_in s.window.now.tree) search.best search.way.items at
+
+-- it is the first of all; or nothing is ready
+abbrev pub FindsFirst : (known : ℕ → Bool) → Window → Option Found → List Bool → Type 0
+FindsFirst known w (Some it) way = (place : ℕ) × Reaches w.front way it.depth place × IsFirstReady known w (found_at it place)
+FindsFirst known w None way = ReadyPlace known w → ⊥
 
 -- ---- where a path leads
 
@@ -43,19 +75,41 @@ pub record IsReadyThere (s : Setting) (path : Path) (what : Option Item) (operan
   pub room : HasRoom s.window.now.limits what s.counts
   pub way : MayComeAlong (forms_of s) path what
 
--- a path leads to an item or test at a place
-pub record StandsThere (s : Setting) (path : Path) (place : ℕ) (node : Node) : Type 0 where
+-- a path leads to an item or test at a place, below so many items
+pub record StandsThere (s : Setting) (path : Path) (depth place : ℕ) (node : Node) : Type 0 where
   pub at : slice_get (nodes_of (all_in s)) place ≡ Some node
   pub way : MayComeHere s node.what place ↔ MayComeAlong (forms_of s) path node.what
+  pub leads : Reaches (front_in s.window.now.tree) (sides_of path) depth place
 
--- a path leads to a tree behind the front, which stands from a place on
-pub record ComesBehind (s : Setting) (path : Path) (place : ℕ) (tree : Tree) : Type 0 where
+-- a path leads to a tree behind the front, which stands from a place on, below so many items
+pub record ComesBehind (s : Setting) (path : Path) (depth place : ℕ) (tree : Tree) : Type 0 where
   pub stands : StandsAt tree place (all_in s)
-  pub within : place + tree_size tree < 2 ^ 31
   pub way : (what : Option Item) (k : ℕ) → k < tree_size tree → MayComeHere s what (place + k) ↔ (MayComeAlong (forms_of s) path what × MayRise (forms_of s) what tree k)
+  pub leads : (sides : List Bool) (d k : ℕ) → Leads tree sides d k → Reaches (front_in s.window.now.tree) (sides_of path ++ sides) (depth + d) (place + k)
 
 -- a path leads to a part of the front and what stands behind it, from a place on
 pub record ComesInFront (s : Setting) (path : Path) (place : ℕ) (tree : Tree) (front : Front) : Type 0 where
   pub stands : StandsAt tree place (all_in s)
-  pub within : place + tree_size tree < 2 ^ 31
   pub way : (what : Option Item) (k : ℕ) → k < tree_size tree → MayComeHere s what (place + k) ↔ (MayComeAlong (forms_of s) path what × MayComeFrom (forms_of s) what front k)
+  pub leads : (sides : List Bool) (d k : ℕ) → Reaches front sides d k → Reaches (front_in s.window.now.tree) (sides_of path ++ sides) d (place + k)
+
+-- ---- looking
+
+-- an item or test was looked at
+pub record LooksAt (s : Setting) (path : Path) (depth : ℕ) (node : Node) (before after : Search) : Type 0 where
+  pub on : IsSetting s → (place : ℕ) → StandsThere s path depth place node → BestSoFar s place before → BestSoFar s (suc place) after
+
+-- a tree behind the front was looked at
+pub record LooksBehind (s : Setting) (path : Path) (depth : ℕ) (tree : Tree) (before after : Search) : Type 0 where
+  pub on : IsSetting s → (place : ℕ) → ComesBehind s path depth place tree → BestSoFar s place before → BestSoFar s (place + tree_size tree) after
+
+-- the same of a side of a test
+pub record LooksAtSide (s : Setting) (path : Path) (side : Bool) (depth : ℕ) (tree : Tree) (before after : Search) : Type 0 where
+  pub below : Path
+  pub turns : LeadsOn (forms_of s) MayCross path below
+  pub sides : sides_of below ≡ sides_of path ++ (side ∷ [])
+  pub looks : LooksBehind s below depth tree before after
+
+-- a part of the front was gone through, and what stands behind it looked at
+pub record LooksThrough (s : Setting) (path : Path) (tree : Tree) (front : Front) (before after : Search) : Type 0 where
+  pub on : IsSetting s → (place : ℕ) → ComesInFront s path place tree front → BestSoFar s place before → BestSoFar s (place + tree_size tree) after
