@@ -23,11 +23,13 @@ use Rattle.pc_fill.specs.models.Places.{known_in, MayPass, MayCross, MayRise}
 use Rattle.pc_fill.specs.models.Search.{AreCounts, BestBefore}
 use Rattle.pc_fill.specs.models.Way.{Leads, To_item, To_test, Below_item, On_yes_side, On_no_side, Reaches}
 use Rattle.pc_fill.specs.models.Walk.{all_in, forms_of, MayComeHere, IsSetting, StandsThere, ComesBehind}
-use Rattle.pc_fill.specs.models.Walk.{placed, BestSoFar, LooksAt, LooksBehind, LooksAtSide}
+use Rattle.pc_fill.specs.models.Walk.{placed, BestSoFar, LooksAt, LooksBehind, LooksBelow}
 use Rattle.pc_fill.proofs.Sides.{to_below, from_below, to_yes, from_yes, to_no, from_no, failed}
 use Rattle.pc_fill.proofs.Nodes.{stands_free}
 use Rattle.pc_fill.proofs.Searching.{best_behind, item_stands, rest_stands, test_stands, yes_stands, no_stands}
+use Rattle.pc_fill.specs.models.Rising.{Rising, passes_over}
 use Rattle.pc_fill.proofs.Plain.{passed_plain}
+use Rattle.pc_fill.proofs.Rises.{rising_from, later_stays}
 
 -- ---- behind the front
 
@@ -87,6 +89,7 @@ module _ (s : Setting) (way : Path) (depth place : ℕ) where
         (subst (λ (k : ℕ). Reaches (front_in s.window.now.tree) (sides_of way ++ sides) (suc depth + d) k) e
         (subst (λ (k : ℕ). Reaches (front_in s.window.now.tree) (sides_of way ++ sides) k (place + suc n)) f
         (h.leads sides (suc d) (suc n) (Below_item tag origin x rest sides d n l))));
+    rises = λ e. rising_from 0 tag rest (omega arith) (h.rises e).1;
   }
 
 pub is_full : (b : Bool) (m n : ℕ) → (b ≡ true) ↔ (m < n) → b ≡ false → n ≤ m
@@ -131,6 +134,7 @@ module _ (s : Setting) (way : Path) (depth place : ℕ) (tag origin : ℕ) (on :
         subst (λ (it : List Bool). Reaches (front_in s.window.now.tree) it (depth + d) (suc place + n)) (turned (sides_of below) (sides_of way) sides true turns)
         (subst (λ (k : ℕ). Reaches (front_in s.window.now.tree) (sides_of way ++ (true ∷ sides)) (depth + d) k) e
         (h.leads (true ∷ sides) d (suc n) (On_yes_side tag origin on p q sides d n l)));
+    rises = λ e. rising_from 0 tag p (omega arith) (h.rises e).1;
   }
 
   -- on its no side
@@ -155,6 +159,7 @@ module _ (s : Setting) (way : Path) (depth place : ℕ) (tag origin : ℕ) (on :
         subst (λ (it : List Bool). Reaches (front_in s.window.now.tree) it (depth + d) (suc place + tree_size p + n)) (turned (sides_of below) (sides_of way) sides false turns)
         (subst (λ (k : ℕ). Reaches (front_in s.window.now.tree) (sides_of way ++ (false ∷ sides)) (depth + d) k) e
         (h.leads (false ∷ sides) d (suc (tree_size p + n)) (On_no_side tag origin on p q sides d n l)));
+    rises = λ e. rising_from 0 tag q (omega arith) (h.rises e).2;
   }
 
   -- nothing is ready there where items have no room
@@ -184,26 +189,52 @@ moved s search m n e h = subst (λ (k : ℕ). BestSoFar s k search) e h
 pub looked_at_none : (s : Setting) (way : Path) (depth : ℕ) (tree : Tree) (search : Search) → tree_size tree ≡ 0 → LooksBehind s way depth tree search search
 looked_at_none s way depth tree search none = record { on = λ set place comes best. moved s search place (place + tree_size tree) (omega arith) best }
 
--- below an item
-module _ (s : Setting) (way : Path) (depth : ℕ) (tree : Tree) (tag origin : ℕ) (x : Item) (rest : Tree) (is : tree ≡ Pending tag origin x rest) (before middle after : Search) where
-  pub looked_past : LooksAt s way depth (record { tag = tag; origin = origin; what = Some x; operands = operands_of x }) before middle
-      → (below : Path) → LeadsOn (forms_of s) (MayPass (forms_of s) x) way below → sides_of below ≡ sides_of way
-      → LooksBehind s below (depth + 1) rest middle after → LooksBehind s way depth tree before after
-  looked_past at below leads same looks =
-      let one : depth + 1 ≡ suc depth = omega arith in
-      let size : tree_size tree ≡ suc (tree_size rest) = ap tree_size is in
-      record {
-        on = λ set place comes best.
-            let here = subst (ComesBehind s way depth place) is comes in
-            moved s after (suc place + tree_size rest) (place + tree_size tree) (omega arith)
-            (looks.on set (suc place)
-            (subst (λ (d : ℕ). ComesBehind s below d (suc place) rest) (sym one) (past_item s way depth place tag origin x rest below leads same here))
-            (at.on set place (item_there s way depth place tag origin x rest here) best));
-      }
+-- all of it comes later than what was found
+module _ (s : Setting) (way : Path) (depth : ℕ) (tree : Tree) (tag origin : ℕ) (search : Search) (b : Bool) (is_later : b ≡ passes_over s.rising search.best tag) (later : b ≡ true) where
+  left_out : (place : ℕ) → ComesBehind s way depth place tree → (s.rising ≡ true → Rising tag tree) → BestSoFar s place search → BestSoFar s (place + tree_size tree) search
+  left_out place comes rises best = record {
+    at = best.at;
+    best = later_stays s place tree comes.stands search.best best.at tag (sym is_later ∙ later) rises best.best;
+    way = best.way;
+  }
 
-  pub looked_past_plain : LooksAt s way depth (record { tag = tag; origin = origin; what = Some x; operands = operands_of x }) before middle → is_plain x ≡ true
-      → LooksBehind s way (depth + 1) rest middle after → LooksBehind s way depth tree before after
-  looked_past_plain at e looks = looked_past at way (passed_plain (forms_of s) x way e) refl looks
+  pub item_left_out : (x : Item) (rest : Tree) → tree ≡ Pending tag origin x rest → LooksBehind s way depth tree search search
+  item_left_out x rest is = record {
+    on = λ set place comes best.
+        left_out place comes (λ e. subst (Rising tag) (sym is) (omega arith, (subst (Rising 0) is (comes.rises e)).1)) best;
+  }
+
+  pub test_left_out : (on : Operand) (p q : Tree) → tree ≡ Undecided tag origin on p q → LooksBehind s way depth tree search search
+  test_left_out on p q is = record {
+    on = λ set place comes best.
+        left_out place comes (λ e. let h = subst (Rising 0) is (comes.rises e) in subst (Rising tag) (sym is) (omega arith, h.1, h.2)) best;
+  }
+
+-- below an item
+module _ (s : Setting) (way : Path) (x : Item) (depth : ℕ) (tree : Tree) (before after : Search) where
+  pub below_item : (below : Path) → LeadsOn (forms_of s) (MayPass (forms_of s) x) way below → sides_of below ≡ sides_of way → LooksBehind s below depth tree before after
+      → LooksBelow s way (MayPass (forms_of s) x) [] depth tree before after
+  below_item below leads same looks = record { below = below; leads = leads; sides = same ∙ sym (append-nil (sides_of way)); looks = looks }
+
+  pub below_plain : is_plain x ≡ true → LooksBehind s way depth tree before after → LooksBelow s way (MayPass (forms_of s) x) [] depth tree before after
+  below_plain e looks = below_item way (passed_plain (forms_of s) x way e) refl looks
+
+-- at an item
+pub looked_past : (s : Setting) (way : Path) (depth : ℕ) (tree : Tree) (tag origin : ℕ) (x : Item) (rest : Tree) (before middle after : Search) → tree ≡ Pending tag origin x rest
+    → LooksAt s way depth (record { tag = tag; origin = origin; what = Some x; operands = operands_of x }) before middle
+    → LooksBelow s way (MayPass (forms_of s) x) [] (depth + 1) rest middle after → LooksBehind s way depth tree before after
+looked_past s way depth tree tag origin x rest before middle after is at looks =
+    let one : depth + 1 ≡ suc depth = omega arith in
+    let size : tree_size tree ≡ suc (tree_size rest) = ap tree_size is in
+    record {
+      on = λ set place comes best.
+          let here = subst (ComesBehind s way depth place) is comes in
+          moved s after (suc place + tree_size rest) (place + tree_size tree) (omega arith)
+          (looks.looks.on set (suc place)
+          (subst (λ (d : ℕ). ComesBehind s looks.below d (suc place) rest) (sym one)
+          (past_item s way depth place tag origin x rest looks.below looks.leads (looks.sides ∙ append-nil (sides_of way)) here))
+          (at.on set place (item_there s way depth place tag origin x rest here) best));
+    }
 
 -- at a test
 module _ (s : Setting) (way : Path) (depth : ℕ) (tree : Tree) (tag origin : ℕ) (on : Operand) (p q : Tree) (is : tree ≡ Undecided tag origin on p q) (before middle : Search)
@@ -227,16 +258,16 @@ module _ (s : Setting) (way : Path) (depth : ℕ) (tree : Tree) (tag origin : �
   }
 
   -- both sides were looked at
-  pub looked_at_sides : (between after : Search) → LooksAtSide s way true depth p middle between → LooksAtSide s way false depth q between after
+  pub looked_at_sides : (between after : Search) → LooksBelow s way MayCross (true ∷ []) depth p middle between → LooksBelow s way MayCross (false ∷ []) depth q between after
       → LooksBehind s way depth tree before after
   looked_at_sides between after on_yes on_no = record {
     on = λ set place comes best.
         let here = subst (ComesBehind s way depth place) is comes in
         let size = size_is in
         moved s after (suc place + tree_size p + tree_size q) (place + tree_size tree) (omega arith)
-        (on_no.looks.on set (suc place + tree_size p) (past_test_no s way depth place tag origin on p q here on_no.below on_no.turns on_no.sides)
-        (on_yes.looks.on set (suc place) (past_test_yes s way depth place tag origin on p q here on_yes.below on_yes.turns on_yes.sides)
+        (on_no.looks.on set (suc place + tree_size p) (past_test_no s way depth place tag origin on p q here on_no.below on_no.leads on_no.sides)
+        (on_yes.looks.on set (suc place) (past_test_yes s way depth place tag origin on p q here on_yes.below on_yes.leads on_yes.sides)
         (at.on set place (test_there s way depth place tag origin on p q here) best)));
   }
 
-pub ruleset walking = (looked_at_none, looked_past_plain, looked_past, looked_over, looked_at_sides)
+pub ruleset walking = (looked_at_none, item_left_out, test_left_out, below_plain, looked_past, looked_over, looked_at_sides)

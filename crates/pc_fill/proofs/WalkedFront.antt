@@ -17,9 +17,9 @@ use Rattle.pc_fill.specs.declared.path.Path.{Path}
 use Rattle.pc_fill.specs.declared.path.Path.TheVariants as path
 use Rattle.pc_fill.specs.models.Path.{is_plain, sides_of, LeadsOn}
 use Rattle.pc_fill.specs.models.Places.{Node, known_in, MayComeFrom, IsReadyHere}
-use Rattle.pc_fill.specs.models.Search.{AreCounts, BestBefore}
+use Rattle.pc_fill.specs.models.Search.{BestBefore}
 use Rattle.pc_fill.specs.models.Way.{Reaches, Behind_leaf, Behind_item, Behind_yes, Behind_no}
-use Rattle.pc_fill.specs.models.Walk.{all_in, forms_of, MayComeHere, ComesInFront}
+use Rattle.pc_fill.specs.models.Walk.{all_in, forms_of, MayComeHere, IsSetting, ComesInFront}
 use Rattle.pc_fill.specs.models.Walk.{found_at, placed, place_found, LeadsToFound, BestSoFar, FindsFirst, LooksBehind, LooksThrough}
 use Rattle.pc_fill.proofs.Sides.{to_below, from_below, to_yes, from_yes, to_no, from_no, fails_here}
 use Rattle.pc_fill.specs.FirstReady.{IsFirstReady}
@@ -54,6 +54,7 @@ module _ (s : Setting) (way : Path) (place : ℕ) (tag origin : ℕ) (x : Item) 
         let e : place + suc n ≡ suc place + n = omega arith in
         subst (λ (it : List Bool). Reaches (front_in s.window.now.tree) (it ++ sides) d (suc place + n)) (sym same)
         (subst (λ (k : ℕ). Reaches (front_in s.window.now.tree) (sides_of way ++ sides) d k) e (h.leads sides d (suc n) (Behind_item tag origin x front_rest sides d n l)));
+    rises = h.rises;
   }
 
   -- the item itself is not ready
@@ -102,6 +103,7 @@ module _ (s : Setting) (way : Path) (place : ℕ) (tag origin : ℕ) (on : Opera
             subst (λ (it : List Bool). Reaches (front_in s.window.now.tree) it d (suc place + n)) (turned (sides_of below) (sides_of way) sides true turns)
             (subst (λ (k : ℕ). Reaches (front_in s.window.now.tree) (sides_of way ++ (true ∷ sides)) d k) e
             (h.leads (true ∷ sides) d (suc n) (Behind_yes tag origin on on_yes on_no sides d n l)));
+        rises = λ e. (h.rises e).0;
       }
 
   -- on its no side
@@ -132,6 +134,7 @@ module _ (s : Setting) (way : Path) (place : ℕ) (tag origin : ℕ) (on : Opera
             subst (λ (it : List Bool). Reaches (front_in s.window.now.tree) it d (suc place + tree_size p + n)) (turned (sides_of below) (sides_of way) sides false turns)
             (subst (λ (k : ℕ). Reaches (front_in s.window.now.tree) (sides_of way ++ (false ∷ sides)) d k) e
             (h.leads (false ∷ sides) d (suc (tree_size (whole on_yes) + n)) (Behind_no tag origin on on_yes on_no sides d n l)));
+        rises = λ e. (h.rises e).1;
       }
 
   -- the test itself is not ready
@@ -165,6 +168,7 @@ went_behind s way tree rest front before after is is_front looks = record {
         leads = λ sides d n l.
             let e : d ≡ 0 + d = omega arith in
             subst (λ (k : ℕ). Reaches (front_in s.window.now.tree) (sides_of way ++ sides) k (place + n)) e (here.leads sides d n (Behind_leaf rest sides d n l));
+        rises = here.rises;
       }) best);
 }
 
@@ -207,27 +211,28 @@ went_on_sides s way tree front tag origin on p q f g is is_front same before mid
 
 -- ---- the whole window
 
-from_root : (s : Setting) → ComesInFront s path.Root 0 (all_in s) (front_in s.window.now.tree)
-from_root s = record {
+from_root : (s : Setting) → IsSetting s → ComesInFront s path.Root 0 (all_in s) (front_in s.window.now.tree)
+from_root s set = record {
   stands = all_stands (all_in s);
   way = λ what k less.
       let e : 0 + k ≡ k = omega arith in
       (λ m. (tt, subst (MayComeHere s what) e m), λ m. subst (MayComeHere s what) (sym e) m.1);
   leads = λ sides d k l. let e : k ≡ 0 + k = omega arith in subst (λ (n : ℕ). Reaches (front_in s.window.now.tree) sides d n) e l;
+  rises = set.rises;
 }
 
 -- what is found in it is the first of all
-pub whole_searched : (s : Setting) (before after : Search) → AreCounts s.counts (front_in s.window.now.tree) → before.best ≡ None
+pub whole_searched : (s : Setting) (before after : Search) → IsSetting s → before.best ≡ None
     → LooksThrough s path.Root (all_in s) (front_in s.window.now.tree) before after
     → FindsFirst (known_in s.known.now) (window_in s.window.now) after.best after.way.items
-whole_searched s before after counts none looks =
+whole_searched s before after set none looks =
     let known = known_in s.known.now in
     let start : BestSoFar s 0 before = record {
       at = 0;
       best = subst (λ (it : Option Found). BestBefore known (window_in s.window.now) 0 (placed it 0)) (sym none) (nothing_before known (window_in s.window.now));
       way = subst (λ (it : Option Found). LeadsToFound (front_in s.window.now.tree) it before.way.items 0) (sym none) tt;
     } in
-    let end = looks.on (record { counts = counts }) 0 (from_root s) start in
+    let end = looks.on set 0 (from_root s set) start in
     by_case after.best end.at end.best end.way
   where
     by_case : (found : Option Found) (at : ℕ) → BestBefore (known_in s.known.now) (window_in s.window.now) (0 + tree_size (all_in s)) (placed found at)

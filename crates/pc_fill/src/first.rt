@@ -7,10 +7,11 @@ ghost use Rattle.pc_fill.specs.FirstReady.{IsFirstReady};
 ghost use Rattle.pc_word.specs.Items.{operands_of};
 ghost use Rattle.pc_window.specs.Tree.{tree_size, whole};
 ghost use Rattle.pc_window.specs.StoredWindow.{tree_in, front_in, window_in};
-ghost use Rattle.pc_fill.specs.models.Places.{known_in};
+ghost use Rattle.pc_fill.specs.models.Places.{known_in, MayPass, MayCross};
 ghost use Rattle.pc_fill.specs.models.Search.{comes_before};
 ghost use Rattle.pc_fill.specs.models.Path.{sides_of};
-ghost use Rattle.pc_fill.specs.models.Walk.{IsReadyThere, placed, place_found, LooksAt, LooksBehind, LooksAtSide, LooksThrough, FindsFirst};
+ghost use Rattle.pc_fill.specs.models.Walk.{forms_of, IsReadyThere, placed, place_found, LooksAt, LooksBehind, LooksBelow, LooksThrough, FindsFirst};
+ghost use Rattle.pc_fill.specs.models.Rising.{RisesBehind, passes_over};
 
 use crate::known::{is_known, parameters, reads_known};
 use crate::path::{Path, is_plain, may_come_along, write_sides};
@@ -30,13 +31,14 @@ pub struct ReadyNode {
     pub item: Option<Item>,
 }
 
-/// What stays the same during a search: the window, the names that are known before it, and the
-/// counts of its front.
+/// What stays the same during a search: the window, the names that are known before it, the counts of
+/// its front, and whether tags are known never to fall on the way down behind it.
 #[derive(Drop)]
 pub(crate) struct Setting<'a> {
     pub(crate) window: &'a Window,
     pub(crate) known: &'a [bool],
     pub(crate) counts: Counts,
+    pub(crate) rising: bool,
 }
 
 /// The same where a way leads to it: how many items stand above it behind the front, in place of its
@@ -165,6 +167,17 @@ fn look_at_test(
     keep(search, path, found)
 }
 
+/// Whether all that stands below an item or test of this tag, and this one too, comes later than
+/// what was found.
+fn comes_later(rising: bool, best: Option<Found>, tag: u32) -> bool
+    ensures { result ≡ passes_over rising best tag }
+{
+    match best {
+        None => false,
+        Some(best) => rising && best.tag < tag,
+    }
+}
+
 /// What is found once each item and test of a tree behind the front was looked at, below so many
 /// items.
 ///
@@ -189,15 +202,11 @@ fn look_behind(
             item,
             rest,
         } => {
-            look_at_item(setting, path, search, *tag, *origin, depth, *item)?;
-            if is_plain(*item) {
-                return look_behind(rest, setting, path, depth + 1, search);
+            if comes_later(setting.rising, search.best, *tag) {
+                return Ok(());
             }
-            let below = Path::Passed {
-                item: *item,
-                above: &*path,
-            };
-            look_behind(rest, setting, &below, depth + 1, search)
+            look_at_item(setting, path, search, *tag, *origin, depth, *item)?;
+            look_below_item(rest, setting, path, *item, depth + 1, search)
         }
         WindowTree::Test {
             tag,
@@ -206,6 +215,9 @@ fn look_behind(
             yes,
             no,
         } => {
+            if comes_later(setting.rising, search.best, *tag) {
+                return Ok(());
+            }
             look_at_test(setting, path, search, *tag, *origin, depth, *on)?;
             if !has_item_room(setting.counts, setting.window.limits) {
                 return Ok(());
@@ -220,6 +232,30 @@ fn look_behind(
     }
 }
 
+/// The same below an item.
+#[cycle(looking)]
+#[tactic(auto, using(crate::proofs::Walked::walking))]
+fn look_below_item(
+    tree: &WindowTree,
+    setting: &Setting,
+    path: &Path,
+    item: Item,
+    depth: u32,
+    search: &mut Search,
+) -> Result<(), AllocError>
+    requires { depth + tree_size (tree_in tree.now) < 2 ^ 31 }
+    ensures { OnOk result (LooksBelow setting.now path.now (MayPass (forms_of setting.now) item) [] depth (tree_in tree.now) search.old search.new) }
+{
+    if is_plain(item) {
+        return look_behind(tree, setting, path, depth, search);
+    }
+    let below = Path::Passed {
+        item,
+        above: &*path,
+    };
+    look_behind(tree, setting, &below, depth, search)
+}
+
 /// The same on a side of a test.
 #[cycle(looking)]
 #[tactic(auto, using(crate::proofs::Walked::walking))]
@@ -232,7 +268,7 @@ fn look_at_side(
     search: &mut Search,
 ) -> Result<(), AllocError>
     requires { depth + tree_size (tree_in tree.now) < 2 ^ 31 }
-    ensures { OnOk result (LooksAtSide setting.now path.now side depth (tree_in tree.now) search.old search.new) }
+    ensures { OnOk result (LooksBelow setting.now path.now MayCross (side ∷ []) depth (tree_in tree.now) search.old search.new) }
 {
     let below = Path::Crossed {
         side,
@@ -294,7 +330,7 @@ pub fn first_ready(alloc: Global, window: &Window) -> Result<Option<ReadyNode>, 
     ensures none { (result ≡ Ok None) → ReadyPlace (uses (whole (window_in window.now).front)) (window_in window.now) → ⊥ }
 {
     let known = parameters(alloc, window)?;
-    let search = first_known(alloc, window, &known)?;
+    let search = first_known(alloc, window, &known, false)?;
     Ok(placed(&window.tree, &search))
 }
 
@@ -314,19 +350,23 @@ fn placed(tree: &WindowTree, search: &Search) -> Option<ReadyNode>
     }
 }
 
-/// The first of all, and the way to it, where these names are known before the window.
+/// The first of all, and the way to it, where these names are known before the window, and tags are
+/// said to rise behind its front or not.
 pub(crate) fn first_known(
     alloc: Global,
     window: &Window,
     known: &[bool],
+    rising: bool,
 ) -> Result<Search, AllocError>
     requires small { tree_size (tree_in window.now.tree) < 2 ^ 31 }
+    requires rises { rising ≡ true → RisesBehind (front_in window.now.tree) }
     ensures { IfOk result (λ search. FindsFirst (known_in known.now) (window_in window.now) search.best search.way.items) }
 {
     let setting = Setting {
         window,
         known,
         counts: count_front(&window.tree),
+        rising,
     };
     let mut search = Search {
         best: None,

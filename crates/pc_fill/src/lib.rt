@@ -10,6 +10,7 @@ mod landing;
 mod laws;
 mod path;
 mod readiness;
+mod rising;
 mod room;
 mod taking;
 #[cfg(test)]

@@ -1,5 +1,5 @@
 -- The walk through a window that looks for the first ready item or test.
-use Rattle.std.specs.Prelude.{◌≡◌, ◌↔◌, ℕ, suc, ◌+◌, ◌<◌, Bool, List, [], ◌∷◌, ◌++◌, Option, Some, None, slice_get}
+use Rattle.std.specs.Prelude.{◌≡◌, ◌↔◌, ℕ, suc, ◌+◌, ◌<◌, Bool, true, List, ◌++◌, Option, Some, None, slice_get}
 use Rattle.std.specs.List.{AllByRecursion}
 use Rattle.pc_word.specs.declared.item.Item.{Item}
 use Rattle.pc_word.specs.declared.item.Operand.{Operand}
@@ -16,8 +16,9 @@ use Rattle.pc_fill.specs.declared.first.Setting.{Setting}
 use Rattle.pc_fill.specs.declared.first.Search.{Search}
 use Rattle.pc_fill.specs.declared.path.Path.{Path}
 use Rattle.pc_fill.specs.models.Path.{MayComeAlong, sides_of, LeadsOn}
-use Rattle.pc_fill.specs.models.Places.{Node, nodes_of, known_in, MayCross, MayRise, MayComeFrom}
+use Rattle.pc_fill.specs.models.Places.{Node, nodes_of, known_in, MayRise, MayComeFrom}
 use Rattle.pc_fill.specs.models.Search.{AreCounts, HasRoom, StandsAt, BestBefore}
+use Rattle.pc_fill.specs.models.Rising.{Rising, RisesBehind}
 use Rattle.pc_fill.specs.models.Way.{Leads, Reaches, place_behind}
 
 -- ---- the window that is looked through
@@ -32,9 +33,10 @@ forms_of s = forms_in s.window.now.names.forms
 abbrev pub MayComeHere : Setting → Option Item → ℕ → Type 0
 MayComeHere s what place = MayComeFrom (forms_of s) what (front_in s.window.now.tree) place
 
--- the counts are those of its front
+-- the counts are those of its front; where tags are said to rise behind it, they do
 pub record IsSetting (s : Setting) : Type 0 where
   pub counts : AreCounts s.counts (front_in s.window.now.tree)
+  pub rises : s.rising ≡ true → RisesBehind (front_in s.window.now.tree)
 
 -- ---- what was found
 
@@ -86,12 +88,14 @@ pub record ComesBehind (s : Setting) (path : Path) (depth place : ℕ) (tree : T
   pub stands : StandsAt tree place (all_in s)
   pub way : (what : Option Item) (k : ℕ) → k < tree_size tree → MayComeHere s what (place + k) ↔ (MayComeAlong (forms_of s) path what × MayRise (forms_of s) what tree k)
   pub leads : (sides : List Bool) (d k : ℕ) → Leads tree sides d k → Reaches (front_in s.window.now.tree) (sides_of path ++ sides) (depth + d) (place + k)
+  pub rises : s.rising ≡ true → Rising 0 tree
 
 -- a path leads to a part of the front and what stands behind it, from a place on
 pub record ComesInFront (s : Setting) (path : Path) (place : ℕ) (tree : Tree) (front : Front) : Type 0 where
   pub stands : StandsAt tree place (all_in s)
   pub way : (what : Option Item) (k : ℕ) → k < tree_size tree → MayComeHere s what (place + k) ↔ (MayComeAlong (forms_of s) path what × MayComeFrom (forms_of s) what front k)
   pub leads : (sides : List Bool) (d k : ℕ) → Reaches front sides d k → Reaches (front_in s.window.now.tree) (sides_of path ++ sides) d (place + k)
+  pub rises : s.rising ≡ true → RisesBehind front
 
 -- ---- looking
 
@@ -103,11 +107,11 @@ pub record LooksAt (s : Setting) (path : Path) (depth : ℕ) (node : Node) (befo
 pub record LooksBehind (s : Setting) (path : Path) (depth : ℕ) (tree : Tree) (before after : Search) : Type 0 where
   pub on : IsSetting s → (place : ℕ) → ComesBehind s path depth place tree → BestSoFar s place before → BestSoFar s (place + tree_size tree) after
 
--- the same of a side of a test
-pub record LooksAtSide (s : Setting) (path : Path) (side : Bool) (depth : ℕ) (tree : Tree) (before after : Search) : Type 0 where
+-- the same below an item or on a side of a test, past which it may come so, and where these sides are taken
+pub record LooksBelow (s : Setting) (path : Path) (May : Option Item → Type 0) (turns : List Bool) (depth : ℕ) (tree : Tree) (before after : Search) : Type 0 where
   pub below : Path
-  pub turns : LeadsOn (forms_of s) MayCross path below
-  pub sides : sides_of below ≡ sides_of path ++ (side ∷ [])
+  pub leads : LeadsOn (forms_of s) May path below
+  pub sides : sides_of below ≡ sides_of path ++ turns
   pub looks : LooksBehind s below depth tree before after
 
 -- a part of the front was gone through, and what stands behind it looked at

@@ -6,8 +6,8 @@ use Rattle.pc_fill.specs.models.Places.{known_in}
 use Rattle.pc_fill.proofs.Jumps.{can_begin, proper_after, filled_from}
 use Rattle.pc_fill.proofs.filling.fill.Goals as goal
 
-pub fill_on-requires : goal.fill_on-requires
-fill_on-requires c =
+pub fill_on-requires-clause-can : goal.fill_on-requires-clause-can
+fill_on-requires-clause-can c =
     can_begin c.args.window c.requires.proper c.requires.fillable (known_in c.deref.result.now) (ap known_in c.deref.ensures.value ∙ c.in_ok-known.ensures)
     (subst (λ (n : ℕ). n < 511) c.most_in_front-most.ensures.most c.most_in_front-most.ensures.few)
 
