@@ -1,8 +1,9 @@
 -- Numbers in bytes: how they are written, and that they are told by their bytes.
 use Rattle.std.proofs.Common.{◌≡◌, ℕ, zero, suc, ◌+◌, ◌-◌, ◌*◌, ◌<◌, ◌≤◌, List, [], ◌∷◌, ◌++◌, refl, sym, ◌∙◌, ap, length, take, arith}
 use Rattle.std.proofs.lemmas.Bool.Decides.{nat_tests}
-use Rattle.std.proofs.lemmas.List.{append_assoc, append-nil, take-append-le}
-use Rattle.std.specs.Prelude.{◌/◌, ◌%◌, ℤ, pos, negsuc, Bool, true, false, if◌then◌else◌, nat_eq, nat_lt}
+use Rattle.std.proofs.lemmas.List.{append_assoc, append-nil, take-append-le, take-take, take_all, take_more_set, take-set, length-append}
+use Rattle.std.proofs.Math.Seq.{take-length, take-append_seam}
+use Rattle.std.specs.Prelude.{◌/◌, ◌%◌, ℤ, pos, negsuc, Bool, true, false, if◌then◌else◌, nat_eq, nat_lt, slice_set, replicate}
 use Rattle.std.proofs.Math.Nat.{mod-add-div, mul-add, mul_assoc}
 use Rattle.pc_word.proofs.Truth.{most_of, of_most}
 use Rattle.pc_canon.specs.Bytes.{zigzag, digits_within, natural_bytes, number_bytes, bytes_of}
@@ -117,18 +118,56 @@ pub ruleset added = (number_added, number_kept)
 -- ---- writing
 
 -- a digit is written, and the others stay to be written
-pub digit_written : (start bytes whole : List ℕ) (n : ℕ) → 128 ≤ n → bytes ++ natural_bytes n ≡ start ++ whole
-    → (bytes ++ (128 + n % 128) ∷ []) ++ natural_bytes (n / 128) ≡ start ++ whole
-digit_written start bytes whole n large is =
-    append_assoc bytes ((128 + n % 128) ∷ []) (natural_bytes (n / 128)) ∙ ap (λ (l : List ℕ). bytes ++ l) (sym (more_bytes n large)) ∙ is
+pub digit_written : (before bytes start whole : List ℕ) (n : ℕ) → bytes ≡ before ++ (128 + n % 128) ∷ [] → 128 ≤ n → before ++ natural_bytes n ≡ start ++ whole
+    → bytes ++ natural_bytes (n / 128) ≡ start ++ whole
+digit_written before bytes start whole n more large is =
+    ap (λ (l : List ℕ). l ++ natural_bytes (n / 128)) more ∙ append_assoc before ((128 + n % 128) ∷ []) (natural_bytes (n / 128))
+    ∙ ap (λ (l : List ℕ). before ++ l) (sym (more_bytes n large)) ∙ is
 
 -- the last digit is written
-pub last_written : (start bytes whole : List ℕ) (n : ℕ) → n < 128 → bytes ++ natural_bytes n ≡ start ++ whole → bytes ++ n ∷ [] ≡ start ++ whole
-last_written start bytes whole n small is = ap (λ (l : List ℕ). bytes ++ l) (sym (one_byte n small)) ∙ is
+pub last_written : (before bytes start whole : List ℕ) (n : ℕ) → bytes ≡ before ++ n ∷ [] → n < 128 → before ++ natural_bytes n ≡ start ++ whole → bytes ≡ start ++ whole
+last_written before bytes start whole n more small is = more ∙ ap (λ (l : List ℕ). before ++ l) (sym (one_byte n small)) ∙ is
 
--- what was there before still stands in front
-pub still_before : (start bytes : List ℕ) (byte : ℕ) → length start ≤ length bytes → take (length start) bytes ≡ start
-    → take (length start) (bytes ++ byte ∷ []) ≡ start
-still_before start bytes byte within is = take-append-le (length start) bytes (byte ∷ []) within ∙ is
+-- what is the same up to a place is so up to each one before it
+pub same_before : (from at : ℕ) (start bytes after : List ℕ) → from ≤ at → take from bytes ≡ take from start → take at after ≡ take at bytes → take from after ≡ take from start
+same_before from at start bytes after le is same = sym (take-take from at after le) ∙ ap (take from) same ∙ take-take from at bytes le ∙ is
 
-pub ruleset digits = (digit_written, last_written, still_before)
+pub ruleset digits = (digit_written, last_written, same_before)
+
+-- ---- bytes at their places
+
+module _ (bytes new : List ℕ) (at byte : ℕ) where
+  -- a byte that is set
+  pub byte_set : at < length bytes → new ≡ slice_set bytes at byte → take (at + 1) new ≡ take at bytes ++ byte ∷ []
+  byte_set h is = ap (take (at + 1)) is ∙ take_more_set bytes at byte h
+
+  -- a number that takes one byte
+  pub short_set : byte < 128 → at < length bytes → new ≡ slice_set bytes at byte → take (at + 1) new ≡ take at bytes ++ natural_bytes byte
+  short_set small h is = byte_set h is ∙ ap (λ (l : List ℕ). take at bytes ++ l) (sym (one_byte byte small))
+
+  pub others_stay : new ≡ slice_set bytes at byte → take at new ≡ take at bytes
+  others_stay is = ap (take at) is ∙ take-set bytes at byte
+
+-- a byte that is put behind the others, with room behind it
+module _ (bytes more new : List ℕ) (at byte : ℕ) where
+  seam : at ≡ length bytes → take at bytes ≡ bytes
+  seam is = ap (λ (n : ℕ). take n bytes) is ∙ take-length bytes
+
+  long : at ≡ length bytes → length (bytes ++ byte ∷ []) ≡ at + 1
+  long is = length-append bytes (byte ∷ []) ∙ omega (arith, is)
+
+  pub byte_behind : at ≡ length bytes → more ≡ bytes ++ byte ∷ [] → take (length more) new ≡ more → take (at + 1) new ≡ take at bytes ++ byte ∷ []
+  byte_behind is pushed opened =
+      ap (λ (n : ℕ). take n new) (sym (long is) ∙ ap length (sym pushed)) ∙ opened ∙ pushed ∙ ap (λ (l : List ℕ). l ++ byte ∷ []) (sym (seam is))
+
+  pub others_in_front : at ≡ length bytes → more ≡ bytes ++ byte ∷ [] → take (length more) new ≡ more → take at new ≡ take at bytes
+  others_in_front is pushed opened =
+      let within : at ≤ length more = omega (arith, long is, ap length pushed) in
+      sym (take-take at (length more) new within) ∙ ap (take at) (opened ∙ pushed) ∙ take-append-le at bytes (byte ∷ []) (omega (arith, is))
+
+-- room is opened behind the bytes that there are
+pub room_behind : (bytes new : List ℕ) (n m : ℕ) → length bytes ≤ n → new ≡ take n bytes ++ replicate m 0 → take (length bytes) new ≡ bytes
+room_behind bytes new n m le is =
+    ap (take (length bytes)) (is ∙ ap (λ (l : List ℕ). l ++ replicate m 0) (take_all n bytes le)) ∙ take-append_seam bytes (replicate m 0)
+
+pub ruleset places = (byte_set, short_set, others_stay, byte_behind, others_in_front, room_behind)
