@@ -13,8 +13,8 @@ use Rattle.pc_word.proofs.Lists.{all_at}
 use Rattle.pc_automaton.specs.declared.automaton.AutomatonLeaf.{AutomatonLeaf}
 use Rattle.pc_automaton.specs.declared.automaton.AutomatonState.{AutomatonState as StoredState}
 use Rattle.pc_automaton.specs.Automaton.{AutomatonState, state_in, states_in, names_written, IsStateAmong, IsAutomaton}
-use Rattle.pc_assign.specs.Pressure.{allowed, one_more, IsLow, LowBefore}
-use Rattle.pc_assign.specs.Assigned.{names_of, row_passes, states_pass, passed_to, StateByRule, IsAssigned}
+use Rattle.pc_assign.specs.Pressure.{allowed, definitions_with, IsLow, LowBefore}
+use Rattle.pc_assign.specs.Assigned.{state_names, row_passes, states_pass, passed_to, StateByRule, IsAssigned}
 use Rattle.pc_assign.specs.Stored.{beside, register_in, Refuses}
 use Rattle.pc_assign.specs.declared.error.AssignError.{AssignError}
 use Rattle.pc_assign.specs.declared.error.AssignError.TheVariants.{Pressure, Memory}
@@ -210,7 +210,7 @@ stored_at (s ∷ states) zero state e = let same : s ≡ state = (cc) in ap (λ 
 stored_at (s ∷ states) (suc number) state e = stored_at states number state e
 
 pub stands_once : (states : List AutomatonState) (number : ℕ) (state : AutomatonState) → IsAutomaton states → slice_get states number ≡ Some state
-    → IsDistinct nat_eq (names_of state)
+    → IsDistinct nat_eq (state_names state)
 stands_once states number state kept here = (all_at (IsStateAmong states) states number state kept.each here).once
 
 pub noted_most : (states : List AutomatonState) (number to : ℕ) (given : List StateRegisters) (table : List (Option (List (Option ℕ))))
@@ -225,7 +225,7 @@ noted_most states number to given table passed h is = subst (λ (xs : List (Opti
 written_count : (row : Row AutomatonLeaf) → length (names_written row) ≡ definitions_in row
 written_count (Then item rest) = by (dest_of item) (names_written rest) (definitions_in rest) (written_count rest)
   where
-    by : (found : Option ℕ) (xs : List ℕ) (n : ℕ) → length xs ≡ n → length (cons_option found xs) ≡ one_more found n
+    by : (found : Option ℕ) (xs : List ℕ) (n : ℕ) → length xs ≡ n → length (cons_option found xs) ≡ definitions_with found n
     by (Some dest) xs n e = ap suc e
     by None xs n e = e
 written_count (Either on on_yes on_no) =
@@ -234,16 +234,16 @@ written_count (Either on on_yes on_no) =
 written_count (At_leaf leaf) = refl
 
 -- a state's names are few enough to be counted
-pub names_fit : (state : AutomatonState) (keys : List ℕ) (count : ℕ) → keys ≡ names_of state → count ≡ length keys → count < 2 ^ 63
+pub names_fit : (state : AutomatonState) (keys : List ℕ) (count : ℕ) → keys ≡ state_names state → count ≡ length keys → count < 2 ^ 63
     → definitions_in state.row + length state.parameters < 2 ^ 63
 names_fit state keys count are is fits =
-    let long : length keys ≡ length (names_of state) = ap length are in
+    let long : length keys ≡ length (state_names state) = ap length are in
     omega (arith, long, length_both state.parameters (names_written state.row), written_count state.row, is)
 
 -- a state whose parts have registers has them
 pub given_is : (number : ℕ) (passed : List (Option ℕ)) (state : AutomatonState) (one : StateRegisters) (parameters held front : List ℕ)
-    → one.names.keys ≡ names_of state
-    → IsDistinct nat_eq (names_of state) → IsLow state → parameters ≡ state.parameters → front ≡ held → length held ≡ length parameters → AreMost held
+    → one.names.keys ≡ state_names state
+    → IsDistinct nat_eq (state_names state) → IsLow state → parameters ≡ state.parameters → front ≡ held → length held ≡ length parameters → AreMost held
     → AreHeld number passed parameters held → AreChosen parameters front (λ q. false) state.row front one.registers → IsGiven number passed state one
 given_is number passed state one parameters held front are distinct low same_parameters same_held as_many most is chosen =
     let by_state = subst (λ (ps : List ℕ). AreChosen ps front (λ q. false) state.row front one.registers) same_parameters chosen in

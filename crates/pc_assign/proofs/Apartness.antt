@@ -15,8 +15,8 @@ use Rattle.pc_automaton.specs.declared.automaton.AutomatonLeaf.{AutomatonLeaf}
 use Rattle.pc_automaton.specs.Automaton.{AutomatonState, names_written, IsStateAmong, IsAutomaton}
 use Rattle.pc_assign.specs.Uses.{row_uses}
 use Rattle.pc_assign.specs.Pressure.{allowed}
-use Rattle.pc_assign.specs.Assigned.{names_of, is_register, one_has, used_has, IsLeast, IsParameterChoice, passed_at, ParametersByRule, states_pass}
-use Rattle.pc_assign.specs.Assigned.{passed_to, Parameters, IsChoice, First_choice, Second_choice, DestByRule, RowByRule, StateByRule, IsAssigned}
+use Rattle.pc_assign.specs.Assigned.{state_names, is_register, one_has, used_has, IsLeast, IsParameterChoice, passed_at, ParametersByRule, states_pass}
+use Rattle.pc_assign.specs.Assigned.{passed_to, Parameters, IsDefinitionChoice, First_choice, Second_choice, DestByRule, RowByRule, StateByRule, IsAssigned}
 use Rattle.pc_assign.specs.Assigned.{BeginsWithVariables}
 use Rattle.pc_assign.specs.Apart.{Differ, AllDiffer, DestApart, KeepsApart, HasAllowed, IsApart, LiveApart, VariablesStay}
 use Rattle.pc_assign.proofs.PassedOn.{PassedAll, HeldAll, states_passed}
@@ -66,7 +66,7 @@ dest_apart : (of : ℕ → Option ℕ) (parameters above : List ℕ) (rest : Row
 dest_apart of parameters above rest None h = tt
 dest_apart of parameters above rest (Some dest) h = by (of dest) refl h
   where
-    chosen : (register : ℕ) → of dest ≡ Some register → IsChoice (λ q. one_has of parameters q || one_has of above q)
+    chosen : (register : ℕ) → of dest ≡ Some register → IsDefinitionChoice (λ q. one_has of parameters q || one_has of above q)
         (λ q. used_has (row_uses rest) of parameters q || one_has of above q) register
         → DestApart of parameters above rest (Some dest)
     chosen register is (First_choice least) =
@@ -80,7 +80,7 @@ dest_apart of parameters above rest (Some dest) h = by (of dest) refl h
         (differ_where_used of (row_uses rest) dest register parameters is parts.0, differ_from of dest register above is parts.1)
 
     by : (o : Option ℕ) → of dest ≡ o → IsSomeAnd o
-        (IsChoice (λ q. one_has of parameters q || one_has of above q) (λ q. used_has (row_uses rest) of parameters q || one_has of above q))
+        (IsDefinitionChoice (λ q. one_has of parameters q || one_has of above q) (λ q. used_has (row_uses rest) of parameters q || one_has of above q))
         → DestApart of parameters above rest (Some dest)
     by None is h = absurd h
     by (Some register) is h = chosen register is h
@@ -92,7 +92,7 @@ row_apart of parameters above (Then item rest) h =
 row_apart of parameters above (Either on on_yes on_no) h = (row_apart of parameters above on_yes h.0, row_apart of parameters above on_no h.1)
 row_apart of parameters above (At_leaf leaf) h = tt
 
-choice_below : (taken needed : ℕ → Bool) (register : ℕ) → IsChoice taken needed register → register < allowed
+choice_below : (taken needed : ℕ → Bool) (register : ℕ) → IsDefinitionChoice taken needed register → register < allowed
 choice_below taken needed register (First_choice least) = least.below
 choice_below taken needed register (Second_choice full least) = least.below
 
@@ -100,7 +100,7 @@ row_allowed : (of : ℕ → Option ℕ) (parameters above : List ℕ) (row : Row
     → AllByRecursion (HasAllowed of) (names_written row)
 row_allowed of parameters above (Then item rest) h = by (dest_of item) h.0 (row_allowed of parameters (named (dest_of item) above) rest h.1)
   where
-    has : (dest : ℕ) (taken needed : ℕ → Bool) (o : Option ℕ) → of dest ≡ o → IsSomeAnd o (IsChoice taken needed) → HasAllowed of dest
+    has : (dest : ℕ) (taken needed : ℕ → Bool) (o : Option ℕ) → of dest ≡ o → IsSomeAnd o (IsDefinitionChoice taken needed) → HasAllowed of dest
     has dest taken needed None is k = absurd k
     has dest taken needed (Some register) is k = record { register = register; has = is; below = choice_below taken needed register k }
 
@@ -228,7 +228,7 @@ all_in P (y ∷ xs) x h e = by (nat_eq x y) refl (all_in P xs x h.1) e
 
 -- the registers of a state are allowed, where those that it is passed are
 state_apart : (states : List AutomatonState) (number : ℕ) (passed : List (Option ℕ)) (of : ℕ → Option ℕ) (state : AutomatonState)
-    → IsDistinct nat_eq (names_of state)
+    → IsDistinct nat_eq (state_names state)
     → (number ≡ 0 → AllByRecursion (λ variable. variable < 96) state.parameters) → PassedAll (λ r. r < allowed) passed
     → StateByRule number passed of state → IsApart of state
 state_apart states number passed of state once variables below h =
@@ -251,13 +251,13 @@ state_apart states number passed of state once variables below h =
       all_of_each (HasAllowed of) state.parameters (λ at x e. (fresh_at of passed state.parameters below k at x e).allowed),
     )
 
-held_of : (of : ℕ → Option ℕ) (state : AutomatonState) → IsApart of state → ((name : ℕ) → is_in name (names_of state) ≡ false → of name ≡ None)
+held_of : (of : ℕ → Option ℕ) (state : AutomatonState) → IsApart of state → ((name : ℕ) → is_in name (state_names state) ≡ false → of name ≡ None)
     → HeldAll (λ r. r < allowed) of
-held_of of state apart others name r e = by (is_in name (names_of state)) refl
+held_of of state apart others name r e = by (is_in name (state_names state)) refl
   where
-    by : (b : Bool) → is_in name (names_of state) ≡ b → r < allowed
+    by : (b : Bool) → is_in name (state_names state) ≡ b → r < allowed
     by true is =
-        let has = all_in (HasAllowed of) (names_of state) name apart.allowed is in
+        let has = all_in (HasAllowed of) (state_names state) name apart.allowed is in
         let both : Some r ≡ Some has.register = sym e ∙ has.has in
         let same : r ≡ has.register = (cc) in subst (λ (q : ℕ). q < allowed) (sym same) has.below
     by false is = let none : of name ≡ None = others name is in absurd (cc)

@@ -13,9 +13,9 @@ use Rattle.pc_window.specs.Rebasing.{is_in}
 use Rattle.pc_automaton.specs.declared.automaton.AutomatonLeaf.{AutomatonLeaf}
 use Rattle.pc_automaton.specs.Automaton.{AutomatonState, names_written}
 use Rattle.pc_assign.specs.Uses.{row_uses}
-use Rattle.pc_assign.specs.Pressure.{allowed, one_more, item_pressure, row_pressure, IsLow}
-use Rattle.pc_assign.specs.Assigned.{names_of, Parameters, StateByRule, is_register, one_has, used_has, IsLeast, IsParameterChoice, passed_at}
-use Rattle.pc_assign.specs.Assigned.{ParametersByRule, IsChoice, First_choice, Second_choice, DestByRule, RowByRule}
+use Rattle.pc_assign.specs.Pressure.{allowed, definitions_with, item_pressure, row_pressure, IsLow}
+use Rattle.pc_assign.specs.Assigned.{state_names, Parameters, StateByRule, is_register, one_has, used_has, IsLeast, IsParameterChoice, passed_at}
+use Rattle.pc_assign.specs.Assigned.{ParametersByRule, IsDefinitionChoice, First_choice, Second_choice, DestByRule, RowByRule}
 use Rattle.pc_assign.specs.models.Choosing.{IsLeastAbsent, IsParameterTaken, AreParameters, used_holds, AreMost, AreHeld, IsChosen, Of_taken}
 use Rattle.pc_assign.specs.models.Choosing.{Of_needed, AreChosen, Leaf_chosen, None_chosen, One_chosen, Sides_chosen}
 use Rattle.pc_assign.proofs.Counting.{members, members_or, members_same, members_one, members_used, members_in, members_all, members_none}
@@ -131,7 +131,7 @@ module _ (parameters held : List ℕ) where
       → length held ≡ length parameters → ((q : ℕ) → one_has of names q ≡ above q) → members above allowed ≤ depth
       → suc depth + count_by (row_uses rest) parameters ≤ allowed
       → IsChosen (λ other. is_in other held || above other) (λ other. used_holds (row_uses rest) parameters held other || above other) register
-      → IsChoice (λ q. one_has of parameters q || one_has of names q) (λ q. used_has (row_uses rest) of parameters q || one_has of names q) register
+      → IsDefinitionChoice (λ q. one_has of parameters q || one_has of names q) (λ q. used_has (row_uses rest) of parameters q || one_has of names q) register
   choice_of of names above rest register depth gives as_many over few room (Of_taken below h) =
       First_choice (least_seen (λ other. is_in other held || above other) (λ q. one_has of parameters q || one_has of names q) register
       (λ q i. sym (one_has_is of parameters held q gives as_many) i || sym (over q) i)
@@ -167,7 +167,7 @@ module _ (parameters held : List ℕ) where
       omega (
         arith,
         subst (λ (found : Option ℕ). max (item_pressure parameters depth rest found)
-            (row_pressure parameters (one_more found depth) rest) ≤ allowed) none room,
+            (row_pressure parameters (definitions_with found depth) rest) ≤ allowed) none room,
       ) in
       let given = subst (λ (found : Option ℕ). GivesEach of (cons_option found (names_written rest)) added) none each in
       subst (λ (found : Option ℕ). DestByRule of parameters names rest found × RowByRule of parameters (named found names) rest) (sym none)
@@ -176,7 +176,7 @@ module _ (parameters held : List ℕ) where
       (One_chosen {below = below} {item = item} {dest = dest} {register = register} {rest = rest} some choice with h) =
       let low : max (suc depth + count_by (row_uses rest) parameters) (row_pressure parameters (suc depth) rest) ≤ allowed =
       subst (λ (found : Option ℕ). max (item_pressure parameters depth rest found)
-      (row_pressure parameters (one_more found depth) rest) ≤ allowed) some room in
+      (row_pressure parameters (definitions_with found depth) rest) ≤ allowed) some room in
       let parts = both_low (suc depth + count_by (row_uses rest) parameters) (row_pressure parameters (suc depth) rest) allowed low in
       let more = chosen_added below rest (old ++ register ∷ []) new h in
       let same : added ≡ register ∷ more.added = append_cancel_left old added (register ∷ more.added)
@@ -187,7 +187,7 @@ module _ (parameters held : List ℕ) where
       let higher : members below allowed ≤ suc depth =
       one_higher above below register depth with few in
       subst (λ (found : Option ℕ). DestByRule of parameters names rest found × RowByRule of parameters (named found names) rest) (sym some) (
-        subst (λ (found : Option ℕ). IsSomeAnd found (IsChoice (λ q. one_has of parameters q || one_has of names q)
+        subst (λ (found : Option ℕ). IsSomeAnd found (IsDefinitionChoice (λ q. one_has of parameters q || one_has of names q)
             (λ q. used_has (row_uses rest) of parameters q || one_has of names q))) (sym given.0)
             (choice_of of names above rest register depth gives as_many over few parts.0 choice),
         row_by_rule of (dest ∷ names) below rest (old ++ register ∷ []) new more.added (suc depth) gives as_many
@@ -247,21 +247,21 @@ parameters_are zero of passed parameters held gives as_many few is = first_gives
 parameters_are (suc before) of passed parameters held gives as_many few chosen = parameters_by_rule of passed parameters held gives as_many few chosen
 
 -- the names of a state have registers by the rule
-pub state_by_rule : (number : ℕ) (passed : List (Option ℕ)) (state : AutomatonState) (keys held registers : List ℕ) → keys ≡ names_of state
-    → IsDistinct nat_eq (names_of state)
+pub state_by_rule : (number : ℕ) (passed : List (Option ℕ)) (state : AutomatonState) (keys held registers : List ℕ) → keys ≡ state_names state
+    → IsDistinct nat_eq (state_names state)
     → IsLow state → length held ≡ length state.parameters → AreHeld number passed state.parameters held
     → AreChosen state.parameters held (λ q. false) state.row held registers → StateByRule number passed (beside keys registers) state
 state_by_rule number passed state keys held registers are distinct low as_many is chosen =
     let parts = both_less (length state.parameters) (row_pressure state.parameters 0 state.row) low in
     let more = chosen_added state.parameters held (λ q. false) state.row held registers chosen in
-    let long : length registers ≡ length (names_of state) =
+    let long : length registers ≡ length (state_names state) =
     ap length more.is ∙ length_both held more.added
     ∙ (λ i. as_many i + more.as_many i) ∙ sym (length_both state.parameters (names_written state.row)) in
-    let gives : GivesEach (beside keys registers) (names_of state) registers =
-    subst (λ (ks : List ℕ). GivesEach (beside ks registers) (names_of state) registers) (sym are)
-    (beside_gives (names_of state) registers distinct long) in
+    let gives : GivesEach (beside keys registers) (state_names state) registers =
+    subst (λ (ks : List ℕ). GivesEach (beside ks registers) (state_names state) registers) (sym are)
+    (beside_gives (state_names state) registers distinct long) in
     let split : GivesEach (beside keys registers) (state.parameters ++ names_written state.row) (held ++ more.added) =
-    subst (λ (rs : List ℕ). GivesEach (beside keys registers) (names_of state) rs) more.is gives in
+    subst (λ (rs : List ℕ). GivesEach (beside keys registers) (state_names state) rs) more.is gives in
     let of_parameters = gives_front (beside keys registers) state.parameters (names_written state.row) held more.added as_many split in
     let of_row = gives_back (beside keys registers) state.parameters (names_written state.row) held more.added as_many split in
     record {

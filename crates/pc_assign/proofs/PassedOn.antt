@@ -8,7 +8,7 @@ use Rattle.pc_word.specs.Row.{Row, Then, Either, At_leaf}
 use Rattle.pc_automaton.specs.declared.automaton.AutomatonLeaf.{AutomatonLeaf}
 use Rattle.pc_automaton.specs.declared.automaton.AutomatonLeaf.TheVariants.{To, Out, Stop, Trap}
 use Rattle.pc_automaton.specs.Automaton.{AutomatonState}
-use Rattle.pc_assign.specs.Assigned.{passed_at, register_of, leaf_passes, row_passes, states_pass}
+use Rattle.pc_assign.specs.Assigned.{passed_at, operand_register, leaf_passes, row_passes, states_pass}
 
 module _ (P : ℕ → Type 0) where
   -- it holds of each register that is passed
@@ -19,11 +19,11 @@ module _ (P : ℕ → Type 0) where
   abbrev pub HeldAll : (ℕ → Option ℕ) → Type 0
   HeldAll of = (name r : ℕ) → of name ≡ Some r → P r
 
-  operand_passed : (of : ℕ → Option ℕ) → HeldAll of → (operand : Operand) (r : ℕ) → register_of of operand ≡ Some r → P r
+  operand_passed : (of : ℕ → Option ℕ) → HeldAll of → (operand : Operand) (r : ℕ) → operand_register of operand ≡ Some r → P r
   operand_passed of most (Name name) r e = most name r e
   operand_passed of most (Lit value) r e = absurd (cc)
 
-  arguments_passed : (of : ℕ → Option ℕ) → HeldAll of → (arguments : List Operand) → PassedAll (map (register_of of) arguments)
+  arguments_passed : (of : ℕ → Option ℕ) → HeldAll of → (arguments : List Operand) → PassedAll (map (operand_register of) arguments)
   arguments_passed of most [] at r e = absurd (cc)
   arguments_passed of most (operand ∷ arguments) zero r e = operand_passed of most operand r e
   arguments_passed of most (operand ∷ arguments) (suc at) r e = arguments_passed of most arguments at r e
@@ -34,7 +34,7 @@ module _ (P : ℕ → Type 0) where
 
   leaf_passed : (of : ℕ → Option ℕ) → HeldAll of → (to : ℕ) (leaf : AutomatonLeaf) (passed : List (Option ℕ))
       → leaf_passes of to leaf ≡ Some passed → PassedAll passed
-  leaf_passed of most to (To state arguments) passed e = chosen_list (nat_eq state to) (map (register_of of) arguments) passed e
+  leaf_passed of most to (To state arguments) passed e = chosen_list (nat_eq state to) (map (operand_register of) arguments) passed e
       (arguments_passed of most arguments)
   leaf_passed of most to (Out region homes) passed e = absurd (cc)
   leaf_passed of most to Stop passed e = absurd (cc)

@@ -6,7 +6,7 @@ use Rattle.pc_word.specs.Row.{Row, Then}
 use Rattle.pc_word.specs.Items.{dest_of}
 use Rattle.pc_automaton.specs.declared.automaton.AutomatonLeaf.{AutomatonLeaf}
 use Rattle.pc_assign.specs.Uses.{row_uses}
-use Rattle.pc_assign.specs.Pressure.{one_more, item_pressure, row_pressure}
+use Rattle.pc_assign.specs.Pressure.{definitions_with, item_pressure, row_pressure}
 use Rattle.pc_assign.specs.models.Choosing.{definitions_in}
 
 module _ (parameters : List ℕ) (above : ℕ) where
@@ -18,7 +18,7 @@ module _ (parameters : List ℕ) (above : ℕ) where
   defining_pressure whole rest item dest next here below live is some one at under most =
       let raised : next ≡ suc above = omega (arith, one) in
       most ∙ (λ i. max (at i) ((under ∙ ap (λ (n : ℕ). row_pressure parameters n rest) raised) i))
-      ∙ ap (λ (found : Option ℕ). max (item_pressure parameters above rest found) (row_pressure parameters (one_more found above) rest)) (sym some)
+      ∙ ap (λ (found : Option ℕ). max (item_pressure parameters above rest found) (row_pressure parameters (definitions_with found above) rest)) (sym some)
       ∙ ap (row_pressure parameters above) (sym is)
 
   -- an item that defines none
@@ -26,7 +26,7 @@ module _ (parameters : List ℕ) (above : ℕ) where
       → live ≡ row_pressure parameters above rest → live ≡ row_pressure parameters above whole
   other_pressure whole rest item live is none under =
       under ∙ no_more (row_pressure parameters above rest)
-      ∙ ap (λ (found : Option ℕ). max (item_pressure parameters above rest found) (row_pressure parameters (one_more found above) rest)) (sym none)
+      ∙ ap (λ (found : Option ℕ). max (item_pressure parameters above rest found) (row_pressure parameters (definitions_with found above) rest)) (sym none)
       ∙ ap (row_pressure parameters above) (sym is)
     where
       no_more : (n : ℕ) → n ≡ max 0 n
@@ -35,10 +35,10 @@ module _ (parameters : List ℕ) (above : ℕ) where
 -- the definitions below an item
 pub definitions_some : (whole rest : Row AutomatonLeaf) (item : Item) (dest : ℕ) → whole ≡ Then item rest → dest_of item ≡ Some dest
     → definitions_in whole ≡ suc (definitions_in rest)
-definitions_some whole rest item dest is some = ap definitions_in is ∙ ap (λ (found : Option ℕ). one_more found (definitions_in rest)) some
+definitions_some whole rest item dest is some = ap definitions_in is ∙ ap (λ (found : Option ℕ). definitions_with found (definitions_in rest)) some
 
 pub definitions_none : (whole rest : Row AutomatonLeaf) (item : Item) → whole ≡ Then item rest → dest_of item ≡ None
     → definitions_in whole ≡ definitions_in rest
-definitions_none whole rest item is none = ap definitions_in is ∙ ap (λ (found : Option ℕ). one_more found (definitions_in rest)) none
+definitions_none whole rest item is none = ap definitions_in is ∙ ap (λ (found : Option ℕ). definitions_with found (definitions_in rest)) none
 
 pub ruleset pressures = (defining_pressure, other_pressure, definitions_some, definitions_none)

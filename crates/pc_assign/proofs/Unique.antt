@@ -14,8 +14,8 @@ use Rattle.pc_window.specs.Rebasing.{is_in}
 use Rattle.pc_automaton.specs.declared.automaton.AutomatonLeaf.{AutomatonLeaf}
 use Rattle.pc_automaton.specs.Automaton.{AutomatonState, names_written}
 use Rattle.pc_assign.specs.Uses.{row_uses}
-use Rattle.pc_assign.specs.Assigned.{names_of, is_register, one_has, used_has, IsLeast, IsParameterChoice, passed_at, ParametersByRule, row_passes}
-use Rattle.pc_assign.specs.Assigned.{states_pass, passed_to, Parameters, IsChoice, First_choice, Second_choice, DestByRule, RowByRule, StateByRule}
+use Rattle.pc_assign.specs.Assigned.{state_names, is_register, one_has, used_has, IsLeast, IsParameterChoice, passed_at, ParametersByRule, row_passes}
+use Rattle.pc_assign.specs.Assigned.{states_pass, passed_to, Parameters, IsDefinitionChoice, First_choice, Second_choice, DestByRule, RowByRule, StateByRule}
 use Rattle.pc_assign.specs.Assigned.{IsAssigned}
 use Rattle.pc_assign.specs.Apart.{OnlyOne}
 use Rattle.pc_assign.proofs.Apartness.{all_in, all_of_each, short, past}
@@ -31,7 +31,7 @@ least_unique f r s h k = elim (decide_le s r) [
   | inr less ↦ let taken : f r ≡ true = k.least r less in let free : f r ≡ false = h.free in absurd (cc)
 ]
 
-choice_unique : (t n : ℕ → Bool) (r s : ℕ) → IsChoice t n r → IsChoice t n s → r ≡ s
+choice_unique : (t n : ℕ → Bool) (r s : ℕ) → IsDefinitionChoice t n r → IsDefinitionChoice t n s → r ≡ s
 choice_unique t n r s (First_choice h) (First_choice k) = least_unique t r s h k
 choice_unique t n r s (First_choice h)
     (Second_choice full k) = let taken : t r ≡ true = full r h.below in let free : t r ≡ false = h.free in absurd (cc)
@@ -69,13 +69,13 @@ module _ (of other : ℕ → Option ℕ) where
   dest_same : (parameters above : List ℕ) (rest : Row AutomatonLeaf) (dest : ℕ) → Agree parameters → Agree above
       → DestByRule of parameters above rest (Some dest) → DestByRule other parameters above rest (Some dest) → of dest ≡ other dest
   dest_same parameters above rest dest a b h k =
-      let choice = IsChoice (λ q. one_has of parameters q || one_has of above q)
+      let choice = IsDefinitionChoice (λ q. one_has of parameters q || one_has of above q)
       (λ q. used_has (row_uses rest) of parameters q || one_has of above q) in
       some_unique choice (of dest) (other dest)
       (choice_unique (λ q. one_has of parameters q || one_has of above q) (λ q. used_has (row_uses rest) of parameters q || one_has of above q)) h
-      (subst (λ (t : ℕ → Bool). IsSomeAnd (other dest) (IsChoice t (λ q. used_has (row_uses rest) of parameters q || one_has of above q)))
+      (subst (λ (t : ℕ → Bool). IsSomeAnd (other dest) (IsDefinitionChoice t (λ q. used_has (row_uses rest) of parameters q || one_has of above q)))
       (λ i q. sym (one_has_same parameters q a) i || sym (one_has_same above q b) i)
-      (subst (λ (n : ℕ → Bool). IsSomeAnd (other dest) (IsChoice (λ q. one_has other parameters q || one_has other above q) n))
+      (subst (λ (n : ℕ → Bool). IsSomeAnd (other dest) (IsDefinitionChoice (λ q. one_has other parameters q || one_has other above q) n))
       (λ i q. sym (used_has_same (row_uses rest) parameters q a) i || sym (one_has_same above q b) i) k))
 
   row_same : (parameters above : List ℕ) (row : Row AutomatonLeaf) → Agree parameters → Agree above → RowByRule of parameters above row
@@ -133,12 +133,12 @@ module _ (of other : ℕ → Option ℕ) where
   state_same : (number : ℕ) (passed : List (Option ℕ)) (state : AutomatonState) → StateByRule number passed of state
       → StateByRule number passed other state
       → (name : ℕ) → of name ≡ other name
-  state_same number passed state h k name = by (is_in name (names_of state)) refl
+  state_same number passed state h k name = by (is_in name (state_names state)) refl
     where
-      by : (b : Bool) → is_in name (names_of state) ≡ b → of name ≡ other name
+      by : (b : Bool) → is_in name (state_names state) ≡ b → of name ≡ other name
       by true is =
           let parameters = all_parameters number passed state.parameters h.parameters k.parameters in
-          all_in (λ x. of x ≡ other x) (names_of state) name
+          all_in (λ x. of x ≡ other x) (state_names state) name
           (all_both (λ x. of x ≡ other x) state.parameters (names_written state.row) parameters
           (row_same state.parameters [] state.row parameters tt h.row k.row)) is
       by false is = h.others name is ∙ sym (k.others name is)

@@ -8,7 +8,7 @@ use Rattle.pc_automaton.specs.declared.automaton.AutomatonLeaf.{AutomatonLeaf}
 use Rattle.pc_automaton.specs.Automaton.{AutomatonState, IsAutomaton}
 use Rattle.pc_assign.specs.Uses.{row_uses}
 use Rattle.pc_assign.specs.Pressure.{allowed}
-use Rattle.pc_assign.specs.Assigned.{names_of, IsAssigned, BeginsWithVariables}
+use Rattle.pc_assign.specs.Assigned.{state_names, IsAssigned, BeginsWithVariables}
 
 -- two names share no register
 abbrev pub Differ : (ℕ → Option ℕ) → ℕ → ℕ → Type 0
@@ -42,7 +42,7 @@ pub record HasAllowed (of : ℕ → Option ℕ) (name : ℕ) : Type 0 where
 pub record IsApart (of : ℕ → Option ℕ) (state : AutomatonState) : Type 0 where
   pub parameters : AllDiffer of state.parameters
   pub row : KeepsApart of state.parameters [] state.row
-  pub allowed : AllByRecursion (HasAllowed of) (names_of state)
+  pub allowed : AllByRecursion (HasAllowed of) (state_names state)
 
 -- so it is in each state
 abbrev pub LiveApart : Type 0

@@ -59,13 +59,13 @@ ParametersByRule of passed parameters =
     → IsSomeAnd (of name) (IsParameterChoice (one_has of (take at parameters)) (passed_at (slice_get passed at)))
 
 -- the register of what is passed, if it is a name
-abbrev pub register_of : (ℕ → Option ℕ) → Operand → Option ℕ
-register_of of (Name name) = of name
-register_of of (Lit value) = None
+abbrev pub operand_register : (ℕ → Option ℕ) → Operand → Option ℕ
+operand_register of (Name name) = of name
+operand_register of (Lit value) = None
 
 -- what a leaf passes to a state, if it leads there
 abbrev pub leaf_passes : (ℕ → Option ℕ) → ℕ → AutomatonLeaf → Option (List (Option ℕ))
-leaf_passes of to (To state arguments) = if nat_eq state to then Some (map (register_of of) arguments) else None
+leaf_passes of to (To state arguments) = if nat_eq state to then Some (map (operand_register of) arguments) else None
 leaf_passes of to (Out region homes) = None
 leaf_passes of to Stop = None
 leaf_passes of to (Trap kind line) = None
@@ -93,15 +93,15 @@ Parameters (suc before) of passed parameters = ParametersByRule of passed parame
 -- ---- defined names
 
 -- a defined name's register: the least that is not taken, and if all are, the least that is not needed
-pub data IsChoice (taken needed : ℕ → Bool) (register : ℕ) : Type 0 where
-  First_choice : IsLeast taken register → IsChoice taken needed register
-  Second_choice : AllTaken taken → IsLeast needed register → IsChoice taken needed register
+pub data IsDefinitionChoice (taken needed : ℕ → Bool) (register : ℕ) : Type 0 where
+  First_choice : IsLeast taken register → IsDefinitionChoice taken needed register
+  Second_choice : AllTaken taken → IsLeast needed register → IsDefinitionChoice taken needed register
 
 -- Where an item defines a name, it has the register that the rule gives it. Taken are those of the parameters and of the
 -- names that are defined above it, and needed those of the parameters that are used below it and of the same names.
 abbrev pub DestByRule : (ℕ → Option ℕ) → List ℕ → List ℕ → Row AutomatonLeaf → Option ℕ → Type 0
 DestByRule of parameters above rest (Some dest) =
-    IsSomeAnd (of dest) (IsChoice (λ register. one_has of parameters register || one_has of above register)
+    IsSomeAnd (of dest) (IsDefinitionChoice (λ register. one_has of parameters register || one_has of above register)
     (λ register. used_has (row_uses rest) of parameters register || one_has of above register))
 DestByRule of parameters above rest None = Unit {0}
 
@@ -115,14 +115,14 @@ RowByRule of parameters above (At_leaf leaf) = Unit {0}
 -- ---- the whole
 
 -- the names of a state: its parameters, and what its row defines, in preorder
-abbrev pub names_of : AutomatonState → List ℕ
-names_of state = state.parameters ++ names_written state.row
+abbrev pub state_names : AutomatonState → List ℕ
+state_names state = state.parameters ++ names_written state.row
 
 -- the names of a state have registers by the rule, and no other name has one
 pub record StateByRule (number : ℕ) (passed : List (Option ℕ)) (of : ℕ → Option ℕ) (state : AutomatonState) : Type 0 where
   pub parameters : Parameters number of passed state.parameters
   pub row : RowByRule of state.parameters [] state.row
-  pub others : (name : ℕ) → is_in name (names_of state) ≡ false → of name ≡ None
+  pub others : (name : ℕ) → is_in name (state_names state) ≡ false → of name ≡ None
 
 -- the names of each state have registers by the rule: `registers number name` is that of a name of a state
 pub record IsAssigned (states : List AutomatonState) (registers : ℕ → ℕ → Option ℕ) : Type 0 where

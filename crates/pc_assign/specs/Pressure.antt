@@ -11,9 +11,9 @@ abbrev pub allowed : ℕ
 allowed = 127
 
 -- one name more, if one is defined
-abbrev pub one_more : Option ℕ → ℕ → ℕ
-one_more (Some dest) count = suc count
-one_more None count = count
+abbrev pub definitions_with : Option ℕ → ℕ → ℕ
+definitions_with (Some dest) count = suc count
+definitions_with None count = count
 
 -- the pressure of an item below `above` definitions: what its path defines down to it, and the parameters that are used below it
 abbrev pub item_pressure : List ℕ → ℕ → Row AutomatonLeaf → Option ℕ → ℕ
@@ -23,7 +23,7 @@ item_pressure parameters above rest None = 0
 -- the greatest pressure of a row's items
 abbrev pub row_pressure : List ℕ → ℕ → Row AutomatonLeaf → ℕ
 row_pressure parameters above (Then item rest) =
-    max (item_pressure parameters above rest (dest_of item)) (row_pressure parameters (one_more (dest_of item) above) rest)
+    max (item_pressure parameters above rest (dest_of item)) (row_pressure parameters (definitions_with (dest_of item) above) rest)
 row_pressure parameters above (Either on on_yes on_no) = max (row_pressure parameters above on_yes) (row_pressure parameters above on_no)
 row_pressure parameters above (At_leaf leaf) = 0
 

@@ -1,6 +1,6 @@
 //! Registers for the names of an automaton.
 ghost use Rattle.std.specs.Prelude.{◌≡◌, ◌<◌, ◌^◌, length};
-ghost use Rattle.pc_assign.specs.Assigned.{register_of};
+ghost use Rattle.pc_assign.specs.Assigned.{operand_register};
 ghost use Rattle.pc_assign.specs.Stored.{registers_in, beside};
 
 use indexmap::IndexSet;
@@ -45,7 +45,7 @@ impl StateRegisters {
 
     /// The register of an operand, if it is a name of the state.
     pub(crate) fn register_of(&self, operand: Operand) -> Option<u32>
-        ensures { result ≡ register_of (beside self.now.names.keys self.now.registers) operand }
+        ensures { result ≡ operand_register (beside self.now.names.keys self.now.registers) operand }
     {
         match operand {
             Operand::Name(name) => self.register(name),

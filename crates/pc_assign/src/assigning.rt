@@ -5,7 +5,7 @@ ghost use Rattle.std.specs.List.{AllByRecursion, IsDistinct, list_all};
 ghost use Rattle.pc_automaton.specs.StoredRow.{row_in};
 ghost use Rattle.pc_automaton.specs.Automaton.{state_in, states_in};
 ghost use Rattle.pc_assign.specs.Pressure.{allowed, LowBefore};
-ghost use Rattle.pc_assign.specs.Assigned.{names_of, IsAssigned, BeginsWithVariables};
+ghost use Rattle.pc_assign.specs.Assigned.{state_names, IsAssigned, BeginsWithVariables};
 ghost use Rattle.pc_assign.specs.Stored.{registers_in, Refuses};
 ghost use Rattle.pc_assign.specs.models.Choosing.{AreMost, PassedMost, AreHeld, AreChosen};
 ghost use Rattle.pc_assign.specs.models.Passing.{noted};
@@ -91,7 +91,7 @@ fn assign_state(
     state: &AutomatonState,
     passed: &[Option<u32>],
 ) -> Result<StateRegisters, AssignError>
-    requires once { IsDistinct nat_eq (names_of (state_in state.now)) }
+    requires once { IsDistinct nat_eq (state_names (state_in state.now)) }
     requires variables { number ≡ 0 → AllByRecursion (λ variable. variable < 96) state.now.parameters }
     requires passed { PassedMost passed.now }
     ensures { MatchResult result (IsGiven number passed.now (state_in state.now)) (RefusesState number (state_in state.now)) }

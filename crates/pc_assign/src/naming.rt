@@ -4,7 +4,7 @@ ghost use Rattle.std.specs.List.{IsDistinct};
 ghost use Rattle.indexmap.specs.IndexSet.{insert_all};
 ghost use Rattle.pc_automaton.specs.StoredRow.{row_in};
 ghost use Rattle.pc_automaton.specs.Automaton.{names_written, state_in};
-ghost use Rattle.pc_assign.specs.Assigned.{names_of};
+ghost use Rattle.pc_assign.specs.Assigned.{state_names};
 
 use crate::uses::written_by;
 use indexmap::IndexSet;
@@ -14,8 +14,8 @@ use std::alloc::{AllocError, Global};
 /// The names of a state: its parameters, and what its row defines, in preorder.
 #[tactic(auto, using(crate::proofs::NamesAdded::names))]
 pub(crate) fn names_of(alloc: Global, state: &AutomatonState) -> Result<IndexSet<u32>, AllocError>
-    requires { IsDistinct nat_eq (names_of (state_in state.now)) }
-    ensures { IfOk result (λ names. names.keys ≡ names_of (state_in state.now)) }
+    requires { IsDistinct nat_eq (state_names (state_in state.now)) }
+    ensures { IfOk result (λ names. names.keys ≡ state_names (state_in state.now)) }
 {
     let mut names = parameter_names(alloc, state.parameters.as_slice())?;
     add_written(&mut names, &state.row)?;

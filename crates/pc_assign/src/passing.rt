@@ -1,7 +1,7 @@
 //! What the leaves of states pass to later states.
 ghost use Rattle.std.specs.Prelude.{◌≡◌, ◌+◌, ◌<◌, ℕ, length, map, take, IfOk, OnOk};
 ghost use Rattle.pc_automaton.specs.StoredRow.{row_in};
-ghost use Rattle.pc_assign.specs.Assigned.{register_of};
+ghost use Rattle.pc_assign.specs.Assigned.{operand_register};
 ghost use Rattle.pc_assign.specs.Stored.{beside};
 ghost use Rattle.pc_assign.specs.models.Passing.{Notes, NotesFirst};
 ghost use Rattle.pc_word.specs.Row.{At_leaf};
@@ -61,7 +61,7 @@ fn note_first(
     table: &mut [Option<PassedList>],
 ) -> Result<(), AllocError>
     ensures { OnOk result (NotesFirst state
-        (map (register_of (beside registers.now.names.keys registers.now.registers)) arguments.now) table.old table.new) }
+        (map (operand_register (beside registers.now.names.keys registers.now.registers)) arguments.now) table.old table.new) }
 {
     let at = state as usize;
     if let Some(None) = table.get(at) {
@@ -76,7 +76,7 @@ fn passed_registers(
     registers: &StateRegisters,
     arguments: &[Operand],
 ) -> Result<PassedList, AllocError>
-    ensures { IfOk result (λ passed. passed ≡ map (register_of (beside registers.now.names.keys registers.now.registers)) arguments.now) }
+    ensures { IfOk result (λ passed. passed ≡ map (operand_register (beside registers.now.names.keys registers.now.registers)) arguments.now) }
 {
     let mut passed = PassedList::new(alloc);
     for at in 0..arguments.len() {

@@ -14,7 +14,7 @@ use Rattle.pc_emit.specs.Emitted.{RegionForm, Plain, Packed}
 use Rattle.pc_emit.specs.Bytes.{states_bytes, plain_bytes, object_bytes}
 use Rattle.pc_choose.specs.declared.choice.Cause.{Cause}
 use Rattle.pc_choose.specs.declared.choice.Form.{Form}
-use Rattle.pc_choose.specs.Choosing.{bytes_with, packs, IsRefused, Many_rows, High_pressure, Many_bytes, Gets, Gets_plain}
+use Rattle.pc_choose.specs.Choosing.{bytes_with, packs, IsFormRefused, Many_rows, High_pressure, Many_bytes, Gets, Gets_plain}
 use Rattle.pc_choose.proofs.Counting.{counted_with, plain_within}
 
 -- the pressure of the state of a trap alone is low
@@ -42,7 +42,7 @@ module _ (table : Table) (limits : Limits) (extent : Extent) (region line : ℕ)
       let same : states_bytes states ≡ plain_bytes (region_tree table region) = ap states_bytes one ∙ trap_is_short kind line ∙ ap plain_bytes (sym is) in
       omega (arith, counted, within, same)
 
-  not_refused : (cause : Cause) → IsRefused (packs table limits) region most_rows (bytes_with table forms region) cause → ⊥
+  not_refused : (cause : Cause) → IsFormRefused (packs table limits) region most_rows (bytes_with table forms region) cause → ⊥
   not_refused cause (Many_rows none) = never none
   not_refused cause (High_pressure {states} {number} {live} found high) =
       trap_is_low kind line number live (subst (λ (s : List AutomatonState). IsFirstHigh s number live) (alone states found) high)

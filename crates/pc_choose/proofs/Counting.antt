@@ -4,7 +4,7 @@ use Rattle.std.specs.Prelude.{slice_get}
 use Rattle.pc_table.specs.Table.{TableTree, TableRegion, Table, tree_of, region_tree}
 use Rattle.pc_emit.specs.Emitted.{RegionForm, Plain}
 use Rattle.pc_emit.specs.Bytes.{plain_bytes, form_bytes, regions_bytes, object_bytes}
-use Rattle.pc_choose.specs.Choosing.{with_form, bytes_with}
+use Rattle.pc_choose.specs.Choosing.{with_region_form, bytes_with}
 use Rattle.pc_choose.specs.models.Counting.{all_plain_bytes}
 use Rattle.pc_choose.specs.models.Giving.{bytes_of}
 use Rattle.pc_choose.proofs.Places.{own_number, other_number}
@@ -12,18 +12,18 @@ use Rattle.pc_choose.proofs.Places.{own_number, other_number}
 -- ---- forms with one more
 
 -- the region has the form
-pub with_form-same : (forms : ℕ → Option RegionForm) (region : ℕ) (form : RegionForm) → with_form forms region form region ≡ Some form
-with_form-same forms region form = ap (λ b. cond b (Some form) (forms region)) (own_number region)
+pub with_region_form-same : (forms : ℕ → Option RegionForm) (region : ℕ) (form : RegionForm) → with_region_form forms region form region ≡ Some form
+with_region_form-same forms region form = ap (λ b. cond b (Some form) (forms region)) (own_number region)
 
 -- the others have what they had
-pub with_form-other : (forms : ℕ → Option RegionForm) (region other : ℕ) (form : RegionForm) → other ≢ region
-    → with_form forms region form other ≡ forms other
-with_form-other forms region other form differ = ap (λ b. cond b (Some form) (forms other)) (other_number other region differ)
+pub with_region_form-other : (forms : ℕ → Option RegionForm) (region other : ℕ) (form : RegionForm) → other ≢ region
+    → with_region_form forms region form other ≡ forms other
+with_region_form-other forms region other form differ = ap (λ b. cond b (Some form) (forms other)) (other_number other region differ)
 
 -- so does one that has a form keep it
 pub form_stays : (forms : ℕ → Option RegionForm) (last region : ℕ) (chosen form : RegionForm) → forms last ≡ None → forms region ≡ Some form
-    → with_form forms last chosen region ≡ Some form
-form_stays forms last region chosen form free has = with_form-other forms last region chosen differ ∙ has
+    → with_region_form forms last chosen region ≡ Some form
+form_stays forms last region chosen form free has = with_region_form-other forms last region chosen differ ∙ has
   where
     differ : region ≢ last
     differ same = let none : forms region ≡ None = ap forms same ∙ free in absurd (cc)
@@ -42,20 +42,20 @@ regions_same forms others number (region ∷ regions) same =
 -- where one of them gets a form, its bytes take the place of what it had
 regions_with : (forms : ℕ → Option RegionForm) (region : ℕ) (form : RegionForm) (tree : TableTree) (number at : ℕ) (regions : List TableRegion)
     → region ≡ number + at → tree_of (slice_get regions at) ≡ tree → at < length regions
-    → regions_bytes (with_form forms region form) number regions + form_bytes tree (forms region)
+    → regions_bytes (with_region_form forms region form) number regions + form_bytes tree (forms region)
     ≡ regions_bytes forms number regions + form_bytes tree (Some form)
 regions_with forms region form tree number at [] is there lt = absurd (omega arith)
 regions_with forms region form tree number zero (first ∷ regions) is there lt =
     let same : number ≡ region = omega arith in
     let now =
-    ap (form_bytes first.tree) (ap (with_form forms region form) same ∙ with_form-same forms region form)
+    ap (form_bytes first.tree) (ap (with_region_form forms region form) same ∙ with_region_form-same forms region form)
     ∙ ap (λ (t : TableTree). form_bytes t (Some form)) there in
     let before = ap (form_bytes first.tree) (ap forms same) ∙ ap (λ (t : TableTree). form_bytes t (forms region)) there in
-    let rest = regions_same (with_form forms region form) forms (1 + number) regions
-    (λ other up. with_form-other forms region other form (λ e. absurd (omega arith))) in
+    let rest = regions_same (with_region_form forms region form) forms (1 + number) regions
+    (λ other up. with_region_form-other forms region other form (λ e. absurd (omega arith))) in
     omega (arith, now, before, rest)
 regions_with forms region form tree number (suc at) (first ∷ regions) is there lt =
-    let here = ap (form_bytes first.tree) (with_form-other forms region number form (λ e. absurd (omega arith))) in
+    let here = ap (form_bytes first.tree) (with_region_form-other forms region number form (λ e. absurd (omega arith))) in
     let rest = regions_with forms region form tree (1 + number) at regions (omega arith) there (omega arith) in
     omega (arith, here, rest)
 

@@ -9,13 +9,13 @@ use Rattle.pc_table.specs.Table.{Table, region_tree}
 use Rattle.pc_table.specs.TableKeeps.{TableKeeps}
 use Rattle.pc_automaton.specs.Automaton.{AutomatonState}
 use Rattle.pc_assign.specs.Pressure.{allowed}
-use Rattle.pc_assign.specs.Assigned.{names_of}
+use Rattle.pc_assign.specs.Assigned.{state_names}
 use Rattle.pc_assign.specs.Apart.{IsApart, HasAllowed}
 use Rattle.pc_assign.proofs.Apartness.{live_apart, variables_stay, all_in, past}
 use Rattle.pc_window.specs.Rebasing.{is_in}
 use Rattle.pc_emit.specs.Emitted.{RegionForm, Plain, Packed}
 use Rattle.pc_emit.specs.Emitting.{HasForm, CanPack, CanHave, AreForms}
-use Rattle.pc_emit.specs.PackedForm.{IsPackedForm, IsForm}
+use Rattle.pc_emit.specs.PackedForm.{IsPackedForm, IsRegionForm}
 use Rattle.pc_emit.specs.Leading.{states_lead, form_leads}
 use Rattle.pc_emit.specs.Bytes.{object_bytes}
 use Rattle.pc_choose.specs.declared.choice.Choice.{Choice}
@@ -41,9 +41,9 @@ module _ (rules : Rules) (keeps : TableKeeps rules.table) (region rows : ℕ) (s
   below : (number name register : ℕ) → registers number name ≡ Some register → register < allowed
   below number name register is = by (slice_get states number) refl
     where
-      in_state : (state : AutomatonState) → slice_get states number ≡ Some state → (b : Bool) → is_in name (names_of state) ≡ b → register < allowed
+      in_state : (state : AutomatonState) → slice_get states number ≡ Some state → (b : Bool) → is_in name (state_names state) ≡ b → register < allowed
       in_state state here true listed =
-          let one = all_in (HasAllowed (registers number)) (names_of state) name (apart number state here).allowed listed in
+          let one = all_in (HasAllowed (registers number)) (state_names state) name (apart number state here).allowed listed in
           let both : Some register ≡ Some one.register = sym is ∙ one.has in
           let same : register ≡ one.register = (cc) in
           subst (λ (r : ℕ). r < allowed) (sym same) one.below
@@ -51,7 +51,7 @@ module _ (rules : Rules) (keeps : TableKeeps rules.table) (region rows : ℕ) (s
           let none : registers number name ≡ None = (has.assigned.each number state here).others name listed in absurd (cc)
 
       by : (found : Option AutomatonState) → slice_get states number ≡ found → register < allowed
-      by (Some state) here = in_state state here (is_in name (names_of state)) refl
+      by (Some state) here = in_state state here (is_in name (state_names state)) refl
       by None out =
           let none : registers number name ≡ None = has.assigned.none number name (past states number out) in absurd (cc)
 
@@ -114,7 +114,7 @@ module _ (table : Table) (keeps : TableKeeps table) (limits : Limits) (extent : 
       let found = form_found table limits extent region (bytes_with table given.had region) states registers given.kind given.causes given.gets in
       can_pack (rules_for table limits found.0) keeps region found.1 states registers found.2 forms (leads_have region (Packed states registers) has)
 
-  pub form_is : (region : ℕ) (form : RegionForm) → forms region ≡ Some form → IsForm table region form
+  pub form_is : (region : ℕ) (form : RegionForm) → forms region ≡ Some form → IsRegionForm table region form
   form_is region Plain has = tt
   form_is region (Packed states registers) has =
       let given = stands.given region (Packed states registers) has in

@@ -19,7 +19,7 @@ use Rattle.pc_choose.specs.Choosing.{bytes_with, with_regions, choice_of, Choosi
 use Rattle.pc_choose.specs.Choosing.{may_pipeline, Is_not_tried, Is_refused, Gets, Gets_pipelined, Gets_packed, Gets_plain}
 use Rattle.pc_choose.specs.Laws.{has_automaton}
 use Rattle.pc_choose.proofs.Places.{get_more, length_more, map_length}
-use Rattle.pc_choose.proofs.Counting.{with_form-same, form_stays}
+use Rattle.pc_choose.proofs.Counting.{with_region_form-same, form_stays}
 use Rattle.pc_choose.proofs.Taken.{with_regions_keep, next_is_free}
 
 -- ---- lists
@@ -141,7 +141,7 @@ module _ (table : Table) (limits : Limits) (extent : Extent) (forms : ℕ → Op
   choosing_follows found choices had Begins among = record { order = refl; regions = λ at region e. absurd (cc); kinds = tt }
   choosing_follows found choices had (Takes {found = before} {choices = earlier} {forms = old} {region = last} {chosen = chosen} {kind = kind} {causes = causes} choosing next gets) among =
       let free = next_is_free table limits extent before earlier old choosing last next in
-      takes_follows before earlier last chosen kind causes next (among last chosen (with_form-same old last chosen))
+      takes_follows before earlier last chosen kind causes next (among last chosen (with_region_form-same old last chosen))
       (gets_kind table limits extent last (bytes_with table old last) chosen kind causes gets)
       (choosing_follows before earlier old choosing (λ region form has. among region form (form_stays old last region chosen form free has)))
 

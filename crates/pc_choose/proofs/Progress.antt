@@ -20,7 +20,7 @@ use Rattle.pc_automaton.specs.There.{LeafIsThere, StateIsThere}
 use Rattle.pc_emit.specs.declared.form.RegionForm.{RegionForm as StoredForm}
 use Rattle.pc_emit.specs.declared.form.RegionForm.TheVariants as stored
 use Rattle.pc_emit.specs.Emitted.{RegionForm, Plain, Packed}
-use Rattle.pc_emit.specs.Emitting.{form_in, forms_in}
+use Rattle.pc_emit.specs.Emitting.{form_in, region_forms}
 use Rattle.pc_emit.specs.Leading.{form_leads}
 use Rattle.pc_emit.specs.Bytes.{plain_bytes, object_bytes}
 use Rattle.pc_choose.specs.models.Leaves.{LeavesKeep}
@@ -29,7 +29,7 @@ use Rattle.pc_choose.specs.declared.giving.Given.{Given}
 use Rattle.pc_choose.specs.declared.choice.Choice.{Choice}
 use Rattle.pc_choose.specs.declared.choice.Cause.{Cause}
 use Rattle.pc_choose.specs.declared.choice.Form.{Form}
-use Rattle.pc_choose.specs.Choosing.{with_form, bytes_with, choice_of, Gets, Choosing, Begins, Takes, AreChosen}
+use Rattle.pc_choose.specs.Choosing.{with_region_form, bytes_with, choice_of, Gets, Choosing, Begins, Takes, AreChosen}
 use Rattle.pc_choose.specs.models.Marked.{IsMarked, Finds, NamesBelow, LeadsBelow}
 use Rattle.pc_choose.specs.models.Giving.{form_of, FormLeadsBelow, bytes_of, IsGiven}
 use Rattle.pc_choose.specs.models.Progress.{IsChoosing}
@@ -87,11 +87,11 @@ form_in_one (stored.Packed automaton registers) = refl
 
 -- a form that is put among those in memory
 pub forms_with : (forms : List (Option StoredForm)) (region : ℕ) (form : StoredForm) → region < length forms
-    → forms_in (slice_set forms region (Some form)) ≡ with_form (forms_in forms) region (form_of form)
+    → region_forms (slice_set forms region (Some form)) ≡ with_region_form (region_forms forms) region (form_of form)
 forms_with forms region form lt = λ i other. at_each other i
   where
     by : (other : ℕ) (b : Bool) → nat_eq other region ≡ b
-        → forms_in (slice_set forms region (Some form)) other ≡ cond b (Some (form_of form)) (forms_in forms other)
+        → region_forms (slice_set forms region (Some form)) other ≡ cond b (Some (form_of form)) (region_forms forms other)
     by other true e =
         ap (λ (n : ℕ). form_in (slice_get (slice_set forms region (Some form)) n)) (same_number other region e)
         ∙ ap form_in (set_there forms region (Some form) lt) ∙ form_in_one form
@@ -100,7 +100,7 @@ forms_with forms region form lt = λ i other. at_each other i
         differ : (other : ℕ) → nat_eq other region ≡ false → region ≡ other → ⊥
         differ other e same = grind (arith, nat_tests)
 
-    at_each : (other : ℕ) → forms_in (slice_set forms region (Some form)) other ≡ with_form (forms_in forms) region (form_of form) other
+    at_each : (other : ℕ) → region_forms (slice_set forms region (Some form)) other ≡ with_region_form (region_forms forms) region (form_of form) other
     at_each other = by other (nat_eq other region) refl
 
 none_in : (count region : ℕ) → form_in (slice_get (replicate count None) region) ≡ None
@@ -108,7 +108,7 @@ none_in zero region = refl
 none_in (suc count) zero = refl
 none_in (suc count) (suc region) = none_in count region
 
-pub no_forms_in : (count : ℕ) → forms_in (replicate count None) ≡ (λ region. None)
+pub no_forms_in : (count : ℕ) → region_forms (replicate count None) ≡ (λ region. None)
 no_forms_in count = λ i region. none_in count region i
 
 -- ---- region 0 is found
@@ -117,7 +117,7 @@ pub progress_begins : (table : Table) (limits : Limits) (extent : Extent) (it : 
     → it.chosen.choices ≡ [] → it.chosen.forms ≡ replicate (length table.regions) None → it.bytes ≡ object_bytes table (λ region. None)
     → object_bytes table (λ region. None) ≤ most_object → IsChoosing table limits extent it
 progress_begins table limits extent it order marks choices forms bytes small =
-    let none : forms_in it.chosen.forms ≡ (λ region. None) = ap forms_in forms ∙ no_forms_in (length table.regions) in
+    let none : region_forms it.chosen.forms ≡ (λ region. None) = ap region_forms forms ∙ no_forms_in (length table.regions) in
     record {
       choosing =
           subst (λ (f : ℕ → Option RegionForm). Choosing table limits extent it.found.order it.chosen.choices f) (sym none)
@@ -133,34 +133,34 @@ progress_begins table limits extent it order marks choices forms bytes small =
 
 module _ (table : Table) (limits : Limits) (extent : Extent) (old : Progress) (is : IsChoosing table limits extent old) (region : ℕ)
     (next : slice_get old.found.order (length old.chosen.choices) ≡ Some region) (there : region < length table.regions) where
-  free : forms_in old.chosen.forms region ≡ None
-  free = next_is_free table limits extent old.found.order old.chosen.choices (forms_in old.chosen.forms) is.choosing region next
+  free : region_forms old.chosen.forms region ≡ None
+  free = next_is_free table limits extent old.found.order old.chosen.choices (region_forms old.chosen.forms) is.choosing region next
 
   next_is_counted : plain_bytes (region_tree table region) ≤ old.bytes
   next_is_counted =
-      let within = plain_within table (forms_in old.chosen.forms) region there free in let counted = is.counted in omega (arith, within, counted)
+      let within = plain_within table (region_forms old.chosen.forms) region there free in let counted = is.counted in omega (arith, within, counted)
 
-  counts : bytes_of table region (old.bytes - plain_bytes (region_tree table region)) ≡ bytes_with table (forms_in old.chosen.forms) region
+  counts : bytes_of table region (old.bytes - plain_bytes (region_tree table region)) ≡ bytes_with table (region_forms old.chosen.forms) region
   counts =
       ap (λ (n : ℕ). bytes_of table region (n - plain_bytes (region_tree table region))) is.counted
-      ∙ counts_alike table (forms_in old.chosen.forms) region there free
+      ∙ counts_alike table (region_forms old.chosen.forms) region there free
 
   module _ (new : Progress) (given : Given) (gives : IsGiven table limits extent region (old.bytes - plain_bytes (region_tree table region)) given)
       (finds : Finds (form_leads (region_tree table region) (form_of given.form)) old.found new.found) (bytes : new.bytes ≡ given.bytes)
       (choices : new.chosen.choices ≡ old.chosen.choices ++ choice_of region given.kind given.causes ∷ [])
       (forms : new.chosen.forms ≡ slice_set old.chosen.forms region (Some given.form)) where
-    forms_now : forms_in new.chosen.forms ≡ with_form (forms_in old.chosen.forms) region (form_of given.form)
+    forms_now : region_forms new.chosen.forms ≡ with_region_form (region_forms old.chosen.forms) region (form_of given.form)
     forms_now =
         let few = is.forms in
-        ap forms_in forms ∙ forms_with old.chosen.forms region given.form (omega (arith, few, there))
+        ap region_forms forms ∙ forms_with old.chosen.forms region given.form (omega (arith, few, there))
 
-    chosen_now : Choosing table limits extent new.found.order new.chosen.choices (forms_in new.chosen.forms)
+    chosen_now : Choosing table limits extent new.found.order new.chosen.choices (region_forms new.chosen.forms)
     chosen_now =
         let gets = subst (λ (b : RegionForm → ℕ). Gets table limits extent region b (form_of given.form) given.kind given.causes) counts gives.gets in
         let takes = Takes is.choosing next gets in
         let found = subst (λ (f : List ℕ). Choosing table limits extent f (old.chosen.choices ++ choice_of region given.kind given.causes ∷ [])
-        (with_form (forms_in old.chosen.forms) region (form_of given.form))) (sym finds.order) takes in
-        let chosen = subst (λ (c : List Choice). Choosing table limits extent new.found.order c (with_form (forms_in old.chosen.forms) region (form_of given.form)))
+        (with_region_form (region_forms old.chosen.forms) region (form_of given.form))) (sym finds.order) takes in
+        let chosen = subst (λ (c : List Choice). Choosing table limits extent new.found.order c (with_region_form (region_forms old.chosen.forms) region (form_of given.form)))
         (sym choices) found in
         subst (λ (f : ℕ → Option RegionForm). Choosing table limits extent new.found.order new.chosen.choices f) (sym forms_now) chosen
 
@@ -197,12 +197,12 @@ taken_fewer table limits extent it is marked region next =
 
 -- where none is left, forms were chosen
 pub all_chosen : (table : Table) (limits : Limits) (extent : Extent) (it : Progress) → IsChoosing table limits extent it
-    → slice_get it.found.order (length it.chosen.choices) ≡ None → AreChosen table limits extent it.chosen.choices (forms_in it.chosen.forms)
+    → slice_get it.found.order (length it.chosen.choices) ≡ None → AreChosen table limits extent it.chosen.choices (region_forms it.chosen.forms)
 all_chosen table limits extent it is none = record {
   found = it.found.order;
   choosing = is.choosing;
   all =
-      let few = taken_few table limits extent it.found.order it.chosen.choices (forms_in it.chosen.forms) is.choosing in
+      let few = taken_few table limits extent it.found.order it.chosen.choices (region_forms it.chosen.forms) is.choosing in
       let end = none_left it.found.order (length it.chosen.choices) none in
       omega (arith, few, end);
 }

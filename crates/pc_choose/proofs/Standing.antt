@@ -26,11 +26,11 @@ use Rattle.pc_choose.specs.models.Leaves.{LeavesKeep}
 use Rattle.pc_choose.specs.declared.choice.Choice.{Choice}
 use Rattle.pc_choose.specs.declared.choice.Cause.{Cause}
 use Rattle.pc_choose.specs.declared.choice.Form.{Form}
-use Rattle.pc_choose.specs.Choosing.{with_form, bytes_with, with_region, with_regions, choice_of, Gets, Gets_pipelined, Gets_packed, Gets_plain, Choosing, Begins, Takes}
+use Rattle.pc_choose.specs.Choosing.{with_region_form, bytes_with, with_region, with_regions, choice_of, Gets, Gets_pipelined, Gets_packed, Gets_plain, Choosing, Begins, Takes}
 use Rattle.pc_choose.specs.models.Marked.{NamesBelow, LeadsBelow}
 use Rattle.pc_choose.specs.models.Giving.{FormLeadsBelow}
 use Rattle.pc_choose.proofs.Places.{length_more, listed, found_within, same_number, own_number}
-use Rattle.pc_choose.proofs.Counting.{with_form-same, form_stays, plain_counts}
+use Rattle.pc_choose.proofs.Counting.{with_region_form-same, form_stays, plain_counts}
 use Rattle.pc_choose.proofs.Progress.{leads_below}
 use Rattle.pc_choose.proofs.Taken.{with_regions_keep, form_among, next_is_free}
 
@@ -235,7 +235,7 @@ module _ (table : Table) (keeps : TableKeeps table) (limits : Limits) (extent : 
 
   -- with one form more, what was met is met still
   met_more : (forms : ℕ → Option RegionForm) (last : ℕ) (chosen : RegionForm) → forms last ≡ None → (region : ℕ) → IsMet table forms region
-      → IsMet table (with_form forms last chosen) region
+      → IsMet table (with_region_form forms last chosen) region
   met_more forms last chosen free zero Met_first = Met_first
   met_more forms last chosen free region (Met_behind {from} {region = to} {form} met has leads) =
       Met_behind (met_more forms last chosen free from met) (form_stays forms last from chosen form free has) leads
@@ -243,7 +243,7 @@ module _ (table : Table) (keeps : TableKeeps table) (limits : Limits) (extent : 
   -- the bytes stay few enough
   gets_short : (forms : ℕ → Option RegionForm) (region : ℕ) (chosen : RegionForm) (kind : Form) (causes : List Cause) → region < length table.regions
       → forms region ≡ None → object_bytes table forms ≤ most_object → Gets table limits extent region (bytes_with table forms region) chosen kind causes
-      → object_bytes table (with_form forms region chosen) ≤ most_object
+      → object_bytes table (with_region_form forms region chosen) ≤ most_object
   gets_short forms region chosen kind causes there free short (Gets_pipelined may has few) = few
   gets_short forms region chosen kind causes there free short (Gets_packed passed has few) = few
   gets_short forms region chosen kind causes there free short (Gets_plain passed refused) =
@@ -267,7 +267,7 @@ module _ (table : Table) (keeps : TableKeeps table) (limits : Limits) (extent : 
     now = with_regions found leads
 
     abbrev with_it : ℕ → Option RegionForm
-    with_it = with_form forms last chosen
+    with_it = with_region_form forms last chosen
 
     there_now : (region : ℕ) → IsIn now region → region < length table.regions
     there_now region h = elim (found_either found leads region h) [
@@ -294,7 +294,7 @@ module _ (table : Table) (keeps : TableKeeps table) (limits : Limits) (extent : 
             let kept = with_regions_keep found leads (length choices) last next in
             let here : slice_get now (length choices) ≡ Some region = ap (slice_get now) (sym same) ∙ e in
             let is : last ≡ region = (cc) in
-            (chosen, subst (λ (r : ℕ). with_it r ≡ Some chosen) is (with_form-same forms last chosen))
+            (chosen, subst (λ (r : ℕ). with_it r ≡ Some chosen) is (with_region_form-same forms last chosen))
         by (inr less) =
             let was = stands.taken at region less (old_at less) in (was.0, form_stays forms last region chosen was.0 last_free was.1)
 
@@ -331,7 +331,7 @@ module _ (table : Table) (keeps : TableKeeps table) (limits : Limits) (extent : 
       | inl old ↦ met_more forms last chosen last_free region (stands.met region old)
       | inr new ↦
           Met_behind (met_more forms last chosen last_free last (stands.met last (listed found (length choices) last next)))
-          (with_form-same forms last chosen) (Contains-from_any same_number region leads new)
+          (with_region_form-same forms last chosen) (Contains-from_any same_number region leads new)
     ]
 
     -- so it stands still when the region was taken

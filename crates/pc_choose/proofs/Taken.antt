@@ -10,7 +10,7 @@ use Rattle.pc_table.specs.Table.{Table, region_tree}
 use Rattle.pc_emit.specs.Emitted.{RegionForm}
 use Rattle.pc_emit.specs.Leading.{form_leads}
 use Rattle.pc_choose.specs.declared.choice.Choice.{Choice}
-use Rattle.pc_choose.specs.Choosing.{with_form, with_region, with_regions, choice_of, Choosing, Begins, Takes}
+use Rattle.pc_choose.specs.Choosing.{with_region_form, with_region, with_regions, choice_of, Choosing, Begins, Takes}
 use Rattle.pc_choose.proofs.Places.{get_front, get_more, length_more, listed, same_number}
 
 -- ---- places
@@ -78,7 +78,7 @@ module _ (table : Table) (limits : Limits) (extent : Extent) where
     pub there : slice_get found place ≡ Some region
 
   -- where a form is among those with one more, it is that one, or it was there
-  pub form_among : (forms : ℕ → Option RegionForm) (region other : ℕ) (chosen form : RegionForm) → with_form forms region chosen other ≡ Some form
+  pub form_among : (forms : ℕ → Option RegionForm) (region other : ℕ) (chosen form : RegionForm) → with_region_form forms region chosen other ≡ Some form
       → ((other ≡ region) × (chosen ≡ form)) ⊎ (forms other ≡ Some form)
   form_among forms region other chosen form has = by (nat_eq other region) refl has
     where

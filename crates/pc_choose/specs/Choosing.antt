@@ -25,12 +25,12 @@ use Rattle.pc_choose.specs.declared.choice.Choice.{Choice}
 -- ---- forms
 
 -- the forms, with this one for a region
-abbrev pub with_form : (ℕ → Option RegionForm) → (region : ℕ) → RegionForm → ℕ → Option RegionForm
-with_form forms region form other = if nat_eq other region then Some form else forms other
+abbrev pub with_region_form : (ℕ → Option RegionForm) → (region : ℕ) → RegionForm → ℕ → Option RegionForm
+with_region_form forms region form other = if nat_eq other region then Some form else forms other
 
 -- the bytes that are counted where a region gets this form: regions that have no form yet are counted as plain
 abbrev pub bytes_with : Table → (ℕ → Option RegionForm) → (region : ℕ) → RegionForm → ℕ
-bytes_with table forms region form = object_bytes table (with_form forms region form)
+bytes_with table forms region form = object_bytes table (with_region_form forms region form)
 
 -- ---- searches
 
@@ -51,13 +51,13 @@ pub record HasRegisters (rules : Rules) (region rows : ℕ) (states : List Autom
 -- Why a region does not get the form of a search within so many rows, where so many bytes are counted for each form of it: the
 -- search comes to more windows than rows; or the first state of too high a pressure has this; or the object would have so many
 -- bytes.
-pub data IsRefused (rules : Rules) (region rows : ℕ) (bytes : RegionForm → ℕ) : Cause → Type 0 where
-  Many_rows : HasNoPattern rules region rows → IsRefused rules region rows bytes (Rows (suc rows) rows)
+pub data IsFormRefused (rules : Rules) (region rows : ℕ) (bytes : RegionForm → ℕ) : Cause → Type 0 where
+  Many_rows : HasNoPattern rules region rows → IsFormRefused rules region rows bytes (Rows (suc rows) rows)
   High_pressure : {states : List AutomatonState} {number live : ℕ} → IsFound rules region rows states → IsFirstHigh states number live
-      → IsRefused rules region rows bytes (Live live allowed)
+      → IsFormRefused rules region rows bytes (Live live allowed)
   Many_bytes : {states : List AutomatonState} {registers : ℕ → ℕ → Option ℕ} → HasRegisters rules region rows states registers
       → most_object < bytes (Packed states registers)
-      → IsRefused rules region rows bytes (Bytes (bytes (Packed states registers)) most_object)
+      → IsFormRefused rules region rows bytes (Bytes (bytes (Packed states registers)) most_object)
 
 -- ---- what a region gets
 
@@ -70,7 +70,7 @@ may_pipeline table extent region = nat_lt 1 extent.window && is_some (loop_of ta
 pub data PassesOver (table : Table) (limits : Limits) (extent : Extent) (region : ℕ) (bytes : RegionForm → ℕ) : List Cause → Type 0 where
   Is_not_tried : may_pipeline table extent region ≡ false → PassesOver table limits extent region bytes []
   Is_refused : {cause : Cause} → may_pipeline table extent region ≡ true
-      → IsRefused (pipelines table limits extent) region extent.rows bytes cause
+      → IsFormRefused (pipelines table limits extent) region extent.rows bytes cause
       → PassesOver table limits extent region bytes (cause ∷ [])
 
 -- The form that a region gets, what kind of form it is, and why it got none before: it is pipelined; or packed, where that is
@@ -84,7 +84,7 @@ pub data Gets (table : Table) (limits : Limits) (extent : Extent) (region : ℕ)
       → HasRegisters (packs table limits) region most_rows states registers → bytes (Packed states registers) ≤ most_object
       → Gets table limits extent region bytes (Packed states registers) form.Packed causes
   Gets_plain : {causes : List Cause} {cause : Cause} → PassesOver table limits extent region bytes causes
-      → IsRefused (packs table limits) region most_rows bytes cause
+      → IsFormRefused (packs table limits) region most_rows bytes cause
       → Gets table limits extent region bytes Plain form.Plain (causes ++ (cause ∷ []))
 
 -- ---- regions that are found
@@ -112,7 +112,7 @@ pub data Choosing (table : Table) (limits : Limits) (extent : Extent) : (found :
       {causes : List Cause} → Choosing table limits extent found choices forms → slice_get found (length choices) ≡ Some region
       → Gets table limits extent region (bytes_with table forms region) chosen kind causes
       → Choosing table limits extent (with_regions found (form_leads (region_tree table region) chosen))
-      (choices ++ (choice_of region kind causes ∷ [])) (with_form forms region chosen)
+      (choices ++ (choice_of region kind causes ∷ [])) (with_region_form forms region chosen)
 
 -- what was chosen, and the forms: each region that was found was taken
 pub record AreChosen (table : Table) (limits : Limits) (extent : Extent) (choices : List Choice) (forms : ℕ → Option RegionForm) : Type 0 where

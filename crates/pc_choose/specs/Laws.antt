@@ -7,7 +7,7 @@ use Rattle.pc_table.specs.Table.{Table}
 use Rattle.pc_table.specs.TableKeeps.{TableKeeps}
 use Rattle.pc_emit.specs.Emitted.{RegionForm}
 use Rattle.pc_emit.specs.Emitting.{AreForms}
-use Rattle.pc_emit.specs.PackedForm.{IsForm}
+use Rattle.pc_emit.specs.PackedForm.{IsRegionForm}
 use Rattle.pc_emit.specs.Bytes.{object_bytes}
 use Rattle.pc_choose.specs.declared.choice.Form.{Form}
 use Rattle.pc_choose.specs.declared.choice.Form.TheVariants as kind
@@ -18,7 +18,7 @@ use Rattle.pc_choose.specs.Choosing.{AreChosen}
 abbrev pub ChosenFormsMayBeEmitted : Type 0
 ChosenFormsMayBeEmitted = (table : Table) → TableKeeps table → (limits : Limits) (extent : Extent) → object_bytes table (λ region. None) ≤ most_object
     → (choices : List Choice) (forms : ℕ → Option RegionForm) → AreChosen table limits extent choices forms
-    → AreForms table limits forms × ((region : ℕ) (form : RegionForm) → forms region ≡ Some form → IsForm table region form)
+    → AreForms table limits forms × ((region : ℕ) (form : RegionForm) → forms region ≡ Some form → IsRegionForm table region form)
 
 -- whether a form is that of an automaton: such a one is pipelined or packed
 abbrev pub has_automaton : Form → Bool

@@ -8,7 +8,7 @@ ghost use Rattle.pc_word.specs.SourceLimits.{most_nodes};
 ghost use Rattle.pc_table.specs.Table.{table_of};
 ghost use Rattle.pc_table.specs.TableKeeps.{TableKeeps};
 ghost use Rattle.pc_emit.specs.Bytes.{object_bytes};
-ghost use Rattle.pc_emit.specs.Emitting.{forms_in};
+ghost use Rattle.pc_emit.specs.Emitting.{region_forms};
 ghost use Rattle.pc_choose.specs.Choosing.{AreChosen, choice_of};
 ghost use Rattle.pc_choose.specs.models.Progress.{IsChoosing};
 
@@ -49,7 +49,7 @@ pub fn choose(
     requires limits { AreLimits limits }
     requires extent { IsExtent extent }
     requires small { object_bytes (table_of table.now) (λ region. None) ≤ most_object }
-    ensures chosen { IfOk result (λ it. AreChosen (table_of table.now) limits extent it.choices (forms_in it.forms)) }
+    ensures chosen { IfOk result (λ it. AreChosen (table_of table.now) limits extent it.choices (region_forms it.forms)) }
     ensures count { IfOk result (λ it. length it.forms ≡ length table.now.regions) }
 {
     let mut progress = begun(alloc, table)?;

@@ -6,6 +6,7 @@ ghost use Rattle.pc_word.specs.MachineLimits.{most_object, most_rows};
 ghost use Rattle.pc_word.specs.SourceLimits.{most_nodes};
 ghost use Rattle.pc_table.specs.Table.{table_of, table_tree, region_tree};
 ghost use Rattle.pc_table.specs.TableKeeps.{TableKeeps};
+ghost use Rattle.pc_emit.specs.declared.form.RegionForm.TheVariants.{Packed};
 ghost use Rattle.pc_emit.specs.Bytes.{plain_bytes};
 ghost use Rattle.pc_choose.specs.declared.choice.Form.TheVariants.{Pipelined};
 ghost use Rattle.pc_choose.specs.Choosing.{packs, PassesOver};
@@ -15,6 +16,7 @@ use crate::error::ChooseError;
 use crate::heading::may_pipeline;
 use crate::trying::{Attempt, try_form};
 use crate::{Cause, CauseList, Form};
+use pc_assign::Assigned;
 use pc_automaton::Automaton;
 use pc_emit::RegionForm;
 use pc_table::{RegionTable, RegionTree};
@@ -67,16 +69,7 @@ pub(crate) fn form_for(
             bytes,
         } => {
             let kind = pipelined(&automaton, extent);
-            let form = RegionForm::Packed {
-                automaton,
-                registers,
-            };
-            Ok(Given {
-                form,
-                kind,
-                causes,
-                bytes,
-            })
+            Ok(given_as_automaton(automaton, registers, kind, causes, bytes))
         }
         Attempt::Refused { cause } => {
             tell(cause, &mut causes)?;
@@ -109,18 +102,7 @@ fn packed_or_plain(
             automaton,
             registers,
             bytes,
-        } => {
-            let form = RegionForm::Packed {
-                automaton,
-                registers,
-            };
-            Ok(Given {
-                form,
-                kind: Form::Packed,
-                causes,
-                bytes,
-            })
-        }
+        } => Ok(given_as_automaton(automaton, registers, Form::Packed, causes, bytes)),
         Attempt::Refused { cause } => {
             tell(cause, &mut causes)?;
             Ok(Given {
@@ -149,6 +131,28 @@ fn try_packed(
     ensures { IfOk result (IsAttempt (packs (table_of table.now) limits) region most_rows (bytes_of (table_of table.now) region others)) }
 {
     try_form(alloc, table, region, limits, PACKED, others)
+}
+
+/// An automaton with registers for its names, as what a region gets.
+fn given_as_automaton(
+    automaton: Automaton,
+    registers: Assigned,
+    kind: Form,
+    causes: CauseList,
+    bytes: u32,
+) -> Given
+    ensures { result ≡ record { form = Packed automaton registers; kind = kind; causes = causes; bytes = bytes } }
+{
+    let form = RegionForm::Packed {
+        automaton,
+        registers,
+    };
+    Given {
+        form,
+        kind,
+        causes,
+        bytes,
+    }
 }
 
 /// The kind of a pipelined form.

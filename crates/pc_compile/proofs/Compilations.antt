@@ -39,7 +39,7 @@ use Rattle.pc_window.specs.Kept.{NeverFaults}
 use Rattle.pc_window.proofs.Paces.{NeverFaults-follows}
 use Rattle.pc_emit.specs.declared.form.RegionForm.{RegionForm as StoredForm}
 use Rattle.pc_emit.specs.Bytes.{object_bytes}
-use Rattle.pc_emit.specs.Emitting.{forms_in, emission_of, AreEmitted}
+use Rattle.pc_emit.specs.Emitting.{region_forms, emission_of, AreEmitted}
 use Rattle.pc_emit.proofs.Emissions.{emitted_rows_do}
 use Rattle.pc_schedule.proofs.Paces.{emitted_rows_keep_pace, tightened_codes_keep_pace}
 use Rattle.pc_choose.specs.declared.choice.Choice.{Choice}
@@ -109,7 +109,7 @@ never_faults program runs agree input words =
 pub is_compiled : (program : ResolvedProgram) (limits : Limits) (extent : Extent) (first flow : FlowGraph) (table : Table) (forms : List (Option StoredForm))
     (choices : List Choice) (object : CodeWithNotes) → AreLimits limits
     → IsLowered program first → Keeps first flow → IsCutOf flow table → TableKeeps table → AgreeOnInputs (table_run table) (flow_run flow)
-    → AreChosen table limits extent choices (forms_in forms) → IsObjectOf table forms choices limits object
+    → AreChosen table limits extent choices (region_forms forms) → IsObjectOf table forms choices limits object
     → IsCompiled program limits extent flow table choices object
 is_compiled program limits extent first flow table forms choices object fine lowered kept cut keeps cut_agrees chosen made =
     let emitted = made.emitted in
@@ -118,8 +118,8 @@ is_compiled program limits extent first flow table forms choices object fine low
     let loose = loose_code limits table.arrays made.loose in
     let same_arrays = cut.arrays ∙ kept.same_arrays ∙ lowered.arrays in
     let plain = all_plain_is_short program first flow table lowered kept cut keeps in
-    let may = are_forms table keeps limits extent plain choices (forms_in forms) chosen in
-    let each = form_is table keeps limits extent plain choices (forms_in forms) chosen in
+    let may = are_forms table keeps limits extent plain choices (region_forms forms) chosen in
+    let each = form_is table keeps limits extent plain choices (region_forms forms) chosen in
     let of_flow = AgreeOnInputs-trans (flow_run flow) (flow_run first) (source_run program) kept.agrees lowered.agree in
     let of_table = AgreeOnInputs-trans (table_run table) (flow_run flow) (source_run program) cut_agrees of_flow in
     let of_rows = emitted_rows_do e keeps limits made.loose emitted.are each (never_faults program (table_run table) of_table) in
@@ -140,7 +140,7 @@ is_compiled program limits extent first flow table forms choices object fine low
         code = tightened.form;
         choices = subst (AllByRecursion IsChoice) (sym made.notes) (known_notes table choices);
         few_notes = omega (arith, as_many, few, loops);
-        few_bytes = object_is_short table (forms_in forms) choices object tightened.arrays made.notes (omega (arith, short, counted)) may.short;
+        few_bytes = object_is_short table (region_forms forms) choices object tightened.arrays made.notes (omega (arith, short, counted)) may.short;
       };
       limited = tightened.limits;
       arrays = tightened.arrays ∙ same_arrays;
@@ -157,7 +157,7 @@ is_compiled program limits extent first flow table forms choices object fine low
       compact = tightened.compact reachable;
       no_goto_alone = tightened.no_goto_alone;
       pace = λ input words.
-          tightened_codes_keep_pace table (forms_in forms) loose object.code tightened input (never_faults program (machine_run loose) of_loose input words)
+          tightened_codes_keep_pace table (region_forms forms) loose object.code tightened input (never_faults program (machine_run loose) of_loose input words)
           (emitted_rows_keep_pace e keeps limits made.loose refl emitted.are emitted.first_row each input);
       notes = made.notes;
     }

@@ -19,7 +19,7 @@ use Rattle.pc_tighten.specs.Removals.{HasNoGotoAlone}
 use Rattle.pc_tighten.specs.Tightened.{EachIsReachable, IsTightened}
 use Rattle.pc_object.specs.ObjectText.{CodeWithNotes, IsObject}
 use Rattle.pc_emit.specs.declared.form.RegionForm.{RegionForm}
-use Rattle.pc_emit.specs.Emitting.{forms_in, AreEmitted}
+use Rattle.pc_emit.specs.Emitting.{region_forms, AreEmitted}
 use Rattle.pc_schedule.specs.Pace.{KeepsPaceOn}
 use Rattle.pc_choose.specs.declared.choice.Choice.{Choice}
 use Rattle.pc_choose.specs.Choosing.{AreChosen}
@@ -47,14 +47,14 @@ pub record IsCompiled (program : ResolvedProgram) (limits : Limits) (extent : Ex
   pub kept : Keeps first flow
   pub cut : IsCutOf flow table
   pub forms : List (Option RegionForm)
-  pub chosen : AreChosen table limits extent choices (forms_in forms)
+  pub chosen : AreChosen table limits extent choices (region_forms forms)
   pub loose : List CodeRow
   pub emitted : AreEmitted table forms limits loose
   pub tightened : IsTightened (loose_code limits table.arrays loose) object.code
   pub reached : EachIsReachable object.code.rows
   pub compact : Compact object.code
   pub no_goto_alone : HasNoGotoAlone object.code.rows
-  pub pace : (input : List ℤ) → All IsWord input → KeepsPaceOn table (forms_in forms) object.code input
+  pub pace : (input : List ℤ) → All IsWord input → KeepsPaceOn table (region_forms forms) object.code input
   pub notes : object.notes ≡ notes_of table choices
 
 -- Why a program of a size has no object: its flow graph would have too many nodes, and they are told, as far as a number

@@ -12,18 +12,18 @@ use Rattle.pc_choose.specs.declared.choice.Choice.{Choice}
 use Rattle.pc_object.specs.declared.object.Note.{Note}
 
 -- a note at a line
-abbrev pub note_at : (line choice number limit : ℕ) → Note
-note_at line choice number limit = record { choice = choice; line = line; number = number; limit = limit }
+abbrev pub line_note : (line choice number limit : ℕ) → Note
+line_note line choice number limit = record { choice = choice; line = line; number = number; limit = limit }
 
 -- the note of a form that was not given for a cause: the first of three choices is that of too many rows
 abbrev pub caused_note : (line first : ℕ) → Cause → Note
-caused_note line first (Rows number limit) = note_at line first number limit
-caused_note line first (Live number limit) = note_at line (1 + first) number limit
-caused_note line first (Bytes number limit) = note_at line (2 + first) number limit
+caused_note line first (Rows number limit) = line_note line first number limit
+caused_note line first (Live number limit) = line_note line (1 + first) number limit
+caused_note line first (Bytes number limit) = line_note line (2 + first) number limit
 
 -- the note of a packed region: why it is not pipelined, or that its window holds one turn of one
 abbrev pub packed_note : (line : ℕ) → Option Cause → Note
-packed_note line None = note_at line 4 1 1
+packed_note line None = line_note line 4 1 1
 packed_note line (Some cause) = caused_note line 1 cause
 
 -- the note of a plain region: why it is not packed
@@ -34,7 +34,7 @@ plain_notes line (Some cause) = caused_note line 5 cause ∷ []
 -- the note of a form, where the forms before it were refused for these causes: a pipelined one has so many states, of at most so
 -- many rows; the first cause is that for which one is not pipelined, and the last that for which it is not packed
 abbrev pub form_notes : (line : ℕ) → Form → List Cause → List Note
-form_notes line (Pipelined states rows) causes = note_at line 0 states rows ∷ []
+form_notes line (Pipelined states rows) causes = line_note line 0 states rows ∷ []
 form_notes line Packed causes = packed_note line (slice_get causes 0) ∷ []
 form_notes line Plain causes = plain_notes line (slice_get causes (length causes - 1))
 

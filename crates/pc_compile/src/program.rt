@@ -8,7 +8,7 @@ ghost use Rattle.pc_object.specs.ObjectText.{object_of};
 ghost use Rattle.pc_pass.specs.Pass.{EachRose};
 ghost use Rattle.pc_table.specs.Table.{table_of};
 ghost use Rattle.pc_table.specs.TableKeeps.{TableKeeps};
-ghost use Rattle.pc_emit.specs.Emitting.{forms_in, AreForms};
+ghost use Rattle.pc_emit.specs.Emitting.{region_forms, AreForms};
 ghost use Rattle.pc_compile.specs.declared.error.CompileError.TheVariants.{Memory};
 ghost use Rattle.pc_compile.specs.Compiled.{IsCompiled, IsUncompiled};
 ghost use Rattle.pc_compile.specs.models.Made.{IsObjectOf};
@@ -103,7 +103,7 @@ fn object_of(
     requires limits { AreLimits limits }
     requires arrays { AreArrays (table_of table.now).arrays }
     requires count { length chosen.now.forms ≡ length table.now.regions }
-    requires forms { AreForms (table_of table.now) limits (forms_in chosen.now.forms) }
+    requires forms { AreForms (table_of table.now) limits (region_forms chosen.now.forms) }
     ensures object { IfOk result (λ object. IsObjectOf (table_of table.now) chosen.now.forms chosen.now.choices limits (object_of object)) }
     ensures memory { IfErr result (λ error. error ≡ Memory) }
 {

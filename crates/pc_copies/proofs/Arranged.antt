@@ -14,7 +14,7 @@ use Rattle.pc_word.specs.Items.{operand_value, dest_of}
 use Rattle.pc_word.specs.Commit.{names_after, stores_of, cells_after, reads_of}
 use Rattle.pc_word.proofs.Lists.{all_imply, all_both}
 use Rattle.pc_copies.specs.declared.moves.Move.{Move}
-use Rattle.pc_copies.specs.Moves.{IsSource, IsReadable, IsCopy, AreMoves, AreDone, kept, copy_of, after_row, after_rows, IsCopyRow, IsFullRow, AreCopies, IsArranged}
+use Rattle.pc_copies.specs.Moves.{IsMoveSource, IsReadable, IsCopy, AreMoves, AreDone, nontrivial_moves, copy_of, after_copies, after_rows, IsCopyRow, IsFullRow, AreCopies, IsArranged}
 use Rattle.pc_copies.specs.models.Sources.{taken, moved, source_in, first_of, over, IsRead, Unread, IsWritten, Apart, back, Do}
 use Rattle.pc_copies.specs.models.Packing.{AddsRing, WritesOnce, IsFull, Avoids, IsClean}
 use Rattle.pc_copies.specs.models.Placing.{IsWay}
@@ -29,7 +29,7 @@ use Rattle.pc_copies.proofs.Kept.{Found, found, all_found, all_sources, given_on
 
 -- ---- moves that leave scratch alone
 
-source_read : (scratch : ℕ) (from : Operand) → IsSource scratch from → IsReadable scratch from
+source_read : (scratch : ℕ) (from : Operand) → IsMoveSource scratch from → IsReadable scratch from
 source_read scratch (Name register) is = inl is.below
 source_read scratch (Lit value) is = tt
 
@@ -40,7 +40,7 @@ move_avoids : (scratch : ℕ) (move : Move) → IsMove scratch move → Avoids s
 move_avoids scratch move is = record {
   copy = move_copy scratch move is;
   writes = is.dest.other;
-  reads = λ e. (subst (IsSource scratch) e is.from).other refl;
+  reads = λ e. (subst (IsMoveSource scratch) e is.from).other refl;
 }
 
 moves_clean : (scratch : ℕ) (moves : List Move) → AreApart scratch moves → IsClean scratch moves
@@ -290,7 +290,7 @@ row_takes (move ∷ row) = row_takes row
 abbrev with_names : State → (ℕ → ℤ) → State
 with_names s names = record s { names = names }
 
-row_does : (lengths : List ℕ) (row : List Move) (s : State) → after_row lengths row s ≡ with_names s (moved (source_in row) s.names)
+row_does : (lengths : List ℕ) (row : List Move) (s : State) → after_copies lengths row s ≡ with_names s (moved (source_in row) s.names)
 row_does lengths row s = λ i. record {
   names = λ x. row_names lengths row s x i;
   cells = λ array place. cells_after s.cells (row_stores lengths row s i) array place;
@@ -310,11 +310,11 @@ missing (other ∷ list) (suc i) move e none = missing list i move e (unwritten 
 
 -- ---- all moves at once
 
-module _ (moves : List Move) (ops scratch : ℕ) (rows : List (List Move)) (first : List Move) (are : AreMoves scratch moves) (does : Do scratch rows first (source_in (kept moves))) where
+module _ (moves : List Move) (ops scratch : ℕ) (rows : List (List Move)) (first : List Move) (are : AreMoves scratch moves) (does : Do scratch rows first (source_in (nontrivial_moves moves))) where
   abbrev in_order : List (List Move)
   in_order = if_any first ++ reverse rows
 
-  names_are : (lengths : List ℕ) (s : State) (x : ℕ) → x ≢ scratch → (after_rows lengths in_order s).names x ≡ moved (source_in (kept moves)) s.names x
+  names_are : (lengths : List ℕ) (s : State) (x : ℕ) → x ≢ scratch → (after_rows lengths in_order s).names x ≡ moved (source_in (nontrivial_moves moves)) s.names x
   names_are lengths s x other =
       ap (λ (t : State). t.names x) (rows_do lengths in_order s)
       ∙ ap (λ (n : ℕ → ℤ). n x) (forth_first first (reverse rows) s.names ∙ forth_back rows (moved (source_in first) s.names))
@@ -335,7 +335,7 @@ module _ (moves : List Move) (ops scratch : ℕ) (rows : List (List Move)) (firs
           ap (λ o. Some o) (sym it.reads ∙ ap (λ (m : Move). m.from) is)
       by_source None e = absurd (missing moves at move there e)
 
-  moved_is : (s : State) (at : ℕ) (move : Move) → slice_get moves at ≡ Some move → moved (source_in (kept moves)) s.names move.dest ≡ operand_value s.names move.from
+  moved_is : (s : State) (at : ℕ) (move : Move) → slice_get moves at ≡ Some move → moved (source_in (nontrivial_moves moves)) s.names move.dest ≡ operand_value s.names move.from
   moved_is s at move there = elim (kept_source moves once move.dest) [
     | inl same ↦ ap (λ o. taken o s.names move.dest) (same ∙ source_is at move there)
     | inr own ↦
@@ -343,10 +343,10 @@ module _ (moves : List Move) (ops scratch : ℕ) (rows : List (List Move)) (firs
         ap (λ o. taken o s.names move.dest) own.0 ∙ sym (ap (operand_value s.names) is)
   ]
 
-  others_are : (s : State) (x : ℕ) → ((at : ℕ) (move : Move) → slice_get moves at ≡ Some move → move.dest ≢ x) → moved (source_in (kept moves)) s.names x ≡ s.names x
+  others_are : (s : State) (x : ℕ) → ((at : ℕ) (move : Move) → slice_get moves at ≡ Some move → move.dest ≢ x) → moved (source_in (nontrivial_moves moves)) s.names x ≡ s.names x
   others_are s x other = by_source (source_in moves x) refl
     where
-      by_source : (source : Option Operand) → source_in moves x ≡ source → moved (source_in (kept moves)) s.names x ≡ s.names x
+      by_source : (source : Option Operand) → source_in moves x ≡ source → moved (source_in (nontrivial_moves moves)) s.names x ≡ s.names x
       by_source (Some from) e = let it = found moves x from e in absurd (other it.at it.move it.there it.writes)
       by_source None e = ap (λ o. taken o s.names x) (kept_none moves x e)
 
@@ -394,8 +394,8 @@ rest_full ops [] rows all = all_behind (IsFullRow ops) rows all
 rest_full ops (move ∷ first) rows all = all
 
 -- rows that were packed
-pub arranged : (moves : List Move) (ops scratch : ℕ) (rows : List (List Move)) (first : List Move) → AreMoves scratch moves → 1 ≤ ops → ops < length (kept moves)
-    → IsPacked ops scratch (kept moves) rows first → IsArranged moves ops scratch (if_any first ++ reverse rows)
+pub arranged : (moves : List Move) (ops scratch : ℕ) (rows : List (List Move)) (first : List Move) → AreMoves scratch moves → 1 ≤ ops → ops < length (nontrivial_moves moves)
+    → IsPacked ops scratch (nontrivial_moves moves) rows first → IsArranged moves ops scratch (if_any first ++ reverse rows)
 arranged moves ops scratch rows first are some many packed =
     let fit = packed.fit in
     record {
@@ -403,7 +403,7 @@ arranged moves ops scratch rows first are some many packed =
       rows_fit = first_fits ops scratch first (reverse rows) (omega (arith, packed.room)) fit.copies fit.once
           (all_reverse (IsCopyRow ops scratch) rows (all_imply (IsFull ops scratch) (IsCopyRow ops scratch) rows (full_fits ops scratch some) fit.full));
       full = rest_full ops first (reverse rows) (all_reverse (IsFullRow ops) rows (all_imply (IsFull ops scratch) (IsFullRow ops) rows (λ row full. record { full = full.many }) fit.full));
-      copies = subst (AreCopies (kept moves)) (sym (copies_in_order rows first)) packed.copies;
+      copies = subst (AreCopies (nontrivial_moves moves)) (sym (copies_in_order rows first)) packed.copies;
       one = λ few. absurd (omega (arith, few, many));
     }
 
@@ -416,18 +416,18 @@ only [] = refl
 only (move ∷ first) = refl
 
 -- one row of all moves
-pub arranged_in_one : (moves : List Move) (ops scratch : ℕ) → AreMoves scratch moves → length (kept moves) ≤ ops → IsArranged moves ops scratch (if_any (kept moves))
+pub arranged_in_one : (moves : List Move) (ops scratch : ℕ) → AreMoves scratch moves → length (nontrivial_moves moves) ≤ ops → IsArranged moves ops scratch (if_any (nontrivial_moves moves))
 arranged_in_one moves ops scratch are few =
     let apart = kept_apart scratch moves are in
-    let does : Do scratch [] (kept moves) (source_in (kept moves)) = record { same = λ names x other. refl } in
+    let does : Do scratch [] (nontrivial_moves moves) (source_in (nontrivial_moves moves)) = record { same = λ names x other. refl } in
     record {
-      done = subst (λ (l : List (List Move)). (lengths : List ℕ) (old : State) → AreDone moves scratch old (after_rows lengths l old)) (only (kept moves))
-          (all_done moves ops scratch [] (kept moves) are does);
-      rows_fit = subst (AllByRecursion (IsCopyRow ops scratch)) (only (kept moves))
-          (first_fits ops scratch (kept moves) [] few (all_imply (IsMove scratch) (IsCopy scratch) (kept moves) (move_copy scratch) apart.all) apart.once tt);
-      full = subst (λ (l : List (List Move)). AllByRecursion (IsFullRow ops) (drop 1 l)) (only (kept moves)) (rest_full ops (kept moves) [] tt);
-      copies = record { cycles = []; are = tt; among = tt; apart = distinct_dests [] tt; number = let any = copies_any (kept moves) in omega (arith, any) };
-      one = λ h. one_at_most (kept moves);
+      done = subst (λ (l : List (List Move)). (lengths : List ℕ) (old : State) → AreDone moves scratch old (after_rows lengths l old)) (only (nontrivial_moves moves))
+          (all_done moves ops scratch [] (nontrivial_moves moves) are does);
+      rows_fit = subst (AllByRecursion (IsCopyRow ops scratch)) (only (nontrivial_moves moves))
+          (first_fits ops scratch (nontrivial_moves moves) [] few (all_imply (IsMove scratch) (IsCopy scratch) (nontrivial_moves moves) (move_copy scratch) apart.all) apart.once tt);
+      full = subst (λ (l : List (List Move)). AllByRecursion (IsFullRow ops) (drop 1 l)) (only (nontrivial_moves moves)) (rest_full ops (nontrivial_moves moves) [] tt);
+      copies = record { cycles = []; are = tt; among = tt; apart = distinct_dests [] tt; number = let any = copies_any (nontrivial_moves moves) in omega (arith, any) };
+      one = λ h. one_at_most (nontrivial_moves moves);
     }
 
 pub ruleset arranged_laws = (arranged, arranged_in_one, kept_apart)

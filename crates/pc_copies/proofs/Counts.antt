@@ -5,7 +5,7 @@ use Rattle.pc_word.specs.declared.item.Operand.{Operand}
 use Rattle.pc_word.specs.declared.item.Operand.TheVariants.{Name}
 use Rattle.pc_word.proofs.Lists.{all_imply}
 use Rattle.pc_copies.specs.declared.moves.Move.{Move}
-use Rattle.pc_copies.specs.Moves.{Leads_to, IsCycle, IsAmong, joined, AreCopies}
+use Rattle.pc_copies.specs.Moves.{Leads_to, IsCycle, IsAmong, moves_of, AreCopies}
 use Rattle.pc_copies.specs.models.Sources.{source_in, first_of, IsWritten, Apart}
 use Rattle.pc_copies.specs.models.Packing.{WritesOnce, IsRing}
 use Rattle.pc_copies.specs.models.Following.{source_at, sources_left, Followed}
@@ -41,7 +41,7 @@ counting_first moves table is = record {
 module _ (ops scratch : ℕ) (moves : List Move) (at : ℕ) (table later_table : List (Option Operand)) (rows : List (List Move)) (first : List Move) (path : List Move) (begin : ℕ)
     (are : AreApart scratch moves) (so_far : Arranging ops scratch moves at table rows first) (follows : Followed table later_table begin path)
     (counting : Counting moves table rows first) (later : List (List Move)) (now : List Move) (left : sources_left later_table + length path ≡ sources_left table) where
-  gone_still : (x : ℕ) → IsWritten (source_in (joined counting.cycles)) x → source_at later_table x ≡ None
+  gone_still : (x : ℕ) → IsWritten (source_in (moves_of counting.cycles)) x → source_at later_table x ≡ None
   gone_still x h = none_stays ops scratch moves at table later_table rows first path begin are so_far follows x (counting.gone x h)
 
   counting_plain : copies_with later now ≡ copies_with rows first + length path → Counting moves later_table later now
@@ -65,26 +65,26 @@ module _ (ops scratch : ℕ) (moves : List Move) (at : ℕ) (table later_table :
       | inr taken ↦ (sym taken.0 ∙ ring_source x from e, taken.1)
     ]
 
-    ring_apart : Apart (source_in (drop broken.at path)) (source_in (joined counting.cycles))
-    ring_apart = record { apart = λ x h. by_source x h.from h.writes (source_in (joined counting.cycles) x) refl }
+    ring_apart : Apart (source_in (drop broken.at path)) (source_in (moves_of counting.cycles))
+    ring_apart = record { apart = λ x h. by_source x h.from h.writes (source_in (moves_of counting.cycles) x) refl }
       where
-        by_source : (x : ℕ) (from : Operand) → source_in (drop broken.at path) x ≡ Some from → (source : Option Operand) → source_in (joined counting.cycles) x ≡ source → source ≡ None
+        by_source : (x : ℕ) (from : Operand) → source_in (drop broken.at path) x ≡ Some from → (source : Option Operand) → source_in (moves_of counting.cycles) x ≡ source → source ≡ None
         by_source x from e None f = refl
         by_source x from e (Some other) f =
             let gone = counting.gone x (record { from = other; writes = f }) in
             let there = (ring_taken x from e).0 in
             absurd (cc)
 
-    among_more : (x : ℕ) (from : Operand) → source_in (drop broken.at path ++ joined counting.cycles) x ≡ Some from → source_in moves x ≡ Some from
-    among_more x from e = by_source (source_in (drop broken.at path) x) refl (sym (source_both (drop broken.at path) (joined counting.cycles) x) ∙ e)
+    among_more : (x : ℕ) (from : Operand) → source_in (drop broken.at path ++ moves_of counting.cycles) x ≡ Some from → source_in moves x ≡ Some from
+    among_more x from e = by_source (source_in (drop broken.at path) x) refl (sym (source_both (drop broken.at path) (moves_of counting.cycles) x) ∙ e)
       where
         by_source : (source : Option Operand) → source_in (drop broken.at path) x ≡ source
-            → first_of source (source_in (joined counting.cycles) x) ≡ Some from → source_in moves x ≡ Some from
+            → first_of source (source_in (moves_of counting.cycles) x) ≡ Some from → source_in moves x ≡ Some from
         by_source (Some other) f h = path_source ops scratch moves at table later_table rows first path begin are so_far follows x from (ring_source x from (f ∙ h))
         by_source None f h = counting.among x from h
 
-    gone_more : (x : ℕ) → IsWritten (source_in (drop broken.at path ++ joined counting.cycles)) x → source_at later_table x ≡ None
-    gone_more x h = elim (writes_both (drop broken.at path) (joined counting.cycles) x h) [
+    gone_more : (x : ℕ) → IsWritten (source_in (drop broken.at path ++ moves_of counting.cycles)) x → source_at later_table x ≡ None
+    gone_more x h = elim (writes_both (drop broken.at path) (moves_of counting.cycles) x h) [
       | inl here ↦ (ring_taken x here.from here.writes).1
       | inr before ↦ gone_still x before
     ]
@@ -94,7 +94,7 @@ module _ (ops scratch : ℕ) (moves : List Move) (at : ℕ) (table later_table :
       cycles = drop broken.at path ∷ counting.cycles;
       are = (broken.ring, counting.are);
       among = among_more;
-      once = once_join (drop broken.at path) (joined counting.cycles) broken.ring.once counting.once ring_apart;
+      once = once_join (drop broken.at path) (moves_of counting.cycles) broken.ring.once counting.once ring_apart;
       gone = gone_more;
       number = let number = counting.number in let counted = broken.counted in omega (arith, number, counted, left);
     }
@@ -119,8 +119,8 @@ pub counted_all : (moves : List Move) (table : List (Option Operand)) (rows : Li
 counted_all moves table rows first counting none = record {
   cycles = counting.cycles;
   are = all_imply_lists counting.cycles counting.are;
-  among = all_sources (IsAmong moves) (joined counting.cycles) counting.once (λ x from e. is_among moves x from (counting.among x from e));
-  apart = distinct_dests (joined counting.cycles) counting.once;
+  among = all_sources (IsAmong moves) (moves_of counting.cycles) counting.once (λ x from e. is_among moves x from (counting.among x from e));
+  apart = distinct_dests (moves_of counting.cycles) counting.once;
   number = let number = counting.number in let left = none_left table none in omega (arith, number, left);
 }
   where

@@ -6,7 +6,7 @@ use Rattle.pc_word.specs.declared.item.Operand.TheVariants.{Name, Lit}
 use Rattle.pc_word.specs.MachineLimits.{registers}
 use Rattle.pc_word.proofs.Truth.{and_true, not_true, less_of}
 use Rattle.pc_copies.specs.declared.moves.Move.{Move}
-use Rattle.pc_copies.specs.Moves.{IsNamed, IsSource, AreMoves}
+use Rattle.pc_copies.specs.Moves.{IsNamed, IsMoveSource, AreMoves}
 use Rattle.pc_copies.specs.models.Sources.{source_in}
 use Rattle.pc_copies.specs.models.Given.{is_named, is_source, are_given}
 use Rattle.pc_copies.proofs.Arranged.{missing}
@@ -16,7 +16,7 @@ named scratch register e =
     let parts = and_true (nat_lt register registers) (not (nat_eq register scratch)) e in
     record { below = less_of register registers parts.0; other = λ same. true≢false (sym (eq-eqb register scratch same) ∙ not_true (nat_eq register scratch) parts.1) }
 
-sourced : (scratch : ℕ) (from : Operand) → is_source scratch from ≡ true → IsSource scratch from
+sourced : (scratch : ℕ) (from : Operand) → is_source scratch from ≡ true → IsMoveSource scratch from
 sourced scratch (Name register) e = named scratch register e
 sourced scratch (Lit value) e = tt
 
@@ -24,14 +24,14 @@ none_of : (source : Option Operand) → is_none source ≡ true → source ≡ N
 none_of None e = refl
 none_of (Some from) e = absurd (cc)
 
-module _ (scratch : ℕ) (move : Move) (moves : List Move) (dest : IsNamed scratch move.dest) (from : IsSource scratch move.from) (once : source_in moves move.dest ≡ None)
+module _ (scratch : ℕ) (move : Move) (moves : List Move) (dest : IsNamed scratch move.dest) (from : IsMoveSource scratch move.from) (once : source_in moves move.dest ≡ None)
     (rest : AreMoves scratch moves) where
   more_dests : (at : ℕ) (other : Move) → slice_get (move ∷ moves) at ≡ Some other → IsNamed scratch other.dest
   more_dests zero other e = let same : move ≡ other = (cc) in subst (λ (m : Move). IsNamed scratch m.dest) same dest
   more_dests (suc at) other e = rest.dests at other e
 
-  more_sources : (at : ℕ) (other : Move) → slice_get (move ∷ moves) at ≡ Some other → IsSource scratch other.from
-  more_sources zero other e = let same : move ≡ other = (cc) in subst (λ (m : Move). IsSource scratch m.from) same from
+  more_sources : (at : ℕ) (other : Move) → slice_get (move ∷ moves) at ≡ Some other → IsMoveSource scratch other.from
+  more_sources zero other e = let same : move ≡ other = (cc) in subst (λ (m : Move). IsMoveSource scratch m.from) same from
   more_sources (suc at) other e = rest.sources at other e
 
   -- no move behind it has its destination

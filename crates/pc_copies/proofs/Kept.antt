@@ -1,4 +1,4 @@
--- Moves that are given, those that are kept, and the table of their sources.
+-- Moves that are given, those that are not to themselves, and the table of their sources.
 use Rattle.std.proofs.Common.{◌≡◌, ◌≢◌, ◌⊎◌, inl, inr, ℕ, zero, suc, ◌+◌, ◌-◌, ◌<◌, ◌≤◌}
 use Rattle.std.proofs.Common.{Bool, true, false, List, [], ◌∷◌, ◌++◌, length, take, drop, get_or, replicate, Option}
 use Rattle.std.proofs.Common.{Some, None, refl, sym, ◌∙◌, ap, subst, arith}
@@ -12,7 +12,7 @@ use Rattle.pc_word.specs.declared.item.Operand.TheVariants.{Name, Lit}
 use Rattle.pc_word.specs.MachineLimits.{registers}
 use Rattle.pc_word.proofs.Lists.{set_length}
 use Rattle.pc_copies.specs.declared.moves.Move.{Move}
-use Rattle.pc_copies.specs.Moves.{AreMoves, is_name, kept}
+use Rattle.pc_copies.specs.Moves.{AreMoves, is_name, nontrivial_moves}
 use Rattle.pc_copies.specs.models.Sources.{source_in}
 use Rattle.pc_copies.specs.models.Packing.{WritesOnce}
 use Rattle.pc_copies.specs.models.Following.{source_at}
@@ -85,49 +85,51 @@ given_once scratch (move ∷ moves) are = (by_source (source_in moves move.dest)
     by_source (Some from) e = let it = found moves move.dest from e in let same = are.apart 0 (suc it.at) move it.move refl it.there (sym it.writes) in absurd (omega (arith, same))
     by_source None e = refl
 
--- ---- moves that are kept
+-- ---- moves that are not to themselves
 
-none_test : (b : Bool) (move : Move) (moves : List Move) (x : ℕ) → move.dest ≢ x → source_in (kept moves) x ≡ None
-    → source_in (if b then kept moves else move ∷ kept moves) x ≡ None
+none_test : (b : Bool) (move : Move) (moves : List Move) (x : ℕ) → move.dest ≢ x → source_in (nontrivial_moves moves) x ≡ None
+    → source_in (if b then nontrivial_moves moves else move ∷ nontrivial_moves moves) x ≡ None
 none_test true move moves x other rest = rest
-none_test false move moves x other rest = tail_written move (kept moves) x other ∙ rest
+none_test false move moves x other rest = tail_written move (nontrivial_moves moves) x other ∙ rest
 
-pub kept_none : (moves : List Move) (x : ℕ) → source_in moves x ≡ None → source_in (kept moves) x ≡ None
+pub kept_none : (moves : List Move) (x : ℕ) → source_in moves x ≡ None → source_in (nontrivial_moves moves) x ≡ None
 kept_none [] x e = refl
 kept_none (move ∷ moves) x e =
     let rest = unwritten move moves x e in
     none_test (is_name move.from move.dest) move moves x rest.head (kept_none moves x rest.tail)
 
-all_test : (P : Move → Type 0) (b : Bool) (move : Move) (moves : List Move) → P move → AllByRecursion P (kept moves) → AllByRecursion P (if b then kept moves else move ∷ kept moves)
+all_test : (P : Move → Type 0) (b : Bool) (move : Move) (moves : List Move) → P move → AllByRecursion P (nontrivial_moves moves)
+    → AllByRecursion P (if b then nontrivial_moves moves else move ∷ nontrivial_moves moves)
 all_test P true move moves here rest = rest
 all_test P false move moves here rest = (here, rest)
 
-kept_all : (P : Move → Type 0) (moves : List Move) → AllByRecursion P moves → AllByRecursion P (kept moves)
+kept_all : (P : Move → Type 0) (moves : List Move) → AllByRecursion P moves → AllByRecursion P (nontrivial_moves moves)
 kept_all P [] all = tt
 kept_all P (move ∷ moves) all = all_test P (is_name move.from move.dest) move moves all.0 (kept_all P moves all.1)
 
-once_test : (b : Bool) (move : Move) (moves : List Move) → source_in (kept moves) move.dest ≡ None → WritesOnce (kept moves) → WritesOnce (if b then kept moves else move ∷ kept moves)
+once_test : (b : Bool) (move : Move) (moves : List Move) → source_in (nontrivial_moves moves) move.dest ≡ None → WritesOnce (nontrivial_moves moves)
+    → WritesOnce (if b then nontrivial_moves moves else move ∷ nontrivial_moves moves)
 once_test true move moves none rest = rest
 once_test false move moves none rest = (none, rest)
 
-kept_once : (moves : List Move) → WritesOnce moves → WritesOnce (kept moves)
+kept_once : (moves : List Move) → WritesOnce moves → WritesOnce (nontrivial_moves moves)
 kept_once [] once = tt
 kept_once (move ∷ moves) once = once_test (is_name move.from move.dest) move moves (kept_none moves move.dest once.0) (kept_once moves once.1)
 
-pub kept_apart : (scratch : ℕ) (moves : List Move) → AreMoves scratch moves → AreApart scratch (kept moves)
+pub kept_apart : (scratch : ℕ) (moves : List Move) → AreMoves scratch moves → AreApart scratch (nontrivial_moves moves)
 kept_apart scratch moves are = record { all = kept_all (IsMove scratch) moves (given_all scratch moves are); once = kept_once moves (given_once scratch moves are) }
 
 own_name : (from : Operand) (x : ℕ) → is_name from x ≡ true → from ≡ Name x
 own_name (Name register) x e = ap Name (eqb-true register x e)
 own_name (Lit value) x e = absurd (cc)
 
--- a register has its source among the moves that are kept, or is its own source
+-- a register has its source among the moves that are not to themselves, or is its own source
 pub kept_source : (moves : List Move) → WritesOnce moves → (x : ℕ)
-    → (source_in (kept moves) x ≡ source_in moves x) ⊎ ((source_in (kept moves) x ≡ None) × (source_in moves x ≡ Some (Name x)))
+    → (source_in (nontrivial_moves moves) x ≡ source_in moves x) ⊎ ((source_in (nontrivial_moves moves) x ≡ None) × (source_in moves x ≡ Some (Name x)))
 kept_source [] once x = inl refl
 kept_source (move ∷ moves) once x = elim (cases_eq move.dest x) [
-  | inl same ↦ subst (λ (r : ℕ). (source_in (kept (move ∷ moves)) r ≡ source_in (move ∷ moves) r) ⊎
-      ((source_in (kept (move ∷ moves)) r ≡ None) × (source_in (move ∷ moves) r ≡ Some (Name r)))) same
+  | inl same ↦ subst (λ (r : ℕ). (source_in (nontrivial_moves (move ∷ moves)) r ≡ source_in (move ∷ moves) r) ⊎
+      ((source_in (nontrivial_moves (move ∷ moves)) r ≡ None) × (source_in (move ∷ moves) r ≡ Some (Name r)))) same
       (here (is_name move.from move.dest) refl)
   | inr apart ↦ elim (kept_source moves once.1 x) [
     | inl same ↦ inl (elsewhere (is_name move.from move.dest) apart ∙ same ∙ sym (tail_written move moves x apart))
@@ -135,22 +137,22 @@ kept_source (move ∷ moves) once x = elim (cases_eq move.dest x) [
   ]
 ]
   where
-    here : (b : Bool) → is_name move.from move.dest ≡ b → (source_in (if b then kept moves else move ∷ kept moves) move.dest ≡ source_in (move ∷ moves) move.dest)
-        ⊎ ((source_in (if b then kept moves else move ∷ kept moves) move.dest ≡ None) × (source_in (move ∷ moves) move.dest ≡ Some (Name move.dest)))
+    here : (b : Bool) → is_name move.from move.dest ≡ b → (source_in (if b then nontrivial_moves moves else move ∷ nontrivial_moves moves) move.dest ≡ source_in (move ∷ moves) move.dest)
+        ⊎ ((source_in (if b then nontrivial_moves moves else move ∷ nontrivial_moves moves) move.dest ≡ None) × (source_in (move ∷ moves) move.dest ≡ Some (Name move.dest)))
     here true e = inr (kept_none moves move.dest once.0, head_written move moves ∙ ap (λ o. Some o) (own_name move.from move.dest e))
-    here false e = inl (head_written move (kept moves) ∙ sym (head_written move moves))
+    here false e = inl (head_written move (nontrivial_moves moves) ∙ sym (head_written move moves))
 
-    elsewhere : (b : Bool) → move.dest ≢ x → source_in (if b then kept moves else move ∷ kept moves) x ≡ source_in (kept moves) x
+    elsewhere : (b : Bool) → move.dest ≢ x → source_in (if b then nontrivial_moves moves else move ∷ nontrivial_moves moves) x ≡ source_in (nontrivial_moves moves) x
     elsewhere true apart = refl
-    elsewhere false apart = tail_written move (kept moves) x apart
+    elsewhere false apart = tail_written move (nontrivial_moves moves) x apart
 
 -- one move more is looked at
-both_test : (b : Bool) (move : Move) (moves more : List Move) → kept (moves ++ more) ≡ kept moves ++ kept more
-    → (if b then kept (moves ++ more) else move ∷ kept (moves ++ more)) ≡ (if b then kept moves else move ∷ kept moves) ++ kept more
+both_test : (b : Bool) (move : Move) (moves more : List Move) → nontrivial_moves (moves ++ more) ≡ nontrivial_moves moves ++ nontrivial_moves more
+    → (if b then nontrivial_moves (moves ++ more) else move ∷ nontrivial_moves (moves ++ more)) ≡ (if b then nontrivial_moves moves else move ∷ nontrivial_moves moves) ++ nontrivial_moves more
 both_test true move moves more rest = rest
 both_test false move moves more rest = ap (λ (l : List Move). move ∷ l) rest
 
-kept_both : (moves more : List Move) → kept (moves ++ more) ≡ kept moves ++ kept more
+kept_both : (moves more : List Move) → nontrivial_moves (moves ++ more) ≡ nontrivial_moves moves ++ nontrivial_moves more
 kept_both [] more = refl
 kept_both (move ∷ moves) more = both_test (is_name move.from move.dest) move moves more (kept_both moves more)
 
@@ -158,20 +160,20 @@ no_more : (moves : List Move) → moves ++ [] ≡ moves
 no_more [] = refl
 no_more (move ∷ moves) = ap (λ (l : List Move). move ∷ l) (no_more moves)
 
-pub kept_skipped : (moves : List Move) (at : ℕ) (default : Move) (row : List Move) → at < length moves → row ≡ kept (take at moves)
-    → is_name (get_or moves at default).from (get_or moves at default).dest ≡ true → row ≡ kept (take (at + 1) moves)
+pub kept_skipped : (moves : List Move) (at : ℕ) (default : Move) (row : List Move) → at < length moves → row ≡ nontrivial_moves (take at moves)
+    → is_name (get_or moves at default).from (get_or moves at default).dest ≡ true → row ≡ nontrivial_moves (take (at + 1) moves)
 kept_skipped moves at default row within so_far own =
     let move = get_or moves at default in
     so_far
-    ∙ sym (ap kept (take_more moves at default within) ∙ kept_both (take at moves) (move ∷ [])
-    ∙ ap (λ b. kept (take at moves) ++ (if b then [] else move ∷ [])) own ∙ no_more (kept (take at moves)))
+    ∙ sym (ap nontrivial_moves (take_more moves at default within) ∙ kept_both (take at moves) (move ∷ [])
+    ∙ ap (λ b. nontrivial_moves (take at moves) ++ (if b then [] else move ∷ [])) own ∙ no_more (nontrivial_moves (take at moves)))
 
-pub kept_pushed : (moves : List Move) (at : ℕ) (default : Move) (row now : List Move) → at < length moves → row ≡ kept (take at moves)
-    → is_name (get_or moves at default).from (get_or moves at default).dest ≡ false → now ≡ row ++ get_or moves at default ∷ [] → now ≡ kept (take (at + 1) moves)
+pub kept_pushed : (moves : List Move) (at : ℕ) (default : Move) (row now : List Move) → at < length moves → row ≡ nontrivial_moves (take at moves)
+    → is_name (get_or moves at default).from (get_or moves at default).dest ≡ false → now ≡ row ++ get_or moves at default ∷ [] → now ≡ nontrivial_moves (take (at + 1) moves)
 kept_pushed moves at default row now within so_far other is =
     let move = get_or moves at default in
     is ∙ ap (λ (l : List Move). l ++ move ∷ []) so_far
-    ∙ sym (ap kept (take_more moves at default within) ∙ kept_both (take at moves) (move ∷ []) ∙ ap (λ b. kept (take at moves) ++ (if b then [] else move ∷ [])) other)
+    ∙ sym (ap nontrivial_moves (take_more moves at default within) ∙ kept_both (take at moves) (move ∷ []) ∙ ap (λ b. nontrivial_moves (take at moves) ++ (if b then [] else move ∷ [])) other)
 
 -- ---- the table
 

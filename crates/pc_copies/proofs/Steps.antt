@@ -10,7 +10,7 @@ use Rattle.pc_word.specs.Items.{some_left}
 use Rattle.pc_word.specs.Commit.{Stored, is_outside, some_meet, reads_of, prints_of, fault_of}
 use Rattle.pc_word.specs.Row.{path_of, leaf_of, commit_of, Commits, row_step}
 use Rattle.pc_copies.specs.declared.moves.Move.{Move}
-use Rattle.pc_copies.specs.Moves.{copy_of, after_row}
+use Rattle.pc_copies.specs.Moves.{copy_of, after_copies}
 use Rattle.pc_copies.specs.Laws.{copy_row, CopiesCommit}
 use Rattle.pc_copies.proofs.Arranged.{row_stores, row_takes}
 
@@ -38,12 +38,12 @@ no_fault lengths s row =
     ap (λ (stores : List Stored). by_stores stores (reads_of (map copy_of row)) s) (row_stores lengths row s) ∙ ap (λ (reads : ℕ). by_stores [] reads s) (row_takes row)
 
 -- whatever leaf stands behind it
-pub row_commits : {L : Type 0} (lengths : List ℕ) (row : List Move) (leaf : L) (s : State) → row_step lengths (copy_row row leaf) s ≡ Commits [] (after_row lengths row s) leaf
+pub row_commits : {L : Type 0} (lengths : List ℕ) (row : List Move) (leaf : L) (s : State) → row_step lengths (copy_row row leaf) s ≡ Commits [] (after_copies lengths row s) leaf
 row_commits {L} lengths row leaf s =
     ap (λ (l : List Item). commit_of lengths s l (leaf_of s.names (copy_row row leaf)) (fault_of lengths s l)) (path_is s.names row leaf)
     ∙ ap (λ (n : L). commit_of lengths s (map copy_of row) n (fault_of lengths s (map copy_of row))) (leaf_is s.names row leaf)
     ∙ ap (λ (f : Option MachineFault). commit_of lengths s (map copy_of row) leaf f) (no_fault lengths s row)
-    ∙ ap (λ (l : List ℤ). Commits l (after_row lengths row s) leaf) (prints_none s row)
+    ∙ ap (λ (l : List ℤ). Commits l (after_copies lengths row s) leaf) (prints_none s row)
 
 pub copies_commit : CopiesCommit
 copies_commit lengths row leaf s = row_commits lengths row leaf s

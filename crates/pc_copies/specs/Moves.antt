@@ -20,14 +20,14 @@ pub record IsNamed (scratch register : ℕ) : Type 0 where
   pub other : register ≢ scratch
 
 -- an operand that a move may read
-abbrev pub IsSource : ℕ → Operand → Type 0
-IsSource scratch (Name register) = IsNamed scratch register
-IsSource scratch (Lit value) = Unit {0}
+abbrev pub IsMoveSource : ℕ → Operand → Type 0
+IsMoveSource scratch (Name register) = IsNamed scratch register
+IsMoveSource scratch (Lit value) = Unit {0}
 
 -- moves that may be done at once: no two have the same destination, and none names scratch
 pub record AreMoves (scratch : ℕ) (moves : List Move) : Type 0 where
   pub dests : (at : ℕ) (move : Move) → slice_get moves at ≡ Some move → IsNamed scratch move.dest
-  pub sources : (at : ℕ) (move : Move) → slice_get moves at ≡ Some move → IsSource scratch move.from
+  pub sources : (at : ℕ) (move : Move) → slice_get moves at ≡ Some move → IsMoveSource scratch move.from
   pub apart : (at also : ℕ) (move other : Move) → slice_get moves at ≡ Some move → slice_get moves also ≡ Some other → move.dest ≡ other.dest → at ≡ also
 
 -- whether an operand is this register
@@ -36,9 +36,9 @@ is_name (Name register) x = nat_eq register x
 is_name (Lit value) x = false
 
 -- the moves that are not to themselves
-abbrev pub kept : List Move → List Move
-kept [] = []
-kept (move ∷ moves) = if is_name move.from move.dest then kept moves else move ∷ kept moves
+abbrev pub nontrivial_moves : List Move → List Move
+nontrivial_moves [] = []
+nontrivial_moves (move ∷ moves) = if is_name move.from move.dest then nontrivial_moves moves else move ∷ nontrivial_moves moves
 
 -- ---- what they do at once
 
@@ -56,13 +56,13 @@ abbrev pub copy_of : Move → Item
 copy_of move = Copy move.dest move.from
 
 -- the state after a row, which reads before it writes
-abbrev pub after_row : List ℕ → List Move → State → State
-after_row lengths row old = state_after lengths old (map copy_of row)
+abbrev pub after_copies : List ℕ → List Move → State → State
+after_copies lengths row old = state_after lengths old (map copy_of row)
 
 -- the state after rows that run one after the other
 abbrev pub after_rows : List ℕ → List (List Move) → State → State
 after_rows lengths [] old = old
-after_rows lengths (row ∷ rows) old = after_rows lengths rows (after_row lengths row old)
+after_rows lengths (row ∷ rows) old = after_rows lengths rows (after_copies lengths row old)
 
 -- ---- the whole
 
@@ -108,9 +108,9 @@ pub record IsAmong (moves : List Move) (move : Move) : Type 0 where
   pub there : slice_get moves at ≡ Some move
 
 -- the moves of several lists
-abbrev pub joined : List (List Move) → List Move
-joined [] = []
-joined (moves ∷ lists) = moves ++ joined lists
+abbrev pub moves_of : List (List Move) → List Move
+moves_of [] = []
+moves_of (moves ∷ lists) = moves ++ moves_of lists
 
 -- how many copies rows have
 abbrev pub copies_in : List (List Move) → ℕ
@@ -121,8 +121,8 @@ copies_in (row ∷ rows) = length row + copies_in rows
 pub record AreCopies (moves : List Move) (copies : ℕ) : Type 0 where
   pub cycles : List (List Move)
   pub are : AllByRecursion IsCycle cycles
-  pub among : AllByRecursion (IsAmong moves) (joined cycles)
-  pub apart : IsDistinct nat_eq (filter_map dest_of (map copy_of (joined cycles)))
+  pub among : AllByRecursion (IsAmong moves) (moves_of cycles)
+  pub apart : IsDistinct nat_eq (filter_map dest_of (map copy_of (moves_of cycles)))
   pub number : copies ≡ length moves + length cycles
 
 -- rows of copies that do moves at once: each but the first is full, and one row is enough where it has room for all moves
@@ -130,5 +130,5 @@ pub record IsArranged (moves : List Move) (ops scratch : ℕ) (rows : List (List
   pub done : (lengths : List ℕ) (old : State) → AreDone moves scratch old (after_rows lengths rows old)
   pub rows_fit : AllByRecursion (IsCopyRow ops scratch) rows
   pub full : AllByRecursion (IsFullRow ops) (drop 1 rows)
-  pub copies : AreCopies (kept moves) (copies_in rows)
-  pub one : length (kept moves) ≤ ops → length rows ≤ 1
+  pub copies : AreCopies (nontrivial_moves moves) (copies_in rows)
+  pub one : length (nontrivial_moves moves) ≤ ops → length rows ≤ 1

@@ -2,7 +2,7 @@
 ghost use Rattle.std.specs.Prelude.{◌≡◌, ◌<◌, ◌≤◌, [], None, length, replicate, IfOk, OnOk};
 ghost use Rattle.std.specs.List.{AllByRecursion};
 ghost use Rattle.pc_word.specs.MachineLimits.{registers};
-ghost use Rattle.pc_copies.specs.Moves.{AreMoves, kept, is_name, IsArranged};
+ghost use Rattle.pc_copies.specs.Moves.{AreMoves, nontrivial_moves, is_name, IsArranged};
 ghost use Rattle.pc_copies.specs.models.Packing.{WritesOnce};
 ghost use Rattle.pc_copies.specs.models.Arranging.{IsInside, AreApart, IsTable, IsPacked, if_any};
 
@@ -41,7 +41,7 @@ pub fn arrange(alloc: Global, moves: &[Move], ops: u8, scratch: u32) -> Result<C
 
 /// The moves that are not to themselves.
 fn kept(alloc: Global, moves: &[Move]) -> Result<CopyRow, AllocError>
-    ensures { IfOk result (λ row. row ≡ kept moves.now) }
+    ensures { IfOk result (λ row. row ≡ nontrivial_moves moves.now) }
 {
     let mut row = Seq::new(alloc);
     for at in 0..moves.len() {

@@ -29,7 +29,7 @@ use Rattle.pc_automaton.specs.There.{StateIsThere, LeafIsThere}
 use Rattle.pc_assign.specs.Pressure.{allowed}
 use Rattle.pc_assign.specs.Apart.{Differ, AllDiffer, HasAllowed, IsApart}
 use Rattle.pc_copies.specs.declared.moves.Move.{Move}
-use Rattle.pc_copies.specs.Moves.{IsNamed, IsSource, AreMoves}
+use Rattle.pc_copies.specs.Moves.{IsNamed, IsMoveSource, AreMoves}
 use Rattle.pc_emit.specs.Registers.{register_of, in_register, argument_moves, home_moves}
 use Rattle.pc_emit.specs.Emitting.{LeadsToForm, CanHave}
 use Rattle.pc_emit.specs.Emitted.{Packed, Emission}
@@ -46,7 +46,7 @@ named_register of name has = subst (IsNamed allowed) (sym (ap or_zero has.has)) 
 
 -- so is an operand whose name has one
 named_operand : (of : ℕ → Option ℕ) (known : ℕ → Bool) → ((x : ℕ) → known x ≡ true → HasAllowed of x) → (o : Operand) → IsKnown known o
-    → IsSource allowed (in_register (register_of of) o)
+    → IsMoveSource allowed (in_register (register_of of) o)
 named_operand of known has (Name x) k = named_register of x (has x k)
 named_operand of known has (Lit value) k = tt
 
@@ -103,7 +103,7 @@ arguments_move of to known has parameters arguments are_known have differ = reco
       subst (IsNamed allowed) (sym passes.dest) (named_register to passes.parameter (all_at (HasAllowed to) parameters at passes.parameter have passes.takes));
   sources = λ at move e.
       let passes = passes_at (register_of of) (register_of to) parameters arguments at move e in
-      subst (IsSource allowed) (sym passes.from) (named_operand of known has passes.argument (all_at (IsKnown known) arguments at passes.argument are_known passes.gives));
+      subst (IsMoveSource allowed) (sym passes.from) (named_operand of known has passes.argument (all_at (IsKnown known) arguments at passes.argument are_known passes.gives));
   apart = λ at also move other e f same.
       let passes = passes_at (register_of of) (register_of to) parameters arguments at move e in
       let more = passes_at (register_of of) (register_of to) parameters arguments also other f in
@@ -194,7 +194,7 @@ homes_move table keeps of known has region homes are_known live = record {
       subst (IsNamed allowed) (sym brings.dest) (record { below = omega (arith, small); other = λ e. omega (arith, small, e) });
   sources = λ at move e.
       let brings = brings_at (register_of of) homes at move e in
-      subst (IsSource allowed) (sym brings.from)
+      subst (IsMoveSource allowed) (sym brings.from)
       (named_operand of known has brings.home.value (all_at (λ (home : Home). IsKnown known home.value) homes at brings.home are_known brings.there));
   apart = λ at also move other e f same.
       let brings = brings_at (register_of of) homes at move e in

@@ -23,7 +23,7 @@ use Rattle.pc_automaton.specs.AutomatonRun.{automaton_run}
 use Rattle.pc_machine.specs.MachineCode.{Leaf, CodeRow}
 use Rattle.pc_emit.specs.Emitted.{Emission, RegionForm, Plain, Packed, form_leaf, BeginsAt, at_first_row, by_leaf_alone, IsEmitted}
 use Rattle.pc_automaton.specs.RunsAsRegion.{LeadsUntested}
-use Rattle.pc_emit.specs.PackedForm.{IsPackedForm, IsForm}
+use Rattle.pc_emit.specs.PackedForm.{IsPackedForm, IsRegionForm}
 use Rattle.pc_emit.specs.Laws.{EmittedRowsDoWhatTheirTableDoes}
 use Rattle.pc_emit.proofs.Leading.{row_run, leaf_run, leaf_seen, row_seen, leaf_grows}
 use Rattle.pc_emit.proofs.PackedRuns.{code, ForthIn, BackAt, StandsAt, CommitsAt, state_forth, row_back, state_back}
@@ -58,7 +58,7 @@ all_in P (y ∷ xs) x all there = elim (or_is (nat_eq x y) (is_in x xs) there) [
 ]
 
 module _ (e : Emission) (keeps : TableKeeps e.table) (limits : Limits) (rows : List CodeRow) (emitted : IsEmitted e rows)
-    (forms : (region : ℕ) (form : RegionForm) → e.forms region ≡ Some form → IsForm e.table region form) where
+    (forms : (region : ℕ) (form : RegionForm) → e.forms region ≡ Some form → IsRegionForm e.table region form) where
   -- a region's run is that of its tree
   tree_same : (region : ℕ) (m : State) (n : ℕ) → region_run e.table (region_tree e.table region) m n ≡ region_run e.table (Next region) m n
   tree_same region m n = ap (λ (t : TableTree). run_from (region_step e.table) n (record { tree = t; state = m })) (keeps.begins region)

@@ -21,7 +21,7 @@ use Rattle.pc_machine.specs.Reachable.{IsReachable}
 use Rattle.pc_emit.specs.declared.form.RegionForm.{RegionForm as StoredForm}
 use Rattle.pc_emit.specs.Bytes.{tree_bytes, row_bytes, states_bytes, form_bytes, regions_bytes}
 use Rattle.pc_emit.specs.Emitted.{RegionForm, Plain, Packed, root_leaf, form_leaf, BeginsAt, at_first_row, by_leaf_alone, BeginsAtFirstRow, IsEmitted}
-use Rattle.pc_emit.specs.Emitting.{form_in, forms_in, CanHave, AreEmitted, AreForms}
+use Rattle.pc_emit.specs.Emitting.{form_in, region_forms, CanHave, AreEmitted, AreForms}
 use Rattle.pc_emit.specs.declared.output.Output.{Output}
 use Rattle.pc_emit.specs.declared.plan.Plan.{Plan}
 use Rattle.pc_emit.specs.models.Output.{bytes_of, Stays, Grows, EachCopy}
@@ -106,12 +106,12 @@ last_entry row (region ∷ regions) (form ∷ forms) same =
     omega (arith, rest)
 
 -- no table has as many rows as there are numbers
-pub rows_below : (table : RegionTable) (forms : List (Option StoredForm)) (limits : Limits) (first : ℕ) → AreForms (table_of table) limits (forms_in forms)
-    → first ≡ length (front_rows (region_tree (table_of table) 0) (forms_in forms 0)) → first + all_rows table.regions forms < 2 ^ 32
+pub rows_below : (table : RegionTable) (forms : List (Option StoredForm)) (limits : Limits) (first : ℕ) → AreForms (table_of table) limits (region_forms forms)
+    → first ≡ length (front_rows (region_tree (table_of table) 0) (region_forms forms 0)) → first + all_rows table.regions forms < 2 ^ 32
 rows_below table forms limits first are begins =
-    let few = all_few (forms_in forms) 0 table.regions forms (λ at. (let none : 0 + at ≡ at = omega arith in ap (forms_in forms) none)) in
+    let few = all_few (region_forms forms) 0 table.regions forms (λ at. (let none : 0 + at ≡ at = omega arith in ap (region_forms forms) none)) in
     let short = are.short in
-    let one = front_few (region_tree (table_of table) 0) (forms_in forms 0) in
+    let one = front_few (region_tree (table_of table) 0) (region_forms forms 0) in
     omega (arith, few, short, one, begins)
   where
     alone_few : (tree : TableTree) → length (leaf_alone tree) ≤ 1
@@ -128,8 +128,8 @@ rows_below table forms limits first are begins =
 
 -- the entries that are found are those of the plan
 pub are_entries : (table : RegionTable) (forms : List (Option StoredForm)) (limits : Limits) (entries : List ℕ) (first : ℕ) → length forms ≡ length table.regions
-    → AreForms (table_of table) limits (forms_in forms) → first ≡ length (front_rows (region_tree (table_of table) 0) (forms_in forms 0))
-    → entries ≡ entries_from first table.regions forms → AreEntries (table_of table) (forms_in forms) entries
+    → AreForms (table_of table) limits (region_forms forms) → first ≡ length (front_rows (region_tree (table_of table) 0) (region_forms forms 0))
+    → entries ≡ entries_from first table.regions forms → AreEntries (table_of table) (region_forms forms) entries
 are_entries table forms limits entries first same are begins found = record {
   as_many =
       let many = ap (λ (l : List ℕ). length l) found in
@@ -399,7 +399,7 @@ module _ (plan : Plan) (is : IsPlan plan) (old new : Output) (rows : List CodeRo
 pub begins_behind : (table : RegionTable) (forms : List (Option StoredForm)) (regions : List Region) (region : Region) (form : Option StoredForm) (front : List Tree) (first : ℕ)
     → regions ≡ table.regions → 1 ≤ length (table_of table).regions → length forms ≡ length table.regions → form ≡ get_or forms 0 form
     → rows_of front ≡ front_rows (table_tree (get_or regions 0 region).tree) (form_in (Some form)) → first ≡ length front
-    → first ≡ length (front_rows (region_tree (table_of table) 0) (forms_in forms 0))
+    → first ≡ length (front_rows (region_tree (table_of table) 0) (region_forms forms 0))
 begins_behind table forms regions region form front first same some count of_form is begins =
     let many = length-map table.regions table_region in
     let some_region : 0 < length regions = (let long = ap (λ (l : List Region). length l) same in omega (arith, some, many, long)) in

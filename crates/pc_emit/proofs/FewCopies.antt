@@ -10,24 +10,24 @@ use Rattle.pc_window.proofs.Live.{or_first, or_second}
 use Rattle.pc_window.proofs.Uses.{or_is, nat_eq-tells}
 use Rattle.pc_window.proofs.Grafts.{nat_eq-same}
 use Rattle.pc_copies.specs.declared.moves.Move.{Move}
-use Rattle.pc_copies.specs.Moves.{is_name, kept, copy_of, IsCycle, IsAmong, joined, AreCopies}
+use Rattle.pc_copies.specs.Moves.{is_name, nontrivial_moves, copy_of, IsCycle, IsAmong, moves_of, AreCopies}
 
--- no more moves are kept than there are
-pub kept_few : (moves : List Move) → length (kept moves) ≤ length moves
+-- the moves that are not to themselves are no more than all of them
+pub kept_few : (moves : List Move) → length (nontrivial_moves moves) ≤ length moves
 kept_few [] = omega arith
 kept_few (move ∷ moves) = by_test (is_name move.from move.dest) (kept_few moves)
   where
-    by_test : (b : Bool) → length (kept moves) ≤ length moves → length (if b then kept moves else (move ∷ kept moves)) ≤ suc (length moves)
+    by_test : (b : Bool) → length (nontrivial_moves moves) ≤ length moves → length (if b then nontrivial_moves moves else (move ∷ nontrivial_moves moves)) ≤ suc (length moves)
     by_test true few = omega (arith, few)
     by_test false few = omega (arith, few)
 
 -- each cycle has a move
-cycles_few : (cycles : List (List Move)) → AllByRecursion IsCycle cycles → length cycles ≤ length (joined cycles)
+cycles_few : (cycles : List (List Move)) → AllByRecursion IsCycle cycles → length cycles ≤ length (moves_of cycles)
 cycles_few [] all = omega arith
 cycles_few ([] ∷ cycles) all = absurd all.0
 cycles_few ((move ∷ moves) ∷ cycles) all =
     let rest = cycles_few cycles all.1 in
-    let both = length-append moves (joined cycles) in
+    let both = length-append moves (moves_of cycles) in
     omega (arith, rest, both)
 
 -- the registers that moves write
@@ -56,12 +56,12 @@ dests_among moves (move ∷ list) all q there = elim (or_is (nat_eq q move.dest)
   | inr later ↦ dests_among moves list all.1 q later
 ]
 
-pub copies_few : (moves : List Move) (copies : ℕ) → AreCopies (kept moves) copies → copies ≤ 2 * length moves
+pub copies_few : (moves : List Move) (copies : ℕ) → AreCopies (nontrivial_moves moves) copies → copies ≤ 2 * length moves
 copies_few moves copies are =
     let cycles = cycles_few are.cycles are.are in
-    let among = length-le_from_is_member nat_eq_equiv (dests (joined are.cycles)) (dests (kept moves)) are.apart (dests_among (kept moves) (joined are.cycles) are.among) in
-    let joined_many = as_many_dests (joined are.cycles) in
-    let kept_many = as_many_dests (kept moves) in
+    let among = length-le_from_is_member nat_eq_equiv (dests (moves_of are.cycles)) (dests (nontrivial_moves moves)) are.apart (dests_among (nontrivial_moves moves) (moves_of are.cycles) are.among) in
+    let joined_many = as_many_dests (moves_of are.cycles) in
+    let kept_many = as_many_dests (nontrivial_moves moves) in
     let few = kept_few moves in
     let number = are.number in
     omega (arith, cycles, among, joined_many, kept_many, few, number)

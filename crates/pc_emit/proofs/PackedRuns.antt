@@ -27,7 +27,7 @@ use Rattle.pc_emit.specs.Registers.{register_of, argument_moves, home_moves}
 use Rattle.pc_assign.specs.Apart.{IsApart}
 use Rattle.pc_emit.proofs.Undisturbing.{stays_undisturbed}
 use Rattle.pc_emit.specs.Laws.{code_with}
-use Rattle.pc_emit.specs.Emitted.{Emission, RegionForm, form_leaf, Moves, LeafStands, leads_to_state, leads_to_region, ends_here, traps_here}
+use Rattle.pc_emit.specs.Emitted.{Emission, RegionForm, form_leaf, LeadsThroughMoves, LeafStands, leads_to_state, leads_to_region, ends_here, traps_here}
 use Rattle.pc_emit.specs.Emitted.{RowStands, item_stands, test_stands, leaf_stands, StateStands}
 use Rattle.pc_automaton.specs.There.{LeafIsThere, StateIsThere}
 use Rattle.pc_emit.proofs.Rows.{LeafHolds, OutcomeStands, both_fault, both_commit, Holds, row_does}
@@ -120,7 +120,7 @@ module _ (e : Emission) (keeps : TableKeeps e.table) (limits : Limits) (rows : L
     -- the next state is there, and its parameters have their values behind the copies
     pub next_stands : (of : ℕ → ℕ) (s m : State) (number : ℕ) (arguments : List Operand) (leaf : Leaf) → Takes (slice_get states number) (length arguments)
         → LeafHolds of (To number arguments) s m
-        → (moves : Moves e rows leaf (argument_moves of (register_of (registers number)) (state_parameters (slice_get states number)) arguments) (Leads_to (e.places.state region number)))
+        → (moves : LeadsThroughMoves e rows leaf (argument_moves of (register_of (registers number)) (state_parameters (slice_get states number)) arguments) (Leads_to (e.places.state region number)))
         → StandsAt number (passed_state s (state_parameters (slice_get states number)) arguments) (after_rows table.arrays moves.copies m)
     next_stands of s m number arguments leaf takes holds moves = by_state (slice_get states number) refl takes (moves.arranged.done table.arrays m)
       where
@@ -136,7 +136,7 @@ module _ (e : Emission) (keeps : TableKeeps e.table) (limits : Limits) (rows : L
 
     -- behind the copies a region shows what it shows from the homes
     behind_same : (of : ℕ → ℕ) (s m : State) (to : ℕ) (homes : List Home) (leaf target : Leaf) → LeafIsThere table (Out to homes) → LeafHolds of (Out to homes) s m
-        → (moves : Moves e rows leaf (home_moves of homes) target) → (n : ℕ)
+        → (moves : LeadsThroughMoves e rows leaf (home_moves of homes) target) → (n : ℕ)
         → region_run table (Next to) (after_rows table.arrays moves.copies m) n ≡ region_run table (Next to) (home_state s homes) n
     behind_same of s m to homes leaf target lives holds moves n =
         region_same table keeps to n (home_state s homes) (after_rows table.arrays moves.copies m)

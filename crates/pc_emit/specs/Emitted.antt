@@ -66,7 +66,7 @@ pub data Passes (rows : List CodeRow) : Leaf → List (List Move) → Leaf → T
       → Passes rows next more leaf → Passes rows (Leads_to at) (copies ∷ more) leaf
 
 -- from one leaf to another through copies that do these moves at once
-pub record Moves (e : Emission) (rows : List CodeRow) (from : Leaf) (moves : List Move) (to : Leaf) : Type 0 where
+pub record LeadsThroughMoves (e : Emission) (rows : List CodeRow) (from : Leaf) (moves : List Move) (to : Leaf) : Type 0 where
   pub copies : List (List Move)
   pub arranged : IsArranged moves e.ops e.scratch copies
   pub passes : Passes rows from copies to
@@ -77,9 +77,9 @@ pub record Moves (e : Emission) (rows : List CodeRow) (from : Leaf) (moves : Lis
 pub data LeafStands (e : Emission) (rows : List CodeRow) (region : ℕ) (states : List AutomatonState) (registers : ℕ → ℕ → Option ℕ) (of : ℕ → ℕ)
     : AutomatonLeaf → Leaf → Type 0 where
   leads_to_state : {number : ℕ} {arguments : List Operand} {leaf : Leaf}
-      → Moves e rows leaf (argument_moves of (register_of (registers number)) (state_parameters (slice_get states number)) arguments) (Leads_to (e.places.state region number))
+      → LeadsThroughMoves e rows leaf (argument_moves of (register_of (registers number)) (state_parameters (slice_get states number)) arguments) (Leads_to (e.places.state region number))
       → LeafStands e rows region states registers of (To number arguments) leaf
-  leads_to_region : {to : ℕ} {homes : List Home} {leaf target : Leaf} → LeadsToRegion e to target → Moves e rows leaf (home_moves of homes) target
+  leads_to_region : {to : ℕ} {homes : List Home} {leaf target : Leaf} → LeadsToRegion e to target → LeadsThroughMoves e rows leaf (home_moves of homes) target
       → LeafStands e rows region states registers of (Out to homes) leaf
   ends_here : LeafStands e rows region states registers of Stop Ends
   traps_here : {kind : TrapKind} {line : ℕ} → LeafStands e rows region states registers of (Trap kind line) (Traps kind line)

@@ -34,15 +34,15 @@ form_in (Some (Some stored.Plain)) = Some Plain
 form_in (Some (Some (stored.Packed automaton registers))) = Some (Packed (states_in automaton) (registers_in registers))
 
 -- the form of each region
-abbrev pub forms_in : List (Option StoredForm) → ℕ → Option RegionForm
-forms_in forms region = form_in (slice_get forms region)
+abbrev pub region_forms : List (Option StoredForm) → ℕ → Option RegionForm
+region_forms forms region = form_in (slice_get forms region)
 
 -- what is emitted where each region begins at one of these rows: the states of an automaton stand in their order, and copies
 -- go through register 127
 abbrev pub emission_of : Table → List (Option StoredForm) → (entries : List ℕ) → (ops : ℕ) → Emission
 emission_of table forms entries ops = record {
   table = table;
-  forms = forms_in forms;
+  forms = region_forms forms;
   places = record { entry = slice_index entries; state = λ region number. slice_index entries region + number };
   ops = ops;
   scratch = allowed;
@@ -58,7 +58,7 @@ pub record AreEmitted (table : Table) (forms : List (Option StoredForm)) (limits
   pub some : 1 ≤ length rows
   pub fit : AllByRecursion (IsRow limits (length table.arrays) (length rows)) rows
   pub reached : (row : ℕ) → row < length rows → IsReachable rows row
-  pub short : length (flat_map row_text rows) ≤ regions_bytes (forms_in forms) 0 table.regions
+  pub short : length (flat_map row_text rows) ≤ regions_bytes (region_forms forms) 0 table.regions
 
 -- ---- what that needs
 

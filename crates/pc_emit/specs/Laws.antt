@@ -10,7 +10,7 @@ use Rattle.pc_window.specs.Kept.{NeverFaults}
 use Rattle.pc_machine.specs.MachineCode.{CodeRow, RowCode}
 use Rattle.pc_machine.specs.MachineRun.{machine_run}
 use Rattle.pc_emit.specs.Emitted.{Emission, RegionForm, IsEmitted}
-use Rattle.pc_emit.specs.PackedForm.{IsForm}
+use Rattle.pc_emit.specs.PackedForm.{IsRegionForm}
 
 -- the code with these rows
 abbrev pub code_with : Limits → Emission → List CodeRow → RowCode
@@ -20,6 +20,6 @@ code_with limits e rows = record { limits = limits; arrays = e.table.arrays; row
 -- input of words, the code shows what the table shows, on every such input
 abbrev pub EmittedRowsDoWhatTheirTableDoes : Type 0
 EmittedRowsDoWhatTheirTableDoes = (e : Emission) → TableKeeps e.table → (limits : Limits) (rows : List CodeRow) → IsEmitted e rows
-    → ((region : ℕ) (form : RegionForm) → e.forms region ≡ Some form → IsForm e.table region form)
+    → ((region : ℕ) (form : RegionForm) → e.forms region ≡ Some form → IsRegionForm e.table region form)
     → ((input : List ℤ) → All IsWord input → NeverFaults (table_run e.table input))
     → AgreeOnInputs (machine_run (code_with limits e rows)) (table_run e.table)

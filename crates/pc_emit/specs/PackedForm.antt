@@ -25,6 +25,6 @@ pub record IsPackedForm (table : Table) (region : ℕ) (states : List AutomatonS
   pub there : AllByRecursion (StateIsThere table) states
 
 -- a form that a region may have
-abbrev pub IsForm : Table → ℕ → RegionForm → Type 0
-IsForm table region Plain = Unit {0}
-IsForm table region (Packed states registers) = IsPackedForm table region states registers
+abbrev pub IsRegionForm : Table → ℕ → RegionForm → Type 0
+IsRegionForm table region Plain = Unit {0}
+IsRegionForm table region (Packed states registers) = IsPackedForm table region states registers

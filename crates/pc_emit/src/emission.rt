@@ -4,7 +4,7 @@ ghost use Rattle.pc_word.specs.Ranges.{AreLimits};
 ghost use Rattle.pc_table.specs.Table.{region_tree, table_of, table_tree};
 ghost use Rattle.pc_table.specs.TableKeeps.{TableKeeps};
 ghost use Rattle.pc_machine.specs.MachineCode.{rows_of};
-ghost use Rattle.pc_emit.specs.Emitting.{forms_in, form_in, AreEmitted, AreForms};
+ghost use Rattle.pc_emit.specs.Emitting.{region_forms, form_in, AreEmitted, AreForms};
 ghost use Rattle.pc_emit.specs.models.Output.{bytes_of, EachCopy, Grows};
 ghost use Rattle.pc_emit.specs.models.Layout.{rows_end, forms_at, front_rows, rows_in, table_in, IsPlan};
 ghost use Rattle.pc_emit.specs.models.Making.{bytes_in, IsOnTheWay, RegionMade, RowsReached};
@@ -37,7 +37,7 @@ pub fn emit(
     requires kept { TableKeeps (table_of table.now) }
     requires limits { AreLimits limits }
     requires count { length forms.now ≡ length table.now.regions }
-    requires forms { AreForms (table_of table.now) limits (forms_in forms.now) }
+    requires forms { AreForms (table_of table.now) limits (region_forms forms.now) }
     ensures { IfOk result (λ rows. AreEmitted (table_of table.now) forms.now limits (rows_of rows)) }
 {
     let regions = table.regions.as_slice();

@@ -24,6 +24,39 @@ struct Passed {
     leaves: u32,
 }
 
+/// Nothing was passed.
+const NOTHING: Passed = Passed {
+    places: 0,
+    leaves: 0,
+};
+
+impl Passed {
+    /// One item or test more.
+    fn and_one(self) -> Passed
+        requires few { self.places < 2 ^ 31 }
+        ensures places { result.places ≡ self.places + 1 }
+        ensures leaves { result.leaves ≡ self.leaves }
+    {
+        Passed {
+            places: self.places + 1,
+            ..self
+        }
+    }
+
+    /// The items, tests and leaves of a node more.
+    fn and_node(self, node: &WindowTree) -> Passed
+        requires places { self.places + tree_size (tree_in node.now) < 2 ^ 31 }
+        requires leaves { self.leaves + tree_size (tree_in node.now) < 2 ^ 31 }
+        ensures places { result.places ≤ self.places + tree_size (tree_in node.now) }
+        ensures leaves { result.leaves ≤ self.leaves + tree_size (tree_in node.now) + 1 }
+    {
+        Passed {
+            places: self.places + node_size(node),
+            leaves: self.leaves + leaf_count(node),
+        }
+    }
+}
+
 /// A path that goes on by one more leaf.
 fn go_on(path: &mut Vec<u16>, leaf: u16) -> Result<(), AllocError> {
     path.push(leaf)?;
@@ -47,15 +80,7 @@ fn find(
             if place == 0 {
                 return numbered(passed.places);
             }
-            find(
-                rest,
-                place - 1,
-                Passed {
-                    places: passed.places + 1,
-                    ..passed
-                },
-                path,
-            )
+            find(rest, place - 1, passed.and_one(), path)
         }
         WindowTree::Test { yes, no, .. } => {
             if place == 0 {
@@ -64,38 +89,15 @@ fn find(
             let Some(on_yes) = size(yes) else {
                 return Err(ReplayError::TooLarge);
             };
+            let behind = passed.and_one();
             if place - 1 < on_yes {
-                return find(
-                    yes,
-                    place - 1,
-                    Passed {
-                        places: passed.places + 1,
-                        ..passed
-                    },
-                    path,
-                );
+                return find(yes, place - 1, behind, path);
             }
-            find(
-                no,
-                place - 1 - on_yes,
-                Passed {
-                    places: passed.places + 1 + node_size(yes),
-                    leaves: passed.leaves + leaf_count(yes),
-                },
-                path,
-            )
+            find(no, place - 1 - on_yes, behind.and_node(yes), path)
         }
         WindowTree::Node { below } => {
             go_on(path, numbered(passed.leaves)?)?;
-            find(
-                below,
-                place,
-                Passed {
-                    places: 0,
-                    leaves: 0,
-                },
-                path,
-            )
+            find(below, place, NOTHING, path)
         }
         WindowTree::Exit { .. } => Err(ReplayError::NotFound),
         WindowTree::Stop => Err(ReplayError::NotFound),
@@ -118,10 +120,6 @@ pub(crate) fn locate(
     for leaf in from {
         go_on(&mut path, *leaf)?;
     }
-    let nothing = Passed {
-        places: 0,
-        leaves: 0,
-    };
-    let place = find(tree, place, nothing, &mut path)?;
+    let place = find(tree, place, NOTHING, &mut path)?;
     Ok(Location { path, place })
 }

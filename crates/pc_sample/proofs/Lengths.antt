@@ -2,7 +2,7 @@
 use Rattle.std.proofs.Common.{ℕ, zero, suc, ◌+◌, ◌*◌, ◌%◌, ◌<◌, ◌≤◌, Bool, true, false, if◌then◌else◌, nat_eq, List, [], ◌∷◌, ◌++◌, length, codes, arith, lit<, lit≤, length-append}
 use Rattle.std.specs.Fmt.{decimal}
 use Rattle.std.proofs.lemmas.Fmt.{length-decimal-le}
-use Rattle.pc_sample.specs.SampleText.{factor_of, mask_of, fill_line, head_text, sum_line, difference_line, gather_line, block_line, block_text, blocks_text, block_count, sample_text}
+use Rattle.pc_sample.specs.SampleText.{array_factor, mask_of, fill_line, head_text, sum_line, difference_line, gather_line, block_line, block_text, blocks_text, block_count, sample_text}
 use Rattle.pc_word.specs.Line.{line}
 
 -- a number below 100 has at most two digits
@@ -55,8 +55,8 @@ blocks_short number (suc count) =
 -- the beginning
 fill_short : (number : ℕ) → length (fill_line number) ≤ 46
 fill_short number =
-    line_short (codes "for(i=0;i<64;i++){a[i]=i*" ++ (decimal (factor_of number) ++ (codes ";b[i]=i^" ++ (decimal (mask_of number) ++ codes ";}")))) 45
-    (with_number (codes "for(i=0;i<64;i++){a[i]=i*") (factor_of number) (codes ";b[i]=i^" ++ (decimal (mask_of number) ++ codes ";}")) 28 15 (omega arith) (lit≤ tt)
+    line_short (codes "for(i=0;i<64;i++){a[i]=i*" ++ (decimal (array_factor number) ++ (codes ";b[i]=i^" ++ (decimal (mask_of number) ++ codes ";}")))) 45
+    (with_number (codes "for(i=0;i<64;i++){a[i]=i*") (array_factor number) (codes ";b[i]=i^" ++ (decimal (mask_of number) ++ codes ";}")) 28 15 (omega arith) (lit≤ tt)
     (with_number (codes ";b[i]=i^") (mask_of number) (codes ";}") 9 4 (omega arith) (lit≤ tt) (lit≤ tt)))
 
 head_short : (number : ℕ) → length (head_text number) ≤ 98

@@ -1,11 +1,11 @@
 -- The source that belongs to a number.
-use Rattle.std.specs.Prelude.{ℕ, zero, suc, ◌+◌, ◌%◌, List, [], ◌∷◌, ◌++◌, if◌then◌else◌, nat_eq, codes}
+use Rattle.std.specs.Prelude.{ℕ, zero, suc, ◌+◌, ◌%◌, List, [], ◌++◌, if◌then◌else◌, nat_eq, codes}
 use Rattle.std.specs.Fmt.{decimal}
 use Rattle.pc_word.specs.Line.{line}
 
 -- the factor of whose multiples the first array is made, 1 to 97
-abbrev pub factor_of : ℕ → ℕ
-factor_of number = number % 97 + 1
+abbrev pub array_factor : ℕ → ℕ
+array_factor number = number % 97 + 1
 
 -- the bits that are flipped in the elements of the second array, 0 to 60
 abbrev pub mask_of : ℕ → ℕ
@@ -14,7 +14,7 @@ mask_of number = number % 61
 -- the loop that fills both arrays
 abbrev pub fill_line : ℕ → List ℕ
 fill_line number =
-    line (codes "for(i=0;i<64;i++){a[i]=i*" ++ (decimal (factor_of number) ++ (codes ";b[i]=i^" ++ (decimal (mask_of number) ++ codes ";}"))))
+    line (codes "for(i=0;i<64;i++){a[i]=i*" ++ (decimal (array_factor number) ++ (codes ";b[i]=i^" ++ (decimal (mask_of number) ++ codes ";}"))))
 
 -- the beginning: declarations, and that loop
 abbrev pub head_text : ℕ → List ℕ

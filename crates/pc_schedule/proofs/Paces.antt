@@ -11,7 +11,7 @@ use Rattle.pc_window.proofs.Paces.{answer_of_answer}
 use Rattle.pc_machine.specs.MachineCode.{Leaf, Leads_to, CodeRow}
 use Rattle.pc_machine.specs.MachineRun.{machine_run}
 use Rattle.pc_emit.specs.Emitted.{Emission, RegionForm, Plain, Packed, form_leaf, BeginsAtFirstRow, IsEmitted}
-use Rattle.pc_emit.specs.PackedForm.{IsForm}
+use Rattle.pc_emit.specs.PackedForm.{IsRegionForm}
 use Rattle.pc_emit.specs.Laws.{code_with}
 use Rattle.pc_emit.proofs.Leading.{leaf_run, leaf_grows}
 use Rattle.pc_schedule.specs.ScheduleRun.{SchedulePlace, At_tree, At_state, begins_in, schedule_step, schedule_run, step_cost, cost_behind, cost_from, schedule_cost}
@@ -19,7 +19,7 @@ use Rattle.pc_schedule.specs.Laws.{EmittedRowsKeepPace, TightenedCodesKeepPace}
 use Rattle.pc_schedule.proofs.Places.{code, Meets, Pays, pays_on, pays_end, form_meets, pays, first_pays}
 
 module _ (e : Emission) (keeps : TableKeeps e.table) (limits : Limits) (rows : List CodeRow) (emitted : IsEmitted e rows)
-    (forms : (region : ℕ) (form : RegionForm) → e.forms region ≡ Some form → IsForm e.table region form) where
+    (forms : (region : ℕ) (form : RegionForm) → e.forms region ≡ Some form → IsRegionForm e.table region form) where
   abbrev schedule : ℕ → SchedulePlace → Seen
   schedule n place = run_from (schedule_step e.table e.forms) n place
 

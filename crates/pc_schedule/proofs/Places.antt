@@ -33,20 +33,20 @@ use Rattle.pc_emit.specs.Registers.{register_of, argument_moves, home_moves}
 use Rattle.pc_emit.specs.Emitted.{Emission, RegionForm, Plain, Packed, root_leaf, form_leaf, leads_to_state, leads_to_region, ends_here, traps_here}
 use Rattle.pc_emit.specs.Emitted.{BeginsAt, at_first_row, by_leaf_alone}
 use Rattle.pc_emit.specs.Emitted.{LeadsBehind, to_item, to_test, to_region, to_end, to_trap, TreeStands, item_row, test_row, no_row, no_end_row, no_trap_row, IsEmitted}
-use Rattle.pc_emit.specs.PackedForm.{IsPackedForm, IsForm}
+use Rattle.pc_emit.specs.PackedForm.{IsPackedForm, IsRegionForm}
 use Rattle.pc_emit.specs.Laws.{code_with}
 use Rattle.pc_emit.proofs.Rows.{LeafHolds, OutcomeStands, both_fault, both_commit}
 use Rattle.pc_emit.proofs.Passed.{region_passed}
 use Rattle.pc_emit.proofs.Leading.{leaf_run, leaf_seen, row_seen, passes_back}
 use Rattle.pc_emit.proofs.PackedRuns.{Leads, StandsAt, both_step, next_stands}
 use Rattle.pc_emit.proofs.PlainRuns.{IsRoot, roots, test_shown}
-use Rattle.pc_schedule.specs.ScheduleRun.{SchedulePlace, Before, At_tree, At_state, begins_in, begins_at, behind, leaf_step, outcome_step, state_step, schedule_step}
+use Rattle.pc_schedule.specs.ScheduleRun.{SchedulePlace, Before, At_tree, At_state, begins_in, begins_at, behind, schedule_leaf_step, schedule_outcome_step, schedule_state_step, schedule_step}
 use Rattle.pc_schedule.specs.ScheduleRun.{leaf_cost, outcome_cost, state_cost, step_cost}
 use Rattle.pc_schedule.proofs.Costs.{passing_few, arguments_many, homes_many}
 use Rattle.pc_schedule.proofs.Needs.{Agrees, item_alike, behind_item, test_alike, behind_yes, behind_no, agrees_at_head, alike_at_head}
 
 module _ (e : Emission) (keeps : TableKeeps e.table) (limits : Limits) (rows : List CodeRow) (emitted : IsEmitted e rows)
-    (forms : (region : ℕ) (form : RegionForm) → e.forms region ≡ Some form → IsForm e.table region form) where
+    (forms : (region : ℕ) (form : RegionForm) → e.forms region ≡ Some form → IsRegionForm e.table region form) where
   abbrev pub code : RowCode
   code = code_with limits e rows
 
@@ -109,7 +109,7 @@ module _ (e : Emission) (keeps : TableKeeps e.table) (limits : Limits) (rows : L
 
     leaf_pays : (of : ℕ → ℕ) (out : List ℤ) (s m : State) (leaf : AutomatonLeaf) (below : Leaf) → LeadsOn of leaf below → LeafHolds of leaf s m
         → (shown : Run) → ((j : ℕ) → shown (suc j) ≡ after_printing out (leaf_run code below m j))
-        → Pays (leaf_step e.forms region states out s leaf) (leaf_cost e.ops leaf) shown
+        → Pays (schedule_leaf_step e.forms region states out s leaf) (leaf_cost e.ops leaf) shown
     leaf_pays of out s m (To number arguments) below (leads, leads_to_state moves) holds shown same =
         pays_on (suc (length moves.copies))
         (passing_few (argument_moves of (register_of (registers number)) (state_parameters (slice_get states number)) arguments) e.ops e.scratch moves.copies moves.arranged
@@ -133,7 +133,7 @@ module _ (e : Emission) (keeps : TableKeeps e.table) (limits : Limits) (rows : L
 
     outcome_pays : (of : ℕ → ℕ) (a : RowOutcome AutomatonLeaf) (b : RowOutcome Leaf) → OutcomeStands (LeadsOn of) of a b
         → (shown : Run) → ((j : ℕ) → shown (suc j) ≡ seen_of (after_row b) (run_from (machine_step code) j))
-        → Pays (outcome_step e.forms region states a) (outcome_cost e.ops a) shown
+        → Pays (schedule_outcome_step e.forms region states a) (outcome_cost e.ops a) shown
     outcome_pays of a b both_fault shown same = pays_end 1 (omega arith) (same 0)
     outcome_pays of a b (both_commit {printed} {new} {moved} {leaf} {below} leads holds) shown same =
         leaf_pays of printed new moved leaf below leads holds shown (λ j. same j ∙ leaf_seen code printed moved below j)
@@ -144,7 +144,7 @@ module _ (e : Emission) (keeps : TableKeeps e.table) (limits : Limits) (rows : L
     state_pays number s m at =
         let b = both_step e keeps limits rows region states registers (packed region states registers has).automaton (packed region states registers has).apart
         (packed region states registers has).there (emitted.stands region (Packed states registers) has) number s m at in
-        subst (λ (it : Option AutomatonState). Pays (state_step e.table e.forms region states it s) (state_cost e.table.arrays e.ops it s)
+        subst (λ (it : Option AutomatonState). Pays (schedule_state_step e.table e.forms region states it s) (state_cost e.table.arrays e.ops it s)
         (leaf_run code (Leads_to (e.places.state region number)) m)) (sym at.there)
         (outcome_pays (register_of (registers number)) (row_step e.table.arrays at.state.row s) (row_step e.table.arrays b.0 m) b.2
         (leaf_run code (Leads_to (e.places.state region number)) m) (λ j. row_seen code (e.places.state region number) b.0 m j b.1))

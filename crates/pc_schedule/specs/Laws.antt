@@ -6,7 +6,7 @@ use Rattle.pc_table.specs.TableKeeps.{TableKeeps}
 use Rattle.pc_machine.specs.MachineCode.{CodeRow, RowCode}
 use Rattle.pc_machine.specs.MachineRun.{machine_run}
 use Rattle.pc_emit.specs.Emitted.{Emission, RegionForm, BeginsAtFirstRow, IsEmitted}
-use Rattle.pc_emit.specs.PackedForm.{IsForm}
+use Rattle.pc_emit.specs.PackedForm.{IsRegionForm}
 use Rattle.pc_emit.specs.Laws.{code_with}
 use Rattle.pc_tighten.specs.Pace.{NeverFaults}
 use Rattle.pc_tighten.specs.Tightened.{IsTightened}
@@ -16,7 +16,7 @@ use Rattle.pc_schedule.specs.Pace.{KeepsPaceOn}
 -- if this is packed, the code keeps pace with the schedule on every input
 abbrev pub EmittedRowsKeepPace : Type 0
 EmittedRowsKeepPace = (e : Emission) → TableKeeps e.table → (limits : Limits) (rows : List CodeRow) → limits.ops ≡ e.ops → IsEmitted e rows
-    → BeginsAtFirstRow e → ((region : ℕ) (form : RegionForm) → e.forms region ≡ Some form → IsForm e.table region form)
+    → BeginsAtFirstRow e → ((region : ℕ) (form : RegionForm) → e.forms region ≡ Some form → IsRegionForm e.table region form)
     → (input : List ℤ) → KeepsPaceOn e.table e.forms (code_with limits e rows) input
 
 -- where a code keeps pace with a schedule on an input, and never faults there, so does the code after its tightening

@@ -48,28 +48,28 @@ tree_step table forms Stops_here s = Stops [] Ended
 tree_step table forms (Traps_here kind line) s = Stops [] (Trapped kind line)
 
 -- where a leaf of a state leads
-abbrev pub leaf_step : (forms : ℕ → Option RegionForm) → (region : ℕ) → List AutomatonState → List ℤ → State → AutomatonLeaf → Step SchedulePlace
-leaf_step forms region states out new (To number arguments) =
+abbrev pub schedule_leaf_step : (forms : ℕ → Option RegionForm) → (region : ℕ) → List AutomatonState → List ℤ → State → AutomatonLeaf → Step SchedulePlace
+schedule_leaf_step forms region states out new (To number arguments) =
     Goes out (At_state region states number (passed_state new (state_parameters (slice_get states number)) arguments))
-leaf_step forms region states out new (Out to homes) = Goes out (begins_at forms to (home_state new homes))
-leaf_step forms region states out new Stop = Stops out Ended
-leaf_step forms region states out new (Trap kind line) = Stops out (Trapped kind line)
+schedule_leaf_step forms region states out new (Out to homes) = Goes out (begins_at forms to (home_state new homes))
+schedule_leaf_step forms region states out new Stop = Stops out Ended
+schedule_leaf_step forms region states out new (Trap kind line) = Stops out (Trapped kind line)
 
 -- a row that was done leads on, and a fault ends the run
-abbrev pub outcome_step : (forms : ℕ → Option RegionForm) → (region : ℕ) → List AutomatonState → RowOutcome AutomatonLeaf → Step SchedulePlace
-outcome_step forms region states (Faults fault) = Stops [] (Fault fault)
-outcome_step forms region states (Commits out new leaf) = leaf_step forms region states out new leaf
+abbrev pub schedule_outcome_step : (forms : ℕ → Option RegionForm) → (region : ℕ) → List AutomatonState → RowOutcome AutomatonLeaf → Step SchedulePlace
+schedule_outcome_step forms region states (Faults fault) = Stops [] (Fault fault)
+schedule_outcome_step forms region states (Commits out new leaf) = schedule_leaf_step forms region states out new leaf
 
 -- the row of a state; a number that no state has, which no leaf of an automaton names, ends
-abbrev pub state_step : Table → (forms : ℕ → Option RegionForm) → (region : ℕ) → List AutomatonState → Option AutomatonState → State → Step SchedulePlace
-state_step table forms region states (Some state) s = outcome_step forms region states (row_step table.arrays state.row s)
-state_step table forms region states None s = Stops [] Ended
+abbrev pub schedule_state_step : Table → (forms : ℕ → Option RegionForm) → (region : ℕ) → List AutomatonState → Option AutomatonState → State → Step SchedulePlace
+schedule_state_step table forms region states (Some state) s = schedule_outcome_step forms region states (row_step table.arrays state.row s)
+schedule_state_step table forms region states None s = Stops [] Ended
 
 -- one step of the schedule: a plain region is entered, an item or test of it is done, or a row
 abbrev pub schedule_step : Table → (forms : ℕ → Option RegionForm) → SchedulePlace → Step SchedulePlace
 schedule_step table forms (Before region s) = Goes [] (At_tree (region_tree table region) s)
 schedule_step table forms (At_tree tree s) = tree_step table forms tree s
-schedule_step table forms (At_state region states number s) = state_step table forms region states (slice_get states number) s
+schedule_step table forms (At_state region states number s) = schedule_state_step table forms region states (slice_get states number) s
 
 -- the schedule's run: so many rows, items and tests of plain regions, and entries of these, from region 0 and with all variables
 -- and elements 0

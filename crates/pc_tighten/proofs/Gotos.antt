@@ -11,7 +11,7 @@ use Rattle.pc_machine.specs.MachineCode.{Leads_to, Ends, Traps, CodeRow, RowCode
 use Rattle.pc_machine.specs.declared.tree.Tree.{Tree}
 use Rattle.pc_tighten.specs.declared.removing.Places.{Places}
 use Rattle.pc_tighten.specs.Removals.{IsGotoAlone, HasNoGotoAlone}
-use Rattle.pc_tighten.specs.Removing.{kept, rank, placed, Shrinks, AreMarks}
+use Rattle.pc_tighten.specs.Removing.{unmarked_rows, rank, placed_row, Shrinks, AreMarks}
 use Rattle.pc_tighten.specs.Tightened.{Done}
 use Rattle.pc_tighten.specs.models.Gotos.{goto_of, gotos_of, unless_stays, goto_target, unless_leads_on, if_at_end, sent_on, goes, new_place_by, new_place, AreCounted, AreRanks, ArePlacesFrom}
 use Rattle.pc_tighten.specs.models.Gotos.{rows_left, RowsShrink, HasRemoved, AreRemoved}
@@ -69,23 +69,23 @@ rank_past marks n (suc t) le none = elim (same_or_apart n (suc t)) [
       omega (arith, h, more)
 ]
 
--- as many rows are kept
-kept_count : (marks : ℕ → Bool) (rows : List CodeRow) → length (kept marks rows) ≡ rank marks (length rows)
+-- as many rows are not marked
+kept_count : (marks : ℕ → Bool) (rows : List CodeRow) → length (unmarked_rows marks rows) ≡ rank marks (length rows)
 kept_count marks [] = refl
 kept_count marks (row ∷ rows) = by_test (marks 0) (kept_count (λ k. marks (suc k)) rows)
   where
-    by_test : (b : Bool) → length (kept (λ k. marks (suc k)) rows) ≡ rank (λ k. marks (suc k)) (length rows)
-        → length (if b then kept (λ k. marks (suc k)) rows else row ∷ kept (λ k. marks (suc k)) rows)
+    by_test : (b : Bool) → length (unmarked_rows (λ k. marks (suc k)) rows) ≡ rank (λ k. marks (suc k)) (length rows)
+        → length (if b then unmarked_rows (λ k. marks (suc k)) rows else row ∷ unmarked_rows (λ k. marks (suc k)) rows)
         ≡ (if b then rank (λ k. marks (suc k)) (length rows) else suc (rank (λ k. marks (suc k)) (length rows)))
     by_test true e = e
     by_test false e = ap suc e
 
 -- a row more at the end
 kept_last : (marks : ℕ → Bool) (rows : List CodeRow) (row : CodeRow)
-    → kept marks (rows ++ row ∷ []) ≡ (if marks (length rows) then kept marks rows else kept marks rows ++ row ∷ [])
+    → unmarked_rows marks (rows ++ row ∷ []) ≡ (if marks (length rows) then unmarked_rows marks rows else unmarked_rows marks rows ++ row ∷ [])
 kept_last marks [] row = refl
 kept_last marks (r ∷ rows) row =
-    by_tests (marks 0) (marks (suc (length rows))) (kept (λ k. marks (suc k)) (rows ++ row ∷ [])) (kept (λ k. marks (suc k)) rows) (kept_last (λ k. marks (suc k)) rows row)
+    by_tests (marks 0) (marks (suc (length rows))) (unmarked_rows (λ k. marks (suc k)) (rows ++ row ∷ [])) (unmarked_rows (λ k. marks (suc k)) rows) (kept_last (λ k. marks (suc k)) rows row)
   where
     by_tests : (b c : Bool) (xs ys : List CodeRow) → xs ≡ (if c then ys else ys ++ row ∷ [])
         → (if b then xs else r ∷ xs) ≡ (if c then (if b then ys else r ∷ ys) else (if b then ys else r ∷ ys) ++ row ∷ [])
@@ -314,30 +314,30 @@ left_without gotos it before rows left tree is gone = ap (λ (l : List CodeRow).
     last : rows_left gotos it (rows_of before) ≡ rows_left gotos it (rows_of rows)
     last =
         ap (λ (l : List Tree). rows_left gotos it (rows_of l)) is ∙ ap (rows_left gotos it) (map-append row_of rows (tree ∷ []))
-        ∙ ap (map (placed (new_place it))) (kept_last (goes gotos) (rows_of rows) (row_of tree)
-        ∙ ap (λ (b : Bool). if b then kept (goes gotos) (rows_of rows) else kept (goes gotos) (rows_of rows) ++ row_of tree ∷ []) (ap (goes gotos) (length-map rows row_of) ∙ gone))
+        ∙ ap (map (placed_row (new_place it))) (kept_last (goes gotos) (rows_of rows) (row_of tree)
+        ∙ ap (λ (b : Bool). if b then unmarked_rows (goes gotos) (rows_of rows) else unmarked_rows (goes gotos) (rows_of rows) ++ row_of tree ∷ []) (ap (goes gotos) (length-map rows row_of) ∙ gone))
 
 -- and if it stays
 pub left_with : (gotos : List (Option ℕ)) (it : Places) (before rows left : List Tree) (tree now : Tree) → before ≡ rows ++ tree ∷ [] → goes gotos (length rows) ≡ false
-    → row_of now ≡ placed (new_place it) (row_of tree)
+    → row_of now ≡ placed_row (new_place it) (row_of tree)
     → rows_left gotos it (rows_of rows) ++ rows_of (reverse (left ++ now ∷ [])) ≡ rows_left gotos it (rows_of before) ++ rows_of (reverse left)
 left_with gotos it before rows left tree now is stays sent =
     ap (λ (l : List Tree). rows_left gotos it (rows_of rows) ++ rows_of l) (reverse-append left (now ∷ []))
     ∙ ap (λ (r : CodeRow). rows_left gotos it (rows_of rows) ++ (r ∷ rows_of (reverse left))) sent
-    ∙ sym (append_assoc (rows_left gotos it (rows_of rows)) (placed (new_place it) (row_of tree) ∷ []) (rows_of (reverse left)))
+    ∙ sym (append_assoc (rows_left gotos it (rows_of rows)) (placed_row (new_place it) (row_of tree) ∷ []) (rows_of (reverse left)))
     ∙ ap (λ (l : List CodeRow). l ++ rows_of (reverse left)) (sym last)
   where
-    last : rows_left gotos it (rows_of before) ≡ rows_left gotos it (rows_of rows) ++ placed (new_place it) (row_of tree) ∷ []
+    last : rows_left gotos it (rows_of before) ≡ rows_left gotos it (rows_of rows) ++ placed_row (new_place it) (row_of tree) ∷ []
     last =
         ap (λ (l : List Tree). rows_left gotos it (rows_of l)) is ∙ ap (rows_left gotos it) (map-append row_of rows (tree ∷ []))
-        ∙ ap (map (placed (new_place it))) (kept_last (goes gotos) (rows_of rows) (row_of tree)
-        ∙ ap (λ (b : Bool). if b then kept (goes gotos) (rows_of rows) else kept (goes gotos) (rows_of rows) ++ row_of tree ∷ []) (ap (goes gotos) (length-map rows row_of) ∙ stays))
-        ∙ map-append (placed (new_place it)) (kept (goes gotos) (rows_of rows)) (row_of tree ∷ [])
+        ∙ ap (map (placed_row (new_place it))) (kept_last (goes gotos) (rows_of rows) (row_of tree)
+        ∙ ap (λ (b : Bool). if b then unmarked_rows (goes gotos) (rows_of rows) else unmarked_rows (goes gotos) (rows_of rows) ++ row_of tree ∷ []) (ap (goes gotos) (length-map rows row_of) ∙ stays))
+        ∙ map-append (placed_row (new_place it)) (unmarked_rows (goes gotos) (rows_of rows)) (row_of tree ∷ [])
 
 -- where some go there are fewer
 rows_fewer : (rows : List CodeRow) (it : Places) → AreCounted (gotos_of rows) it → it.gone ≢ 0 → length (rows_left (gotos_of rows) it rows) < length rows
 rows_fewer rows it counted some =
-    let a = length-map (kept (goes (gotos_of rows)) rows) (placed (new_place it)) in
+    let a = length-map (unmarked_rows (goes (gotos_of rows)) rows) (placed_row (new_place it)) in
     let b = kept_count (goes (gotos_of rows)) rows in
     let size = length-map rows goto_of in
     let c = ap (rank (goes (gotos_of rows))) size in

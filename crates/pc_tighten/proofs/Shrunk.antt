@@ -9,7 +9,7 @@ use Rattle.pc_machine.specs.MachineCode.{Leads_to, Ends, Traps, CodeRow, RowCode
 use Rattle.pc_word.specs.Row.{Then, Either, At_leaf}
 use Rattle.pc_tighten.specs.Removals.{shifted, sent, sent_row, without_row, removed, MayGo, IsGotoAlone}
 use Rattle.pc_tighten.specs.Tightened.{Done, Removes}
-use Rattle.pc_tighten.specs.Removing.{kept, rank, placed, without_marked, Shrinks, IsMarked, AreMarks}
+use Rattle.pc_tighten.specs.Removing.{unmarked_rows, rank, placed_row, without_marked, Shrinks, IsMarked, AreMarks}
 use Rattle.pc_tighten.proofs.Compacted.{shifted-injective, removal_keeps_compact}
 use Rattle.pc_tighten.proofs.Lists.{nat_eq-refl, nat_eq-apart}
 use Rattle.pc_tighten.proofs.Moves.{same_or_apart}
@@ -41,10 +41,10 @@ unshift_apart (suc t) (suc y) e = unshift_apart t y (cc)
 
 -- ---- marks
 
-kept_without : (marks : ℕ → Bool) (t : ℕ) (rows : List CodeRow) → marks t ≡ true → kept (λ y. marks (unshift t y)) (without_row t rows) ≡ kept marks rows
+kept_without : (marks : ℕ → Bool) (t : ℕ) (rows : List CodeRow) → marks t ≡ true → unmarked_rows (λ y. marks (unshift t y)) (without_row t rows) ≡ unmarked_rows marks rows
 kept_without marks zero [] e = refl
 kept_without marks zero (r ∷ rows) e =
-    sym (ap (λ (b : Bool). if b then kept (λ i. marks (suc i)) rows else r ∷ kept (λ i. marks (suc i)) rows) e)
+    sym (ap (λ (b : Bool). if b then unmarked_rows (λ i. marks (suc i)) rows else r ∷ unmarked_rows (λ i. marks (suc i)) rows) e)
 kept_without marks (suc t) [] e = refl
 kept_without marks (suc t) (r ∷ rows) e =
     ap (λ (l : List CodeRow). if marks 0 then l else r ∷ l) (kept_without (λ i. marks (suc i)) t rows e)
@@ -54,20 +54,20 @@ rank_unshift marks zero y e = sym (ap (λ (b : Bool). if b then rank (λ k. mark
 rank_unshift marks (suc t) zero e = refl
 rank_unshift marks (suc t) (suc y) e = ap (λ (n : ℕ). if marks 0 then n else suc n) (rank_unshift (λ k. marks (suc k)) t y e)
 
-kept_map : (marks : ℕ → Bool) (f : CodeRow → CodeRow) (rows : List CodeRow) → kept marks (map f rows) ≡ map f (kept marks rows)
+kept_map : (marks : ℕ → Bool) (f : CodeRow → CodeRow) (rows : List CodeRow) → unmarked_rows marks (map f rows) ≡ map f (unmarked_rows marks rows)
 kept_map marks f [] = refl
 kept_map marks f (r ∷ rows) = by_test (marks 0) (kept_map (λ i. marks (suc i)) f rows)
   where
-    by_test : (b : Bool) → kept (λ i. marks (suc i)) (map f rows) ≡ map f (kept (λ i. marks (suc i)) rows)
-        → (if b then kept (λ i. marks (suc i)) (map f rows) else f r ∷ kept (λ i. marks (suc i)) (map f rows))
-        ≡ map f (if b then kept (λ i. marks (suc i)) rows else r ∷ kept (λ i. marks (suc i)) rows)
+    by_test : (b : Bool) → unmarked_rows (λ i. marks (suc i)) (map f rows) ≡ map f (unmarked_rows (λ i. marks (suc i)) rows)
+        → (if b then unmarked_rows (λ i. marks (suc i)) (map f rows) else f r ∷ unmarked_rows (λ i. marks (suc i)) (map f rows))
+        ≡ map f (if b then unmarked_rows (λ i. marks (suc i)) rows else r ∷ unmarked_rows (λ i. marks (suc i)) rows)
     by_test true h = h
     by_test false h = ap (λ (l : List CodeRow). f r ∷ l) h
 
-kept_all : (marks : ℕ → Bool) (rows : List CodeRow) → ((x : ℕ) → marks x ≡ false) → kept marks rows ≡ rows
+kept_all : (marks : ℕ → Bool) (rows : List CodeRow) → ((x : ℕ) → marks x ≡ false) → unmarked_rows marks rows ≡ rows
 kept_all marks [] none = refl
 kept_all marks (r ∷ rows) none =
-    ap (λ (b : Bool). if b then kept (λ i. marks (suc i)) rows else r ∷ kept (λ i. marks (suc i)) rows) (none 0)
+    ap (λ (b : Bool). if b then unmarked_rows (λ i. marks (suc i)) rows else r ∷ unmarked_rows (λ i. marks (suc i)) rows) (none 0)
     ∙ ap (λ (l : List CodeRow). r ∷ l) (kept_all (λ i. marks (suc i)) rows (λ x. none (suc x)))
 
 rank_all : (marks : ℕ → Bool) (x : ℕ) → ((k : ℕ) → marks k ≡ false) → rank marks x ≡ x
@@ -78,33 +78,33 @@ rank_all marks (suc x) none =
 
 -- ---- places
 
-placed_sent : (before now : ℕ → ℕ) (t u : ℕ) → ((x : ℕ) → now (sent t u x) ≡ before x) → (row : CodeRow) → placed now (sent_row t u row) ≡ placed before row
+placed_sent : (before now : ℕ → ℕ) (t u : ℕ) → ((x : ℕ) → now (sent t u x) ≡ before x) → (row : CodeRow) → placed_row now (sent_row t u row) ≡ placed_row before row
 placed_sent before now t u same (Then item rest) = ap (λ (r : CodeRow). Then item r) (placed_sent before now t u same rest)
 placed_sent before now t u same (Either on on_yes on_no) =
-    ap (λ (r : CodeRow). Either on r (placed now (sent_row t u on_no))) (placed_sent before now t u same on_yes)
-    ∙ ap (λ (r : CodeRow). Either on (placed before on_yes) r) (placed_sent before now t u same on_no)
+    ap (λ (r : CodeRow). Either on r (placed_row now (sent_row t u on_no))) (placed_sent before now t u same on_yes)
+    ∙ ap (λ (r : CodeRow). Either on (placed_row before on_yes) r) (placed_sent before now t u same on_no)
 placed_sent before now t u same (At_leaf (Leads_to row)) = ap (λ (k : ℕ). At_leaf (Leads_to k)) (same row)
 placed_sent before now t u same (At_leaf Ends) = refl
 placed_sent before now t u same (At_leaf (Traps kind line)) = refl
 
 all_placed_sent : (before now : ℕ → ℕ) (t u : ℕ) → ((x : ℕ) → now (sent t u x) ≡ before x) → (rows : List CodeRow)
-    → map (placed now) (map (sent_row t u) rows) ≡ map (placed before) rows
+    → map (placed_row now) (map (sent_row t u) rows) ≡ map (placed_row before) rows
 all_placed_sent before now t u same [] = refl
 all_placed_sent before now t u same (r ∷ rows) =
-    ap (λ (x : CodeRow). x ∷ map (placed now) (map (sent_row t u) rows)) (placed_sent before now t u same r)
-    ∙ ap (λ (l : List CodeRow). placed before r ∷ l) (all_placed_sent before now t u same rows)
+    ap (λ (x : CodeRow). x ∷ map (placed_row now) (map (sent_row t u) rows)) (placed_sent before now t u same r)
+    ∙ ap (λ (l : List CodeRow). placed_row before r ∷ l) (all_placed_sent before now t u same rows)
 
-placed_same : (place : ℕ → ℕ) → ((x : ℕ) → place x ≡ x) → (row : CodeRow) → placed place row ≡ row
+placed_same : (place : ℕ → ℕ) → ((x : ℕ) → place x ≡ x) → (row : CodeRow) → placed_row place row ≡ row
 placed_same place same (Then item rest) = ap (λ (r : CodeRow). Then item r) (placed_same place same rest)
 placed_same place same (Either on on_yes on_no) =
-    ap (λ (r : CodeRow). Either on r (placed place on_no)) (placed_same place same on_yes) ∙ ap (λ (r : CodeRow). Either on on_yes r) (placed_same place same on_no)
+    ap (λ (r : CodeRow). Either on r (placed_row place on_no)) (placed_same place same on_yes) ∙ ap (λ (r : CodeRow). Either on on_yes r) (placed_same place same on_no)
 placed_same place same (At_leaf (Leads_to row)) = ap (λ (k : ℕ). At_leaf (Leads_to k)) (same row)
 placed_same place same (At_leaf Ends) = refl
 placed_same place same (At_leaf (Traps kind line)) = refl
 
-all_placed_same : (place : ℕ → ℕ) → ((x : ℕ) → place x ≡ x) → (rows : List CodeRow) → map (placed place) rows ≡ rows
+all_placed_same : (place : ℕ → ℕ) → ((x : ℕ) → place x ≡ x) → (rows : List CodeRow) → map (placed_row place) rows ≡ rows
 all_placed_same place same [] = refl
-all_placed_same place same (r ∷ rows) = ap (λ (x : CodeRow). x ∷ map (placed place) rows) (placed_same place same r) ∙ ap (λ (l : List CodeRow). r ∷ l) (all_placed_same place same rows)
+all_placed_same place same (r ∷ rows) = ap (λ (x : CodeRow). x ∷ map (placed_row place) rows) (placed_same place same r) ∙ ap (λ (l : List CodeRow). r ∷ l) (all_placed_same place same rows)
 
 -- ---- rows that go, in the order in which they do
 
@@ -202,7 +202,8 @@ shrinks_by : (n : ℕ) (gone : List ℕ) (code : RowCode) (place : ℕ → ℕ) 
 shrinks_by n [] code place marks size going others ranks =
     let none = λ (x : ℕ). others x tt in
     let same = λ (x : ℕ). ranks x (none x) ∙ rank_all marks x none in
-    subst (Shrinks code) (sym (code_rows code (map (placed place) (kept marks code.rows)) code.rows (all_placed_same place same (kept marks code.rows) ∙ kept_all marks code.rows none)))
+    subst (Shrinks code) (sym (code_rows code (map (placed_row place) (unmarked_rows marks code.rows)) code.rows
+    (all_placed_same place same (unmarked_rows marks code.rows) ∙ kept_all marks code.rows none)))
     (record { tightens = Done; compact = λ all compact. compact })
 shrinks_by zero (t ∷ rest) code place marks size going others ranks = absurd (omega arith)
 shrinks_by (suc n) (t ∷ rest) code place marks size going others ranks =
@@ -216,9 +217,9 @@ shrinks_by (suc n) (t ∷ rest) code place marks size going others ranks =
     (going_later t u h.not_entry h.not_itself place h.same_place code.rows marks rest h.once h.target_stays going.1)
     (λ y absent. others (unshift t y) (unshift_apart t y, absent_unshifted t y rest absent))
     (λ y none. ranks (unshift t y) none ∙ sym (rank_unshift marks t y h.marked)) in
-    let same = ap (map (placed later)) (kept_map left (sent_row t u) (without_row t code.rows) ∙ ap (map (sent_row t u)) (kept_without marks t code.rows h.marked))
-    ∙ all_placed_sent place later t u (place_sent t u h.not_entry h.not_itself place h.same_place) (kept marks code.rows) in
-    subst (Shrinks code) (code_rows code (map (placed later) (kept left next.rows)) (map (placed place) (kept marks code.rows)) same) (record {
+    let same = ap (map (placed_row later)) (kept_map left (sent_row t u) (without_row t code.rows) ∙ ap (map (sent_row t u)) (kept_without marks t code.rows h.marked))
+    ∙ all_placed_sent place later t u (place_sent t u h.not_entry h.not_itself place h.same_place) (unmarked_rows marks code.rows) in
+    subst (Shrinks code) (code_rows code (map (placed_row later) (unmarked_rows left next.rows)) (map (placed_row place) (unmarked_rows marks code.rows)) same) (record {
       tightens = Removes t u may more.tightens;
       compact = λ all compact. more.compact (removal_keeps_all_reached code t u may all) (removal_keeps_compact code t u may all compact);
     })

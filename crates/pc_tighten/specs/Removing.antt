@@ -6,9 +6,9 @@ use Rattle.pc_tighten.specs.Compact.{Compact}
 use Rattle.pc_tighten.specs.Tightened.{Tightens, EachIsReachable}
 
 -- the rows that are not marked
-abbrev pub kept : (ℕ → Bool) → List CodeRow → List CodeRow
-kept marks [] = []
-kept marks (row ∷ rows) = if marks 0 then kept (λ i. marks (suc i)) rows else row ∷ kept (λ i. marks (suc i)) rows
+abbrev pub unmarked_rows : (ℕ → Bool) → List CodeRow → List CodeRow
+unmarked_rows marks [] = []
+unmarked_rows marks (row ∷ rows) = if marks 0 then unmarked_rows (λ i. marks (suc i)) rows else row ∷ unmarked_rows (λ i. marks (suc i)) rows
 
 -- how many numbers below this one are not marked
 abbrev pub rank : (ℕ → Bool) → ℕ → ℕ
@@ -21,14 +21,14 @@ placed_leaf place (Leads_to row) = Leads_to (place row)
 placed_leaf place Ends = Ends
 placed_leaf place (Traps kind line) = Traps kind line
 
-abbrev pub placed : (ℕ → ℕ) → CodeRow → CodeRow
-placed place (Then item rest) = Then item (placed place rest)
-placed place (Either on on_yes on_no) = Either on (placed place on_yes) (placed place on_no)
-placed place (At_leaf leaf) = At_leaf (placed_leaf place leaf)
+abbrev pub placed_row : (ℕ → ℕ) → CodeRow → CodeRow
+placed_row place (Then item rest) = Then item (placed_row place rest)
+placed_row place (Either on on_yes on_no) = Either on (placed_row place on_yes) (placed_row place on_no)
+placed_row place (At_leaf leaf) = At_leaf (placed_leaf place leaf)
 
 -- the code without the rows that are marked
 abbrev pub without_marked : (ℕ → ℕ) → (ℕ → Bool) → RowCode → RowCode
-without_marked place marks code = record { limits = code.limits; arrays = code.arrays; rows = map (placed place) (kept marks code.rows) }
+without_marked place marks code = record { limits = code.limits; arrays = code.arrays; rows = map (placed_row place) (unmarked_rows marks code.rows) }
 
 -- rows go away, and where all rows are reachable a compact code stays compact
 pub record Shrinks (code after : RowCode) : Type 0 where

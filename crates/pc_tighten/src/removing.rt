@@ -1,7 +1,7 @@
 //! Rows that are a goto alone go, and what led to them is sent on.
 ghost use Rattle.std.specs.Prelude.{◌≡◌, length, IfOk, OnOk};
 ghost use Rattle.pc_machine.specs.MachineCode.{row_of, rows_of};
-ghost use Rattle.pc_tighten.specs.Removing.{placed};
+ghost use Rattle.pc_tighten.specs.Removing.{placed_row};
 ghost use Rattle.pc_tighten.specs.models.Gotos.{goto_of, gotos_of, goto_target, sent_on, new_place, AreRanks, ArePlacesFrom, rows_left, HasRemoved, AreRemoved};
 
 use pc_machine::Tree;
@@ -125,7 +125,7 @@ fn places_after(alloc: Global, gotos: &[Option<u32>]) -> Result<Places, AllocErr
 
 /// Sends the leaves of a tree to the places of rows.
 fn send(tree: &mut Tree, it: &Places)
-    ensures { row_of tree.new ≡ placed (new_place it.now) (row_of tree.old) }
+    ensures { row_of tree.new ≡ placed_row (new_place it.now) (row_of tree.old) }
 {
     match tree {
         Tree::Step { next, .. } => send(next, it),

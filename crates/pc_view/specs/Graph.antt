@@ -24,20 +24,20 @@ field_operator op = operator_words op
 
 -- The fields of a tree, from top to bottom; under a test its sides stand beside each other. A leaf's field has a port, whose name
 -- says the way to it: `port`, and a `y` or `n` for each test.
-abbrev pub fields : List ℕ → CodeRow → List ℕ
-fields port (Then item rest) = item_words field_operator item ++ (codes "|" ++ fields port rest)
-fields port (Either on on_yes on_no) =
-    test_words on ++ (codes "|{{yes|" ++ (fields (port ++ codes "y") on_yes
-    ++ (codes "}|{no|" ++ (fields (port ++ codes "n") on_no ++ codes "}}"))))
-fields port (At_leaf leaf) = codes "<" ++ (port ++ (codes "> " ++ leaf_words leaf))
+abbrev pub row_fields : List ℕ → CodeRow → List ℕ
+row_fields port (Then item rest) = item_words field_operator item ++ (codes "|" ++ row_fields port rest)
+row_fields port (Either on on_yes on_no) =
+    test_words on ++ (codes "|{{yes|" ++ (row_fields (port ++ codes "y") on_yes
+    ++ (codes "}|{no|" ++ (row_fields (port ++ codes "n") on_no ++ codes "}}"))))
+row_fields port (At_leaf leaf) = codes "<" ++ (port ++ (codes "> " ++ leaf_words leaf))
 
 -- the beginning of the node of a row: its number, and its label up to the fields
-unfoldable pub node_front : ℕ → List ℕ
-node_front number = codes "    " ++ (decimal number ++ (codes " [label=\"{row " ++ (decimal number ++ codes "|")))
+unfoldable pub node_start : ℕ → List ℕ
+node_start number = codes "    " ++ (decimal number ++ (codes " [label=\"{row " ++ (decimal number ++ codes "|")))
 
 -- the node of a row
 abbrev pub row_node : ℕ → CodeRow → List ℕ
-row_node number row = node_front number ++ (fields (codes "p") row ++ codes "}\"];")
+row_node number row = node_start number ++ (row_fields (codes "p") row ++ codes "}\"];")
 
 -- the edges of the row with this number: one for each leaf that leads to a row, from the leaf's port
 abbrev pub row_edges : ℕ → List ℕ → CodeRow → List (List ℕ)
@@ -67,13 +67,13 @@ abbrev pub choice_colour : ℕ → List ℕ
 choice_colour choice = unwrap_or (slice_get choice_colours choice) []
 
 -- the beginning of the box of a note: its number and its colour
-unfoldable pub note_front : ℕ → List ℕ → List ℕ
-note_front number colour =
+unfoldable pub note_start : ℕ → List ℕ → List ℕ
+note_start number colour =
     codes "    note" ++ (decimal number ++ (codes " [shape=box, style=filled, fillcolor=" ++ (colour ++ codes ", label=\"")))
 
 -- the box of a note
 abbrev pub note_node : ℕ → Note → List ℕ
-note_node number note = note_front number (choice_colour note.choice) ++ (note_words note ++ codes "\"];")
+note_node number note = note_start number (choice_colour note.choice) ++ (note_words note ++ codes "\"];")
 
 -- the boxes of notes, numbered from `number` on
 abbrev pub note_nodes : ℕ → List Note → List (List ℕ)

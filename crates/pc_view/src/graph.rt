@@ -5,7 +5,7 @@ ghost use Rattle.pc_machine.specs.MachineCode.{row_of, rows_of};
 ghost use Rattle.pc_object.specs.ObjectText.{object_of, IsObject, IsChoice};
 ghost use Rattle.pc_word.specs.Line.{line};
 ghost use Rattle.pc_view.specs.Listing.{lines_text};
-ghost use Rattle.pc_view.specs.Graph.{fields, node_front, row_node, row_edges, row_graph, choice_colour, note_front, note_node, note_nodes, graph_text};
+ghost use Rattle.pc_view.specs.Graph.{row_fields, node_start, row_node, row_edges, row_graph, choice_colour, note_start, note_node, note_nodes, graph_text};
 
 use crate::words::{ItemWords, Medium, OperandWords};
 use pc_machine::Tree;
@@ -43,22 +43,22 @@ fn push_rows(alloc: Global, text: &mut String, rows: &[Tree]) -> Result<(), Allo
 fn push_node(alloc: Global, text: &mut String, number: usize, row: &Tree) -> Result<(), AllocError>
     ensures { OnOk result (string_bytes text.new ≡ string_bytes text.old ++ row_node number (row_of row.now)) }
 {
-    push_node_front(text, number)?;
+    push_node_start(text, number)?;
     push_fields(alloc, text, "p", row)?;
     text.push_str("}\"];")
 }
 
 /// Puts the beginning of the node of a row behind a text.
-#[tactic(auto, unfolding(crate::specs::Graph::node_front))]
-fn push_node_front(text: &mut String, number: usize) -> Result<(), AllocError>
-    ensures { OnOk result (string_bytes text.new ≡ string_bytes text.old ++ node_front number) }
+#[tactic(auto, unfolding(crate::specs::Graph::node_start))]
+fn push_node_start(text: &mut String, number: usize) -> Result<(), AllocError>
+    ensures { OnOk result (string_bytes text.new ≡ string_bytes text.old ++ node_start number) }
 {
     write!(text, "    {number} [label=\"{{row {number}|")
 }
 
 /// Puts the fields of a tree behind a text. `port` is the name of the port of its leaf, if it has one alone.
 fn push_fields(alloc: Global, text: &mut String, port: &str, row: &Tree) -> Result<(), AllocError>
-    ensures { OnOk result (string_bytes text.new ≡ string_bytes text.old ++ fields port.now (row_of row.now)) }
+    ensures { OnOk result (string_bytes text.new ≡ string_bytes text.old ++ row_fields port.now (row_of row.now)) }
 {
     match row {
         Tree::Step { item, next } => {
@@ -128,15 +128,15 @@ fn push_note(text: &mut String, number: usize, note: Note) -> Result<(), AllocEr
     requires { IsChoice note }
     ensures { OnOk result (string_bytes text.new ≡ string_bytes text.old ++ note_node number note) }
 {
-    push_note_front(text, number, choice_colour(note.choice))?;
+    push_note_start(text, number, choice_colour(note.choice))?;
     push_note_words(text, note)?;
     text.push_str("\"];")
 }
 
 /// Puts the beginning of the box of a note behind a text.
-#[tactic(auto, unfolding(crate::specs::Graph::note_front))]
-fn push_note_front(text: &mut String, number: usize, colour: &str) -> Result<(), AllocError>
-    ensures { OnOk result (string_bytes text.new ≡ string_bytes text.old ++ note_front number colour.now) }
+#[tactic(auto, unfolding(crate::specs::Graph::note_start))]
+fn push_note_start(text: &mut String, number: usize, colour: &str) -> Result<(), AllocError>
+    ensures { OnOk result (string_bytes text.new ≡ string_bytes text.old ++ note_start number colour.now) }
 {
     write!(
         text,

@@ -9,7 +9,7 @@ use Rattle.pc_word.specs.Items.{dest_of}
 use Rattle.pc_window.specs.Rebasing.{is_in}
 use Rattle.pc_automaton.specs.declared.automaton.AutomatonLeaf.{AutomatonLeaf}
 use Rattle.pc_assign.specs.Uses.{row_uses}
-use Rattle.pc_assign.specs.Pressure.{allowed, one_more}
+use Rattle.pc_assign.specs.Pressure.{allowed, definitions_with}
 use Rattle.pc_assign.specs.Assigned.{passed_at}
 use Rattle.pc_assign.specs.declared.register_set.RegisterSet.{RegisterSet}
 
@@ -101,6 +101,6 @@ pub data AreChosen (parameters held : List ℕ) : (above : ℕ → Bool) → Row
 
 -- how many names a row defines
 abbrev pub definitions_in : Row AutomatonLeaf → ℕ
-definitions_in (Then item rest) = one_more (dest_of item) (definitions_in rest)
+definitions_in (Then item rest) = definitions_with (dest_of item) (definitions_in rest)
 definitions_in (Either on on_yes on_no) = definitions_in on_yes + definitions_in on_no
 definitions_in (At_leaf leaf) = 0

@@ -17,7 +17,7 @@ use Rattle.pc_choose.specs.models.Leaves.{LeavesKeep}
 use Rattle.pc_choose.specs.declared.trying.Attempt.{Attempt}
 use Rattle.pc_choose.specs.declared.trying.Attempt.TheVariants.{Fits, Refused}
 use Rattle.pc_choose.specs.declared.giving.Given.{Given}
-use Rattle.pc_choose.specs.Choosing.{HasRegisters, IsRefused, Gets}
+use Rattle.pc_choose.specs.Choosing.{HasRegisters, IsFormRefused, Gets}
 use Rattle.pc_choose.specs.models.Counting.{bytes_beside}
 use Rattle.pc_choose.specs.models.Marked.{NamesBelow, LeadsBelow}
 
@@ -51,7 +51,7 @@ pub record IsFitting (rules : Rules) (region rows : ℕ) (counts : RegionForm �
 -- what comes of trying the form of a search, where so many bytes are counted for each form
 abbrev pub IsAttempt : Rules → (region rows : ℕ) → (RegionForm → ℕ) → Attempt → Type 0
 IsAttempt rules region rows counts (Fits automaton registers bytes) = IsFitting rules region rows counts automaton registers bytes
-IsAttempt rules region rows counts (Refused cause) = IsRefused rules region rows counts cause
+IsAttempt rules region rows counts (Refused cause) = IsFormRefused rules region rows counts cause
 
 -- the form that a region gets, where all but it has so many bytes, with the bytes of the object then
 pub record IsGiven (table : Table) (limits : Limits) (extent : Extent) (region others : ℕ) (given : Given) : Type 0 where

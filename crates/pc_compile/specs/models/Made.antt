@@ -1,5 +1,5 @@
 -- The object that is made of a region table in forms that were chosen.
-use Rattle.std.specs.Prelude.{◌≡◌, ℕ, List, Option}
+use Rattle.std.specs.Prelude.{◌≡◌, List, Option}
 use Rattle.pc_word.specs.declared.item.Limits.{Limits}
 use Rattle.pc_table.specs.Table.{Table}
 use Rattle.pc_machine.specs.MachineCode.{CodeRow}

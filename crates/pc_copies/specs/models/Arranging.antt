@@ -5,7 +5,7 @@ use Rattle.pc_word.specs.declared.item.Operand.{Operand}
 use Rattle.pc_word.specs.declared.item.Operand.TheVariants.{Name, Lit}
 use Rattle.pc_word.specs.MachineLimits.{registers}
 use Rattle.pc_copies.specs.declared.moves.Move.{Move}
-use Rattle.pc_copies.specs.Moves.{IsNamed, IsSource, AreCopies}
+use Rattle.pc_copies.specs.Moves.{IsNamed, IsMoveSource, AreCopies}
 use Rattle.pc_copies.specs.models.Sources.{source_in, IsRead, IsWritten, Do}
 use Rattle.pc_copies.specs.models.Packing.{WritesOnce, RowsFit}
 use Rattle.pc_copies.specs.models.Following.{source_at, sources_left, AreSources}
@@ -14,7 +14,7 @@ use Rattle.pc_copies.specs.models.Counting.{copies_with}
 -- a move that names registers of the machine, but not scratch
 pub record IsMove (scratch : ℕ) (move : Move) : Type 0 where
   pub dest : IsNamed scratch move.dest
-  pub from : IsSource scratch move.from
+  pub from : IsMoveSource scratch move.from
 
 -- one that names registers of the machine
 abbrev pub IsBelow : Operand → Type 0

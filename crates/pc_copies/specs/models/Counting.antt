@@ -3,7 +3,7 @@ use Rattle.std.specs.Prelude.{◌≡◌, ◌⊎◌, ◌+◌, ℕ, List, length, 
 use Rattle.std.specs.List.{AllByRecursion}
 use Rattle.pc_word.specs.declared.item.Operand.{Operand}
 use Rattle.pc_copies.specs.declared.moves.Move.{Move}
-use Rattle.pc_copies.specs.Moves.{joined, copies_in}
+use Rattle.pc_copies.specs.Moves.{moves_of, copies_in}
 use Rattle.pc_copies.specs.models.Sources.{source_in, IsWritten}
 use Rattle.pc_copies.specs.models.Packing.{WritesOnce, IsRing}
 use Rattle.pc_copies.specs.models.Following.{source_at, sources_left}
@@ -30,7 +30,7 @@ Path_counts path before after = (after ≡ before + length path) ⊎ BrokenRing 
 pub record Counting (moves : List Move) (table : List (Option Operand)) (rows : List (List Move)) (first : List Move) : Type 0 where
   pub cycles : List (List Move)
   pub are : AllByRecursion IsRing cycles
-  pub among : (x : ℕ) (from : Operand) → source_in (joined cycles) x ≡ Some from → source_in moves x ≡ Some from
-  pub once : WritesOnce (joined cycles)
-  pub gone : (x : ℕ) → IsWritten (source_in (joined cycles)) x → source_at table x ≡ None
+  pub among : (x : ℕ) (from : Operand) → source_in (moves_of cycles) x ≡ Some from → source_in moves x ≡ Some from
+  pub once : WritesOnce (moves_of cycles)
+  pub gone : (x : ℕ) → IsWritten (source_in (moves_of cycles)) x → source_at table x ≡ None
   pub number : copies_with rows first + sources_left table ≡ length moves + length cycles

@@ -12,7 +12,7 @@ use Rattle.pc_emit.specs.Registers.{register_of}
 use Rattle.pc_emit.specs.declared.form.RegionForm.{RegionForm as StoredForm}
 use Rattle.pc_emit.specs.declared.form.RegionForm.TheVariants as stored
 use Rattle.pc_emit.specs.Emitted.{RegionForm, Plain, Packed, Emission, root_leaf}
-use Rattle.pc_emit.specs.Emitting.{form_in, forms_in, emission_of, AreForms}
+use Rattle.pc_emit.specs.Emitting.{form_in, region_forms, emission_of, AreForms}
 use Rattle.pc_emit.specs.declared.plan.Plan.{Plan}
 use Rattle.pc_emit.specs.declared.packed.PackedSite.{PackedSite}
 
@@ -62,7 +62,7 @@ abbrev pub table_in : Plan → Table
 table_in plan = table_of plan.table.now
 
 abbrev pub forms_at : Plan → ℕ → Option RegionForm
-forms_at plan = forms_in plan.forms.now
+forms_at plan = region_forms plan.forms.now
 
 -- what a plan emits
 abbrev pub emission_in : Plan → Emission

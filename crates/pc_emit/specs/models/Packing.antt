@@ -10,7 +10,7 @@ use Rattle.pc_copies.specs.declared.moves.Move.{Move}
 use Rattle.pc_copies.specs.Moves.{AreMoves}
 use Rattle.pc_machine.specs.MachineCode.{Leaf, CodeRow}
 use Rattle.pc_emit.specs.Registers.{register_of, argument_moves, home_moves}
-use Rattle.pc_emit.specs.Emitted.{Emission, LeadsToRegion, Moves, LeafStands, RowStands, StateStands}
+use Rattle.pc_emit.specs.Emitted.{Emission, LeadsToRegion, LeadsThroughMoves, LeafStands, RowStands, StateStands}
 use Rattle.pc_emit.specs.Emitting.{HasForm}
 use Rattle.pc_emit.specs.declared.output.Output.{Output}
 use Rattle.pc_emit.specs.declared.plan.Plan.{Plan}
@@ -39,7 +39,7 @@ CanMakeRow plan site of row = CanMakeLeaves (CanMakeLeaf (emission_in plan) (sta
 
 -- moves lead from one leaf to another, whatever will be made
 pub record MovesAlong (plan : Plan) (output : Output) (from : Leaf) (moves : List Move) (to : Leaf) : Type 0 where
-  pub stands : (final : List CodeRow) → Stays output final → Moves (emission_in plan) final from moves to
+  pub stands : (final : List CodeRow) → Stays output final → LeadsThroughMoves (emission_in plan) final from moves to
 
 -- or from one to a region
 pub record MovesToRegion (plan : Plan) (output : Output) (from : Leaf) (moves : List Move) (region : ℕ) : Type 0 where

@@ -5,7 +5,7 @@ use Rattle.pc_word.specs.Row.{Then, Either, At_leaf}
 use Rattle.pc_machine.specs.MachineCode.{Leads_to, Ends, Traps, CodeRow}
 use Rattle.pc_tighten.specs.declared.removing.Places.{Places}
 use Rattle.pc_tighten.specs.Removals.{HasNoGotoAlone}
-use Rattle.pc_tighten.specs.Removing.{kept, rank, placed, Shrinks}
+use Rattle.pc_tighten.specs.Removing.{unmarked_rows, rank, placed_row, Shrinks}
 use Rattle.pc_tighten.specs.models.Raising.{code_with}
 
 -- ---- which rows go
@@ -78,7 +78,7 @@ pub record ArePlacesFrom (gotos : List (Option ℕ)) (it : Places) (from : ℕ) 
 
 -- the rows that stay, whose leaves lead to the places of rows
 abbrev pub rows_left : List (Option ℕ) → Places → List CodeRow → List CodeRow
-rows_left gotos it rows = map (placed (new_place it)) (kept (goes gotos) rows)
+rows_left gotos it rows = map (placed_row (new_place it)) (unmarked_rows (goes gotos) rows)
 
 -- ---- round after round
 

@@ -1,5 +1,6 @@
-use Rattle.std.proofs.Common.{sym, ◌∙◌}
+use Rattle.std.proofs.Common.{sym, ◌∙◌, subst}
 use Rattle.pc_table.specs.Table.{table_of}
+use Rattle.pc_choose.specs.models.Giving.{IsGiven}
 use Rattle.pc_choose.proofs.FormsGiven.{given_pipelined, passed_over, not_tried}
 use Rattle.pc_choose.proofs.giving.form_for.Goals as goal
 
@@ -11,9 +12,10 @@ returns-then-not-may_pipeline c =
 
 pub returns-in-Fits : goal.returns-in-Fits
 returns-in-Fits c =
-    given_pipelined (table_of c.args.table.now) c.args.limits c.args.extent c.args.region c.args.others c.new-causes.result c.in_ok-automaton.field-0
+    subst (IsGiven (table_of c.args.table.now) c.args.limits c.args.extent c.args.region c.args.others) (sym c.given_as_automaton.ensures)
+    (given_pipelined (table_of c.args.table.now) c.args.limits c.args.extent c.args.region c.args.others c.new-causes.result c.in_ok-automaton.field-0
     c.in-Fits.automaton c.in-Fits.registers c.pipelined-kind.result c.in-Fits.bytes (sym c.may_pipeline.ensures ∙ c.if-not-may_pipeline.false)
-    c.new-causes.ensures c.in-Fits.is c.pipelined-kind.ensures c.in_ok-automaton.ensures
+    c.new-causes.ensures c.in-Fits.is c.pipelined-kind.ensures c.in_ok-automaton.ensures)
 
 pub returns-in_ok-tell-in-Refused : goal.returns-in_ok-tell-in-Refused
 returns-in_ok-tell-in-Refused c =

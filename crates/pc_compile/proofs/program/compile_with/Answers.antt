@@ -4,7 +4,7 @@ use Rattle.pc_check.specs.Checks.{resolved_of}
 use Rattle.pc_object.specs.ObjectText.{object_of}
 use Rattle.pc_machine.specs.WellFormed.{AreArrays}
 use Rattle.pc_table.specs.Table.{table_region, table_of}
-use Rattle.pc_emit.specs.Emitting.{forms_in}
+use Rattle.pc_emit.specs.Emitting.{region_forms}
 use Rattle.pc_choose.proofs.Emittable.{are_forms}
 use Rattle.pc_compile.proofs.Compilations.{are_arrays, all_plain_is_short, few_regions_in_all, is_compiled}
 use Rattle.pc_compile.proofs.program.compile_with.Goals as goal
@@ -34,7 +34,7 @@ object_of-requires-clause-forms g c =
     are_forms (table_of c.in_ok-table.table) c.in_ok-table.ensures.kept c.args.limits c.args.extent
     (all_plain_is_short (resolved_of c.args.checked.now) c.in_ok-flow.flow c.run_list.new.flow (table_of c.in_ok-table.table)
     c.in_ok-flow.ensures.lowered c.run_list.ensures.keeps c.in_ok-table.ensures.cut c.in_ok-table.ensures.kept)
-    c.in_ok-chosen.chosen.choices (forms_in c.in_ok-chosen.chosen.forms) c.in_ok-chosen.ensures.chosen
+    c.in_ok-chosen.chosen.choices (region_forms c.in_ok-chosen.chosen.forms) c.in_ok-chosen.ensures.chosen
 
 pub returns-clause-compiled : goal.returns-clause-compiled
 returns-clause-compiled g c =

@@ -1,6 +1,6 @@
 -- What each step leaves, put together.
 use Rattle.std.proofs.lemmas.Result.{err_from_is_err_and}
-use Rattle.std.proofs.Common.{◌<◌, ◌∙◌, length, refl, sym, arith}
+use Rattle.std.proofs.Common.{◌∙◌, refl, sym, arith}
 use Rattle.std.proofs.lemmas.List.{length-map}
 use Rattle.pc_check.specs.Checks.{resolved_of}
 use Rattle.pc_machine.specs.MachineCode.{row_of}
