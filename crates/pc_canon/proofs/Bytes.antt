@@ -145,21 +145,26 @@ module _ (bytes new : List ℕ) (at byte : ℕ) where
   pub short_set : byte < 128 → at < length bytes → new ≡ slice_set bytes at byte → take (at + 1) new ≡ take at bytes ++ natural_bytes byte
   short_set small h is = byte_set h is ∙ ap (λ (l : List ℕ). take at bytes ++ l) (sym (one_byte byte small))
 
+  -- what stands before it stays
   pub others_stay : new ≡ slice_set bytes at byte → take at new ≡ take at bytes
   others_stay is = ap (take at) is ∙ take-set bytes at byte
 
--- a byte that is put behind the others, with room behind it
+-- a byte is put behind the others, and then room is opened behind it
 module _ (bytes more new : List ℕ) (at byte : ℕ) where
+  -- all bytes stand before the place behind them
   seam : at ≡ length bytes → take at bytes ≡ bytes
   seam is = ap (λ (n : ℕ). take n bytes) is ∙ take-length bytes
 
+  -- and there is one more with it
   long : at ≡ length bytes → length (bytes ++ byte ∷ []) ≡ at + 1
   long is = length-append bytes (byte ∷ []) ∙ omega (arith, is)
 
+  -- it stands at its place
   pub byte_behind : at ≡ length bytes → more ≡ bytes ++ byte ∷ [] → take (length more) new ≡ more → take (at + 1) new ≡ take at bytes ++ byte ∷ []
   byte_behind is pushed opened =
       ap (λ (n : ℕ). take n new) (sym (long is) ∙ ap length (sym pushed)) ∙ opened ∙ pushed ∙ ap (λ (l : List ℕ). l ++ byte ∷ []) (sym (seam is))
 
+  -- and the others stay in front of it
   pub others_in_front : at ≡ length bytes → more ≡ bytes ++ byte ∷ [] → take (length more) new ≡ more → take at new ≡ take at bytes
   others_in_front is pushed opened =
       let within : at ≤ length more = omega (arith, long is, ap length pushed) in

@@ -44,11 +44,13 @@ SameColumns xs ys = (f : List ℤ → ℕ) → sum_by f xs ≡ sum_by f ys
 abbrev before_count : List ℤ → List ℤ → ℕ
 before_count y c = if stands_before c y then 1 else 0
 
+-- where none stands before a column, the sum is 0
 none_counted : (y : List ℤ) (columns : List (List ℤ)) → AllByRecursion (λ c. stands_before c y ≡ false) columns → sum_by (before_count y) columns ≡ 0
 none_counted y [] all = refl
 none_counted y (c ∷ columns) all =
     sum_by-cons (before_count y) c columns ∙ (λ i. (if all.0 i then 1 else 0) + none_counted y columns all.1 i)
 
+-- and what counts 0 does not stand before it
 not_counted : (b : Bool) (n : ℕ) → n ≡ (if b then 1 else 0) → n ≡ 0 → b ≡ false
 not_counted true n is e = absurd (omega (arith, is, e))
 not_counted false n is e = refl
@@ -81,6 +83,7 @@ abbrev counted : (List ℤ → ℕ) → List ℤ → ℕ
 counted f [] = 0
 counted f (z ∷ zs) = f (z ∷ zs)
 
+-- a column that is put in counts once more
 with_column-sum : (f : List ℤ → ℕ) (one : List ℤ) (columns : List (List ℤ)) → sum_by f (with_column one columns) ≡ f one + sum_by f columns
 with_column-sum f one [] = sum_by-cons f one []
 with_column-sum f one (other ∷ others) = by (stands_before other one) (with_column-sum f one others)
@@ -93,16 +96,19 @@ with_column-sum f one (other ∷ others) = by (stands_before other one) (with_co
         omega (arith, front, behind, rest)
     by false rest = sum_by-cons f one (other ∷ others)
 
+-- the same, unless it is empty
 with_occurring-sum : (f : List ℤ → ℕ) (one : List ℤ) (columns : List (List ℤ)) → sum_by f (with_occurring one columns) ≡ counted f one + sum_by f columns
 with_occurring-sum f [] columns = omega arith
 with_occurring-sum f (z ∷ zs) columns = with_column-sum f (z ∷ zs) columns
 
+-- what is counted of the columns that are not empty
 filter-sum : (f : List ℤ → ℕ) (columns : List (List ℤ)) → sum_by f (filter occurs columns) ≡ sum_by (counted f) columns
 filter-sum f [] = refl
 filter-sum f ([] ∷ columns) = filter-sum f columns
 filter-sum f ((z ∷ zs) ∷ columns) =
     sum_by-cons f (z ∷ zs) (filter occurs columns) ∙ ap (λ (n : ℕ). f (z ∷ zs) + n) (filter-sum f columns) ∙ sym (sum_by-cons (counted f) (z ∷ zs) columns)
 
+-- what is counted of the first columns, put in one by one
 below-sum : (f : List ℤ → ℕ) (columns : List (List ℤ)) (n : ℕ) → n ≤ length columns
     → sum_by f (columns_below (column_in columns) n) ≡ sum_by (counted f) (take n columns)
 below-sum f columns zero le = refl
