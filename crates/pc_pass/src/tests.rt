@@ -69,16 +69,61 @@ fn stop(alloc: Global) -> Result<Flow, Fail> {
     ))
 }
 
+/// Whether each pass has made so many changes.
+fn made_changes<P: Pass>(passes: &[P], wanted: &[u64]) -> bool {
+    if passes.len() != wanted.len() {
+        return false;
+    }
+    for at in 0..passes.len() {
+        if passes[at].changes() != wanted[at] {
+            return false;
+        }
+    }
+    true
+}
+
+/// Whether the second pass has this name.
+fn is_second_named<P: Pass>(passes: &[P], wanted: &str) -> bool {
+    match passes.get(1) {
+        None => false,
+        Some(pass) => pass.name() == wanted,
+    }
+}
+
+/// Idle passes that were applied so often.
+fn idle_passes(alloc: Global, applied: &[u64]) -> Result<Vec<Idle>, Fail> {
+    let mut passes = Vec::new(alloc);
+    for applied in applied {
+        passes.push(Idle { applied: *applied })?;
+    }
+    Ok(passes)
+}
+
+/// A boxed pass that leaves graphs as they are.
+fn boxed_idle(alloc: Global) -> Result<Box<dyn Pass>, Fail> {
+    Ok(Box::new(alloc, Idle { applied: 0 })?)
+}
+
+/// A boxed pass that fails.
+fn boxed_starved(alloc: Global) -> Result<Box<dyn Pass>, Fail> {
+    Ok(Box::new(alloc, Starved)?)
+}
+
+/// A pass that fails between two others.
+fn failing_between(alloc: Global) -> Result<Vec<Box<dyn Pass>>, Fail> {
+    let mut passes = Vec::new(alloc);
+    passes.push(boxed_idle(alloc)?)?;
+    passes.push(boxed_starved(alloc)?)?;
+    passes.push(boxed_idle(alloc)?)?;
+    Ok(passes)
+}
+
 #[test]
 fn each_pass_is_applied_once(rt: HostRuntime) -> Result<(), Fail> {
     let mut flow = stop(rt.alloc())?;
-    let mut passes = Vec::new(rt.alloc());
-    passes.push(Idle { applied: 0 })?;
-    passes.push(Idle { applied: 7 })?;
+    let mut passes = idle_passes(rt.alloc(), &[0, 7])?;
     run_list(&mut passes, &mut flow)?;
-    assert_eq!(rt; passes.len(), 2);
-    assert_eq!(rt; passes[0].changes(), 1);
-    assert_eq!(rt; passes[1].changes(), 8);
+    assert!(rt; made_changes(&passes, &[1, 8]));
     assert_eq!(rt; flow.node(0), FlowNode::Stop);
     Ok(())
 }
@@ -86,14 +131,10 @@ fn each_pass_is_applied_once(rt: HostRuntime) -> Result<(), Fail> {
 #[test]
 fn boxed_passes_run_up_to_the_first_that_fails(rt: HostRuntime) -> Result<(), Fail> {
     let mut flow = stop(rt.alloc())?;
-    let mut passes: Vec<Box<dyn Pass>> = Vec::new(rt.alloc());
-    passes.push(Box::new(rt.alloc(), Idle { applied: 0 })?)?;
-    passes.push(Box::new(rt.alloc(), Starved)?)?;
-    passes.push(Box::new(rt.alloc(), Idle { applied: 0 })?)?;
-    assert_eq!(rt; run_passes(&mut passes, &mut flow), Err(PassMemory));
-    assert_eq!(rt; passes.len(), 3);
-    assert_eq!(rt; passes[0].changes(), 1);
-    assert_eq!(rt; passes[1].name(), "starved");
-    assert_eq!(rt; passes[2].changes(), 0);
+    let mut passes = failing_between(rt.alloc())?;
+    let ran = run_passes(&mut passes, &mut flow);
+    assert_eq!(rt; ran, Err(PassMemory));
+    assert!(rt; made_changes(&passes, &[1, 0, 0]));
+    assert!(rt; is_second_named(&passes, "starved"));
     Ok(())
 }
