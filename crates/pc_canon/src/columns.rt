@@ -71,14 +71,14 @@ pub(crate) fn in_order(columns: Vec<Column>) -> Vec<Column>
     sorted
 }
 
-/// Whether a column is not empty.
+/// Whether a form variable occurs: its column is not empty.
 fn occurs(column: &[i64]) -> bool
     ensures { result ≡ occurs column.now }
 {
     !column.is_empty()
 }
 
-/// How a column comes with another: the greater one first.
+/// How two columns are ordered: the greater one stands first.
 fn in_turn(one: &[i64], other: &[i64]) -> Ordering
     ensures { is_lt result ≡ stands_before one.now other.now }
 {

@@ -92,8 +92,8 @@ fn put_in_node(alloc: Global, tree: &mut WindowTree, at_root: bool) -> Result<()
     Ok(())
 }
 
-/// What stands below an item that goes, as what stands in its place: no longer in a node of its own,
-/// where that is the root of one.
+/// What takes the place of an item that goes: the tree below it, taken out of its own node where the
+/// item stood at the root of one.
 fn lifted(tree: WindowTree, at_root: bool) -> WindowTree
     requires { InNodes false tree }
     ensures tree { tree_in result ≡ tree_in tree }
