@@ -61,7 +61,7 @@ no_unfinished (Unfinished a) (Unfinished b) e = refl
 pub no_leaf : (p q : WindowTree) → NodesBehind q → both_unfinished (front_in p) (front_in q) ≡ true → InNodes false q
 no_leaf p q h e = yes_leaf q p h (no_unfinished (front_in p) (front_in q) e)
 
--- both hold where one is taken for the other
+-- where `if a then b else false` is true, both are
 both_hold : (a b : Bool) → (if a then b else false) ≡ true → (a ≡ true) × (b ≡ true)
 both_hold true b e = (refl, e)
 both_hold false b e = absurd (cc)

@@ -6,7 +6,7 @@ pub mod Ways
 pub mod Marks
 pub mod Searching
 pub mod Plain
-pub mod Rises
+pub mod TagOrderKept
 pub mod Looked
 pub mod Walked
 pub mod WalkedFront

@@ -20,7 +20,7 @@ use Rattle.pc_fill.specs.models.Way.{Reaches, crosses_along, landed_along}
 use Rattle.pc_fill.specs.models.Walk.{found_at}
 use Rattle.pc_fill.proofs.Along.{crosses_reached, landed_reached}
 use Rattle.pc_fill.proofs.Twins.{FirstAlong}
-use Rattle.pc_fill.proofs.Rises.{come_rises}
+use Rattle.pc_fill.proofs.TagOrderKept.{come_in_order}
 
 -- ---- names
 
@@ -133,4 +133,4 @@ pub ruleset coming = (test_names)
 
 pub ruleset twinned = (item_twin, test_twin)
 
-pub ruleset jumping = (has_come, come_rises)
+pub ruleset jumping = (has_come, come_in_order)

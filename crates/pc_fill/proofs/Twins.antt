@@ -162,7 +162,7 @@ module _ (forms : ℕ → Form) (next tag origin : ℕ) (item : Item) where
   abbrev pub FirstAlong : Front → List Bool → Option ℕ → Type 0
   FirstAlong front sides found = (depth place : ℕ) → Reaches front sides depth place → FirstIn forms next tag origin item front place found
 
-  -- the same of a front and sides that are known to be so
+  -- the same of an equal front and equal sides
   pub known_so : (front front' : Front) (sides sides' : List Bool) (found : Option ℕ) → front ≡ front' → sides ≡ sides' → FirstAlong front' sides' found → FirstAlong front sides found
   known_so front front' sides sides' found e f h = subst (λ (it : Front). FirstAlong it sides found) (sym e) (subst (λ (l : List Bool). FirstAlong front' l found) (sym f) h)
 

@@ -27,9 +27,9 @@ use Rattle.pc_fill.specs.models.Walk.{placed, BestSoFar, LooksAt, LooksBehind, L
 use Rattle.pc_fill.proofs.Sides.{to_below, from_below, to_yes, from_yes, to_no, from_no, failed}
 use Rattle.pc_fill.proofs.Nodes.{stands_free}
 use Rattle.pc_fill.proofs.Searching.{best_behind, item_stands, rest_stands, test_stands, yes_stands, no_stands}
-use Rattle.pc_fill.specs.models.Rising.{Rising, passes_over}
+use Rattle.pc_fill.specs.models.TagOrder.{TagsInOrder, comes_later}
 use Rattle.pc_fill.proofs.Plain.{passed_plain}
-use Rattle.pc_fill.proofs.Rises.{rising_from, later_stays}
+use Rattle.pc_fill.proofs.TagOrderKept.{order_from, later_stays}
 
 -- ---- behind the front
 
@@ -37,9 +37,9 @@ module _ (s : Setting) (way : Path) (depth place : ℕ) where
   -- an item or test at the root
   root_way : (tree : Tree) (what : Option Item) → 0 < tree_size tree → MayRise (forms_of s) what tree 0 → ComesBehind s way depth place tree
       → MayComeHere s what place ↔ MayComeAlong (forms_of s) way what
-  root_way tree what some rises h =
+  root_way tree what some in_order h =
       let e : place + 0 ≡ place = omega arith in
-      (λ m. ((h.way what 0 some).0 (subst (MayComeHere s what) (sym e) m)).0, λ m. subst (MayComeHere s what) e ((h.way what 0 some).1 (m, rises)))
+      (λ m. ((h.way what 0 some).0 (subst (MayComeHere s what) (sym e) m)).0, λ m. subst (MayComeHere s what) e ((h.way what 0 some).1 (m, in_order)))
 
   root_leads : (tree : Tree) → Leads tree [] 0 0 → ComesBehind s way depth place tree → Reaches (front_in s.window.now.tree) (sides_of way) depth place
   root_leads tree leads h =
@@ -89,7 +89,7 @@ module _ (s : Setting) (way : Path) (depth place : ℕ) where
         (subst (λ (k : ℕ). Reaches (front_in s.window.now.tree) (sides_of way ++ sides) (suc depth + d) k) e
         (subst (λ (k : ℕ). Reaches (front_in s.window.now.tree) (sides_of way ++ sides) k (place + suc n)) f
         (h.leads sides (suc d) (suc n) (Below_item tag origin x rest sides d n l))));
-    rises = λ e. rising_from 0 tag rest (omega arith) (h.rises e).1;
+    in_order = λ e. order_from 0 tag rest (omega arith) (h.in_order e).1;
   }
 
 pub is_full : (b : Bool) (m n : ℕ) → (b ≡ true) ↔ (m < n) → b ≡ false → n ≤ m
@@ -134,7 +134,7 @@ module _ (s : Setting) (way : Path) (depth place : ℕ) (tag origin : ℕ) (on :
         subst (λ (it : List Bool). Reaches (front_in s.window.now.tree) it (depth + d) (suc place + n)) (turned (sides_of below) (sides_of way) sides true turns)
         (subst (λ (k : ℕ). Reaches (front_in s.window.now.tree) (sides_of way ++ (true ∷ sides)) (depth + d) k) e
         (h.leads (true ∷ sides) d (suc n) (On_yes_side tag origin on p q sides d n l)));
-    rises = λ e. rising_from 0 tag p (omega arith) (h.rises e).1;
+    in_order = λ e. order_from 0 tag p (omega arith) (h.in_order e).1;
   }
 
   -- on its no side
@@ -159,7 +159,7 @@ module _ (s : Setting) (way : Path) (depth place : ℕ) (tag origin : ℕ) (on :
         subst (λ (it : List Bool). Reaches (front_in s.window.now.tree) it (depth + d) (suc place + tree_size p + n)) (turned (sides_of below) (sides_of way) sides false turns)
         (subst (λ (k : ℕ). Reaches (front_in s.window.now.tree) (sides_of way ++ (false ∷ sides)) (depth + d) k) e
         (h.leads (false ∷ sides) d (suc (tree_size p + n)) (On_no_side tag origin on p q sides d n l)));
-    rises = λ e. rising_from 0 tag q (omega arith) (h.rises e).2;
+    in_order = λ e. order_from 0 tag q (omega arith) (h.in_order e).2;
   }
 
   -- nothing is ready there where items have no room
@@ -190,24 +190,24 @@ pub looked_at_none : (s : Setting) (way : Path) (depth : ℕ) (tree : Tree) (sea
 looked_at_none s way depth tree search none = record { on = λ set place comes best. moved s search place (place + tree_size tree) (omega arith) best }
 
 -- all of it comes later than what was found
-module _ (s : Setting) (way : Path) (depth : ℕ) (tree : Tree) (tag origin : ℕ) (search : Search) (b : Bool) (is_later : b ≡ passes_over s.rising search.best tag) (later : b ≡ true) where
-  left_out : (place : ℕ) → ComesBehind s way depth place tree → (s.rising ≡ true → Rising tag tree) → BestSoFar s place search → BestSoFar s (place + tree_size tree) search
-  left_out place comes rises best = record {
+module _ (s : Setting) (way : Path) (depth : ℕ) (tree : Tree) (tag origin : ℕ) (search : Search) (b : Bool) (is_later : b ≡ comes_later s.in_order search.best tag) (later : b ≡ true) where
+  left_out : (place : ℕ) → ComesBehind s way depth place tree → (s.in_order ≡ true → TagsInOrder tag tree) → BestSoFar s place search → BestSoFar s (place + tree_size tree) search
+  left_out place comes in_order best = record {
     at = best.at;
-    best = later_stays s place tree comes.stands search.best best.at tag (sym is_later ∙ later) rises best.best;
+    best = later_stays s place tree comes.stands search.best best.at tag (sym is_later ∙ later) in_order best.best;
     way = best.way;
   }
 
   pub item_left_out : (x : Item) (rest : Tree) → tree ≡ Pending tag origin x rest → LooksBehind s way depth tree search search
   item_left_out x rest is = record {
     on = λ set place comes best.
-        left_out place comes (λ e. subst (Rising tag) (sym is) (omega arith, (subst (Rising 0) is (comes.rises e)).1)) best;
+        left_out place comes (λ e. subst (TagsInOrder tag) (sym is) (omega arith, (subst (TagsInOrder 0) is (comes.in_order e)).1)) best;
   }
 
   pub test_left_out : (on : Operand) (p q : Tree) → tree ≡ Undecided tag origin on p q → LooksBehind s way depth tree search search
   test_left_out on p q is = record {
     on = λ set place comes best.
-        left_out place comes (λ e. let h = subst (Rising 0) is (comes.rises e) in subst (Rising tag) (sym is) (omega arith, h.1, h.2)) best;
+        left_out place comes (λ e. let h = subst (TagsInOrder 0) is (comes.in_order e) in subst (TagsInOrder tag) (sym is) (omega arith, h.1, h.2)) best;
   }
 
 -- below an item

@@ -54,7 +54,7 @@ module _ (s : Setting) (way : Path) (place : ℕ) (tag origin : ℕ) (x : Item) 
         let e : place + suc n ≡ suc place + n = omega arith in
         subst (λ (it : List Bool). Reaches (front_in s.window.now.tree) (it ++ sides) d (suc place + n)) (sym same)
         (subst (λ (k : ℕ). Reaches (front_in s.window.now.tree) (sides_of way ++ sides) d k) e (h.leads sides d (suc n) (Behind_item tag origin x front_rest sides d n l)));
-    rises = h.rises;
+    in_order = h.in_order;
   }
 
   -- the item itself is not ready
@@ -103,7 +103,7 @@ module _ (s : Setting) (way : Path) (place : ℕ) (tag origin : ℕ) (on : Opera
             subst (λ (it : List Bool). Reaches (front_in s.window.now.tree) it d (suc place + n)) (turned (sides_of below) (sides_of way) sides true turns)
             (subst (λ (k : ℕ). Reaches (front_in s.window.now.tree) (sides_of way ++ (true ∷ sides)) d k) e
             (h.leads (true ∷ sides) d (suc n) (Behind_yes tag origin on on_yes on_no sides d n l)));
-        rises = λ e. (h.rises e).0;
+        in_order = λ e. (h.in_order e).0;
       }
 
   -- on its no side
@@ -134,7 +134,7 @@ module _ (s : Setting) (way : Path) (place : ℕ) (tag origin : ℕ) (on : Opera
             subst (λ (it : List Bool). Reaches (front_in s.window.now.tree) it d (suc place + tree_size p + n)) (turned (sides_of below) (sides_of way) sides false turns)
             (subst (λ (k : ℕ). Reaches (front_in s.window.now.tree) (sides_of way ++ (false ∷ sides)) d k) e
             (h.leads (false ∷ sides) d (suc (tree_size (whole on_yes) + n)) (Behind_no tag origin on on_yes on_no sides d n l)));
-        rises = λ e. (h.rises e).1;
+        in_order = λ e. (h.in_order e).1;
       }
 
   -- the test itself is not ready
@@ -154,7 +154,7 @@ same_best : (s : Setting) (search : Search) (m n : ℕ)
     → BestSoFar s m search → BestSoFar s n search
 same_best s search m n on h = record { at = h.at; best = on (placed search.best h.at) h.best; way = h.way }
 
--- behind the last of it
+-- at a leaf of the front
 pub went_behind : (s : Setting) (way : Path) (tree rest : Tree) (front : Front) (before after : Search) → tree ≡ rest → front ≡ Unfinished rest
     → LooksBehind s way 0 rest before after → LooksThrough s way tree front before after
 went_behind s way tree rest front before after is is_front looks = record {
@@ -168,7 +168,7 @@ went_behind s way tree rest front before after is is_front looks = record {
         leads = λ sides d n l.
             let e : d ≡ 0 + d = omega arith in
             subst (λ (k : ℕ). Reaches (front_in s.window.now.tree) (sides_of way ++ sides) k (place + n)) e (here.leads sides d n (Behind_leaf rest sides d n l));
-        rises = here.rises;
+        in_order = here.in_order;
       }) best);
 }
 
@@ -218,7 +218,7 @@ from_root s set = record {
       let e : 0 + k ≡ k = omega arith in
       (λ m. (tt, subst (MayComeHere s what) e m), λ m. subst (MayComeHere s what) (sym e) m.1);
   leads = λ sides d k l. let e : k ≡ 0 + k = omega arith in subst (λ (n : ℕ). Reaches (front_in s.window.now.tree) sides d n) e l;
-  rises = set.rises;
+  in_order = set.in_order;
 }
 
 -- what is found in it is the first of all

@@ -7,7 +7,7 @@ pub mod Search
 pub mod Taking
 pub mod Landing
 pub mod Way
-pub mod Rising
+pub mod TagOrder
 pub mod Walk
 pub mod CanFill
 pub mod Conflicts

@@ -5,7 +5,7 @@ ghost use Rattle.pc_window.specs.Filled.{Filled};
 ghost use Rattle.pc_window.specs.Kept.{FillKeeps};
 ghost use Rattle.pc_window.specs.Steps.{IsProper, FillsTo};
 ghost use Rattle.pc_window.specs.StoredWindow.{front_in, window_in};
-ghost use Rattle.pc_fill.specs.models.Rising.{RisesBehind};
+ghost use Rattle.pc_fill.specs.models.TagOrder.{TagsInOrderBehind};
 ghost use Rattle.pc_fill.specs.Fillable.{IsFillable, FilledFrom, above_front};
 ghost use Rattle.pc_fill.specs.models.Places.{known_in};
 ghost use Rattle.pc_fill.specs.models.CanFill.{CanFill, GrowsTo};
@@ -13,7 +13,7 @@ ghost use Rattle.pc_fill.specs.models.CanFill.{CanFill, GrowsTo};
 use crate::first::first_known;
 use crate::jump::jump;
 use crate::known::parameters;
-use crate::rising::rises_behind;
+use crate::tag_order::are_tags_in_order_behind;
 use pc_window::{Window, WindowError};
 use pc_word::Limits;
 use std::alloc::{AllocError, Global};
@@ -32,8 +32,8 @@ pub fn fill(alloc: Global, window: Window) -> Result<Window, WindowError>
     let most = most_in_front(window.limits);
     let few = most < 511;
     prove!(few);
-    let rising = rises_behind(&window.tree);
-    let filled = fill_on(alloc, window, &known, rising)?;
+    let in_order = are_tags_in_order_behind(&window.tree);
+    let filled = fill_on(alloc, window, &known, in_order)?;
     Ok(filled)
 }
 
@@ -45,24 +45,24 @@ fn most_in_front(limits: Limits) -> u32
     limits.ops as u32 + limits.tests as u32
 }
 
-/// Goes on filling a window, where these names are known before it, and tags are said to rise behind
-/// its front or not.
+/// Goes on filling a window, where these names are known before it, and tags are said never to fall
+/// behind its front, or nothing is said of them.
 fn fill_on(
     alloc: Global,
     window: Window,
     known: &[bool],
-    rising: bool,
+    in_order: bool,
 ) -> Result<Window, AllocError>
     requires can { CanFill (known_in known.now) window }
-    requires rises { rising ≡ true → RisesBehind (front_in window.tree) }
+    requires in_order { in_order ≡ true → TagsInOrderBehind (front_in window.tree) }
     ensures fills { IfOk result (λ later. Filled (known_in known.now) (window_in window) (window_in later)) }
     ensures grows { IfOk result (λ later. GrowsTo window later) }
 {
-    let search = first_known(alloc, &window, known, rising)?;
+    let search = first_known(alloc, &window, known, in_order)?;
     let Some(found) = search.best else {
         return Ok(window);
     };
     let next = jump(alloc, window, found, &search.way)?;
     std::mem::drop(search);
-    fill_on(alloc, next, known, rising)
+    fill_on(alloc, next, known, in_order)
 }

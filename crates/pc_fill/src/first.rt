@@ -11,7 +11,7 @@ ghost use Rattle.pc_fill.specs.models.Places.{known_in, MayPass, MayCross};
 ghost use Rattle.pc_fill.specs.models.Search.{comes_before};
 ghost use Rattle.pc_fill.specs.models.Path.{sides_of};
 ghost use Rattle.pc_fill.specs.models.Walk.{forms_of, IsReadyThere, placed, place_found, LooksAt, LooksBehind, LooksBelow, LooksThrough, FindsFirst};
-ghost use Rattle.pc_fill.specs.models.Rising.{RisesBehind, passes_over};
+ghost use Rattle.pc_fill.specs.models.TagOrder.{TagsInOrderBehind, comes_later};
 
 use crate::known::{is_known, parameters, reads_known};
 use crate::path::{Path, is_plain, may_come_along, write_sides};
@@ -38,11 +38,11 @@ pub(crate) struct Setting<'a> {
     pub(crate) window: &'a Window,
     pub(crate) known: &'a [bool],
     pub(crate) counts: Counts,
-    pub(crate) rising: bool,
+    pub(crate) in_order: bool,
 }
 
-/// The same where a way leads to it: how many items stand above it behind the front, in place of its
-/// preorder place.
+/// What a search found, by the way that leads to it: its tag and its origin, how many items stand
+/// above it behind the front, and the item, or `None` where it is a test.
 #[derive(Clone, Copy, Debug)]
 pub(crate) struct Found {
     pub(crate) tag: u32,
@@ -167,22 +167,21 @@ fn look_at_test(
     keep(search, path, found)
 }
 
-/// Whether all that stands below an item or test of this tag, and this one too, comes later than
+/// Whether an item or test of this tag, and all that stands below it, is known to come later than
 /// what was found.
-fn comes_later(rising: bool, best: Option<Found>, tag: u32) -> bool
-    ensures { result ≡ passes_over rising best tag }
+fn comes_later(in_order: bool, best: Option<Found>, tag: u32) -> bool
+    ensures { result ≡ comes_later in_order best tag }
 {
     match best {
         None => false,
-        Some(best) => rising && best.tag < tag,
+        Some(best) => in_order && best.tag < tag,
     }
 }
 
-/// What is found once each item and test of a tree behind the front was looked at, below so many
-/// items.
+/// What is found once a tree behind the front was looked through, below so many items.
 ///
-/// Nothing below a test is ready where items have no room, since a test may not come up above
-/// another one.
+/// What comes later than what was found, with all below it, is passed over. Nothing below a test is
+/// ready where items have no room, since a test may not come up above another one.
 #[cycle(looking)]
 #[tactic(auto, using(crate::proofs::Walked::walking))]
 fn look_behind(
@@ -202,7 +201,7 @@ fn look_behind(
             item,
             rest,
         } => {
-            if comes_later(setting.rising, search.best, *tag) {
+            if comes_later(setting.in_order, search.best, *tag) {
                 return Ok(());
             }
             look_at_item(setting, path, search, *tag, *origin, depth, *item)?;
@@ -215,7 +214,7 @@ fn look_behind(
             yes,
             no,
         } => {
-            if comes_later(setting.rising, search.best, *tag) {
+            if comes_later(setting.in_order, search.best, *tag) {
                 return Ok(());
             }
             look_at_test(setting, path, search, *tag, *origin, depth, *on)?;
@@ -351,22 +350,22 @@ fn placed(tree: &WindowTree, search: &Search) -> Option<ReadyNode>
 }
 
 /// The first of all, and the way to it, where these names are known before the window, and tags are
-/// said to rise behind its front or not.
+/// said never to fall behind its front, or nothing is said of them.
 pub(crate) fn first_known(
     alloc: Global,
     window: &Window,
     known: &[bool],
-    rising: bool,
+    in_order: bool,
 ) -> Result<Search, AllocError>
     requires small { tree_size (tree_in window.now.tree) < 2 ^ 31 }
-    requires rises { rising ≡ true → RisesBehind (front_in window.now.tree) }
+    requires in_order { in_order ≡ true → TagsInOrderBehind (front_in window.now.tree) }
     ensures { IfOk result (λ search. FindsFirst (known_in known.now) (window_in window.now) search.best search.way.items) }
 {
     let setting = Setting {
         window,
         known,
         counts: count_front(&window.tree),
-        rising,
+        in_order,
     };
     let mut search = Search {
         best: None,

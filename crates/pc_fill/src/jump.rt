@@ -7,7 +7,7 @@ ghost use Rattle.pc_window.specs.StoredWindow.{tree_in, front_in, forms_in, supp
 ghost use Rattle.pc_fill.specs.models.Landing.{came, new_name, FirstTwinOf, HasCome};
 ghost use Rattle.pc_fill.specs.models.Way.{Reaches, some_sides, crosses_along};
 ghost use Rattle.pc_fill.specs.models.Walk.{found_at};
-ghost use Rattle.pc_fill.specs.models.Rising.{RisesBehind};
+ghost use Rattle.pc_fill.specs.models.TagOrder.{TagsInOrderBehind};
 
 use crate::first::Found;
 use crate::landing::{Coming, land};
@@ -167,7 +167,7 @@ pub(crate) fn jump(
     requires variables { window.names.next_variable < 2 ^ 31 }
     ensures come { (place : ℕ) → Reaches (front_in window.tree) way.now found.depth place → IfOk result (λ later. HasCome (window_in window) (found_at found place) (window_in later)) }
     ensures nodes { IfOk result (λ later. NodesBehind later.tree) }
-    ensures rises { RisesBehind (front_in window.tree) → IfOk result (λ later. RisesBehind (front_in later.tree)) }
+    ensures in_order { TagsInOrderBehind (front_in window.tree) → IfOk result (λ later. TagsInOrderBehind (front_in later.tree)) }
     ensures count { IfOk result (λ later. length later.names.forms ≤ length window.names.forms + 1) }
     ensures variables { IfOk result (λ later. later.names.next_variable ≤ window.names.next_variable + 1) }
 {

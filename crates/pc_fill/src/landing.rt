@@ -131,8 +131,8 @@ fn joins_at(twin: Option<u32>, tree: &WindowTree, way: &[bool]) -> bool
     }
 }
 
-/// An item that stands on both sides of a test, where a way leads and at a place, becomes one above
-/// it.
+/// An item that stands on the yes side of a test, where a way leads, and on the no side, at the place
+/// of its twin, becomes one above the test.
 #[tactic(auto, using(crate::proofs::Landed::landing))]
 fn above(
     alloc: Global,

@@ -10,8 +10,8 @@ mod landing;
 mod laws;
 mod path;
 mod readiness;
-mod rising;
 mod room;
+mod tag_order;
 mod taking;
 #[cfg(test)]
 mod tests;

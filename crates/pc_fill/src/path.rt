@@ -9,8 +9,8 @@ use pc_window::NameTable;
 use pc_word::Item;
 use std::alloc::AllocError;
 
-/// What an item or test meets on its way from a place up to the root of the window, but for plain
-/// items, which let everything pass, and the sides of tests that lead there, yes where they are
+/// What an item or test meets on its way from a place up to the root of the window, without plain
+/// items, which let everything pass; and the sides of the tests that lead there, yes where they are
 /// true. It lies on the stack of the walk that goes down to the place.
 #[derive(Drop)]
 pub(crate) enum Path<'a> {

@@ -1,4 +1,5 @@
-//! The place where a way leads.
+//! Ways: the side that is taken at each test above an item or test, from the root down, yes where it
+//! is true. A way, and the number of items that stand above it behind the front, lead to one place.
 ghost use Rattle.std.specs.Prelude.{◌≡◌, ◌≤◌, ◌<◌, ◌^◌};
 ghost use Rattle.pc_window.specs.Tree.{tree_size};
 ghost use Rattle.pc_window.specs.StoredWindow.{tree_in, front_in};

@@ -18,7 +18,7 @@ use Rattle.pc_fill.specs.declared.path.Path.{Path}
 use Rattle.pc_fill.specs.models.Path.{MayComeAlong, sides_of, LeadsOn}
 use Rattle.pc_fill.specs.models.Places.{Node, nodes_of, known_in, MayRise, MayComeFrom}
 use Rattle.pc_fill.specs.models.Search.{AreCounts, HasRoom, StandsAt, BestBefore}
-use Rattle.pc_fill.specs.models.Rising.{Rising, RisesBehind}
+use Rattle.pc_fill.specs.models.TagOrder.{TagsInOrder, TagsInOrderBehind}
 use Rattle.pc_fill.specs.models.Way.{Leads, Reaches, place_behind}
 
 -- ---- the window that is looked through
@@ -33,10 +33,10 @@ forms_of s = forms_in s.window.now.names.forms
 abbrev pub MayComeHere : Setting → Option Item → ℕ → Type 0
 MayComeHere s what place = MayComeFrom (forms_of s) what (front_in s.window.now.tree) place
 
--- the counts are those of its front; where tags are said to rise behind it, they do
+-- the counts are those of its front; where tags are said never to fall behind it, they do not
 pub record IsSetting (s : Setting) : Type 0 where
   pub counts : AreCounts s.counts (front_in s.window.now.tree)
-  pub rises : s.rising ≡ true → RisesBehind (front_in s.window.now.tree)
+  pub in_order : s.in_order ≡ true → TagsInOrderBehind (front_in s.window.now.tree)
 
 -- ---- what was found
 
@@ -44,6 +44,7 @@ pub record IsSetting (s : Setting) : Type 0 where
 abbrev pub found_at : Found → ℕ → ReadyNode
 found_at it place = record { tag = it.tag; origin = it.origin; place = place; item = it.item }
 
+-- the same, if anything was found
 abbrev pub placed : Option Found → ℕ → Option ReadyNode
 placed (Some it) place = Some (found_at it place)
 placed None place = None
@@ -64,7 +65,7 @@ pub record BestSoFar (s : Setting) (place : ℕ) (search : Search) : Type 0 wher
   pub best : BestBefore (known_in s.known.now) (window_in s.window.now) place (placed search.best at)
   pub way : LeadsToFound (front_in s.window.now.tree) search.best search.way.items at
 
--- it is the first of all; or nothing is ready
+-- a way leads to what was found, and it is the first of all; or nothing is ready
 abbrev pub FindsFirst : (known : ℕ → Bool) → Window → Option Found → List Bool → Type 0
 FindsFirst known w (Some it) way = (place : ℕ) × Reaches w.front way it.depth place × IsFirstReady known w (found_at it place)
 FindsFirst known w None way = ReadyPlace known w → ⊥
@@ -88,14 +89,14 @@ pub record ComesBehind (s : Setting) (path : Path) (depth place : ℕ) (tree : T
   pub stands : StandsAt tree place (all_in s)
   pub way : (what : Option Item) (k : ℕ) → k < tree_size tree → MayComeHere s what (place + k) ↔ (MayComeAlong (forms_of s) path what × MayRise (forms_of s) what tree k)
   pub leads : (sides : List Bool) (d k : ℕ) → Leads tree sides d k → Reaches (front_in s.window.now.tree) (sides_of path ++ sides) (depth + d) (place + k)
-  pub rises : s.rising ≡ true → Rising 0 tree
+  pub in_order : s.in_order ≡ true → TagsInOrder 0 tree
 
 -- a path leads to a part of the front and what stands behind it, from a place on
 pub record ComesInFront (s : Setting) (path : Path) (place : ℕ) (tree : Tree) (front : Front) : Type 0 where
   pub stands : StandsAt tree place (all_in s)
   pub way : (what : Option Item) (k : ℕ) → k < tree_size tree → MayComeHere s what (place + k) ↔ (MayComeAlong (forms_of s) path what × MayComeFrom (forms_of s) what front k)
   pub leads : (sides : List Bool) (d k : ℕ) → Reaches front sides d k → Reaches (front_in s.window.now.tree) (sides_of path ++ sides) d (place + k)
-  pub rises : s.rising ≡ true → RisesBehind front
+  pub in_order : s.in_order ≡ true → TagsInOrderBehind front
 
 -- ---- looking
 

@@ -11,7 +11,7 @@ use Rattle.pc_fill.proofs.Jumps.{filling_small, names_left, is_full, less_room, 
 use Rattle.pc_fill.proofs.filling.+fill_on.Goals as goal
 
 pub first_known-requires : goal.first_known-requires
-first_known-requires t c = record { small = filling_small (known_in c.args.known.now) c.args.window c.requires.can; rises = c.requires.rises }
+first_known-requires t c = record { small = filling_small (known_in c.args.known.now) c.args.window c.requires.can; in_order = c.requires.in_order }
 
 pub returns-in_default-clause-fills : goal.returns-in_default-clause-fills
 returns-in_default-clause-fills t c =
@@ -33,7 +33,7 @@ fill_on-requires t c =
     let ready = found_at c.in-Some.found first.0 in
     let come = came.come first.0 first.1 in (
       less_room known w c.requires.can ready first.2 next come c.decreases,
-      (can_go_on known w c.requires.can ready first.2 next come came.nodes came.count came.variables, λ e. came.rises (c.requires.rises e)),
+      (can_go_on known w c.requires.can ready first.2 next come came.nodes came.count came.variables, λ e. came.in_order (c.requires.in_order e)),
     )
 
 pub returns-clause-fills : goal.returns-clause-fills

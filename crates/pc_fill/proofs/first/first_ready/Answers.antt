@@ -6,7 +6,7 @@ use Rattle.pc_fill.proofs.WalkedFront.{first_placed}
 use Rattle.pc_fill.proofs.first.first_ready.Goals as goal
 
 pub first_known-requires : goal.first_known-requires
-first_known-requires c = record { small = subst (λ (t : Tree). tree_size t < 2 ^ 31) (whole_in c.args.window.now.tree) c.requires.small; rises = λ e. absurd (cc) }
+first_known-requires c = record { small = subst (λ (t : Tree). tree_size t < 2 ^ 31) (whole_in c.args.window.now.tree) c.requires.small; in_order = λ e. absurd (cc) }
 
 pub placed-requires : goal.placed-requires
 placed-requires c = subst (λ (t : Tree). tree_size t < 2 ^ 31) (whole_in c.args.window.now.tree) c.requires.small
