@@ -7,7 +7,7 @@ use Rattle.std.proofs.Math.IntN.{+ℤ_idr, +ℤ_one, -ℤ_one, suc_ℤ-+ℤ, pre
 use Rattle.std.proofs.lemmas.Bool.{eqb-true, eq-eqb}
 use Rattle.pc_word.proofs.Truth.{or_false}
 use Rattle.pc_linear.specs.declared.term.Term.{Term}
-use Rattle.pc_linear.specs.Form.{Form, factor_in, factor_of, sum_of, number_of, ◌≈◌, Means, says}
+use Rattle.pc_linear.specs.Form.{Form, factor_in, factor_of, sum_of, form_number, ◌≈◌, Means, says}
 use Rattle.pc_canon.specs.Pairs.{Pair, ones, others}
 use Rattle.pc_canon.specs.Shift.{OneToOne, EachPair, has_terms, FormsAlike}
 use Rattle.pc_canon.proofs.Membership.{has, Distinct, has_is, distinct_from}
@@ -170,7 +170,7 @@ over_pairs words words' f g (pair ∷ pairs) h k =
 
 -- forms that are alike have one value, where corresponding variables have the same words
 pub value_alike : (pairs : List Pair) (words words' : ℕ → ℤ) (f g : Form) → OneToOne pairs
-    → EachPair pairs (λ x y. words x ≡ words' y) → FormsAlike pairs f g → number_of words f ≈ number_of words' g
+    → EachPair pairs (λ x y. words x ≡ words' y) → FormsAlike pairs f g → form_number words f ≈ form_number words' g
 value_alike pairs words words' f g distinct same h =
     let sums : sum_of words f.terms ≡ sum_of words' g.terms =
     sym (covered words f.terms (ones pairs) (distinct_from (ones pairs) distinct.ones_differ) (λ x e. h.no_more x (sym (has_is (ones pairs) x) ∙ e)))

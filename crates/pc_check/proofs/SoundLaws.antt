@@ -20,7 +20,7 @@ use Rattle.pc_check.specs.Names.{Names, no_names, found, found_in, entered, left
 use Rattle.pc_check.specs.Faults.{scalar_use, array_use, expression_faults, optional_faults, depth_faults, fault_if, measured_faults, scalar_faults}
 use Rattle.pc_check.specs.Faults.{names_behind, names_behind_optional, names_behind_list, target_use, statement_faults, branch_faults}
 use Rattle.pc_check.specs.Faults.{list_faults}
-use Rattle.pc_check.specs.Resolution.{number_of, slot_number, resolved_expression, resolved_optional, resolved_statement, resolved_branch, resolved_list}
+use Rattle.pc_check.specs.Resolution.{number_in_slot, slot_number, resolved_expression, resolved_optional, resolved_statement, resolved_branch, resolved_list}
 use Rattle.pc_check.specs.Sound.{has_slots, optional_has_slots, is_measured, has_target, is_sound, branch_is_sound, list_is_sound}
 
 -- ---- resolving changes no need
@@ -256,12 +256,12 @@ mutual
 
 -- ---- expressions
 
-ok_scalar : (o : Option Slot) (line scalars arrays : ℕ) → scalar_use o line ≡ [] → SlotFits scalars arrays o → nat_lt (number_of o) scalars ≡ true
+ok_scalar : (o : Option Slot) (line scalars arrays : ℕ) → scalar_use o line ≡ [] → SlotFits scalars arrays o → nat_lt (number_in_slot o) scalars ≡ true
 ok_scalar None line scalars arrays none is = cc
 ok_scalar (Some (slot.Scalar number)) line scalars arrays none is = grind arith
 ok_scalar (Some (slot.Array number)) line scalars arrays none is = cc
 
-ok_array : (o : Option Slot) (line scalars arrays : ℕ) → array_use o line ≡ [] → SlotFits scalars arrays o → nat_lt (number_of o) arrays ≡ true
+ok_array : (o : Option Slot) (line scalars arrays : ℕ) → array_use o line ≡ [] → SlotFits scalars arrays o → nat_lt (number_in_slot o) arrays ≡ true
 ok_array None line scalars arrays none is = cc
 ok_array (Some (slot.Scalar number)) line scalars arrays none is = cc
 ok_array (Some (slot.Array number)) line scalars arrays none is = grind arith

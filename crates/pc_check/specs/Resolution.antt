@@ -10,14 +10,14 @@ use Rattle.pc_check.specs.Names.{Names, no_names, found, entered, with_scalar}
 use Rattle.pc_check.specs.Faults.{names_behind, names_behind_optional, names_behind_list}
 
 -- the number of a slot, among the scalars or among the arrays; 0 where a name is not declared
-abbrev pub number_of : Option Slot → ℕ
-number_of None = 0
-number_of (Some (slot.Scalar number)) = number
-number_of (Some (slot.Array number)) = number
+abbrev pub number_in_slot : Option Slot → ℕ
+number_in_slot None = 0
+number_in_slot (Some (slot.Scalar number)) = number
+number_in_slot (Some (slot.Array number)) = number
 
 -- the number that a name stands for
 abbrev pub slot_number : Names → ℕ → ℕ
-slot_number names symbol = number_of (found names symbol)
+slot_number names symbol = number_in_slot (found names symbol)
 
 -- an expression with numbers for names
 unfoldable pub resolved_expression : Names → SourceExpression → SourceExpression

@@ -2,7 +2,7 @@ ghost use Rattle.std.specs.Prelude.{◌≡◌, ◌<◌, true, [], OnOk, IfOk, If
 ghost use Rattle.pc_syntax.specs.Erasure.{expression_of};
 ghost use Rattle.pc_check.specs.Names.{found};
 ghost use Rattle.pc_check.specs.Faults.{scalar_use, array_use, expression_faults, optional_faults};
-ghost use Rattle.pc_check.specs.Resolution.{number_of, slot_number, resolved_expression};
+ghost use Rattle.pc_check.specs.Resolution.{number_in_slot, slot_number, resolved_expression};
 ghost use Rattle.pc_check.specs.models.Resolves.{IsFirst, ExpressionResolves, OptionalResolves};
 ghost use Rattle.pc_check.specs.models.Parts.{is_named, is_binary};
 ghost use Rattle.pc_check.specs.models.View.{names_of};

@@ -8,7 +8,7 @@ use Rattle.pc_word.specs.declared.item.Extent.{Extent}
 use Rattle.pc_word.specs.declared.item.Limits.{Limits}
 use Rattle.pc_word.specs.declared.loop_mark.LoopMark.{LoopMark}
 use Rattle.pc_word.specs.MachineLimits.{most_arrays, most_elements, most_length, most_object}
-use Rattle.pc_word.specs.Run.{Run, AgreeOnInputs}
+use Rattle.pc_word.specs.Run.{Run, AgreeOnInputs, NeverFaults}
 use Rattle.pc_word.specs.Word.{IsWord}
 use Rattle.pc_word.specs.SourceLimits.{most_nodes}
 use Rattle.pc_word.proofs.Runs.{AgreeOnInputs-sym, AgreeOnInputs-trans}
@@ -35,7 +35,6 @@ use Rattle.pc_table.specs.Table.{Table}
 use Rattle.pc_table.specs.TableKeeps.{TableKeeps}
 use Rattle.pc_table.specs.RegionRun.{table_run}
 use Rattle.pc_regions.specs.Cut.{IsCutOf}
-use Rattle.pc_window.specs.Kept.{NeverFaults}
 use Rattle.pc_window.proofs.Paces.{NeverFaults-follows}
 use Rattle.pc_emit.specs.declared.form.RegionForm.{RegionForm as StoredForm}
 use Rattle.pc_emit.specs.Bytes.{object_bytes}

@@ -5,11 +5,11 @@ use Rattle.std.specs.List.{AllByRecursion}
 use Rattle.pc_word.specs.declared.item.Limits.{Limits}
 use Rattle.pc_word.specs.State.{State, start_state}
 use Rattle.pc_word.specs.Row.{Row, Then, Either, At_leaf, row_step}
-use Rattle.pc_word.specs.Run.{Seen, Answers, Agree, run_from}
+use Rattle.pc_word.specs.Run.{Seen, Answers, Agree, run_from, NeverFaults}
 use Rattle.pc_table.specs.Table.{TableTree, Table, TableRegion, Next, tree_of, region_tree}
 use Rattle.pc_table.specs.RegionRun.{region_step, region_run}
 use Rattle.pc_table.specs.TableKeeps.{TableKeeps, ComesUntested, By_one, By_more, untested}
-use Rattle.pc_window.specs.Kept.{NeverFaults, HasItems}
+use Rattle.pc_window.specs.Kept.{HasItems}
 use Rattle.pc_window.specs.Rebasing.{is_in}
 use Rattle.pc_window.specs.Unwinding.{or_zero}
 use Rattle.pc_window.proofs.Paces.{answer_of_answer, NeverFaults-follows}

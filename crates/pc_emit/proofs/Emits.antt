@@ -24,7 +24,7 @@ use Rattle.pc_emit.specs.Emitted.{RegionForm, Plain, Packed, root_leaf, form_lea
 use Rattle.pc_emit.specs.Emitting.{form_in, region_forms, CanHave, AreEmitted, AreForms}
 use Rattle.pc_emit.specs.declared.output.Output.{Output}
 use Rattle.pc_emit.specs.declared.plan.Plan.{Plan}
-use Rattle.pc_emit.specs.models.Output.{bytes_of, Stays, Grows, EachCopy}
+use Rattle.pc_emit.specs.models.Output.{bytes_of, Stays, OutputGrows, EachCopy}
 use Rattle.pc_emit.specs.models.Layout.{rows_in, leaf_alone, front_rows, all_rows, entries_from, AreEntries, table_in, forms_at, emission_in, rows_end, IsPlan}
 use Rattle.pc_emit.specs.models.Making.{bytes_in, IsOnTheWay, RowsReached, RegionMade, RegionsMade}
 use Rattle.pc_emit.proofs.Entries.{form_within, region_target}
@@ -197,7 +197,7 @@ front_less f (region ∷ regions) some =
 
 -- the rows of the first regions were put behind the row in front
 pub record RegionsSoFar (plan : Plan) (old new : Output) (count : ℕ) : Type 0 where
-  pub grows : Grows old new
+  pub grows : OutputGrows old new
   pub count_is : length new.rows ≡ slice_index plan.entries.now count
   pub made : RegionsMade plan new count
   pub ways : EachCopy (IsOnTheWay plan (RowsReached 0 (length new.rows))) old new
@@ -215,7 +215,7 @@ module _ (plan : Plan) (is : IsPlan plan) (old : Output) where
   }
 
   -- and one region more
-  pub one_more_region : (mid new : Output) (region : ℕ) → region < length (table_in plan).regions → RegionsSoFar plan old mid region → Grows mid new
+  pub one_more_region : (mid new : Output) (region : ℕ) → region < length (table_in plan).regions → RegionsSoFar plan old mid region → OutputGrows mid new
       → length new.rows ≡ length mid.rows + rows_in (region_tree (table_in plan) region) (forms_at plan region) → RegionMade plan new region
       → EachCopy (IsOnTheWay plan (RowsReached (length mid.rows) (length new.rows))) mid new
       → bytes_made new ≤ bytes_made mid + bytes_in (region_tree (table_in plan) region) (forms_at plan region)

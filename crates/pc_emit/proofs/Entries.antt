@@ -11,7 +11,7 @@ use Rattle.pc_emit.specs.Emitted.{RegionForm, Plain, Packed, root_leaf, form_lea
 use Rattle.pc_emit.specs.Emitting.{form_in, CanHave}
 use Rattle.pc_emit.specs.declared.plan.Plan.{Plan}
 use Rattle.pc_emit.specs.models.Layout.{rows_in, AreEntries, table_in, forms_at, emission_in, rows_end, IsPlan}
-use Rattle.pc_emit.specs.models.Making.{MayFollow}
+use Rattle.pc_emit.specs.models.Making.{CopiesMayLeadTo}
 use Rattle.pc_emit.proofs.PlainRuns.{IsRoot, roots}
 
 -- ---- entries
@@ -72,21 +72,21 @@ module _ (plan : Plan) (is : IsPlan plan) where
       omega (arith, within, rows, end)
 
   -- what leads to a region may stand behind copies
-  pub region_target : (region : ℕ) (leaf : Leaf) → LeadsToRegion (emission_in plan) region leaf → MayFollow plan leaf
-  region_target region leaf leads = subst (MayFollow plan) (sym leads.is) (by_form leads.form leads.has)
+  pub region_target : (region : ℕ) (leaf : Leaf) → LeadsToRegion (emission_in plan) region leaf → CopiesMayLeadTo plan leaf
+  region_target region leaf leads = subst (CopiesMayLeadTo plan) (sym leads.is) (by_form leads.form leads.has)
     where
       entry : ℕ
       entry = slice_index plan.entries.now region
 
       by_tree : (tree : TableTree) → region_tree (table_in plan) region ≡ tree → IsRoot tree → forms_at plan region ≡ Some Plain → entry + units tree ≤ rows_end plan
-          → MayFollow plan (root_leaf entry tree)
+          → CopiesMayLeadTo plan (root_leaf entry tree)
       by_tree (Does origin item rest) e root has within = record { within = omega (arith, within); short = omega arith }
       by_tree (Asks origin on on_yes on_no) e root has within = record { within = omega (arith, within); short = omega arith }
       by_tree (Next next) e root has within = absurd root
       by_tree Stops_here e root has within = record { within = tt; short = omega arith }
       by_tree (Traps_here kind line) e root has within = absurd (is.forms.traps region line kind e has)
 
-      by_form : (form : RegionForm) → forms_at plan region ≡ Some form → MayFollow plan (form_leaf (emission_in plan) region form)
+      by_form : (form : RegionForm) → forms_at plan region ≡ Some form → CopiesMayLeadTo plan (form_leaf (emission_in plan) region form)
       by_form Plain has = by_tree (region_tree (table_in plan) region) refl (roots (table_in plan) is.kept region) has (region_within region Plain has)
       by_form (Packed states registers) has = record {
         within =

@@ -5,7 +5,7 @@ use Rattle.std.proofs.lemmas.List.{length-map, length-append, map-append}
 use Rattle.pc_machine.specs.declared.tree.Tree.{Tree}
 use Rattle.pc_machine.specs.MachineCode.{CodeRow, row_of, rows_of}
 use Rattle.pc_emit.specs.declared.output.Output.{Output}
-use Rattle.pc_emit.specs.models.Output.{Grows, StandsAt}
+use Rattle.pc_emit.specs.models.Output.{OutputGrows, StandsAt}
 
 -- what stands in a list stands in a longer one
 still_there : {X : Type 0} (xs ys : List X) (at : ℕ) (x : X) → slice_get xs at ≡ Some x → slice_get (xs ++ ys) at ≡ Some x
@@ -32,7 +32,7 @@ tree_last old new tree e =
     (stands_last (rows_of old) (row_of tree)))
 
 -- one more row of a region
-pub row_grows : (old new : Output) (tree : Tree) → new.rows ≡ old.rows ++ tree ∷ [] → new.copies.items ≡ old.copies.items → new.base ≡ old.base → Grows old new
+pub row_grows : (old new : Output) (tree : Tree) → new.rows ≡ old.rows ++ tree ∷ [] → new.copies.items ≡ old.copies.items → new.base ≡ old.base → OutputGrows old new
 row_grows old new tree e same base = record {
   base = base;
   more = let many = ap (λ (l : List Tree). length l) same in omega (arith, many);
@@ -47,7 +47,7 @@ pub row_stands : (old new : Output) (tree : Tree) → new.rows ≡ old.rows ++ t
 row_stands old new tree e = record { stands = λ final stays. stays.rows_stay (length old.rows) (row_of tree) (tree_last old.rows new.rows tree e) }
 
 -- one more row of copies
-pub copies_grow : (old new : Output) (tree : Tree) → new.copies.items ≡ old.copies.items ++ tree ∷ [] → new.rows ≡ old.rows → new.base ≡ old.base → Grows old new
+pub copies_grow : (old new : Output) (tree : Tree) → new.copies.items ≡ old.copies.items ++ tree ∷ [] → new.rows ≡ old.rows → new.base ≡ old.base → OutputGrows old new
 copies_grow old new tree e same base = record {
   base = base;
   more =

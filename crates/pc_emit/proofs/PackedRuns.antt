@@ -6,7 +6,7 @@ use Rattle.pc_word.specs.declared.item.Operand.{Operand}
 use Rattle.pc_word.specs.declared.item.Limits.{Limits}
 use Rattle.pc_word.specs.State.{State}
 use Rattle.pc_word.specs.Row.{Row, leaves_of, RowOutcome, Faults, Commits, row_step}
-use Rattle.pc_word.specs.Run.{Seen, Run, Step, Goes, Stops, Answers, after_printing, seen_of, run_from}
+use Rattle.pc_word.specs.Run.{Seen, Run, Step, Goes, Stops, Answers, after_printing, seen_of, run_from, NeverFaults}
 use Rattle.pc_word.proofs.Lists.{all_front, all_back, all_at}
 use Rattle.pc_word.proofs.Runs.{Answers-refl, Answers-after}
 use Rattle.pc_table.specs.Table.{Table, Next}
@@ -14,7 +14,6 @@ use Rattle.pc_table.specs.RegionRun.{Place, place_at, region_step, region_run}
 use Rattle.pc_table.specs.TableKeeps.{TableKeeps}
 use Rattle.pc_window.specs.declared.home.Home.{Home}
 use Rattle.pc_window.specs.Tree.{home_state}
-use Rattle.pc_window.specs.Kept.{NeverFaults}
 use Rattle.pc_window.proofs.Paces.{answer_of_answer}
 use Rattle.pc_automaton.specs.declared.automaton.AutomatonLeaf.{AutomatonLeaf}
 use Rattle.pc_automaton.specs.declared.automaton.AutomatonLeaf.TheVariants.{To, Out, Stop, Trap}

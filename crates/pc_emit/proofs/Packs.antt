@@ -21,10 +21,10 @@ use Rattle.pc_emit.specs.Bytes.{leaf_bytes, row_bytes}
 use Rattle.pc_emit.specs.declared.output.Output.{Output}
 use Rattle.pc_emit.specs.declared.plan.Plan.{Plan}
 use Rattle.pc_emit.specs.declared.packed.PackedSite.{PackedSite}
-use Rattle.pc_emit.specs.models.Output.{Grows}
+use Rattle.pc_emit.specs.models.Output.{OutputGrows}
 use Rattle.pc_emit.specs.models.Layout.{emission_in, states_at, names_at, IsSite}
 use Rattle.pc_emit.specs.models.Packing.{MovesAlong, MovesToRegion, LeafMade, RowMade}
-use Rattle.pc_emit.specs.models.Making.{MayFollow}
+use Rattle.pc_emit.specs.models.Making.{CopiesMayLeadTo}
 use Rattle.pc_emit.proofs.Ways.{ways}
 use Rattle.pc_emit.proofs.Texts.{operand_short, item_short, operand_same, item_same}
 
@@ -44,7 +44,7 @@ module _ (plan : Plan) (output : Output) (from to : Leaf) (moves given : List Mo
 
 -- what leads to a state may stand behind copies
 pub state_target : (plan : Plan) (site : PackedSite) (state row : ℕ) → IsSite plan site → state < length site.automaton.now → row ≡ site.first + state
-    → MayFollow plan (Leads_to row)
+    → CopiesMayLeadTo plan (Leads_to row)
 state_target plan site state row is there at = record { within = let few = is.few in omega (arith, few, there, at); short = omega arith }
 
 -- a state in memory is one of the states
@@ -140,7 +140,7 @@ module _ (plan : Plan) (site : PackedSite) (of : ℕ → ℕ) (row : Row Automat
       (record { stands = λ final stays. item_stands item (one.stands final stays) }))
 
   pub test_made : (mid output : Output) (on : Operand) (on_yes on_no : Row AutomatonLeaf) (yes_below no_below : CodeRow) → row ≡ Either on on_yes on_no
-      → RowMade plan site of mid on_yes yes_below → Grows mid output → RowMade plan site of output on_no no_below
+      → RowMade plan site of mid on_yes yes_below → OutputGrows mid output → RowMade plan site of output on_no no_below
       → made ≡ Either (in_register of on) yes_below no_below → RowMade plan site of output row made
   test_made mid output on on_yes on_no yes_below no_below e one grows other is =
       subst (λ (r : Row AutomatonLeaf). RowMade plan site of output r made) (sym e)

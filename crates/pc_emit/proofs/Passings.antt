@@ -18,21 +18,21 @@ use Rattle.pc_object.specs.ObjectText.{leaf_text, row_text}
 use Rattle.pc_emit.specs.declared.output.Output.{Output}
 use Rattle.pc_emit.specs.declared.plan.Plan.{Plan}
 use Rattle.pc_emit.specs.Emitted.{passes_none, passes_row}
-use Rattle.pc_emit.specs.models.Output.{bytes_of, Stays, Grows, StandsAt, PassesAlong, EachCopy}
+use Rattle.pc_emit.specs.models.Output.{bytes_of, Stays, OutputGrows, StandsAt, PassesAlong, EachCopy}
 use Rattle.pc_emit.specs.models.Layout.{rows_end}
 use Rattle.pc_emit.specs.models.Packing.{MovesAlong}
-use Rattle.pc_emit.specs.models.Making.{MayFollow, IsOnTheWay, LeavesReached}
+use Rattle.pc_emit.specs.models.Making.{CopiesMayLeadTo, IsOnTheWay, LeavesReached}
 use Rattle.pc_emit.proofs.Ways.{same_copies}
 use Rattle.pc_emit.proofs.Copying.{one_leaf, copies_fit, copies_short}
 use Rattle.pc_emit.proofs.Texts.{bytes_more}
 use Rattle.pc_emit.proofs.FewCopies.{copies_few}
 
 -- what was made stands
-pub nothing_grows : (output : Output) → Grows output output
+pub nothing_grows : (output : Output) → OutputGrows output output
 nothing_grows output = record { base = refl; more = omega arith; stays = λ final stays. stays }
 
 -- more was made, and then more
-pub grows_more : (old mid new : Output) → Grows old mid → Grows mid new → Grows old new
+pub grows_more : (old mid new : Output) → OutputGrows old mid → OutputGrows mid new → OutputGrows old new
 grows_more old mid new one other = record {
   base = other.base ∙ one.base;
   more = let first = one.more in let second = other.more in omega (arith, first, second);
@@ -45,7 +45,7 @@ pub ruleset passings = (nothing_grows, grows_more)
 
 -- what is so of what leads through copies to a target, whatever will be made
 pub record LeadsThrough (plan : Plan) (old new : Output) (from : Leaf) (copies : List (List Move)) (to : Leaf) : Type 0 where
-  pub grows : Grows old new
+  pub grows : OutputGrows old new
   pub rows : new.rows ≡ old.rows
   pub passes : PassesAlong new from copies to
   pub ways : EachCopy (IsOnTheWay plan (LeavesReached (from ∷ []))) old new
@@ -59,7 +59,7 @@ within_more rows more (Leads_to row) le is = omega (arith, le, is)
 within_more rows more _ le is = is
 
 -- a target leads to itself
-pub through_none : (plan : Plan) (output : Output) (to : Leaf) → MayFollow plan to → LeadsThrough plan output output to [] to
+pub through_none : (plan : Plan) (output : Output) (to : Leaf) → CopiesMayLeadTo plan to → LeadsThrough plan output output to [] to
 through_none plan output to target = record {
   grows = nothing_grows output;
   rows = refl;
@@ -71,7 +71,7 @@ through_none plan output to target = record {
 }
 
 module _ (plan : Plan) (old mid new : Output) (number : ℕ) (row : CodeRow) (copies : List Move) (more : List (List Move)) (next to : Leaf) (is : row ≡ copy_row copies next)
-    (through : LeadsThrough plan old mid next more to) (grows : Grows mid new) (stands : StandsAt new number row) (fits : IsCopyRow plan.limits.ops allowed copies) where
+    (through : LeadsThrough plan old mid next more to) (grows : OutputGrows mid new) (stands : StandsAt new number row) (fits : IsCopyRow plan.limits.ops allowed copies) where
   -- what leads to the row
   abbrev Here : List CodeRow → Type 0
   Here = LeavesReached (Leads_to number ∷ [])
@@ -137,7 +137,7 @@ module _ (plan : Plan) (old mid new : Output) (number : ℕ) (row : CodeRow) (co
       last place above high = let count = many in let base = grows.base in omega (arith, at, above, high, count, base)
 
 -- at the end of a list nothing is left
-pub through_rest_of_none : (plan : Plan) (output : Output) (rows : List (List Move)) (to : Leaf) → MayFollow plan to → LeadsThrough plan output output to (drop (length rows) rows) to
+pub through_rest_of_none : (plan : Plan) (output : Output) (rows : List (List Move)) (to : Leaf) → CopiesMayLeadTo plan to → LeadsThrough plan output output to (drop (length rows) rows) to
 through_rest_of_none plan output rows to target =
     subst (λ (l : List (List Move)). LeadsThrough plan output output to l to) (sym (none_left rows)) (through_none plan output to target)
   where

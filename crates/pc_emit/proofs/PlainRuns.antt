@@ -11,12 +11,11 @@ use Rattle.pc_word.specs.State.{State}
 use Rattle.pc_word.specs.Items.{operand_value}
 use Rattle.pc_word.specs.Commit.{fault_of, prints_of, state_after}
 use Rattle.pc_word.specs.Row.{Then, Either, At_leaf, commit_of}
-use Rattle.pc_word.specs.Run.{Seen, Answers, after_printing, seen_of, run_from}
+use Rattle.pc_word.specs.Run.{Seen, Answers, after_printing, seen_of, run_from, NeverFaults}
 use Rattle.pc_word.proofs.Runs.{Answers-after}
 use Rattle.pc_table.specs.Table.{TableTree, Does, Asks, Next, Stops_here, Traps_here, Table, region_tree}
 use Rattle.pc_table.specs.RegionRun.{arrive, place_at, lead_on, region_step, region_run}
 use Rattle.pc_table.specs.TableKeeps.{TableKeeps, units, By_one, untested}
-use Rattle.pc_window.specs.Kept.{NeverFaults}
 use Rattle.pc_machine.specs.MachineCode.{Leaf, Leads_to, Ends, Traps, CodeRow}
 use Rattle.pc_machine.specs.MachineRun.{after_row, machine_step}
 use Rattle.pc_emit.specs.Emitted.{Emission, root_leaf, LeadsBehind, to_item, to_test, to_region, to_end, to_trap}

@@ -16,7 +16,7 @@ use Rattle.pc_emit.specs.Bytes.{tree_bytes}
 use Rattle.pc_emit.specs.Emitted.{LeadsBehind, item_row, test_row, no_row, no_end_row, no_trap_row}
 use Rattle.pc_emit.specs.declared.output.Output.{Output}
 use Rattle.pc_emit.specs.declared.plan.Plan.{Plan}
-use Rattle.pc_emit.specs.models.Output.{bytes_of, Grows, StandsAt}
+use Rattle.pc_emit.specs.models.Output.{bytes_of, OutputGrows, StandsAt}
 use Rattle.pc_emit.specs.models.Layout.{emission_in}
 use Rattle.pc_emit.specs.models.Making.{TreeMade}
 use Rattle.pc_emit.proofs.Texts.{operand_short, item_short, leaf_short, bytes_more}
@@ -24,7 +24,7 @@ use Rattle.pc_emit.proofs.Texts.{operand_short, item_short, leaf_short, bytes_mo
 module _ (plan : Plan) (tree : TableTree) (row : ℕ) where
   -- an item's row, and those behind it
   pub item_tree : (mid new : Output) (origin next behind : ℕ) (item : Item) (rest : TableTree) (made : CodeRow) (leaf : Leaf) → tree ≡ Does origin item rest
-      → StandsAt mid row made → made ≡ Then item (At_leaf leaf) → LeadsBehind (emission_in plan) behind rest leaf → behind ≡ row + 1 → Grows mid new
+      → StandsAt mid row made → made ≡ Then item (At_leaf leaf) → LeadsBehind (emission_in plan) behind rest leaf → behind ≡ row + 1 → OutputGrows mid new
       → TreeMade plan new next rest → next ≡ row + 1 → TreeMade plan new row tree
   item_tree mid new origin next behind item rest made leaf e stands is leads at grows more is_next =
       let one : behind ≡ suc row = omega (arith, at) in
@@ -41,7 +41,7 @@ module _ (plan : Plan) (tree : TableTree) (row : ℕ) where
       → tree ≡ Asks origin on on_yes on_no → StandsAt mid row made → made ≡ Either on (At_leaf yes_leaf) (At_leaf no_leaf)
       → LeadsBehind (emission_in plan) yes_behind on_yes yes_leaf → yes_behind ≡ row + 1
       → LeadsBehind (emission_in plan) no_behind on_no no_leaf → no_behind ≡ row + 1 + units on_yes
-      → Grows mid later → TreeMade plan later yes_at on_yes → yes_at ≡ row + 1 → Grows later new
+      → OutputGrows mid later → TreeMade plan later yes_at on_yes → yes_at ≡ row + 1 → OutputGrows later new
       → TreeMade plan new no_at on_no → no_at ≡ row + 1 + units on_yes → TreeMade plan new row tree
   test_tree mid later new origin yes_at no_at yes_behind no_behind on on_yes on_no made yes_leaf no_leaf e stands is leads at leads_too at_too grows first first_at grows_more second second_at =
       let yes_is : yes_behind ≡ suc row = omega (arith, at) in

@@ -12,7 +12,7 @@ use Rattle.pc_emit.specs.Bytes.{row_bytes, states_bytes}
 use Rattle.pc_emit.specs.declared.output.Output.{Output}
 use Rattle.pc_emit.specs.declared.plan.Plan.{Plan}
 use Rattle.pc_emit.specs.declared.packed.PackedSite.{PackedSite}
-use Rattle.pc_emit.specs.models.Output.{bytes_of, Grows, StandsAt, EachCopy}
+use Rattle.pc_emit.specs.models.Output.{bytes_of, OutputGrows, StandsAt, EachCopy}
 use Rattle.pc_emit.specs.models.Layout.{states_at, names_at, IsSite}
 use Rattle.pc_emit.specs.models.Packing.{RowMade, StateMade, StatesMade}
 use Rattle.pc_emit.specs.models.Making.{IsOnTheWay, LeavesReached, RowsReached}
@@ -26,7 +26,7 @@ bytes_made output = bytes_of (rows_of output.rows) + bytes_of (rows_of output.co
 
 -- the rows of the first states were put behind others
 pub record StatesSoFar (plan : Plan) (site : PackedSite) (old new : Output) (count : ℕ) : Type 0 where
-  pub grows : Grows old new
+  pub grows : OutputGrows old new
   pub count_is : length new.rows ≡ length old.rows + count
   pub made : StatesMade plan site count new
   pub ways : EachCopy (IsOnTheWay plan (RowsReached (length old.rows) (length new.rows))) old new
@@ -44,11 +44,11 @@ module _ (plan : Plan) (site : PackedSite) (old : Output) where
   }
 
   module _ (mid later new : Output) (number : ℕ) (state : AutomatonState) (made : CodeRow) (so_far : StatesSoFar plan site old mid number)
-      (there : slice_get (states_at site) number ≡ Some state) (grows : Grows mid later) (same : later.rows ≡ mid.rows)
+      (there : slice_get (states_at site) number ≡ Some state) (grows : OutputGrows mid later) (same : later.rows ≡ mid.rows)
       (row_made : RowMade plan site (names_at site number) later state.row made)
       (ways : EachCopy (IsOnTheWay plan (LeavesReached (leaves_of made))) mid later)
       (short : bytes_of (rows_of later.copies.items) + length (row_text made) ≤ bytes_of (rows_of mid.copies.items) + row_bytes state.row)
-      (grows_too : Grows later new) (copies : new.copies.items ≡ later.copies.items) (added : rows_of new.rows ≡ rows_of later.rows ++ made ∷ [])
+      (grows_too : OutputGrows later new) (copies : new.copies.items ≡ later.copies.items) (added : rows_of new.rows ≡ rows_of later.rows ++ made ∷ [])
       (count_more : length new.rows ≡ length later.rows + 1) (stands : StandsAt new (length later.rows) made) where
     same_count : length later.rows ≡ length mid.rows
     same_count = ap (λ (l : List Tree). length l) same

@@ -9,7 +9,7 @@ use Rattle.pc_machine.specs.declared.tree.Tree.{Tree}
 use Rattle.pc_machine.specs.MachineCode.{Leaf, Leads_to, CodeRow}
 use Rattle.pc_emit.specs.declared.output.Output.{Output}
 use Rattle.pc_emit.specs.declared.plan.Plan.{Plan}
-use Rattle.pc_emit.specs.models.Output.{Stays, Grows, EachCopy}
+use Rattle.pc_emit.specs.models.Output.{Stays, OutputGrows, EachCopy}
 use Rattle.pc_emit.specs.models.Making.{IsOnTheWay, LeavesReached}
 
 -- none was made since
@@ -20,7 +20,7 @@ same_copies old new same = record {
 
 module _ {P : List CodeRow → ℕ → Type 0} (old mid new : Output) where
   -- some were made, and then some more
-  pub copies_more : Grows mid new → EachCopy P old mid → EachCopy P mid new → EachCopy P old new
+  pub copies_more : OutputGrows mid new → EachCopy P old mid → EachCopy P mid new → EachCopy P old new
   copies_more grows one other = record {
     each = λ final stays at low high. elim (decide_le (suc at) (length mid.copies.items)) [
       | inl below ↦ subst (λ (b : ℕ). P final (b + at)) (sym grows.base) (one.each final (grows.stays final stays) at low below)
@@ -49,7 +49,7 @@ module _ (plan : Plan) (made : CodeRow) where
   item_ways item below old new is ways = subst (λ (m : CodeRow). EachCopy (IsOnTheWay plan (LeavesReached (leaves_of m))) old new) (sym is) ways
 
   -- and those of both sides of its test
-  pub test_ways : (on : Operand) (yes_below no_below : CodeRow) (old mid new : Output) → made ≡ Either on yes_below no_below → Grows mid new
+  pub test_ways : (on : Operand) (yes_below no_below : CodeRow) (old mid new : Output) → made ≡ Either on yes_below no_below → OutputGrows mid new
       → EachCopy (IsOnTheWay plan (LeavesReached (leaves_of yes_below))) old mid → EachCopy (IsOnTheWay plan (LeavesReached (leaves_of no_below))) mid new
       → EachCopy (IsOnTheWay plan (LeavesReached (leaves_of made))) old new
   test_ways on yes_below no_below old mid new is grows one other =

@@ -3,10 +3,9 @@ use Rattle.std.specs.Prelude.{◌≡◌, ℕ, List, All, Some}
 use Rattle.pc_word.specs.declared.item.Limits.{Limits}
 use Rattle.pc_word.specs.Word.{IsWord}
 use Rattle.std.specs.Prelude.{ℤ}
-use Rattle.pc_word.specs.Run.{AgreeOnInputs}
+use Rattle.pc_word.specs.Run.{AgreeOnInputs, NeverFaults}
 use Rattle.pc_table.specs.RegionRun.{table_run}
 use Rattle.pc_table.specs.TableKeeps.{TableKeeps}
-use Rattle.pc_window.specs.Kept.{NeverFaults}
 use Rattle.pc_machine.specs.MachineCode.{CodeRow, RowCode}
 use Rattle.pc_machine.specs.MachineRun.{machine_run}
 use Rattle.pc_emit.specs.Emitted.{Emission, RegionForm, IsEmitted}

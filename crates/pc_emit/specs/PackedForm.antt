@@ -1,10 +1,10 @@
 -- What the automaton of a packed region keeps, with registers for its names.
 use Rattle.std.specs.Prelude.{◌≡◌, ℕ, true, nat_eq, List, Option, Some, slice_get}
 use Rattle.std.specs.List.{AllByRecursion, list_any}
+use Rattle.pc_word.specs.Run.{NeverFaults}
 use Rattle.pc_word.specs.State.{State}
 use Rattle.pc_table.specs.Table.{Table, Next, region_live}
 use Rattle.pc_table.specs.RegionRun.{region_run}
-use Rattle.pc_window.specs.Kept.{NeverFaults}
 use Rattle.pc_automaton.specs.Automaton.{AutomatonState, IsAutomaton}
 use Rattle.pc_automaton.specs.There.{StateIsThere}
 use Rattle.pc_automaton.specs.RunsAsRegion.{RunsAlike, LeadsUntested}

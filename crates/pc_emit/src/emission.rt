@@ -5,7 +5,7 @@ ghost use Rattle.pc_table.specs.Table.{region_tree, table_of, table_tree};
 ghost use Rattle.pc_table.specs.TableKeeps.{TableKeeps};
 ghost use Rattle.pc_machine.specs.MachineCode.{rows_of};
 ghost use Rattle.pc_emit.specs.Emitting.{region_forms, form_in, AreEmitted, AreForms};
-ghost use Rattle.pc_emit.specs.models.Output.{bytes_of, EachCopy, Grows};
+ghost use Rattle.pc_emit.specs.models.Output.{bytes_of, EachCopy, OutputGrows};
 ghost use Rattle.pc_emit.specs.models.Layout.{rows_end, forms_at, front_rows, rows_in, table_in, IsPlan};
 ghost use Rattle.pc_emit.specs.models.Making.{bytes_in, IsOnTheWay, RegionMade, RowsReached};
 
@@ -102,7 +102,7 @@ fn region_rows(
     requires form { forms_at plan.now region ≡ form_in (Some form.now) }
     requires there { region < length plan.now.table.now.regions }
     requires begins { length output.old.rows ≡ slice_index plan.now.entries.now region }
-    ensures grows { OnOk result (Grows output.old output.new) }
+    ensures grows { OnOk result (OutputGrows output.old output.new) }
     ensures count { OnOk result (length output.new.rows ≡ length output.old.rows + rows_in (region_tree (table_in plan.now) region) (forms_at plan.now region)) }
     ensures made { OnOk result (RegionMade plan.now output.new region) }
     ensures ways { OnOk result (EachCopy (IsOnTheWay plan.now (RowsReached (length output.old.rows) (length output.new.rows))) output.old output.new) }

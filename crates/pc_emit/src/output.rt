@@ -1,7 +1,7 @@
 //! Rows in the making.
 ghost use Rattle.std.specs.Prelude.{◌≡◌, ◌+◌, [], ◌∷◌, ◌++◌, length, IfOk, IfSome, OnOk};
 ghost use Rattle.pc_machine.specs.MachineCode.{row_of, rows_of};
-ghost use Rattle.pc_emit.specs.models.Output.{Grows, StandsAt};
+ghost use Rattle.pc_emit.specs.models.Output.{OutputGrows, StandsAt};
 
 use crate::error::EmitError;
 use pc_machine::{Tree, TreeList};
@@ -19,7 +19,7 @@ impl Output {
     /// Puts a row behind those of regions.
     #[tactic(auto, using(crate::proofs::Outputs::outputs))]
     pub(crate) fn push_row(&mut self, row: Tree) -> Result<(), EmitError>
-        ensures grows { OnOk result (Grows self.old self.new) }
+        ensures grows { OnOk result (OutputGrows self.old self.new) }
         ensures copies { OnOk result (self.new.copies.items ≡ self.old.copies.items) }
         ensures rows { OnOk result (rows_of self.new.rows ≡ rows_of self.old.rows ++ row_of row ∷ []) }
         ensures count { OnOk result (length self.new.rows ≡ length self.old.rows + 1) }
@@ -32,7 +32,7 @@ impl Output {
     /// Puts a row behind those of copies, and returns the number that it will have.
     #[tactic(auto, using(crate::proofs::Outputs::outputs))]
     pub(crate) fn push_copies(&mut self, row: Tree) -> Result<u32, EmitError>
-        ensures grows { OnOk result (Grows self.old self.new) }
+        ensures grows { OnOk result (OutputGrows self.old self.new) }
         ensures rows { OnOk result (self.new.rows ≡ self.old.rows) }
         ensures copies { OnOk result (rows_of self.new.copies.items ≡ rows_of self.old.copies.items ++ row_of row ∷ []) }
         ensures number { IfOk result (λ at. at ≡ self.old.base + length self.old.copies.items) }

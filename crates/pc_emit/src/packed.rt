@@ -10,7 +10,7 @@ ghost use Rattle.pc_object.specs.ObjectText.{leaf_text, row_text};
 ghost use Rattle.pc_emit.specs.Registers.{argument_moves, home_moves};
 ghost use Rattle.pc_emit.specs.Emitting.{HasForm};
 ghost use Rattle.pc_emit.specs.Bytes.{goto_bytes, passed_bytes, leaf_bytes, row_bytes, states_bytes};
-ghost use Rattle.pc_emit.specs.models.Output.{bytes_of, leaf_of, of_state, EachCopy, Grows};
+ghost use Rattle.pc_emit.specs.models.Output.{bytes_of, target_leaf, of_state, EachCopy, OutputGrows};
 ghost use Rattle.pc_emit.specs.models.Layout.{emission_in, rows_end, forms_at, names_at, registers_at, states_at, table_in, IsPlan, IsSite};
 ghost use Rattle.pc_emit.specs.models.Packing.{CanMakeLeaf, CanMakeRow, LeafMade, RowMade, StatesMade, MovesAlong, MovesToRegion};
 ghost use Rattle.pc_emit.specs.models.Making.{IsOnTheWay, LeavesReached, RowsReached};
@@ -50,7 +50,7 @@ pub(crate) fn state_rows(
     requires plan { IsPlan plan.now }
     requires base { output.old.base ≡ rows_end plan.now }
     requires begins { length output.old.rows ≡ site.now.first }
-    ensures grows { OnOk result (Grows output.old output.new) }
+    ensures grows { OnOk result (OutputGrows output.old output.new) }
     ensures count { OnOk result (length output.new.rows ≡ length output.old.rows + length site.now.automaton.now) }
     ensures made { OnOk result (StatesMade plan.now site.now (length site.now.automaton.now) output.new) }
     ensures ways { OnOk result (EachCopy (IsOnTheWay plan.now (RowsReached (length output.old.rows) (length output.new.rows))) output.old output.new) }
@@ -83,7 +83,7 @@ fn packed_row(
     requires plan { IsPlan plan.now }
     requires base { output.old.base ≡ rows_end plan.now }
     requires can { CanMakeRow plan.now site.now (of_state names.now) (row_in (λ leaf. leaf) row.now) }
-    ensures grows { OnOk result (Grows output.old output.new) }
+    ensures grows { OnOk result (OutputGrows output.old output.new) }
     ensures rows { OnOk result (output.new.rows ≡ output.old.rows) }
     ensures made { IfOk result (λ tree. RowMade plan.now site.now (of_state names.now) output.new (row_in (λ leaf. leaf) row.now) (row_of tree)) }
     ensures ways { IfOk result (λ tree. EachCopy (IsOnTheWay plan.now (LeavesReached (leaves_of (row_of tree)))) output.old output.new) }
@@ -121,11 +121,11 @@ fn packed_leaf(
     requires plan { IsPlan plan.now }
     requires base { output.old.base ≡ rows_end plan.now }
     requires can { CanMakeLeaf (emission_in plan.now) (states_at site.now) (registers_at site.now) (of_state names.now) leaf.now }
-    ensures grows { OnOk result (Grows output.old output.new) }
+    ensures grows { OnOk result (OutputGrows output.old output.new) }
     ensures rows { OnOk result (output.new.rows ≡ output.old.rows) }
-    ensures made { IfOk result (λ target. LeafMade plan.now site.now (of_state names.now) output.new leaf.now (leaf_of target)) }
-    ensures ways { IfOk result (λ target. EachCopy (IsOnTheWay plan.now (LeavesReached (leaf_of target ∷ []))) output.old output.new) }
-    ensures short { IfOk result (λ target. bytes_of (rows_of output.new.copies.items) + length (leaf_text (leaf_of target))
+    ensures made { IfOk result (λ target. LeafMade plan.now site.now (of_state names.now) output.new leaf.now (target_leaf target)) }
+    ensures ways { IfOk result (λ target. EachCopy (IsOnTheWay plan.now (LeavesReached (target_leaf target ∷ []))) output.old output.new) }
+    ensures short { IfOk result (λ target. bytes_of (rows_of output.new.copies.items) + length (leaf_text (target_leaf target))
         ≤ bytes_of (rows_of output.old.copies.items) + leaf_bytes leaf.now) }
 {
     match leaf {
@@ -169,13 +169,13 @@ fn to_state(
     requires as_many { length arguments.now ≡ length (state_parameters (slice_get (states_at site.now) state)) }
     requires moves { AreMoves allowed
         (argument_moves (of_state names.now) (names_at site.now state) (state_parameters (slice_get (states_at site.now) state)) arguments.now) }
-    ensures grows { OnOk result (Grows output.old output.new) }
+    ensures grows { OnOk result (OutputGrows output.old output.new) }
     ensures rows { OnOk result (output.new.rows ≡ output.old.rows) }
-    ensures moved { IfOk result (λ target. MovesAlong plan.now output.new (leaf_of target)
+    ensures moved { IfOk result (λ target. MovesAlong plan.now output.new (target_leaf target)
         (argument_moves (of_state names.now) (names_at site.now state) (state_parameters (slice_get (states_at site.now) state)) arguments.now)
         (Leads_to ((emission_in plan.now).places.state site.now.region state))) }
-    ensures ways { IfOk result (λ target. EachCopy (IsOnTheWay plan.now (LeavesReached (leaf_of target ∷ []))) output.old output.new) }
-    ensures short { IfOk result (λ target. bytes_of (rows_of output.new.copies.items) + length (leaf_text (leaf_of target))
+    ensures ways { IfOk result (λ target. EachCopy (IsOnTheWay plan.now (LeavesReached (target_leaf target ∷ []))) output.old output.new) }
+    ensures short { IfOk result (λ target. bytes_of (rows_of output.new.copies.items) + length (leaf_text (target_leaf target))
         ≤ bytes_of (rows_of output.old.copies.items) + (goto_bytes + passed_bytes * length arguments.now)) }
 {
     let parameters = site.automaton.state(state).parameters.as_slice();
@@ -202,11 +202,11 @@ fn to_region(
     requires base { output.old.base ≡ rows_end plan.now }
     requires form { HasForm (table_in plan.now) (forms_at plan.now) region }
     requires moves { AreMoves allowed (home_moves (of_state names.now) homes.now) }
-    ensures grows { OnOk result (Grows output.old output.new) }
+    ensures grows { OnOk result (OutputGrows output.old output.new) }
     ensures rows { OnOk result (output.new.rows ≡ output.old.rows) }
-    ensures moved { IfOk result (λ target. MovesToRegion plan.now output.new (leaf_of target) (home_moves (of_state names.now) homes.now) region) }
-    ensures ways { IfOk result (λ target. EachCopy (IsOnTheWay plan.now (LeavesReached (leaf_of target ∷ []))) output.old output.new) }
-    ensures short { IfOk result (λ target. bytes_of (rows_of output.new.copies.items) + length (leaf_text (leaf_of target))
+    ensures moved { IfOk result (λ target. MovesToRegion plan.now output.new (target_leaf target) (home_moves (of_state names.now) homes.now) region) }
+    ensures ways { IfOk result (λ target. EachCopy (IsOnTheWay plan.now (LeavesReached (target_leaf target ∷ []))) output.old output.new) }
+    ensures short { IfOk result (λ target. bytes_of (rows_of output.new.copies.items) + length (leaf_text (target_leaf target))
         ≤ bytes_of (rows_of output.old.copies.items) + (goto_bytes + passed_bytes * length homes.now)) }
 {
     let target = plan.target_of(region);

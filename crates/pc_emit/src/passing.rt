@@ -6,10 +6,10 @@ ghost use Rattle.pc_copies.specs.Moves.{AreMoves};
 ghost use Rattle.pc_machine.specs.MachineCode.{row_of, rows_of};
 ghost use Rattle.pc_object.specs.ObjectText.{leaf_text};
 ghost use Rattle.pc_emit.specs.Bytes.{goto_bytes, passed_bytes};
-ghost use Rattle.pc_emit.specs.models.Output.{bytes_of, leaf_of, EachCopy, Grows};
+ghost use Rattle.pc_emit.specs.models.Output.{bytes_of, target_leaf, EachCopy, OutputGrows};
 ghost use Rattle.pc_emit.specs.models.Layout.{rows_end, IsPlan};
 ghost use Rattle.pc_emit.specs.models.Packing.{MovesAlong};
-ghost use Rattle.pc_emit.specs.models.Making.{MayFollow, IsOnTheWay, LeavesReached};
+ghost use Rattle.pc_emit.specs.models.Making.{CopiesMayLeadTo, IsOnTheWay, LeavesReached};
 
 use crate::error::EmitError;
 use crate::output::Output;
@@ -37,12 +37,12 @@ pub(crate) fn move_along(
     requires plan { IsPlan plan.now }
     requires base { output.old.base ≡ rows_end plan.now }
     requires moves { AreMoves allowed moves.now }
-    requires target { MayFollow plan.now (leaf_of target) }
-    ensures grows { OnOk result (Grows output.old output.new) }
+    requires target { CopiesMayLeadTo plan.now (target_leaf target) }
+    ensures grows { OnOk result (OutputGrows output.old output.new) }
     ensures rows { OnOk result (output.new.rows ≡ output.old.rows) }
-    ensures moved { IfOk result (λ from. MovesAlong plan.now output.new (leaf_of from) moves.now (leaf_of target)) }
-    ensures ways { IfOk result (λ from. EachCopy (IsOnTheWay plan.now (LeavesReached (leaf_of from ∷ []))) output.old output.new) }
-    ensures short { IfOk result (λ from. bytes_of (rows_of output.new.copies.items) + length (leaf_text (leaf_of from))
+    ensures moved { IfOk result (λ from. MovesAlong plan.now output.new (target_leaf from) moves.now (target_leaf target)) }
+    ensures ways { IfOk result (λ from. EachCopy (IsOnTheWay plan.now (LeavesReached (target_leaf from ∷ []))) output.old output.new) }
+    ensures short { IfOk result (λ from. bytes_of (rows_of output.new.copies.items) + length (leaf_text (target_leaf from))
         ≤ bytes_of (rows_of output.old.copies.items) + (goto_bytes + passed_bytes * length moves.now)) }
 {
     let rows = arrange(alloc, moves, plan.limits.ops, SCRATCH)?;
@@ -61,7 +61,7 @@ pub(crate) fn move_along(
 
 /// The row that does copies before it leads to a target.
 fn copy_row(alloc: Global, copies: &[Move], target: Target) -> Result<Tree, AllocError>
-    ensures { IfOk result (λ tree. row_of tree ≡ copy_row copies.now (leaf_of target)) }
+    ensures { IfOk result (λ tree. row_of tree ≡ copy_row copies.now (target_leaf target)) }
 {
     let mut tree = target.tree();
     let mut at = copies.len();

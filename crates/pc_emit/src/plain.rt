@@ -5,7 +5,7 @@ ghost use Rattle.pc_table.specs.TableKeeps.{units};
 ghost use Rattle.pc_machine.specs.MachineCode.{rows_of};
 ghost use Rattle.pc_emit.specs.Bytes.{tree_bytes};
 ghost use Rattle.pc_emit.specs.Emitting.{NamesHaveForms};
-ghost use Rattle.pc_emit.specs.models.Output.{bytes_of, Grows};
+ghost use Rattle.pc_emit.specs.models.Output.{bytes_of, OutputGrows};
 ghost use Rattle.pc_emit.specs.models.Layout.{rows_end, forms_at, table_in, IsPlan};
 ghost use Rattle.pc_emit.specs.models.Making.{TreeMade};
 
@@ -30,7 +30,7 @@ pub(crate) fn tree_rows(
     requires plan { IsPlan plan.now }
     requires names { NamesHaveForms (table_in plan.now) (forms_at plan.now) (table_tree tree.now) }
     requires few { length output.old.rows + units (table_tree tree.now) ≤ rows_end plan.now }
-    ensures grows { OnOk result (Grows output.old output.new) }
+    ensures grows { OnOk result (OutputGrows output.old output.new) }
     ensures count { OnOk result (length output.new.rows ≡ length output.old.rows + units (table_tree tree.now)) }
     ensures copies { OnOk result (output.new.copies.items ≡ output.old.copies.items) }
     ensures made { OnOk result (TreeMade plan.now output.new (length output.old.rows) (table_tree tree.now)) }

@@ -3,7 +3,7 @@ ghost use Rattle.pc_table.specs.Table.{region_tree, table_tree};
 ghost use Rattle.pc_table.specs.TableKeeps.{units};
 ghost use Rattle.pc_emit.specs.Emitted.{LeadsToRegion, LeadsBehind, root_leaf};
 ghost use Rattle.pc_emit.specs.Emitting.{HasForm, NamesHaveForms, form_in};
-ghost use Rattle.pc_emit.specs.models.Output.{leaf_of};
+ghost use Rattle.pc_emit.specs.models.Output.{target_leaf};
 ghost use Rattle.pc_emit.specs.models.Layout.{emission_in, table_in, forms_at, IsPlan, leaf_in, rows_in, all_rows, entries_from};
 
 use crate::form::RegionForm;
@@ -28,7 +28,7 @@ impl<'a> Plan<'a> {
     pub(crate) fn target_of(&self, region: u32) -> Target
         requires plan { IsPlan self.now }
         requires form { HasForm (table_in self.now) (forms_at self.now) region }
-        ensures { LeadsToRegion (emission_in self.now) region (leaf_of result) }
+        ensures { LeadsToRegion (emission_in self.now) region (target_leaf result) }
     {
         let at = region as usize;
         beginning(&self.forms[at], self.tree_of(region), self.entries[at])
@@ -48,7 +48,7 @@ impl<'a> Plan<'a> {
     pub(crate) fn target_behind(&self, tree: &RegionTree, row: u32) -> Target
         requires plan { IsPlan self.now }
         requires names { NamesHaveForms (table_in self.now) (forms_at self.now) (table_tree tree.now) }
-        ensures { LeadsBehind (emission_in self.now) row (table_tree tree.now) (leaf_of result) }
+        ensures { LeadsBehind (emission_in self.now) row (table_tree tree.now) (target_leaf result) }
     {
         match tree {
             RegionTree::Next { region } => self.target_of(*region),
@@ -65,7 +65,7 @@ impl<'a> Plan<'a> {
 /// What leads to a region with this form and this tree that begins at this row.
 fn beginning(form: &Option<RegionForm>, tree: &RegionTree, row: u32) -> Target
     requires { IsSome form.now }
-    ensures { leaf_of result ≡ leaf_in row (table_tree tree.now) form.now }
+    ensures { target_leaf result ≡ leaf_in row (table_tree tree.now) form.now }
 {
     match form {
         Some(RegionForm::Plain) => root(tree, row),
@@ -76,7 +76,7 @@ fn beginning(form: &Option<RegionForm>, tree: &RegionTree, row: u32) -> Target
 
 /// What leads to the root of a tree that has this row: a goto, or the stop or trap that it is.
 pub(crate) fn root(tree: &RegionTree, row: u32) -> Target
-    ensures { leaf_of result ≡ root_leaf row (table_tree tree.now) }
+    ensures { target_leaf result ≡ root_leaf row (table_tree tree.now) }
 {
     match tree {
         RegionTree::Step { .. } | RegionTree::Test { .. } | RegionTree::Next { .. } => {

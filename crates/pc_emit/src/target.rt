@@ -1,7 +1,7 @@
 ghost use Rattle.std.specs.Prelude.{◌≡◌};
 ghost use Rattle.pc_word.specs.Row.{At_leaf};
 ghost use Rattle.pc_machine.specs.MachineCode.{row_of};
-ghost use Rattle.pc_emit.specs.models.Output.{leaf_of};
+ghost use Rattle.pc_emit.specs.models.Output.{target_leaf};
 
 use pc_machine::Tree;
 use pc_word::TrapKind;
@@ -17,7 +17,7 @@ pub(crate) enum Target {
 impl Target {
     /// The leaf that leads there.
     pub(crate) fn tree(self) -> Tree
-        ensures { row_of result ≡ At_leaf (leaf_of self) }
+        ensures { row_of result ≡ At_leaf (target_leaf self) }
     {
         match self {
             Target::Row { row } => Tree::Goto { row },

@@ -14,7 +14,7 @@ use Rattle.pc_window.proofs.Readiness.{alike, dest_named, ready_jumps, jumps_wer
 use Rattle.pc_fill.specs.declared.first.ReadyNode.{ReadyNode}
 use Rattle.pc_fill.specs.FirstReady.{IsFirstReady}
 use Rattle.pc_fill.specs.models.Places.{Node, nodes_of}
-use Rattle.pc_fill.specs.models.Landing.{landed, crosses, came, new_name, TwinIn, FirstTwinOf, renames, coming_of, names_after, landed_window, HasCome}
+use Rattle.pc_fill.specs.models.Landing.{landed, crosses, came, new_name, TwinIn, FirstTwinOf, renames, coming_of, supply_after, landed_window, HasCome}
 use Rattle.pc_fill.proofs.Nodes.{stands_free, StandsFree}
 use Rattle.pc_fill.proofs.Entered.{IsTwin, EnteredAs, entered_as}
 use Rattle.pc_fill.proofs.FirstJump.{TwinFor, HadTwin, had_twin, kinds, ComesTwice, comes_twice}
@@ -183,7 +183,7 @@ module _ (known : ℕ → Bool) (w : Window) (is : IsWindow known w) (fresh : Ha
       let new_is : jump.new ≡ new_name w.next (renames w r twin) r.item = e.new_is ∙ (λ i. new_name w.next (is_some twin || crosses w.front (j.place_is i)) (what_is i)) in
       let front_is : j.v.front ≡ landed (coming_of w r twin) w.front r.place =
       e.lands ∙ (λ i. landed (record { tag = j.tag_is i; origin = j.origin_is i; item = comes_is i; twin = twin }) w.front (j.place_is i)) in
-      let names_is : supply_of j.v ≡ names_after w r twin = jump.names ∙ (λ i. given_supply (supply_of w) (new_is i) (comes_is i)) in
+      let names_is : supply_of j.v ≡ supply_after w r twin = jump.names ∙ (λ i. given_supply (supply_of w) (new_is i) (comes_is i)) in
       λ i. record {
         front = front_is i;
         forms = (names_is i).forms;

@@ -15,7 +15,7 @@ use Rattle.pc_window.specs.Jump.{combined}
 use Rattle.pc_window.specs.Filled.{given_supply}
 use Rattle.pc_window.specs.StoredWindow.{front_in, forms_in, supply_in, window_in}
 use Rattle.pc_fill.specs.declared.first.Found.{Found}
-use Rattle.pc_fill.specs.models.Landing.{landed, came, new_name, FirstTwinOf, renames, coming_of, names_after, HasCome}
+use Rattle.pc_fill.specs.models.Landing.{landed, came, new_name, FirstTwinOf, renames, coming_of, supply_after, HasCome}
 use Rattle.pc_fill.specs.models.Way.{Reaches, crosses_along, landed_along}
 use Rattle.pc_fill.specs.models.Walk.{found_at}
 use Rattle.pc_fill.proofs.Along.{crosses_reached, landed_reached}
@@ -112,7 +112,7 @@ has_come w it way twin renamed item tree names first is comes given lands place 
     let front_is : front_in tree ≡ landed (coming_of (window_in w) (found_at it place) twin) (front_in w.tree) place =
     lands ∙ landed_reached (record { tag = it.tag; origin = it.origin; item = item; twin = twin }) (front_in w.tree) way it.depth place r
     ∙ ap (λ (o : Option Item). landed (record { tag = it.tag; origin = it.origin; item = o; twin = twin }) (front_in w.tree) place) item_is in
-    let names_is : supply_in names ≡ names_after (window_in w) (found_at it place) twin =
+    let names_is : supply_in names ≡ supply_after (window_in w) (found_at it place) twin =
     given ∙ ap (λ (b : Bool). given_supply (supply_in w.names) (new_name n b it.item) (came n b it.item)) same in
     record {
       twin = twin;

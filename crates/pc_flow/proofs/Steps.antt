@@ -11,8 +11,8 @@ use Rattle.pc_word.specs.Commit.{fault_of, prints_of, state_after}
 use Rattle.pc_word.specs.Row.{commit_of}
 use Rattle.pc_flow.specs.declared.node.FlowNode.{FlowNode}
 use Rattle.pc_flow.specs.declared.node.FlowNode.TheVariants.{Op, Test, Stop, Trap}
-use Rattle.pc_flow.specs.FlowGraph.{FlowGraph, IsTarget, Descends, NodeFits, IsFlow, turn_of}
-use Rattle.pc_flow.specs.FlowRun.{FlowState, after_item, run_node, flow_step}
+use Rattle.pc_flow.specs.FlowGraph.{FlowGraph, IsTarget, Descends, NodeFits, IsFlow, tested_loop}
+use Rattle.pc_flow.specs.FlowRun.{FlowState, step_after_item, run_node, flow_step}
 
 -- the state that a step goes on to
 abbrev next_node : Step FlowState → ℕ → ℕ
@@ -21,7 +21,7 @@ next_node (Stops out end) other = other
 
 -- the node behind an item, by the fault that it has
 item_leads : (lengths : List ℕ) (item : Item) (to : ℕ) (s : State) (fault : Option MachineFault) (out : List ℤ) (next : FlowState)
-    → after_item (commit_of lengths s (item ∷ []) to fault) ≡ Goes out next → next.node ≡ to
+    → step_after_item (commit_of lengths s (item ∷ []) to fault) ≡ Goes out next → next.node ≡ to
 item_leads lengths item to s (Some fault) out next e = absurd (cc)
 item_leads lengths item to s None out next e = sym (ap (λ (x : Step FlowState). next_node x 0) e)
 
@@ -38,7 +38,7 @@ one_of P false on_yes on_no h k = k
 -- where a unit leads to, and how its rank stands to that of the node
 abbrev pub LeadsOn : FlowGraph → ℕ → FlowNode → ℕ → Type 0
 LeadsOn flow from node to =
-    IsTarget flow to × ((turn_of node ≡ None) → slice_index flow.ranks to < slice_index flow.ranks from)
+    IsTarget flow to × ((tested_loop node ≡ None) → slice_index flow.ranks to < slice_index flow.ranks from)
 
 descends_on : (flow : FlowGraph) (from : ℕ) (node : FlowNode) (to : ℕ) → Descends flow from to → LeadsOn flow from node to
 descends_on flow from node to h = (h.target, λ e. h.lower)

@@ -87,10 +87,10 @@ pub record IsFlow (flow : FlowGraph) : Type 0 where
 -- ---- changes
 
 -- the loop whose test a node is
-abbrev pub turn_of : FlowNode → Option ℕ
-turn_of (Test on on_yes on_no turn) = turn
-turn_of _ = None
+abbrev pub tested_loop : FlowNode → Option ℕ
+tested_loop (Test on on_yes on_no turn) = turn
+tested_loop _ = None
 
 -- a node may take the place of another: if it is a loop's test, then of the same loop
 abbrev pub KeepsTurn : FlowNode → FlowNode → Type 0
-KeepsTurn old new = IfSome (turn_of new) (λ turn. turn_of old ≡ Some turn)
+KeepsTurn old new = IfSome (tested_loop new) (λ turn. tested_loop old ≡ Some turn)

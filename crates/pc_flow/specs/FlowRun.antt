@@ -16,13 +16,13 @@ pub record FlowState : Type 0 where
   pub state : State
 
 -- an item goes on to the node behind it; a fault ends the run, and its node prints nothing
-abbrev pub after_item : RowOutcome ℕ → Step FlowState
-after_item (Faults fault) = Stops [] (Fault fault)
-after_item (Commits out new to) = Goes out (record { node = to; state = new })
+abbrev pub step_after_item : RowOutcome ℕ → Step FlowState
+step_after_item (Faults fault) = Stops [] (Fault fault)
+step_after_item (Commits out new to) = Goes out (record { node = to; state = new })
 
 -- one node: an item does what the row of this item alone does. A number that no node has ends the run
 abbrev pub run_node : List ℕ → State → Option FlowNode → Step FlowState
-run_node lengths s (Some (Op item to)) = after_item (item_step lengths item to s)
+run_node lengths s (Some (Op item to)) = step_after_item (item_step lengths item to s)
 run_node lengths s (Some (Test on on_yes on_no turn)) =
     Goes [] (record { node = if holds (operand_value s.names on) then on_yes else on_no; state = s })
 run_node lengths s (Some Stop) = Stops [] Ended

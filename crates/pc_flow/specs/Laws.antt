@@ -2,7 +2,7 @@
 use Rattle.std.specs.Prelude.{◌≡◌, ◌<◌, ◌⊎◌, ℕ, ℤ, List, Option, Some, None, slice_get, slice_index}
 use Rattle.pc_word.specs.Run.{Step, Goes, Grows}
 use Rattle.pc_flow.specs.declared.node.FlowNode.{FlowNode}
-use Rattle.pc_flow.specs.FlowGraph.{FlowGraph, IsFlow, IsTarget, turn_of}
+use Rattle.pc_flow.specs.FlowGraph.{FlowGraph, IsFlow, IsTarget, tested_loop}
 use Rattle.pc_flow.specs.FlowRun.{FlowState, flow_step, flow_run}
 
 -- with more nodes the printed list only grows, and an end stays
@@ -15,4 +15,4 @@ RanksFall =
     (flow : FlowGraph) (here next : FlowState) (out : List ℤ) (node : FlowNode)
     → IsFlow flow → slice_get flow.nodes here.node ≡ Some node → flow_step flow here ≡ Goes out next
     → IsTarget flow next.node
-    × ((turn_of node ≡ None) → slice_index flow.ranks next.node < slice_index flow.ranks here.node)
+    × ((tested_loop node ≡ None) → slice_index flow.ranks next.node < slice_index flow.ranks here.node)

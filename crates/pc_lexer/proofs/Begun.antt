@@ -7,7 +7,7 @@ use Rattle.std.specs.Option.{option_map}
 use Rattle.pc_lexer.specs.Bytes.{is_blank, is_digit, is_letter, is_word_byte}
 use Rattle.pc_lexer.specs.Spelling.{mark_spelling, mark_at}
 use Rattle.pc_lexer.specs.Number.{number_length, number_value}
-use Rattle.pc_lexer.specs.Piece.{piece_of, piece_or, line_length, comment_length, include_length, block_comment_at, skipped_line_at, number_of, number_at, mark_piece, mark_piece_at, piece_at}
+use Rattle.pc_lexer.specs.Piece.{piece_of, piece_or, line_length, comment_length, include_length, block_comment_at, skipped_line_at, number_piece, number_piece_at, mark_piece, mark_piece_at, piece_at}
 use Rattle.pc_lexer.specs.declared.mark.Mark.{Mark}
 use Rattle.pc_lexer.specs.declared.piece.Shape.TheVariants as shape
 use Rattle.pc_lexer.specs.declared.piece.Piece.{Piece}
@@ -29,7 +29,7 @@ past_digit fresh text = cond (get_or text 0 0 == 35) (cond fresh (skipped_line_a
 
 -- where it is no letter
 abbrev past_letter : Bool → List ℕ → Result Piece Trouble
-past_letter fresh text = cond (is_digit (get_or text 0 0)) (number_at text) (past_digit fresh text)
+past_letter fresh text = cond (is_digit (get_or text 0 0)) (number_piece_at text) (past_digit fresh text)
 
 -- where it is no blank
 abbrev past_blank : Bool → List ℕ → Result Piece Trouble
@@ -39,7 +39,7 @@ past_blank fresh text = cond (is_letter (get_or text 0 0)) (Ok (piece_of shape.W
 pub data Begun (fresh : Bool) (text : List ℕ) : Result Piece Trouble → Type 0 where
   a_blank : is_blank (get_or text 0 0) ≡ true → Begun fresh text (Ok (piece_of shape.Blank 1))
   a_word : is_letter (get_or text 0 0) ≡ true → Begun fresh text (Ok (piece_of shape.Word (prefix_len is_word_byte text)))
-  a_number : is_letter (get_or text 0 0) ≡ false → is_digit (get_or text 0 0) ≡ true → Begun fresh text (number_at text)
+  a_number : is_letter (get_or text 0 0) ≡ false → is_digit (get_or text 0 0) ≡ true → Begun fresh text (number_piece_at text)
   a_skipped_line : (get_or text 0 0 == 35) ≡ true → Begun fresh text (skipped_line_at text)
   a_bad_hash : (get_or text 0 0 == 35) ≡ true → Begun fresh text (Err trouble.NoPiece)
   a_line_comment : starts_with nat_eq text (codes "//") ≡ true → Begun fresh text (Ok (piece_of shape.Comment (line_length text)))
@@ -65,7 +65,7 @@ begun fresh text = blank (is_blank (get_or text 0 0)) refl
     hash false fresh' h l d = comment (starts_with nat_eq text (codes "//")) (starts_with nat_eq text (codes "/*")) refl refl l d
 
     digit : (t : Bool) → is_digit (get_or text 0 0) ≡ t → is_letter (get_or text 0 0) ≡ false
-        → Begun fresh text (cond t (number_at text) (past_digit fresh text))
+        → Begun fresh text (cond t (number_piece_at text) (past_digit fresh text))
     digit true h l = a_number l h
     digit false h l = hash (get_or text 0 0 == 35) fresh refl l h
 
@@ -88,7 +88,7 @@ blank_front [] h = cc
 blank_front (b ∷ text) h = record { some = lit< tt; within = omega arith }
 
 number_fits : (text : List ℕ) (value : Option ℕ) → Front (1 + number_length false (drop 1 text)) text
-    → IfOk (number_of (1 + number_length false (drop 1 text)) value) (IsFront text)
+    → IfOk (number_piece (1 + number_length false (drop 1 text)) value) (IsFront text)
 number_fits text None f = tt
 number_fits text (Some v) f = f
 
@@ -107,7 +107,7 @@ mark_fits text None e = tt
 mark_fits text (Some m) e = mark_front text m e
 
 fits : (fresh : Bool) (text : List ℕ) (r : Result Piece Trouble) → Begun fresh text r → IfOk r (IsFront text)
-unfolding number_at skipped_line_at block_comment_at mark_piece_at
+unfolding number_piece_at skipped_line_at block_comment_at mark_piece_at
 fits fresh text _ (a_blank h) = blank_front text h
 fits fresh text _ (a_word h) = word_front text h
 fits fresh text _ (a_number l h) = number_fits text (number_value (take (1 + number_length false (drop 1 text)) text)) (number_front text h)
@@ -133,15 +133,15 @@ unfolding mark_piece_at
 mark_missing text h = ap mark_piece h
 
 pub number_measured : (text : List ℕ) (v n : ℕ) (z : ℤ) → Some v ≡ number_value (take n text) → n ≡ 1 + number_length false (drop 1 text) → z ≡ pos v
-    → ◌≡◌ {A = Result Piece Trouble} (Ok (piece_of (shape.Number z) n)) (number_at text)
-unfolding number_at
+    → ◌≡◌ {A = Result Piece Trouble} (Ok (piece_of (shape.Number z) n)) (number_piece_at text)
+unfolding number_piece_at
 number_measured text v n z h e s =
-    (λ i. Ok (piece_of (shape.Number (s i)) n)) ∙ ap (number_of n) h ∙ ap (λ k. number_of k (number_value (take k text))) e
+    (λ i. Ok (piece_of (shape.Number (s i)) n)) ∙ ap (number_piece n) h ∙ ap (λ k. number_piece k (number_value (take k text))) e
 
 pub number_misspelt : (text : List ℕ) (n : ℕ) → None ≡ number_value (take n text) → n ≡ 1 + number_length false (drop 1 text)
-    → ◌≡◌ {A = Result Piece Trouble} (Err trouble.Misspelt) (number_at text)
-unfolding number_at
-number_misspelt text n h e = ap (number_of n) h ∙ ap (λ k. number_of k (number_value (take k text))) e
+    → ◌≡◌ {A = Result Piece Trouble} (Err trouble.Misspelt) (number_piece_at text)
+unfolding number_piece_at
+number_misspelt text n h e = ap (number_piece n) h ∙ ap (λ k. number_piece k (number_value (take k text))) e
 
 pub skipped_measured : (text : List ℕ) (found : Option ℕ) → found ≡ include_length (drop 1 text)
     → piece_or trouble.NoPiece shape.Skipped (option_map (λ n. 1 + n) found) ≡ skipped_line_at text

@@ -7,7 +7,8 @@ use Rattle.std.specs.Option.{option_map}
 use Rattle.std.specs.Cmp.Lexicographic.{same_text}
 use Rattle.std.proofs.lemmas.List.{length-take, length-drop}
 use Rattle.std.proofs.lemmas.List.Sums.{prefix_len-le-length}
-use Rattle.pc_lexer.specs.Bytes.{is_line_feed, is_digit, is_letter, is_word_byte}
+use Rattle.pc_word.specs.Line.{is_line_feed}
+use Rattle.pc_lexer.specs.Bytes.{is_digit, is_letter, is_word_byte}
 use Rattle.pc_lexer.specs.Spelling.{mark_spelling, marks, mark_at}
 use Rattle.pc_lexer.specs.Number.{is_exponent, is_sign, number_length}
 use Rattle.pc_lexer.specs.Piece.{line_length, comment_length, is_inner_blank, goes_on, include_length}

@@ -12,7 +12,7 @@ use Rattle.std.proofs.lemmas.List.Sums.{prefix_len_stops}
 use Rattle.pc_lexer.specs.Bytes.{is_blank, is_letter, is_digit, is_word_byte}
 use Rattle.pc_lexer.specs.Spelling.{mark_at}
 use Rattle.pc_lexer.specs.Number.{is_exponent, is_sign, number_length, number_value}
-use Rattle.pc_lexer.specs.Piece.{piece_or, line_length, comment_length, include_length, block_comment_at, skipped_line_at, number_of, number_at, mark_piece, mark_piece_at, piece_at}
+use Rattle.pc_lexer.specs.Piece.{piece_or, line_length, comment_length, include_length, block_comment_at, skipped_line_at, number_piece, number_piece_at, mark_piece, mark_piece_at, piece_at}
 use Rattle.pc_lexer.specs.Cut.{cut, fresh_after}
 use Rattle.pc_lexer.specs.Laws.{is_word_spelling, is_number_rest, is_number, is_mark, is_token, NoTokenBeyond, IsSpelled, IsStuck, cut_text, AreLongest, CutsIntoLongest}
 use Rattle.pc_lexer.specs.declared.mark.Mark.{Mark}
@@ -162,7 +162,7 @@ LongestAt text (Ok piece) = IsLongestPiece text piece
 LongestAt text (Err why) = IsStuck why text
 
 number_longest : (text : List ℕ) (value : Option ℕ) → number_value (take (1 + number_length false (drop 1 text)) text) ≡ value
-    → is_letter (get_or text 0 0) ≡ false → is_digit (get_or text 0 0) ≡ true → LongestAt text (number_of (1 + number_length false (drop 1 text)) value)
+    → is_letter (get_or text 0 0) ≡ false → is_digit (get_or text 0 0) ≡ true → LongestAt text (number_piece (1 + number_length false (drop 1 text)) value)
 number_longest text None e l d = (1 + number_length false (drop 1 text), number_spelled text d, e, number_beyond text l d)
 number_longest text (Some v) e l d = record { spelled = (number_spelled text d, v, e, refl); beyond = number_beyond text l d }
 
@@ -219,7 +219,7 @@ mark_longest text (Some m) e l d = record {
 }
 
 longest : (fresh : Bool) (text : List ℕ) (r : Result Piece Trouble) → Begun fresh text r → LongestAt text r
-unfolding number_at skipped_line_at block_comment_at mark_piece_at
+unfolding number_piece_at skipped_line_at block_comment_at mark_piece_at
 longest fresh text _ (a_blank h) = record { spelled = blank_spelled text h; beyond = beyond_more 0 1 text (omega arith) (blank_beyond text h) }
 longest fresh text _ (a_word h) = record { spelled = word_spelled text h; beyond = word_beyond text h }
 longest fresh text _ (a_number l h) = number_longest text (number_value (take (1 + number_length false (drop 1 text)) text)) refl l h

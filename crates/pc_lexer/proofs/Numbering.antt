@@ -10,7 +10,7 @@ use Rattle.std.proofs.lemmas.Cmp.{nat_list_eq_equiv}
 use Rattle.pc_lexer.specs.Spelling.{keyword_of}
 use Rattle.pc_lexer.specs.Cut.{Cut, Done, Next, Stuck, line_behind, pieces_of}
 use Rattle.pc_word.specs.SourceLimits.{most_tokens}
-use Rattle.pc_lexer.specs.Tokens.{kind_of, names_after, word_kind, names_after_word, symbol_of, names_with, token_before, read}
+use Rattle.pc_lexer.specs.Tokens.{kind_of, names_after_piece, word_kind, names_after_word, symbol_of, names_with, token_before, read}
 use Rattle.pc_lexer.specs.Laws.{name_before, names_in, symbols_in, AreInOrder, SameWhereAlike, NumbersNames}
 use Rattle.pc_lexer.specs.declared.keyword.Keyword.{Keyword}
 use Rattle.pc_lexer.specs.declared.piece.Shape.TheVariants as shape
@@ -142,7 +142,7 @@ token_first count token r tokens full never h = by (nat_lt count most_tokens) r 
 
 -- the reading of a cut numbers its names
 pub numbered : (c : Cut) (count : ℕ) (names : List (List ℕ)) (tokens : List Token) → read count names c ≡ Ok tokens → Numbered names tokens (names_in c)
-unfolding read kind_of names_after
+unfolding read kind_of names_after_piece
 numbered Done count names tokens h =
     let none : [] ≡ tokens = cc in
     subst (λ l. Numbered names l []) none (record { all = names; later = []; extends = sym (append-nil names); symbols = refl; present = refl; order = tt })

@@ -6,13 +6,14 @@ use Rattle.std.proofs.lemmas.List.{append-nil, drop-drop, length-drop, length-ta
 use Rattle.std.proofs.lemmas.List.Sums.{count_by-le-length}
 use Rattle.std.proofs.lemmas.Bool.Decides.{nat_tests}
 use Rattle.std.specs.Prelude.{IfSome, is_some}
+use Rattle.pc_word.specs.Line.{is_line_feed}
 use Rattle.pc_word.specs.Exact.{IsExact}
 use Rattle.pc_word.specs.SourceLimits.{most_tokens}
 use Rattle.pc_word.proofs.Lists.{count_both}
-use Rattle.pc_lexer.specs.Bytes.{is_line_feed, is_blank, line_feeds}
+use Rattle.pc_lexer.specs.Bytes.{is_blank, line_feeds}
 use Rattle.pc_lexer.specs.Piece.{piece_at}
 use Rattle.pc_lexer.specs.Cut.{Cut, Next, Stuck, cut, fresh_after, line_behind}
-use Rattle.pc_lexer.specs.Tokens.{kind_of, names_after, fault_at, token_before, read, lexed, lex_cause}
+use Rattle.pc_lexer.specs.Tokens.{kind_of, names_after_piece, fault_at, token_before, read, lexed, lex_cause}
 use Rattle.pc_lexer.specs.models.Steps.{with_token, RefusesToken}
 use Rattle.pc_lexer.specs.declared.piece.Shape.{Shape}
 use Rattle.pc_lexer.specs.declared.piece.Shape.TheVariants as shape
@@ -63,7 +64,7 @@ chosen : ℕ → List (List ℕ) → List ℕ → List ℕ → Shape → Cut →
 chosen count names before spelling shape others None = read count names others
 chosen count names before spelling shape others (Some kind) =
     cond (nat_lt count most_tokens)
-    (token_before (record { kind = kind; line = line_behind before }) (read (count + 1) (names_after names spelling shape) others))
+    (token_before (record { kind = kind; line = line_behind before }) (read (count + 1) (names_after_piece names spelling shape) others))
     (Err error.TooManyTokens)
 
 read-chosen : (count : ℕ) (names : List (List ℕ)) (before spelling : List ℕ) (shape : Shape) (others : Cut)
@@ -74,7 +75,7 @@ read-chosen count names before spelling shape others = by (kind_of names spellin
     by : (k : Option TokenKind) → elim k as (λ _. Result (List Token) LexError) [
       | None ↦ read count names others
       | Some kind ↦ cond (nat_lt count most_tokens)
-          (token_before (record { kind = kind; line = line_behind before }) (read (count + 1) (names_after names spelling shape) others))
+          (token_before (record { kind = kind; line = line_behind before }) (read (count + 1) (names_after_piece names spelling shape) others))
           (Err error.TooManyTokens)
     ]
         ≡ chosen count names before spelling shape others k
@@ -98,8 +99,8 @@ with_front-token front token (Ok tokens) = ap Ok (sym (append_assoc front (token
 with_front-token front token (Err fault) = refl
 
 -- a piece that is no token uses no name
-names_stay : (names : List (List ℕ)) (spelling : List ℕ) (shape : Shape) → kind_of names spelling shape ≡ None → names_after names spelling shape ≡ names
-unfolding kind_of names_after
+names_stay : (names : List (List ℕ)) (spelling : List ℕ) (shape : Shape) → kind_of names spelling shape ≡ None → names_after_piece names spelling shape ≡ names
+unfolding kind_of names_after_piece
 names_stay names spelling shape.Word h = cc
 names_stay names spelling _ h = refl
 
@@ -195,7 +196,7 @@ module _ (text : List ℕ) (found : List Token) (names : List (List ℕ)) (offse
 
     -- the names behind it
     after : List (List ℕ)
-    after = names_after names (spelled_at text offset piece) piece.shape
+    after = names_after_piece names (spelled_at text offset piece) piece.shape
 
     -- the reading behind the piece
     reads_next : (kind : Option TokenKind) → kind_of names (spelled_at text offset piece) piece.shape ≡ kind → IfSome kind (λ _. length found < most_tokens)
@@ -221,7 +222,7 @@ module _ (text : List ℕ) (found : List Token) (names : List (List ℕ)) (offse
 
     -- the loop's next state
     pub reads_kept : (kind : Option TokenKind) → kind_of names (spelled_at text offset piece) piece.shape ≡ kind → IfSome kind (λ _. length found < most_tokens)
-        → Reads text (with_token found kind line) (names_after names (spelled_at text offset piece) piece.shape) (offset + piece.length)
+        → Reads text (with_token found kind line) (names_after_piece names (spelled_at text offset piece) piece.shape) (offset + piece.length)
         (line + line_feeds (spelled_at text offset piece)) (fresh_after fresh (spelled_at text offset piece))
     unfolding after
     reads_kept kind e room =

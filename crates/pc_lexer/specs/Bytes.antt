@@ -1,8 +1,6 @@
 -- Classes of bytes, by their ASCII codes.
 use Rattle.std.specs.Prelude.{ℕ, Bool, ◌==◌, ◌&&◌, ◌||◌, nat_le, List, count_by}
-
-abbrev pub is_line_feed : ℕ → Bool
-is_line_feed b = b == 10
+use Rattle.pc_word.specs.Line.{is_line_feed}
 
 -- tab, line feed, vertical tab, form feed, carriage return, space
 abbrev pub is_blank : ℕ → Bool

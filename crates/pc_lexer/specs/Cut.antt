@@ -1,6 +1,7 @@
 -- A whole text cut into pieces.
 use Rattle.std.specs.Prelude.{ℕ, zero, suc, ◌+◌, ◌-◌, Bool, true, ◌&&◌, ◌||◌, List, [], ◌∷◌, ◌++◌, Ok, Err, take}
-use Rattle.pc_lexer.specs.Bytes.{is_line_feed, is_blank, line_feeds}
+use Rattle.pc_word.specs.Line.{is_line_feed}
+use Rattle.pc_lexer.specs.Bytes.{is_blank, line_feeds}
 use Rattle.pc_lexer.specs.Piece.{piece_at}
 use Rattle.pc_lexer.specs.declared.piece.Shape.{Shape}
 use Rattle.pc_lexer.specs.declared.piece.Trouble.{Trouble}

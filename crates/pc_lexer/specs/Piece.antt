@@ -2,7 +2,8 @@
 use Rattle.std.specs.Prelude.{ℕ, suc, ◌+◌, Bool, false, not, ◌==◌, ◌&&◌, nat_eq, List, [], ◌∷◌, Option, Some, None, Result, Ok, Err, pos, if◌then◌else◌, codes, take, drop, length, slice_index}
 use Rattle.std.specs.List.{starts_with, prefix_len}
 use Rattle.std.specs.Option.{option_map}
-use Rattle.pc_lexer.specs.Bytes.{is_line_feed, is_blank, is_letter, is_digit, is_word_byte}
+use Rattle.pc_word.specs.Line.{is_line_feed}
+use Rattle.pc_lexer.specs.Bytes.{is_blank, is_letter, is_digit, is_word_byte}
 use Rattle.pc_lexer.specs.Spelling.{mark_spelling, mark_at}
 use Rattle.pc_lexer.specs.Number.{number_length, number_value}
 use Rattle.pc_lexer.specs.declared.mark.Mark.{Mark}
@@ -57,15 +58,15 @@ unfoldable pub skipped_line_at : List ℕ → Result Piece Trouble
 skipped_line_at text = piece_or trouble.NoPiece shape.Skipped (option_map (λ n. 1 + n) (include_length (drop 1 text)))
 
 -- a number of n bytes with that value, or one that is misspelt
-abbrev pub number_of : ℕ → Option ℕ → Result Piece Trouble
-number_of n None = Err trouble.Misspelt
-number_of n (Some value) = Ok (piece_of (shape.Number (pos value)) n)
+abbrev pub number_piece : ℕ → Option ℕ → Result Piece Trouble
+number_piece n None = Err trouble.Misspelt
+number_piece n (Some value) = Ok (piece_of (shape.Number (pos value)) n)
 
 -- a number, the first byte of which is a digit
-unfoldable pub number_at : List ℕ → Result Piece Trouble
-number_at text =
+unfoldable pub number_piece_at : List ℕ → Result Piece Trouble
+number_piece_at text =
     let n = 1 + number_length false (drop 1 text) in
-    number_of n (number_value (take n text))
+    number_piece n (number_value (take n text))
 
 -- a mark, or a byte that begins nothing
 abbrev pub mark_piece : Option Mark → Result Piece Trouble
@@ -81,7 +82,7 @@ piece_at fresh text =
     let first = slice_index text 0 in
     if is_blank first then Ok (piece_of shape.Blank 1)
     else (if is_letter first then Ok (piece_of shape.Word (prefix_len is_word_byte text))
-    else (if is_digit first then number_at text
+    else (if is_digit first then number_piece_at text
     else (if first == 35 then (if fresh then skipped_line_at text else Err trouble.NoPiece)
     else (if starts_with nat_eq text (codes "//") then Ok (piece_of shape.Comment (line_length text))
     else (if starts_with nat_eq text (codes "/*") then block_comment_at text

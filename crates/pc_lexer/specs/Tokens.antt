@@ -43,20 +43,20 @@ kind_of names spelling (shape.Number value) = Some (kind.Number value)
 kind_of names spelling (shape.Mark mark) = Some (kind.Mark mark)
 
 -- the names used once a piece is read
-unfoldable pub names_after : List (List ℕ) → List ℕ → Shape → List (List ℕ)
-names_after names spelling shape.Word = names_after_word names spelling (keyword_of spelling)
-names_after names spelling _ = names
+unfoldable pub names_after_piece : List (List ℕ) → List ℕ → Shape → List (List ℕ)
+names_after_piece names spelling shape.Word = names_after_word names spelling (keyword_of spelling)
+names_after_piece names spelling _ = names
 
 -- the fault where no piece begins behind these bytes
-abbrev pub fault_of : Trouble → List ℕ → LexError
-fault_of trouble.NoPiece before = error.BadByte (length before)
-fault_of trouble.Misspelt before = error.BadLiteral (line_behind before)
-fault_of trouble.OpenComment before = error.OpenComment (line_behind before)
+abbrev pub fault_behind : Trouble → List ℕ → LexError
+fault_behind trouble.NoPiece before = error.BadByte (length before)
+fault_behind trouble.Misspelt before = error.BadLiteral (line_behind before)
+fault_behind trouble.OpenComment before = error.OpenComment (line_behind before)
 
 -- whether a fault stands also where no more token may follow: only a comment that stays open does
 abbrev pub fault_at : ℕ → Trouble → List ℕ → LexError
-fault_at count trouble.OpenComment before = fault_of trouble.OpenComment before
-fault_at count why before = if nat_lt count most_tokens then fault_of why before else error.TooManyTokens
+fault_at count trouble.OpenComment before = fault_behind trouble.OpenComment before
+fault_at count why before = if nat_lt count most_tokens then fault_behind why before else error.TooManyTokens
 
 -- a token before others
 abbrev pub token_before : Token → Result (List Token) LexError → Result (List Token) LexError
@@ -71,7 +71,7 @@ read count names (Next before spelling shape others) =
     elim (kind_of names spelling shape) [
       | None ↦ read count names others
       | Some kind ↦ if nat_lt count most_tokens
-          then token_before (record { kind = kind; line = line_behind before }) (read (count + 1) (names_after names spelling shape) others)
+          then token_before (record { kind = kind; line = line_behind before }) (read (count + 1) (names_after_piece names spelling shape) others)
           else Err error.TooManyTokens
     ]
 

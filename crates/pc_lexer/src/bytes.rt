@@ -1,5 +1,6 @@
 ghost use Rattle.std.specs.Prelude.{◌≡◌, ◌≤◌, ◌&&◌, ◌||◌, length};
-ghost use Rattle.pc_lexer.specs.Bytes.{is_blank, is_letter, is_digit, is_word_byte, is_line_feed, line_feeds};
+ghost use Rattle.pc_word.specs.Line.{is_line_feed};
+ghost use Rattle.pc_lexer.specs.Bytes.{is_blank, is_letter, is_digit, is_word_byte, line_feeds};
 ghost use Rattle.pc_lexer.specs.Cut.{fresh_after};
 
 /// Tab, line feed, vertical tab, form feed, carriage return or space.

@@ -4,7 +4,7 @@ ghost use Rattle.pc_word.specs.Exact.{IsExact};
 ghost use Rattle.pc_word.specs.SourceLimits.{most_source, most_tokens};
 ghost use Rattle.pc_lexer.specs.Cut.{line_behind};
 ghost use Rattle.pc_lexer.specs.Spelling.{keyword_of};
-ghost use Rattle.pc_lexer.specs.Tokens.{lex_cause, lexed, kind_of, word_kind, symbol_of, names_with, names_after, names_after_word, fault_at};
+ghost use Rattle.pc_lexer.specs.Tokens.{lex_cause, lexed, kind_of, word_kind, symbol_of, names_with, names_after_piece, names_after_word, fault_at};
 ghost use Rattle.pc_lexer.specs.models.Steps.{with_token, RefusesToken, spellings};
 
 use crate::bytes::{fresh_after, line_feeds};
@@ -45,7 +45,7 @@ fn word_kind<'a>(names: &mut IndexSet<&'a [u8]>, word: &'a [u8]) -> Result<Token
 }
 
 /// What token a piece is, if it is one. A name is kept.
-#[tactic(auto, unfolding(crate::specs::Tokens::kind_of, crate::specs::Tokens::names_after))]
+#[tactic(auto, unfolding(crate::specs::Tokens::kind_of, crate::specs::Tokens::names_after_piece))]
 fn kind_of<'a>(
     names: &mut IndexSet<&'a [u8]>,
     spelling: &'a [u8],
@@ -53,7 +53,7 @@ fn kind_of<'a>(
 ) -> Result<Option<TokenKind>, LexError>
     requires { index_set_len names.old ≤ most_tokens }
     ensures kind { IfOk result (λ kind. kind ≡ kind_of (spellings names.old.keys) spelling.now shape) }
-    ensures kept { OnOk result (spellings names.new.keys ≡ names_after (spellings names.old.keys) spelling.now shape) }
+    ensures kept { OnOk result (spellings names.new.keys ≡ names_after_piece (spellings names.old.keys) spelling.now shape) }
     ensures refused { IfErr result (λ fault. fault ≡ LexError.Memory) }
     ensures room { IfOk result (λ kind. index_set_len names.new ≤ index_set_len names.old + (if is_some kind then 1 else 0)) }
 {

@@ -1,7 +1,7 @@
 ghost use Rattle.std.specs.Prelude.{◌≡◌, ◌≤◌, ◌<◌, false, length, IfSome};
 ghost use Rattle.std.specs.List.{prefix_len};
 ghost use Rattle.pc_lexer.specs.Bytes.{is_word_byte};
-ghost use Rattle.pc_lexer.specs.Piece.{line_length, comment_length, is_inner_blank, goes_on, include_length, block_comment_at, skipped_line_at, number_at, mark_piece_at, piece_at};
+ghost use Rattle.pc_lexer.specs.Piece.{line_length, comment_length, is_inner_blank, goes_on, include_length, block_comment_at, skipped_line_at, number_piece_at, mark_piece_at, piece_at};
 
 use crate::Mark;
 use crate::bytes::{is_blank, is_digit, is_letter, is_word_byte};
@@ -120,7 +120,7 @@ fn include_length(text: &[u8]) -> Option<usize>
 /// The number that the text begins with.
 fn number(text: &[u8]) -> Result<Piece, Trouble>
     requires some { 0 < length text.now }
-    ensures { result ≡ number_at text.now }
+    ensures { result ≡ number_piece_at text.now }
 {
     let length = 1 + number_length(&text[1..]);
     match number_value(&text[..length]) {

@@ -8,7 +8,7 @@ use lib.IntN.{+ℤ_idl, *ℤ-zero}
 use Rattle.pc_word.specs.Word.{IsWord}
 use Rattle.pc_word.proofs.Truth.{and_true, and_made, not_true, decide_le}
 use Rattle.pc_linear.specs.declared.term.Term.{Term}
-use Rattle.pc_linear.specs.Form.{Form, IsNormal, number_of, form_value, Means, ◌≈◌, sum_of, factor_of}
+use Rattle.pc_linear.specs.Form.{Form, IsNormal, form_number, form_value, Means, ◌≈◌, sum_of, factor_of}
 use Rattle.pc_linear.specs.Combine.{difference, constant_form}
 use Rattle.pc_linear.specs.Equality.{NeverEqual, SometimesEqual, AlwaysEqual, Divides, PowerTells, IsNeverZero, IsAlwaysZero}
 use Rattle.pc_linear.proofs.Words.{wrap_same, wrap_zero, add_same}
@@ -182,7 +182,7 @@ always-same f g p q h = same_form f g p q factors constants
     same_words : (a b : ℤ) → IsWord a → IsWord b → a ≈ b → a ≡ b
     same_words a b v w e = sym (int_wrap_fits w32 a v) ∙ e ∙ int_wrap_fits w32 b w
 
-    constant_alone : (k : Form) → number_of (λ v. pos 0) k ≡ k.constant
+    constant_alone : (k : Form) → form_number (λ v. pos 0) k ≡ k.constant
     constant_alone k = ap (λ (z : ℤ). z +ℤ k.constant) (none-sum k.terms) ∙ +ℤ_idl k.constant
 
     constants : f.constant ≡ g.constant

@@ -8,7 +8,7 @@ use Rattle.pc_word.specs.declared.item.OpCode.{OpCode}
 use Rattle.pc_word.specs.declared.item.OpCode.TheVariants.{Add, Sub, Mul, Shl}
 use Rattle.pc_word.specs.Word.{word_apply, word_add, word_sub, word_mul, word_shl}
 use Rattle.pc_linear.specs.declared.term.Term.{Term}
-use Rattle.pc_linear.specs.Form.{Form, most_terms, sum_of, ◌≈◌, number_of, says, Means}
+use Rattle.pc_linear.specs.Form.{Form, most_terms, sum_of, ◌≈◌, form_number, says, Means}
 use Rattle.pc_linear.specs.Combine.{prepended, add_term, add_times, plus, difference, constant_form, variable_form, times_form, fitting, constant_by, constant_of, shift_factor, combine_by, combine}
 use Rattle.pc_linear.proofs.Words.{distribute, distribute_left, times_times, one_times, minus_one, exchange, wrap_same, add_same, times_same}
 
@@ -59,7 +59,7 @@ add_times-sum σ n (t ∷ ts) us =
     ∙ sym (distribute_left (t.factor *ℤ σ t.variable) (sum_of σ ts) n)))
 
 -- the number of a sum of forms
-pub plus-number : (σ : ℕ → ℤ) (f : Form) (n : ℤ) (g : Form) → number_of σ (plus f n g) ≈ (number_of σ f +ℤ (n *ℤ number_of σ g))
+pub plus-number : (σ : ℕ → ℤ) (f : Form) (n : ℤ) (g : Form) → form_number σ (plus f n g) ≈ (form_number σ f +ℤ (n *ℤ form_number σ g))
 plus-number σ f n g =
     add_same (sum_of σ (add_times n g.terms f.terms)) ((n *ℤ sum_of σ g.terms) +ℤ sum_of σ f.terms) (int_wrap w32 (f.constant +ℤ (n *ℤ g.constant))) (f.constant +ℤ (n *ℤ g.constant))
     (add_times-sum σ n g.terms f.terms) (wrap_same (f.constant +ℤ (n *ℤ g.constant)))
@@ -72,7 +72,7 @@ plus-number σ f n g =
 -- ---- meaning
 
 -- what a value means is its number, as words
-pub means_number : (σ : ℕ → ℤ) (f : Form) (value : ℤ) → Means σ f value → value ≈ number_of σ f
+pub means_number : (σ : ℕ → ℤ) (f : Form) (value : ℤ) → Means σ f value → value ≈ form_number σ f
 means_number σ f value h = by_terms f.terms h
   where
     by_terms : (ts : List Term) → says σ ts f.constant value → value ≈ (sum_of σ ts +ℤ f.constant)
@@ -80,7 +80,7 @@ means_number σ f value h = by_terms f.terms h
     by_terms (t ∷ ts) h = h
 
 -- a word with the number of a form whose constant is a word
-pub word_means : (σ : ℕ → ℤ) (f : Form) (z : ℤ) → z ≈ number_of σ f → int_wrap w32 f.constant ≡ f.constant → Means σ f (int_wrap w32 z)
+pub word_means : (σ : ℕ → ℤ) (f : Form) (z : ℤ) → z ≈ form_number σ f → int_wrap w32 f.constant ≡ f.constant → Means σ f (int_wrap w32 z)
 word_means σ f z h constant = by_terms f.terms h
   where
     by_terms : (ts : List Term) → z ≈ (sum_of σ ts +ℤ f.constant) → says σ ts f.constant (int_wrap w32 z)
@@ -92,7 +92,7 @@ pub variable_means : (σ : ℕ → ℤ) (v : ℕ) (value : ℤ) → σ v ≡ val
 variable_means σ v value h = ap (int_wrap w32) (sym (+ℤ_idr ((pos 1 *ℤ σ v) +ℤ pos 0) ∙ +ℤ_idr (pos 1 *ℤ σ v) ∙ one_times (σ v) ∙ h))
 
 -- a sum of forms means the word of the sum
-plus_means : (σ : ℕ → ℤ) (f : Form) (n : ℤ) (g : Form) (z : ℤ) → z ≈ (number_of σ f +ℤ (n *ℤ number_of σ g)) → Means σ (plus f n g) (int_wrap w32 z)
+plus_means : (σ : ℕ → ℤ) (f : Form) (n : ℤ) (g : Form) (z : ℤ) → z ≈ (form_number σ f +ℤ (n *ℤ form_number σ g)) → Means σ (plus f n g) (int_wrap w32 z)
 plus_means σ f n g z h = word_means σ (plus f n g) z (h ∙ sym (plus-number σ f n g)) (wrap_same (f.constant +ℤ (n *ℤ g.constant)))
 
 -- what holds of a sum holds of it where it fits
@@ -107,17 +107,17 @@ module _ (σ : ℕ → ℤ) (f g : Form) (a b : ℤ) (p : Means σ f a) (q : Mea
   add_means : Means σ (plus f (pos 1) g) (word_add a b)
   unfolding word_add
   add_means = plus_means σ f (pos 1) g (a +ℤ b)
-      (add_same a (number_of σ f) b (pos 1 *ℤ number_of σ g) (means_number σ f a p) (means_number σ g b q ∙ ap (int_wrap w32) (sym (one_times (number_of σ g)))))
+      (add_same a (form_number σ f) b (pos 1 *ℤ form_number σ g) (means_number σ f a p) (means_number σ g b q ∙ ap (int_wrap w32) (sym (one_times (form_number σ g)))))
 
   sub_means : Means σ (plus f (negsuc 0) g) (word_sub a b)
   unfolding word_sub
   sub_means = plus_means σ f (negsuc 0) g (a -ℤ b)
-      (add_same a (number_of σ f) (neg_ℤ b) (negsuc 0 *ℤ number_of σ g) (means_number σ f a p)
-      (ap (int_wrap w32) (sym (minus_one b)) ∙ times_same (negsuc 0) (negsuc 0) b (number_of σ g) refl (means_number σ g b q)))
+      (add_same a (form_number σ f) (neg_ℤ b) (negsuc 0 *ℤ form_number σ g) (means_number σ f a p)
+      (ap (int_wrap w32) (sym (minus_one b)) ∙ times_same (negsuc 0) (negsuc 0) b (form_number σ g) refl (means_number σ g b q)))
 
   times_means : (n : ℤ) → Means σ (times_form f n) (int_wrap w32 (a *ℤ n))
   times_means n = plus_means σ (constant_form (pos 0)) n f (a *ℤ n)
-      (times_same a (number_of σ f) n n (means_number σ f a p) refl ∙ ap (int_wrap w32) (*ℤ_comm (number_of σ f) n ∙ sym (+ℤ_idl (n *ℤ number_of σ f))))
+      (times_same a (form_number σ f) n n (means_number σ f a p) refl ∙ ap (int_wrap w32) (*ℤ_comm (form_number σ f) n ∙ sym (+ℤ_idl (n *ℤ form_number σ f))))
 
   shl_means : Means σ (times_form f (shift_factor b)) (word_shl a b)
   unfolding word_shl

@@ -10,7 +10,7 @@ use lib.IntN.{+ℤ_idl, +ℤ_assoc, *ℤ-zero, *ℤ_comm, zero-*ℤ}
 use Rattle.pc_word.proofs.Truth.{and_true, or_false}
 use Rattle.pc_word.proofs.Words.{unsigned_abs-neg}
 use Rattle.pc_linear.specs.declared.term.Term.{Term}
-use Rattle.pc_linear.specs.Form.{Form, sum_of, ◌≈◌, number_of, Rising}
+use Rattle.pc_linear.specs.Form.{Form, sum_of, ◌≈◌, form_number, Rising}
 use Rattle.pc_linear.specs.Combine.{plus}
 use Rattle.pc_linear.specs.Equality.{Divides}
 use Rattle.std.specs.List.{list_all}
@@ -319,8 +319,8 @@ solve (suc n) least ts c r h =
 
 -- ---- two forms
 
-difference : (σ : ℕ → ℤ) (f g : Form) → number_of σ (plus f (negsuc 0) g) ≈ (number_of σ f +ℤ neg_ℤ (number_of σ g))
-difference σ f g = plus-number σ f (negsuc 0) g ∙ ap (λ (z : ℤ). int_wrap w32 (number_of σ f +ℤ z)) (minus_one (number_of σ g))
+difference : (σ : ℕ → ℤ) (f g : Form) → form_number σ (plus f (negsuc 0) g) ≈ (form_number σ f +ℤ neg_ℤ (form_number σ g))
+difference σ f g = plus-number σ f (negsuc 0) g ∙ ap (λ (z : ℤ). int_wrap w32 (form_number σ f +ℤ z)) (minus_one (form_number σ g))
 
 pub same_difference : (a b : ℤ) → a ≈ b → (a +ℤ neg_ℤ b) ≈ pos 0
 same_difference a b h = add_same a b (neg_ℤ b) (neg_ℤ b) h refl ∙ ap (int_wrap w32) (none b)
@@ -335,14 +335,14 @@ no_difference a b h = ap (int_wrap w32) (back a b) ∙ add_same (a +ℤ neg_ℤ 
     back a b = omega (arith, ints)
 
 -- where the test is true, no values make the forms equal as words
-pub never_equal_tells : (f g : Form) → never_zero (plus f (negsuc 0) g) ≡ true → (σ : ℕ → ℤ) → number_of σ f ≈ number_of σ g → ⊥
+pub never_equal_tells : (f g : Form) → never_zero (plus f (negsuc 0) g) ≡ true → (σ : ℕ → ℤ) → form_number σ f ≈ form_number σ g → ⊥
 never_equal_tells f g h σ e =
     let d = plus f (negsuc 0) g in
-    power_tells σ 32 d.terms d.constant (omega arith) h (zero_multiple (number_of σ d) (difference σ f g ∙ same_difference (number_of σ f) (number_of σ g) e))
+    power_tells σ 32 d.terms d.constant (omega arith) h (zero_multiple (form_number σ d) (difference σ f g ∙ same_difference (form_number σ f) (form_number σ g) e))
 
 -- where the test is false, some values make the forms equal as words
-pub never_equal_finds : (f g : Form) → Rising 0 f.terms → never_zero (plus f (negsuc 0) g) ≡ false → (σ : ℕ → ℤ) × (number_of σ f ≈ number_of σ g)
+pub never_equal_finds : (f g : Form) → Rising 0 f.terms → never_zero (plus f (negsuc 0) g) ≡ false → (σ : ℕ → ℤ) × (form_number σ f ≈ form_number σ g)
 never_equal_finds f g r h =
     let d = plus f (negsuc 0) g in
     let s = solve 32 0 d.terms d.constant (add_times-rising (negsuc 0) g.terms f.terms r) h in
-    (s.values, no_difference (number_of s.values f) (number_of s.values g) (sym (difference s.values f g) ∙ multiple_zero (number_of s.values d) s.multiple))
+    (s.values, no_difference (form_number s.values f) (form_number s.values g) (sym (difference s.values f g) ∙ multiple_zero (form_number s.values d) s.multiple))

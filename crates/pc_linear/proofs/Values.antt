@@ -7,7 +7,7 @@ use Rattle.pc_word.specs.declared.item.OpCode.{OpCode}
 use Rattle.pc_word.specs.Word.{IsWord, word_apply}
 use Rattle.pc_word.proofs.Words.{IsWord-apply}
 use Rattle.pc_linear.specs.declared.term.Term.{Term}
-use Rattle.pc_linear.specs.Form.{Form, IsNormal, IsForm, sum_of, ◌≈◌, number_of, form_value, Means}
+use Rattle.pc_linear.specs.Form.{Form, IsNormal, IsForm, sum_of, ◌≈◌, form_number, form_value, Means}
 use Rattle.pc_linear.specs.Combine.{combine}
 use Rattle.pc_linear.specs.Laws.{HasValueOf}
 use Rattle.pc_linear.proofs.Words.{wrap_same, add_same, times_same}
@@ -16,15 +16,15 @@ use Rattle.pc_linear.proofs.Normal.{constant-normal, plus-normal, fitting-form}
 
 -- a form's value is a word
 pub IsWord-value : (σ : ℕ → ℤ) (f : Form) → IsWord (form_value σ f)
-IsWord-value σ f = SFits-int_wrap w32 (number_of σ f)
+IsWord-value σ f = SFits-int_wrap w32 (form_number σ f)
 
 -- a form means its value
 pub value-means : (σ : ℕ → ℤ) (f : Form) → IsNormal f → Means σ f (form_value σ f)
-value-means σ f h = word_means σ f (number_of σ f) refl (int_wrap_fits w32 f.constant h.constant)
+value-means σ f h = word_means σ f (form_number σ f) refl (int_wrap_fits w32 f.constant h.constant)
 
 -- a number that a form means is its value modulo 2^32
 pub means-value : (σ : ℕ → ℤ) (f : Form) (number : ℤ) → Means σ f number → number ≈ form_value σ f
-means-value σ f number h = means_number σ f number h ∙ sym (wrap_same (number_of σ f))
+means-value σ f number h = means_number σ f number h ∙ sym (wrap_same (form_number σ f))
 
 -- so a word that it means is its value
 pub word_meant : (σ : ℕ → ℤ) (f : Form) (number : ℤ) → IsWord number → Means σ f number → form_value σ f ≡ number

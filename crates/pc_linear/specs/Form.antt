@@ -45,12 +45,12 @@ sum_of σ [] = pos 0
 sum_of σ (t ∷ ts) = (t.factor *ℤ σ t.variable) +ℤ sum_of σ ts
 
 -- the form's number
-abbrev pub number_of : (ℕ → ℤ) → Form → ℤ
-number_of σ f = sum_of σ f.terms +ℤ f.constant
+abbrev pub form_number : (ℕ → ℤ) → Form → ℤ
+form_number σ f = sum_of σ f.terms +ℤ f.constant
 
 -- the form's value: the word of its number
 abbrev pub form_value : (ℕ → ℤ) → Form → ℤ
-form_value σ f = int_wrap w32 (number_of σ f)
+form_value σ f = int_wrap w32 (form_number σ f)
 
 infix 20 ◌≈◌
 -- two numbers are equal modulo 2^32: they are one word

@@ -19,7 +19,7 @@ use Rattle.pc_word.proofs.Items.{item_step-is}
 use Rattle.pc_flow.specs.declared.node.FlowNode.{FlowNode}
 use Rattle.pc_flow.specs.declared.node.FlowNode.TheVariants.{Op, Test, Stop, Trap}
 use Rattle.pc_flow.specs.FlowGraph.{FlowGraph}
-use Rattle.pc_flow.specs.FlowRun.{FlowState, after_item, run_node, flow_step}
+use Rattle.pc_flow.specs.FlowRun.{FlowState, step_after_item, run_node, flow_step}
 use Rattle.pc_live.specs.Live.{is_variable, IsLive, Read_here, Read_later}
 use Rattle.pc_live.specs.Laws.{AlikeWhereLive, StepsAlike}
 use Rattle.pc_live.proofs.Logic.{or_first, or_second}
@@ -154,7 +154,7 @@ does_alike lengths (More dest) to s t same cells input = (
 -- after an item whose outcomes are alike, steps are alike
 item_alike : (flow : FlowGraph) (at to : ℕ) (item : Item) (s t : State)
     → slice_get flow.nodes at ≡ Some (Op item to) → ((x : ℕ) → IsLive flow x at → t.names x ≡ s.names x)
-    → (one other : RowOutcome ℕ) → OutcomesAlike to (dest_of item) s t one other → StepsAlike flow (after_item one) (after_item other)
+    → (one other : RowOutcome ℕ) → OutcomesAlike to (dest_of item) s t one other → StepsAlike flow (step_after_item one) (step_after_item other)
 item_alike flow at to item s t there alike (Faults fault) (Faults again) h = (refl, ap Fault h)
 item_alike flow at to item s t there alike (Commits printed new leaf) (Commits again other last) h = (
   h.0,

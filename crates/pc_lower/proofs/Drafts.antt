@@ -9,7 +9,7 @@ use Rattle.pc_word.specs.SourceLimits.{most_nodes}
 use Rattle.pc_word.proofs.Lists.{set_at, set_length, index_set_same, index_set_other}
 use Rattle.pc_flow.specs.declared.node.FlowNode.{FlowNode}
 use Rattle.pc_flow.specs.declared.node.FlowNode.TheVariants.{Op, Test, Stop, Trap}
-use Rattle.pc_flow.specs.FlowGraph.{FlowGraph, IsTarget, Descends, NodeFits, turn_of}
+use Rattle.pc_flow.specs.FlowGraph.{FlowGraph, IsTarget, Descends, NodeFits, tested_loop}
 use Rattle.pc_lower.proofs.Fills.{get_set_same, get_set_other}
 use Rattle.pc_lower.specs.LoopTests.{HasTest, TestsInside}
 use Rattle.pc_lower.proofs.LoopMarks.{header_length, header_outer}
@@ -27,7 +27,7 @@ decide_same (suc i) (suc j) = elim (decide_same i j) [
 
 -- a node at a number stands in a loop, if it is that loop's test
 abbrev PlacedIn : List (Option ℕ) → ℕ → FlowNode → Type 0
-PlacedIn places number node = IfSome (turn_of node) (λ turn. slice_get places number ≡ Some (Some turn))
+PlacedIn places number node = IfSome (tested_loop node) (λ turn. slice_get places number ≡ Some (Some turn))
 
 module _ (draft : Draft) (at : ℕ) (node : FlowNode) (inside : Option ℕ) (keeps : IsDraft draft) (can : CanPlace draft at node inside) where
   abbrev old : FlowGraph
@@ -127,10 +127,10 @@ module _ (draft : Draft) (at : ℕ) (node : FlowNode) (inside : Option ℕ) (kee
   -- and so does each
   all-stand : TestsInside new
   all-stand number one e = elim (set_at old.nodes at number node one e) [
-    | inl h ↦ subst (λ (n : ℕ). PlacedIn new.inside n one) (sym h.0) (subst (PlacedIn new.inside at) (sym h.1) (stands-new (turn_of node) can.stands))
+    | inl h ↦ subst (λ (n : ℕ). PlacedIn new.inside n one) (sym h.0) (subst (PlacedIn new.inside at) (sym h.1) (stands-new (tested_loop node) can.stands))
     | inr h ↦
         let same = get_set_other old.inside at number inside (λ e. h.0 (sym e)) in
-        subst (λ (place : Option (Option ℕ)). IfSome (turn_of one) (λ turn. place ≡ Some (Some turn))) (sym same) (keeps.tests_inside number one h.1)
+        subst (λ (place : Option (Option ℕ)). IfSome (tested_loop one) (λ turn. place ≡ Some (Some turn))) (sym same) (keeps.tests_inside number one h.1)
   ]
 
   -- no rank is above the new one

@@ -14,7 +14,7 @@ use Rattle.pc_syntax.specs.Source.{SourceExpression, Literal, Variable, Input, I
 use Rattle.pc_word.specs.State.{State}
 use Rattle.pc_word.specs.Items.{operand_value, value_of, element_at, place_in, next_input, some_left}
 use Rattle.pc_word.specs.Commit.{state_after}
-use Rattle.pc_meaning.specs.SourceState.{SourceState, set_left}
+use Rattle.pc_meaning.specs.ProgramState.{ProgramState, set_left}
 use Rattle.pc_meaning.specs.Expression.{Evaluated, Given, Caught, with_value, side, with_divisor, binary_value, prefix_value, divides, operate, at_place, loaded, element, read_from, truth, eval}
 use Rattle.pc_meaning.specs.Lowered.{prefix_code, binary_code}
 use Rattle.pc_meaning.specs.Trace.{Kind, Binary_node, Copy_node, Load_node, Read_node, Test_node, traced, tested, passes, passes_nothing, read_trace}
@@ -33,14 +33,14 @@ use Rattle.pc_lower.proofs.Operations.{binary-item, prefix-item, held-kept}
 
 -- the flow is at a node q, in a state that stands for s, an operand has this value, and names below t's temporary are as
 -- they were
-pub record Arrives (w : Operand) (t q : ℕ) (old : State) (v : ℤ) (s : SourceState) (out : List ℤ) (g : FlowState) : Type 0 where
+pub record Arrives (w : Operand) (t q : ℕ) (old : State) (v : ℤ) (s : ProgramState) (out : List ℤ) (g : FlowState) : Type 0 where
   pub at : g.node ≡ q
   pub stands : Stands s out g.state
   pub keeps : Keeps t old g.state
   pub value : operand_value g.state.names w ≡ v
 
 -- the flow is at a trap, and what the source printed is printed
-abbrev pub TrapsAt : List FlowNode → TrapKind → ℕ → SourceState → List ℤ → FlowState → Type 0
+abbrev pub TrapsAt : List FlowNode → TrapKind → ℕ → ProgramState → List ℤ → FlowState → Type 0
 TrapsAt nodes kind line s out g = (slice_get nodes g.node ≡ Some (Trap kind line)) × (s.printed ≡ out)
 
 -- the flow has followed an evaluation
@@ -56,10 +56,10 @@ module _ (nodes : List FlowNode) (lengths : List ℕ) where
   -- ---- one after another
 
   -- a value, and what is done with it
-  pub with_value-comes : (x : Evaluated) (ks : List Kind) (next : ℤ → SourceState → List Kind) (kont : ℤ → SourceState → Evaluated) (out : List ℤ) (f : FlowState)
+  pub with_value-comes : (x : Evaluated) (ks : List Kind) (next : ℤ → ProgramState → List Kind) (kont : ℤ → ProgramState → Evaluated) (out : List ℤ) (f : FlowState)
       (w w' : Operand) (t t' q q' : ℕ) (old old' : State)
       → Comes nodes lengths ks out f (Valued nodes w t q old x)
-      → ((v : ℤ) (s : SourceState) (o : List ℤ) (g : FlowState) → Arrives w t q old v s o g → Comes nodes lengths (next v s) o g (Valued nodes w' t' q' old' (kont v s)))
+      → ((v : ℤ) (s : ProgramState) (o : List ℤ) (g : FlowState) → Arrives w t q old v s o g → Comes nodes lengths (next v s) o g (Valued nodes w' t' q' old' (kont v s)))
       → Comes nodes lengths (traced ks x next) out f (Valued nodes w' t' q' old' (with_value x kont))
   with_value-comes (Given v s) ks next kont out f w w' t t' q q' old old' p h =
       let P : List ℤ → FlowState → Type 0 = Valued nodes w' t' q' old' (kont v s) in
@@ -71,7 +71,7 @@ module _ (nodes : List FlowNode) (lengths : List ℕ) where
   pub last-comes : (x : Evaluated) (ks : List Kind) (kind : Kind) (out : List ℤ) (f : FlowState)
       (w w' : Operand) (t t' q q' : ℕ) (old old' : State)
       → Comes nodes lengths ks out f (Valued nodes w t q old x)
-      → ((v : ℤ) (s : SourceState) (o : List ℤ) (g : FlowState) → Arrives w t q old v s o g → Comes nodes lengths (kind ∷ []) o g (Arrives w' t' q' old' v s))
+      → ((v : ℤ) (s : ProgramState) (o : List ℤ) (g : FlowState) → Arrives w t q old v s o g → Comes nodes lengths (kind ∷ []) o g (Arrives w' t' q' old' v s))
       → Comes nodes lengths (traced ks x (λ v. passes kind)) out f (Valued nodes w' t' q' old' x)
   last-comes (Given v s) ks kind out f w w' t t' q q' old old' p h =
       let P : List ℤ → FlowState → Type 0 = Arrives w' t' q' old' v s in
@@ -80,7 +80,7 @@ module _ (nodes : List FlowNode) (lengths : List ℕ) where
   last-comes (Caught kind' line s) ks kind out f w w' t t' q q' old old' p h = p
 
   -- an item that writes a temporary
-  pub op-arrives : (item : Item) (kind : Kind) (t q : ℕ) (v : ℤ) (s : SourceState) (out : List ℤ) (f : FlowState) (old : State)
+  pub op-arrives : (item : Item) (kind : Kind) (t q : ℕ) (v : ℤ) (s : ProgramState) (out : List ℤ) (f : FlowState) (old : State)
       → slice_get nodes f.node ≡ Some (Op item q) → Pure item (temporary t) → kind_of_item item ≡ kind → value_of lengths f.state item ≡ v
       → Stands s out f.state → Keeps t old f.state
       → Comes nodes lengths (kind ∷ []) out f (Arrives (Name (temporary t)) t q old v s)
@@ -97,7 +97,7 @@ module _ (nodes : List FlowNode) (lengths : List ℕ) where
   -- ---- operators
 
   -- an operation, after a test of its divisor where there is one
-  divisor-comes : (b : Bool) (line t p q : ℕ) (divisor : Operand) (item : Item) (kind : Kind) (d v : ℤ) (s : SourceState) (out : List ℤ) (f : FlowState) (old : State)
+  divisor-comes : (b : Bool) (line t p q : ℕ) (divisor : Operand) (item : Item) (kind : Kind) (d v : ℤ) (s : ProgramState) (out : List ℤ) (f : FlowState) (old : State)
       → Operates nodes lengths b line divisor item p q → f.node ≡ p → Pure item (temporary t) → kind_of_item item ≡ kind
       → operand_value f.state.names divisor ≡ d → value_of lengths f.state item ≡ v → Stands s out f.state → Keeps t old f.state
       → Comes nodes lengths (divisor_trace b d kind s) out f (Valued nodes (Name (temporary t)) t q old (with_divisor b line d v s))
@@ -110,7 +110,7 @@ module _ (nodes : List FlowNode) (lengths : List ℕ) where
       op-arrives item kind t q v s out f old (here nodes f.node p _ at g) pure k value stands keeps
 
   -- a binary operator
-  pub operate-comes : (op : BinaryOp) (line t p q : ℕ) (left right : Operand) (a b : ℤ) (s : SourceState) (out : List ℤ) (f : FlowState) (old : State)
+  pub operate-comes : (op : BinaryOp) (line t p q : ℕ) (left right : Operand) (a b : ℤ) (s : ProgramState) (out : List ℤ) (f : FlowState) (old : State)
       → Combines nodes lengths op line (temporary t) left right p q → f.node ≡ p
       → operand_value f.state.names left ≡ a → operand_value f.state.names right ≡ b → Stands s out f.state → Keeps t old f.state
       → Comes nodes lengths (operation_trace op b s) out f (Valued nodes (Name (temporary t)) t q old (operate op line a b s))
@@ -125,8 +125,8 @@ module _ (nodes : List FlowNode) (lengths : List ℕ) where
   -- ---- elements
 
   -- what comes after a bound test
-  placed-comes : (X : Type 0) (place : Option ℕ) (line t q z : ℕ) (s : SourceState) (m old : State) (out : List ℤ)
-      (next : ℕ → SourceState → List Kind) (outside : SourceState → X) (kont : ℕ → SourceState → X) (P : X → List ℤ → FlowState → Type 0)
+  placed-comes : (X : Type 0) (place : Option ℕ) (line t q z : ℕ) (s : ProgramState) (m old : State) (out : List ℤ)
+      (next : ℕ → ProgramState → List Kind) (outside : ProgramState → X) (kont : ℕ → ProgramState → X) (P : X → List ℤ → FlowState → Type 0)
       → m.names (temporary t) ≡ word_of_test (is_some place) → slice_get nodes z ≡ Some (Trap OutOfBounds line) → Stands s out m → Keeps t old m
       → ((i : ℕ) → place ≡ Some i → (g : FlowState) → g.node ≡ q → Keeps t old g.state → Stands s out g.state → Comes nodes lengths (next i s) out g (P (kont i s)))
       → ((g : FlowState) → TrapsAt nodes OutOfBounds line s out g → P (outside s) out g)
@@ -139,8 +139,8 @@ module _ (nodes : List FlowNode) (lengths : List ℕ) where
       inside i refl to (ap (λ (v : ℤ). if holds v then q else z) value) keeps stands
 
   -- a bound test
-  pub bounds-comes : (X : Type 0) (array line t p q : ℕ) (index : Operand) (i : ℤ) (s : SourceState) (f : FlowState) (out : List ℤ)
-      (next : ℕ → SourceState → List Kind) (outside : SourceState → X) (kont : ℕ → SourceState → X) (P : X → List ℤ → FlowState → Type 0)
+  pub bounds-comes : (X : Type 0) (array line t p q : ℕ) (index : Operand) (i : ℤ) (s : ProgramState) (f : FlowState) (out : List ℤ)
+      (next : ℕ → ProgramState → List Kind) (outside : ProgramState → X) (kont : ℕ → ProgramState → X) (P : X → List ℤ → FlowState → Type 0)
       → Bounds nodes lengths array line (temporary t) index p q → f.node ≡ p → operand_value f.state.names index ≡ i → Stands s out f.state
       → ((place : ℕ) → place_in (slice_index lengths array) i ≡ Some place → (g : FlowState) → g.node ≡ q → Keeps t f.state g.state → Stands s out g.state
       → Comes nodes lengths (next place s) out g (P (kont place s)))
@@ -160,7 +160,7 @@ module _ (nodes : List FlowNode) (lengths : List ℕ) where
       (Keeps-wrote t (value_of lengths f.state item) f.state h.state wrote) inside caught))
 
   -- the element at a place
-  pub load-arrives : (array t q : ℕ) (index : Operand) (i : ℤ) (place : ℕ) (s : SourceState) (out : List ℤ) (f : FlowState) (old : State)
+  pub load-arrives : (array t q : ℕ) (index : Operand) (i : ℤ) (place : ℕ) (s : ProgramState) (out : List ℤ) (f : FlowState) (old : State)
       → slice_get nodes f.node ≡ Some (Op (Load (temporary t) array index) q) → operand_value f.state.names index ≡ i → place_in (slice_index lengths array) i ≡ Some place
       → Stands s out f.state → Keeps t old f.state
       → Comes nodes lengths (Load_node ∷ []) out f (Arrives (Name (temporary t)) t q old (s.cells array place) s)
@@ -173,7 +173,7 @@ module _ (nodes : List FlowNode) (lengths : List ℕ) where
   -- ---- input
 
   -- a read where a number is left
-  read-arrives : (t q : ℕ) (v : ℤ) (rest : List ℤ) (s : SourceState) (out : List ℤ) (f : FlowState) (old : State)
+  read-arrives : (t q : ℕ) (v : ℤ) (rest : List ℤ) (s : ProgramState) (out : List ℤ) (f : FlowState) (old : State)
       → slice_get nodes f.node ≡ Some (Op (Read (temporary t)) q) → s.input ≡ v ∷ rest → Stands s out f.state → Keeps t old f.state
       → Comes nodes lengths (Read_node ∷ []) out f (Arrives (Name (temporary t)) t q old v (set_left rest s))
   read-arrives t q v rest s out f old e left stands keeps =
@@ -196,7 +196,7 @@ module _ (nodes : List FlowNode) (lengths : List ℕ) where
       item-comes nodes lengths item q f out P e (rw some refl) (subst (λ (o : List ℤ). P o (standing q new)) (sym (append-nil out)) arrives)
 
   -- the input, which has a number left or not
-  input-comes : (input : List ℤ) (line t p q : ℕ) (s : SourceState) (out : List ℤ) (f : FlowState)
+  input-comes : (input : List ℤ) (line t p q : ℕ) (s : ProgramState) (out : List ℤ) (f : FlowState)
       → Gives nodes lengths (Input line) t p q → f.node ≡ p → s.input ≡ input → Stands s out f.state
       → Comes nodes lengths (read_trace input) out f (Valued nodes (Name (temporary t)) t q f.state (read_from input line s))
   input-comes [] line t p q s out f g at left stands =
@@ -220,7 +220,7 @@ module _ (nodes : List FlowNode) (lengths : List ℕ) where
   -- ---- expressions
 
   -- a copy to a temporary
-  copy-arrives : (from : Operand) (t q : ℕ) (v : ℤ) (s : SourceState) (out : List ℤ) (f : FlowState) (old : State)
+  copy-arrives : (from : Operand) (t q : ℕ) (v : ℤ) (s : ProgramState) (out : List ℤ) (f : FlowState) (old : State)
       → slice_get nodes f.node ≡ Some (Op (Copy (temporary t) from) q) → operand_value f.state.names from ≡ v
       → Stands s out f.state → Keeps t old f.state
       → Comes nodes lengths (Copy_node ∷ []) out f (Arrives (Name (temporary t)) t q old v s)
@@ -228,7 +228,7 @@ module _ (nodes : List FlowNode) (lengths : List ℕ) where
       op-arrives (Copy (temporary t) from) Copy_node t q v s out f old e (Pure-copy (temporary t) from) refl value stands keeps
 
   -- whether a value holds
-  truth-arrives : (w : Operand) (t q : ℕ) (v : ℤ) (s : SourceState) (out : List ℤ) (f : FlowState) (old : State)
+  truth-arrives : (w : Operand) (t q : ℕ) (v : ℤ) (s : ProgramState) (out : List ℤ) (f : FlowState) (old : State)
       → slice_get nodes f.node ≡ Some (Op (Bin codes.Unequal (temporary t) w (Lit (pos 0))) q) → operand_value f.state.names w ≡ v
       → Stands s out f.state → Keeps t old f.state
       → Comes nodes lengths (Binary_node codes.Unequal ∷ []) out f (Arrives (Name (temporary t)) t q old (word_of_test (holds v)) s)
@@ -237,7 +237,7 @@ module _ (nodes : List FlowNode) (lengths : List ℕ) where
       (Pure-bin codes.Unequal (temporary t) w (Lit (pos 0))) refl (ap (λ (a : ℤ). word_unequal a (pos 0)) value ∙ sym (holds-unequal v)) stands keeps
 
   -- every expression
-  pub gives-comes : (e : SourceExpression) (t p q : ℕ) → Gives nodes lengths e t p q → (s : SourceState) (out : List ℤ) (f : FlowState) → f.node ≡ p → Stands s out f.state
+  pub gives-comes : (e : SourceExpression) (t p q : ℕ) → Gives nodes lengths e t p q → (s : ProgramState) (out : List ℤ) (f : FlowState) → f.node ≡ p → Stands s out f.state
       → Comes nodes lengths (trace lengths e s) out f (Valued nodes (held e t) t q f.state (eval lengths e s))
   gives-comes (Literal value) t p q g s out f at stands = record { at = at ∙ g; stands = stands; keeps = Keeps-refl t f.state; value = refl }
   gives-comes (Variable scalar line) t p q g s out f at stands =
@@ -271,8 +271,8 @@ module _ (nodes : List FlowNode) (lengths : List ℕ) where
       (held-kept nodes lengths left t p g.0 g.2 h.state k.state b.keeps ∙ a.value) b.value b.stands (Keeps-trans t (t + hold left) f.state h.state k.state (omega arith) a.keeps b.keeps)))
   gives-comes (Conjunction left right) t p q g s out f at stands =
       let w = Name (temporary t) in
-      let passed = λ (t : SourceState). traced (trace lengths right t) (eval lengths right t) (λ b. passes (Binary_node codes.Unequal)) in
-      let value = λ (t : SourceState). with_value (eval lengths right t) truth in
+      let passed = λ (t : ProgramState). traced (trace lengths right t) (eval lengths right t) (λ b. passes (Binary_node codes.Unequal)) in
+      let value = λ (t : ProgramState). with_value (eval lengths right t) truth in
       with_value-comes (eval lengths left s) (trace lengths left s) (λ a. tested (side a passed (passes Copy_node))) (λ a. side a value (Given (pos 0)))
       out f (held left t) w t t g.0 q f.state f.state (gives-comes left t p g.0 g.4 s out f at stands)
       (λ x s1 out1 h a. side-comes nodes lengths Evaluated (held left t) g.1 g.2 None x s1 h out1 passed (passes Copy_node) value (Given (pos 0)) (Valued nodes w t q f.state)
@@ -284,8 +284,8 @@ module _ (nodes : List FlowNode) (lengths : List ℕ) where
       (copy-arrives (Lit (pos 0)) t q (pos 0) s1 out1 (standing g.2 h.state) f.state g.8 refl a.stands a.keeps))
   gives-comes (Disjunction left right) t p q g s out f at stands =
       let w = Name (temporary t) in
-      let passed = λ (t : SourceState). traced (trace lengths right t) (eval lengths right t) (λ b. passes (Binary_node codes.Unequal)) in
-      let value = λ (t : SourceState). with_value (eval lengths right t) truth in
+      let passed = λ (t : ProgramState). traced (trace lengths right t) (eval lengths right t) (λ b. passes (Binary_node codes.Unequal)) in
+      let value = λ (t : ProgramState). with_value (eval lengths right t) truth in
       with_value-comes (eval lengths left s) (trace lengths left s) (λ a. tested (side a (passes Copy_node) passed)) (λ a. side a (Given (pos 1)) value)
       out f (held left t) w t t g.0 q f.state f.state (gives-comes left t p g.0 g.4 s out f at stands)
       (λ x s1 out1 h a. side-comes nodes lengths Evaluated (held left t) g.1 g.2 None x s1 h out1 (passes Copy_node) passed (Given (pos 1)) value (Valued nodes w t q f.state)
@@ -297,8 +297,8 @@ module _ (nodes : List FlowNode) (lengths : List ℕ) where
       (Keeps-trans t t f.state h.state k.state (omega arith) a.keeps b.keeps))))
   gives-comes (Conditional test one other) t p q g s out f at stands =
       let w = Name (temporary t) in
-      let first = λ (t : SourceState). traced (trace lengths one t) (eval lengths one t) (λ b. passes Copy_node) in
-      let second = λ (t : SourceState). traced (trace lengths other t) (eval lengths other t) (λ b. passes Copy_node) in
+      let first = λ (t : ProgramState). traced (trace lengths one t) (eval lengths one t) (λ b. passes Copy_node) in
+      let second = λ (t : ProgramState). traced (trace lengths other t) (eval lengths other t) (λ b. passes Copy_node) in
       with_value-comes (eval lengths test s) (trace lengths test s) (λ a. tested (side a first second)) (λ a. side a (eval lengths one) (eval lengths other))
       out f (held test t) w t t g.0 q f.state f.state (gives-comes test t p g.0 g.5 s out f at stands)
       (λ x s1 out1 h a. side-comes nodes lengths Evaluated (held test t) g.1 g.2 None x s1 h out1 first second (eval lengths one) (eval lengths other) (Valued nodes w t q f.state)

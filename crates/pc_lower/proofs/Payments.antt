@@ -8,7 +8,7 @@ use Rattle.pc_syntax.specs.declared.operator.BinaryOp.{BinaryOp}
 use Rattle.pc_syntax.specs.Source as source
 use Rattle.pc_syntax.specs.Source.{SourceExpression, SourceStatement, SourceList, OptionalStatement}
 use Rattle.pc_word.specs.Items.{place_in}
-use Rattle.pc_meaning.specs.SourceState.{SourceState, set_turns, add_printed}
+use Rattle.pc_meaning.specs.ProgramState.{ProgramState, set_turns, add_printed}
 use Rattle.pc_meaning.specs.Expression.{state_given, Evaluated, Given, Caught, where_true, side, operate, at_place, eval}
 use Rattle.pc_meaning.specs.Statement.{Completion, GoesOn, Breaks, Continues, Returns, Traps, Spent, state_at_end, do_with, then_do, after_body}
 use Rattle.pc_meaning.specs.Statement.{assign, store, with_place, update, assignment, declare, turn_from, turn_of, round_of, loop, loop_from}
@@ -63,20 +63,20 @@ abbrev pub Paid : (w c n : ℕ) → Completion → List Kind → Type 0
 Paid w c n x ks = n ≤ remaining x + cost w (length ks) + c
 
 -- a value, and what is done with it
-do_with-paid : (w c n : ℕ) (x : Evaluated) (ks : List Kind) (next : ℤ → SourceState → List Kind) (kont : ℤ → SourceState → Completion)
-    → (state_given x).turns ≡ n → ((v : ℤ) (s : SourceState) → s.turns ≡ n → Paid w c n (kont v s) (next v s)) → Paid w c n (do_with x kont) (traced ks x next)
+do_with-paid : (w c n : ℕ) (x : Evaluated) (ks : List Kind) (next : ℤ → ProgramState → List Kind) (kont : ℤ → ProgramState → Completion)
+    → (state_given x).turns ≡ n → ((v : ℤ) (s : ProgramState) → s.turns ≡ n → Paid w c n (kont v s) (next v s)) → Paid w c n (do_with x kont) (traced ks x next)
 do_with-paid w c n (Given v s) ks next kont e h = let p = h v s e in let q = cost-append w ks (next v s) in omega (arith, p, q)
 do_with-paid w c n (Caught kind line s) ks next kont e h = omega (arith, e)
 
 -- a value that is dropped
-dropped-paid : (w c n : ℕ) (x : Evaluated) (ks : List Kind) (end : SourceState → Completion)
-    → (state_given x).turns ≡ n → ((s : SourceState) → remaining (end s) ≡ s.turns) → Paid w c n (do_with x (λ v. end)) ks
+dropped-paid : (w c n : ℕ) (x : Evaluated) (ks : List Kind) (end : ProgramState → Completion)
+    → (state_given x).turns ≡ n → ((s : ProgramState) → remaining (end s) ≡ s.turns) → Paid w c n (do_with x (λ v. end)) ks
 dropped-paid w c n (Given v s) ks end e h = let p = h s in omega (arith, e, p)
 dropped-paid w c n (Caught kind line s) ks end e h = omega (arith, e)
 
 -- a statement, and what follows it
-then-paid : (w c d n : ℕ) (x : Completion) (ks : List Kind) (next : SourceState → List Kind) (kont : SourceState → Completion)
-    → Paid w c n x ks → ((s : SourceState) → s.turns ≤ (state_at_end x).turns → Paid w d s.turns (kont s) (next s)) → Paid w (c + d) n (then_do x kont) (traced_on ks x next)
+then-paid : (w c d n : ℕ) (x : Completion) (ks : List Kind) (next : ProgramState → List Kind) (kont : ProgramState → Completion)
+    → Paid w c n x ks → ((s : ProgramState) → s.turns ≤ (state_at_end x).turns → Paid w d s.turns (kont s) (next s)) → Paid w (c + d) n (then_do x kont) (traced_on ks x next)
 then-paid w c d n (GoesOn s) ks next kont p h = let r = h s (omega arith) in let q = cost-append w ks (next s) in omega (arith, p, q, r)
 then-paid w c d n (Breaks s) ks next kont p h = omega (arith, p)
 then-paid w c d n (Continues s) ks next kont p h = omega (arith, p)
@@ -85,8 +85,8 @@ then-paid w c d n (Traps kind line s) ks next kont p h = omega (arith, p)
 then-paid w c d n (Spent s) ks next kont p h = omega (arith, p)
 
 -- the body of a loop, and what follows it
-body-paid : (w c d n : ℕ) (x : Completion) (ks : List Kind) (next : SourceState → List Kind) (kont : SourceState → Completion)
-    → Paid w c n x ks → ((s : SourceState) → s.turns ≤ (state_at_end x).turns → Paid w d s.turns (kont s) (next s)) → Paid w (c + d) n (after_body x kont) (traced_body ks x next)
+body-paid : (w c d n : ℕ) (x : Completion) (ks : List Kind) (next : ProgramState → List Kind) (kont : ProgramState → Completion)
+    → Paid w c n x ks → ((s : ProgramState) → s.turns ≤ (state_at_end x).turns → Paid w d s.turns (kont s) (next s)) → Paid w (c + d) n (after_body x kont) (traced_body ks x next)
 body-paid w c d n (GoesOn s) ks next kont p h = let r = h s (omega arith) in let q = cost-append w ks (next s) in omega (arith, p, q, r)
 body-paid w c d n (Breaks s) ks next kont p h = omega (arith, p)
 body-paid w c d n (Continues s) ks next kont p h = let r = h s (omega arith) in let q = cost-append w ks (next s) in omega (arith, p, q, r)
@@ -95,13 +95,13 @@ body-paid w c d n (Traps kind line s) ks next kont p h = omega (arith, p)
 body-paid w c d n (Spent s) ks next kont p h = omega (arith, p)
 
 -- the side that came out
-where_true-paid : (w c n : ℕ) (b : Bool) (s : SourceState) (one other : SourceState → List Kind) (one' other' : SourceState → Completion)
+where_true-paid : (w c n : ℕ) (b : Bool) (s : ProgramState) (one other : ProgramState → List Kind) (one' other' : ProgramState → Completion)
     → Paid w (c + suc w) n (one' s) (one s) → Paid w (c + suc w) n (other' s) (other s) → Paid w c n (where_true b one' other' s) (Test_node ∷ where_true b one other s)
 where_true-paid w c n true s one other one' other' p q = omega (arith, p)
 where_true-paid w c n false s one other one' other' p q = omega (arith, q)
 
 -- the two sides of a test
-side-paid : (w c n : ℕ) (v : ℤ) (s : SourceState) (one other : SourceState → List Kind) (one' other' : SourceState → Completion)
+side-paid : (w c n : ℕ) (v : ℤ) (s : ProgramState) (one other : ProgramState → List Kind) (one' other' : ProgramState → Completion)
     → Paid w (c + suc w) n (one' s) (one s) → Paid w (c + suc w) n (other' s) (other s) → Paid w c n (side v one' other' s) (tested (side v one other) s)
 side-paid w c n v s one other one' other' p q = where_true-paid w c n (holds v) s one other one' other' p q
 
@@ -112,23 +112,23 @@ weaken w c d n m x ks le e p = omega (arith, p, le, e)
 -- ---- statements without loops
 
 -- a value, and what is done with it
-do_with-keeps : (n : ℕ) (x : Evaluated) (kont : ℤ → SourceState → Completion) → (state_given x).turns ≡ n
-    → ((v : ℤ) (s : SourceState) → s.turns ≡ n → remaining (kont v s) ≡ n) → remaining (do_with x kont) ≡ n
+do_with-keeps : (n : ℕ) (x : Evaluated) (kont : ℤ → ProgramState → Completion) → (state_given x).turns ≡ n
+    → ((v : ℤ) (s : ProgramState) → s.turns ≡ n → remaining (kont v s) ≡ n) → remaining (do_with x kont) ≡ n
 do_with-keeps n (Given v s) kont e h = h v s e
 do_with-keeps n (Caught kind line s) kont e h = e
 
 -- a bound test
-at_place-keeps : (n : ℕ) (place : Option ℕ) (outside : SourceState → Completion) (next : ℕ → SourceState → Completion) (s : SourceState)
+at_place-keeps : (n : ℕ) (place : Option ℕ) (outside : ProgramState → Completion) (next : ℕ → ProgramState → Completion) (s : ProgramState)
     → remaining (outside s) ≡ n → ((i : ℕ) → remaining (next i s) ≡ n) → remaining (at_place place outside next s) ≡ n
 at_place-keeps n None outside next s p q = p
 at_place-keeps n (Some i) outside next s p q = q i
 
 -- an expression
-eval-turns : (lengths : List ℕ) (e : SourceExpression) (n : ℕ) (s : SourceState) → s.turns ≡ n → (state_given (eval lengths e s)).turns ≡ n
+eval-turns : (lengths : List ℕ) (e : SourceExpression) (n : ℕ) (s : ProgramState) → s.turns ≡ n → (state_given (eval lengths e s)).turns ≡ n
 eval-turns lengths e n s h = (eval-quiet lengths e).keeps_turns s ∙ h
 
 -- every assignment
-assignment-keeps : (lengths : List ℕ) (name line : ℕ) (index : Option SourceExpression) (bracket : ℕ) (op : Option BinaryOp) (at : ℕ) (value : SourceExpression) (s : SourceState)
+assignment-keeps : (lengths : List ℕ) (name line : ℕ) (index : Option SourceExpression) (bracket : ℕ) (op : Option BinaryOp) (at : ℕ) (value : SourceExpression) (s : ProgramState)
     → remaining (assignment lengths name line index bracket op at value s) ≡ s.turns
 assignment-keeps lengths name line None bracket None at value s = do_with-keeps s.turns (eval lengths value s) (assign name) (eval-turns lengths value s.turns s refl) (λ v u e. e)
 assignment-keeps lengths name line None bracket (Some op) at value s =
@@ -148,7 +148,7 @@ assignment-keeps lengths name line (Some index) bracket (Some op) at value s =
     (λ b z e'. do_with-keeps s.turns (operate op at old b z) (store name place) ((operate-quiet op at old b).keeps_turns z ∙ e') (λ v y e''. e''))))
 
 -- every declarator
-declare-keeps : (lengths : List ℕ) (name : ℕ) (initial : Option SourceExpression) (s : SourceState) → remaining (declare lengths name initial s) ≡ s.turns
+declare-keeps : (lengths : List ℕ) (name : ℕ) (initial : Option SourceExpression) (s : ProgramState) → remaining (declare lengths name initial s) ≡ s.turns
 declare-keeps lengths name None s = refl
 declare-keeps lengths name (Some initial) s = do_with-keeps s.turns (eval lengths initial s) (assign name) (eval-turns lengths initial s.turns s refl) (λ v u e. e)
 
@@ -159,30 +159,30 @@ kept-paid w c n x ks e = omega (arith, e)
 -- ---- loops
 
 -- a turn, where one is left
-turn_from-paid : (w c left : ℕ) (s : SourceState) (body : SourceState → Completion) (passed : SourceState → List Kind)
+turn_from-paid : (w c left : ℕ) (s : ProgramState) (body : ProgramState → Completion) (passed : ProgramState → List Kind)
     → ((k : ℕ) → k < left → Paid w c k (body (set_turns k s)) (passed (set_turns k s))) → Paid w (suc c) left (turn_from left body s) (turn_trace_from left passed s)
 turn_from-paid w c zero s body passed h = omega arith
 turn_from-paid w c (suc left) s body passed h = let p = h left (omega arith) in omega (arith, p)
 
-module _ (w cb cs : ℕ) (fits : cb + cs ≤ w) (test : SourceState → Evaluated) (test_trace : SourceState → List Kind)
-    (step : SourceState → Completion) (step_trace : SourceState → List Kind) (body : SourceState → Completion) (body_trace : SourceState → List Kind)
-    (test-keeps : (n : ℕ) (s : SourceState) → s.turns ≡ n → (state_given (test s)).turns ≡ n)
-    (step-pays : (s : SourceState) → Paid w cs s.turns (step s) (step_trace s)) (step-falls : (s : SourceState) → (state_at_end (step s)).turns ≤ s.turns)
-    (body-pays : (s : SourceState) → Paid w cb s.turns (body s) (body_trace s)) (body-falls : (s : SourceState) → (state_at_end (body s)).turns ≤ s.turns) where
+module _ (w cb cs : ℕ) (fits : cb + cs ≤ w) (test : ProgramState → Evaluated) (test_trace : ProgramState → List Kind)
+    (step : ProgramState → Completion) (step_trace : ProgramState → List Kind) (body : ProgramState → Completion) (body_trace : ProgramState → List Kind)
+    (test-keeps : (n : ℕ) (s : ProgramState) → s.turns ≡ n → (state_given (test s)).turns ≡ n)
+    (step-pays : (s : ProgramState) → Paid w cs s.turns (step s) (step_trace s)) (step-falls : (s : ProgramState) → (state_at_end (step s)).turns ≤ s.turns)
+    (body-pays : (s : ProgramState) → Paid w cb s.turns (body s) (body_trace s)) (body-falls : (s : ProgramState) → (state_at_end (body s)).turns ≤ s.turns) where
   -- a turn
-  turn-paid : (d : ℕ) (next : SourceState → Completion) (after : SourceState → List Kind) (s : SourceState)
-      → ((u : SourceState) → u.turns < s.turns → Paid w d u.turns (next u) (after u))
+  turn-paid : (d : ℕ) (next : ProgramState → Completion) (after : ProgramState → List Kind) (s : ProgramState)
+      → ((u : ProgramState) → u.turns < s.turns → Paid w d u.turns (next u) (after u))
       → Paid w (suc (cb + (cs + d))) s.turns (turn_of (round_of body step next) s) (turn_trace (round_trace body body_trace step step_trace after) s)
   turn-paid d next after s h =
       turn_from-paid w (cb + (cs + d)) s.turns s (round_of body step next) (round_trace body body_trace step step_trace after)
-      (λ k less. let t : SourceState = set_turns k s in
+      (λ k less. let t : ProgramState = set_turns k s in
       let fall = body-falls t in
       body-paid w cb (cs + d) k (body t) (body_trace t) (λ u. traced_on (step_trace u) (step u) after) (λ u. then_do (step u) next) (body-pays t)
       (λ u le. let fall' = step-falls u in
       then-paid w cs d u.turns (step u) (step_trace u) after next (step-pays u) (λ z le'. h z (omega (arith, less, fall, le, fall', le')))))
 
   -- a loop
-  loop-paid : (tests : ℕ) (s : SourceState) → s.turns < tests → Paid w 0 s.turns (loop tests test step body s) (loop_trace tests test test_trace step step_trace body body_trace s)
+  loop-paid : (tests : ℕ) (s : ProgramState) → s.turns < tests → Paid w 0 s.turns (loop tests test step body s) (loop_trace tests test test_trace step step_trace body body_trace s)
   loop-paid zero s h = absurd (omega arith)
   loop-paid (suc tests) s h =
       let next = loop tests test step body in
@@ -196,21 +196,21 @@ module _ (w cb cs : ℕ) (fits : cb + cs ≤ w) (test : SourceState → Evaluate
       (kept-paid w (0 + suc w) s.turns (GoesOn u) [] e))
 
   -- a loop from a state
-  loop_from-paid : (s : SourceState) → Paid w 0 s.turns (loop_from test step body s) (loop_trace_from test test_trace step step_trace body body_trace s)
+  loop_from-paid : (s : ProgramState) → Paid w 0 s.turns (loop_from test step body s) (loop_trace_from test test_trace step step_trace body body_trace s)
   loop_from-paid s = loop-paid (suc s.turns) s (omega arith)
 
 -- a step that is left out
-nothing-paid : (w : ℕ) (s : SourceState) → Paid w 0 s.turns (GoesOn s) (passes_nothing s)
+nothing-paid : (w : ℕ) (s : ProgramState) → Paid w 0 s.turns (GoesOn s) (passes_nothing s)
 nothing-paid w s = omega arith
 
-nothing-falls : (s : SourceState) → (state_at_end (GoesOn s)).turns ≤ s.turns
+nothing-falls : (s : ProgramState) → (state_at_end (GoesOn s)).turns ≤ s.turns
 nothing-falls s = omega arith
 
 -- ---- statements
 
 mutual
   -- every statement
-  pub execute-paid : (lengths : List ℕ) (w : ℕ) (statement : SourceStatement) → dos statement ≤ w → (s : SourceState)
+  pub execute-paid : (lengths : List ℕ) (w : ℕ) (statement : SourceStatement) → dos statement ≤ w → (s : ProgramState)
       → Paid w (dos statement) s.turns (execute lengths statement s) (statement_trace lengths statement s)
   execute-paid lengths w (source.Scope items) le s = execute_list-paid lengths w items le s
   execute-paid lengths w (source.ScalarDeclaration name line initial) le s =
@@ -220,7 +220,7 @@ mutual
       kept-paid w 0 s.turns (assignment lengths name line index bracket op at value s) (assignment_trace lengths name line index op at value s)
       (assignment-keeps lengths name line index bracket op at value s)
   execute-paid lengths w (source.Printing line value) le s =
-      let kont = λ (v : ℤ) (t : SourceState). GoesOn (add_printed v t) in
+      let kont = λ (v : ℤ) (t : ProgramState). GoesOn (add_printed v t) in
       kept-paid w 0 s.turns (do_with (eval lengths value s) kont) (traced (trace lengths value s) (eval lengths value s) (λ v. passes Print_node))
       (do_with-keeps s.turns (eval lengths value s) kont (eval-turns lengths value s.turns s refl) (λ v u e. e))
   execute-paid lengths w (source.Evaluation line value) le s =
@@ -269,13 +269,13 @@ mutual
   execute-paid lengths w source.Nothing le s = omega arith
 
   -- every statement that may be left out
-  pub execute_optional-paid : (lengths : List ℕ) (w : ℕ) (statement : OptionalStatement) → dos_optional statement ≤ w → (s : SourceState)
+  pub execute_optional-paid : (lengths : List ℕ) (w : ℕ) (statement : OptionalStatement) → dos_optional statement ≤ w → (s : ProgramState)
       → Paid w (dos_optional statement) s.turns (execute_optional lengths statement s) (optional_trace lengths statement s)
   execute_optional-paid lengths w source.Absent le s = omega arith
   execute_optional-paid lengths w (source.Present statement) le s = execute-paid lengths w statement le s
 
   -- every list of statements
-  pub execute_list-paid : (lengths : List ℕ) (w : ℕ) (items : SourceList) → dos_list items ≤ w → (s : SourceState)
+  pub execute_list-paid : (lengths : List ℕ) (w : ℕ) (items : SourceList) → dos_list items ≤ w → (s : ProgramState)
       → Paid w (dos_list items) s.turns (execute_list lengths items s) (list_trace lengths items s)
   execute_list-paid lengths w source.No_more le s = omega arith
   execute_list-paid lengths w (source.More first rest) le s =

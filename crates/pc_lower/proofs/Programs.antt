@@ -6,7 +6,7 @@ use Rattle.pc_word.specs.declared.item.End.TheVariants.{Ended}
 use Rattle.pc_word.specs.Run.{Seen, Run, Agree, Answers, Step, Goes, Stops, after_printing, seen_of, run_from, At, reach, reached_of, reached_after}
 use Rattle.pc_word.proofs.Runs.{Answers-equal, run_from-answers, run_from-ended, run_from-at}
 use Rattle.pc_syntax.specs.Source.{ResolvedProgram}
-use Rattle.pc_meaning.specs.SourceState.{SourceState, source_start}
+use Rattle.pc_meaning.specs.ProgramState.{ProgramState, source_start}
 use Rattle.pc_word.proofs.Truth.{decide_le}
 use Rattle.pc_meaning.proofs.SourceRuns.{source_run-faultless}
 use Rattle.pc_meaning.specs.Statement.{Completion, GoesOn, Breaks, Continues, Returns, Traps, Spent, execute_list}
@@ -92,7 +92,7 @@ Closed nodes lengths seen (Some e) out g = (seen.printed ≡ out) × (node_step 
 Closed nodes lengths seen None out g = seen.printed ≡ out
 
 -- at the last node
-last-closed : (nodes : List FlowNode) (lengths : List ℕ) (last : ℕ) → slice_get nodes last ≡ Some Stop → (s : SourceState) (out : List ℤ) (g : FlowState) → Reaches last s out g
+last-closed : (nodes : List FlowNode) (lengths : List ℕ) (last : ℕ) → slice_get nodes last ≡ Some Stop → (s : ProgramState) (out : List ℤ) (g : FlowState) → Reaches last s out g
     → (s.printed ≡ out) × (node_step nodes lengths g ≡ Stops [] Ended)
 last-closed nodes lengths last stops s out g r =
     (r.stands.printed, ap (run_node lengths g.state) (ap (slice_get nodes) r.at ∙ stops))

@@ -11,7 +11,7 @@ use Rattle.pc_word.proofs.Truth.{less_of}
 use Rattle.pc_check.specs.Sizes.{expression_size}
 use Rattle.pc_flow.specs.declared.node.FlowNode.{FlowNode}
 use Rattle.pc_flow.specs.declared.node.FlowNode.TheVariants.{Test}
-use Rattle.pc_flow.specs.FlowGraph.{IsVariable, ItemFits, turn_of}
+use Rattle.pc_flow.specs.FlowGraph.{IsVariable, ItemFits, tested_loop}
 use Rattle.pc_lower.specs.Lowers.{held, Gives}
 use Rattle.pc_lower.specs.declared.spot.Spot.{Spot}
 use Rattle.pc_lower.specs.models.Drafts.{Draft, IsPlaced}
@@ -110,7 +110,7 @@ lays_condition {start = start} {m = m} x y z test value =
     lays_as _ (ConditionNodes x y z start) (lays_both test value) refl (λ nodes h. record { is = (m, h.1, h.0) })
 
 -- the condition of a loop and its test
-pub lays_turn : {a b c : Draft} {start m to at own : ℕ} {node : FlowNode} (x : SourceExpression) → at + 1 ≡ to → turn_of node ≡ Some own
+pub lays_turn : {a b c : Draft} {start m to at own : ℕ} {node : FlowNode} (x : SourceExpression) → at + 1 ≡ to → tested_loop node ≡ Some own
     → Lays a b 1 m to (λ nodes lengths. slice_get nodes m ≡ Some node) → LaysExpression x 0 start m m b c → LaysTurn a c x own start at
 lays_turn {a} {b} {c} {start} {m} {to} {at} {own} {node} x e turns test value =
     let s = test.size_is in

@@ -11,7 +11,7 @@ use Rattle.pc_syntax.specs.Source.{SourceExpression, SourceStatement, SourceList
 use Rattle.pc_word.specs.State.{State}
 use Rattle.pc_word.specs.Commit.{state_after}
 use Rattle.pc_word.specs.Items.{operand_value, place_in}
-use Rattle.pc_meaning.specs.SourceState.{SourceState, set_scalar, set_element, add_printed, set_turns}
+use Rattle.pc_meaning.specs.ProgramState.{ProgramState, set_scalar, set_element, add_printed, set_turns}
 use Rattle.pc_meaning.specs.Expression.{Evaluated, Given, Caught, side, operate, eval}
 use Rattle.pc_meaning.specs.Statement.{Completion, GoesOn, Breaks, Continues, Returns, Traps, Spent, do_with, then_do, after_body, assign, store}
 use Rattle.pc_meaning.specs.Statement.{with_place, update, assignment, declare, turn_from, turn_of, round_of, loop, loop_from, execute}
@@ -36,13 +36,13 @@ equal_of : (a b : ℕ) → nat_eq a b ≡ true → a ≡ b
 equal_of a b e = grind arith
 
 -- one name after a write
-after_write : (b : Bool) (d x : ℕ) (v : ℤ) (s : SourceState) (old new : State) → nat_eq d x ≡ b → Wrote d v old new → old.names x ≡ s.scalars x
+after_write : (b : Bool) (d x : ℕ) (v : ℤ) (s : ProgramState) (old new : State) → nat_eq d x ≡ b → Wrote d v old new → old.names x ≡ s.scalars x
     → new.names x ≡ (if b then v else s.scalars x)
 after_write true d x v s old new e w p = subst (λ (y : ℕ). new.names y ≡ v) (equal_of d x e) w.there
 after_write false d x v s old new e w p = w.elsewhere x e ∙ p
 
 -- a scalar's write is a write of the source's
-Stands-scalar : (d : ℕ) (v : ℤ) (s : SourceState) (out : List ℤ) (old new : State) → Wrote d v old new → Stands s out old → Stands (set_scalar d v s) out new
+Stands-scalar : (d : ℕ) (v : ℤ) (s : ProgramState) (out : List ℤ) (old new : State) → Wrote d v old new → Stands s out old → Stands (set_scalar d v s) out new
 Stands-scalar d v s out old new w p = record {
   scalars = λ x h. after_write (nat_eq d x) d x v s old new refl w (p.scalars x h);
   cells = λ a i. w.cells a i ∙ p.cells a i;
@@ -51,11 +51,11 @@ Stands-scalar d v s out old new w p = record {
 }
 
 -- turns are nothing to a flow
-Stands-turn : (left : ℕ) (s : SourceState) (out : List ℤ) (m : State) → Stands s out m → Stands (set_turns left s) out m
+Stands-turn : (left : ℕ) (s : ProgramState) (out : List ℤ) (m : State) → Stands s out m → Stands (set_turns left s) out m
 Stands-turn left s out m p = record { scalars = p.scalars; cells = p.cells; input = p.input; printed = p.printed }
 
 -- the flow is at a node q, in a state that stands for s
-pub record Reaches (q : ℕ) (s : SourceState) (out : List ℤ) (g : FlowState) : Type 0 where
+pub record Reaches (q : ℕ) (s : ProgramState) (out : List ℤ) (g : FlowState) : Type 0 where
   pub at : g.node ≡ q
   pub stands : Stands s out g.state
 
@@ -72,10 +72,10 @@ module _ (nodes : List FlowNode) (lengths : List ℕ) where
   -- ---- one after another
 
   -- a value, and what is done with it
-  do_with-comes : (x : Evaluated) (ks : List Kind) (next : ℤ → SourceState → List Kind) (kont : ℤ → SourceState → Completion) (out : List ℤ) (f : FlowState)
+  do_with-comes : (x : Evaluated) (ks : List Kind) (next : ℤ → ProgramState → List Kind) (kont : ℤ → ProgramState → Completion) (out : List ℤ) (f : FlowState)
       (w : Operand) (t m q b c : ℕ) (old : State)
       → Comes nodes lengths ks out f (Valued nodes w t m old x)
-      → ((v : ℤ) (s : SourceState) (o : List ℤ) (g : FlowState) → Arrives w t m old v s o g → Comes nodes lengths (next v s) o g (Finished nodes q b c (kont v s)))
+      → ((v : ℤ) (s : ProgramState) (o : List ℤ) (g : FlowState) → Arrives w t m old v s o g → Comes nodes lengths (next v s) o g (Finished nodes q b c (kont v s)))
       → Comes nodes lengths (traced ks x next) out f (Finished nodes q b c (do_with x kont))
   do_with-comes (Given v s) ks next kont out f w t m q b c old p h =
       let P : List ℤ → FlowState → Type 0 = Finished nodes q b c (kont v s) in
@@ -84,19 +84,19 @@ module _ (nodes : List FlowNode) (lengths : List ℕ) where
   do_with-comes (Caught kind line s) ks next kont out f w t m q b c old p h = p
 
   -- a value that is dropped
-  dropped-comes : (x : Evaluated) (ks : List Kind) (end : SourceState → Completion) (out : List ℤ) (f : FlowState)
+  dropped-comes : (x : Evaluated) (ks : List Kind) (end : ProgramState → Completion) (out : List ℤ) (f : FlowState)
       (w : Operand) (t m q b c : ℕ) (old : State)
       → Comes nodes lengths ks out f (Valued nodes w t m old x)
-      → ((v : ℤ) (s : SourceState) (o : List ℤ) (g : FlowState) → Arrives w t m old v s o g → Finished nodes q b c (end s) o g)
+      → ((v : ℤ) (s : ProgramState) (o : List ℤ) (g : FlowState) → Arrives w t m old v s o g → Finished nodes q b c (end s) o g)
       → Comes nodes lengths ks out f (Finished nodes q b c (do_with x (λ v. end)))
   dropped-comes (Given v s) ks end out f w t m q b c old p h =
       Comes-map nodes lengths ks out f (Valued nodes w t m old (Given v s)) (Finished nodes q b c (end s)) (h v s) p
   dropped-comes (Caught kind line s) ks end out f w t m q b c old p h = p
 
   -- a statement, and what follows it
-  then-comes : (x : Completion) (ks : List Kind) (next : SourceState → List Kind) (kont : SourceState → Completion) (out : List ℤ) (f : FlowState) (m q b c : ℕ)
+  then-comes : (x : Completion) (ks : List Kind) (next : ProgramState → List Kind) (kont : ProgramState → Completion) (out : List ℤ) (f : FlowState) (m q b c : ℕ)
       → Comes nodes lengths ks out f (Finished nodes m b c x)
-      → ((s : SourceState) (o : List ℤ) (g : FlowState) → Reaches m s o g → Comes nodes lengths (next s) o g (Finished nodes q b c (kont s)))
+      → ((s : ProgramState) (o : List ℤ) (g : FlowState) → Reaches m s o g → Comes nodes lengths (next s) o g (Finished nodes q b c (kont s)))
       → Comes nodes lengths (traced_on ks x next) out f (Finished nodes q b c (then_do x kont))
   then-comes (GoesOn s) ks next kont out f m q b c p h =
       let P : List ℤ → FlowState → Type 0 = Finished nodes q b c (kont s) in
@@ -109,9 +109,9 @@ module _ (nodes : List FlowNode) (lengths : List ℕ) where
   then-comes (Spent s) ks next kont out f m q b c p h = p
 
   -- the body of a loop, which leads to m where it goes on or continues and to q where it breaks, and what follows it
-  body-comes : (x : Completion) (ks : List Kind) (next : SourceState → List Kind) (kont : SourceState → Completion) (out : List ℤ) (f : FlowState) (m q b c : ℕ)
+  body-comes : (x : Completion) (ks : List Kind) (next : ProgramState → List Kind) (kont : ProgramState → Completion) (out : List ℤ) (f : FlowState) (m q b c : ℕ)
       → Comes nodes lengths ks out f (Finished nodes m q m x)
-      → ((s : SourceState) (o : List ℤ) (g : FlowState) → Reaches m s o g → Comes nodes lengths (next s) o g (Finished nodes q b c (kont s)))
+      → ((s : ProgramState) (o : List ℤ) (g : FlowState) → Reaches m s o g → Comes nodes lengths (next s) o g (Finished nodes q b c (kont s)))
       → Comes nodes lengths (traced_body ks x next) out f (Finished nodes q b c (after_body x kont))
   body-comes (GoesOn s) ks next kont out f m q b c p h =
       let P : List ℤ → FlowState → Type 0 = Finished nodes q b c (kont s) in
@@ -129,7 +129,7 @@ module _ (nodes : List FlowNode) (lengths : List ℕ) where
   -- ---- assignments
 
   -- a copy to a scalar
-  assign-comes : (scalar q b c : ℕ) (w : Operand) (v : ℤ) (s : SourceState) (out : List ℤ) (f : FlowState)
+  assign-comes : (scalar q b c : ℕ) (w : Operand) (v : ℤ) (s : ProgramState) (out : List ℤ) (f : FlowState)
       → slice_get nodes f.node ≡ Some (Op (Copy scalar w) q) → operand_value f.state.names w ≡ v → Stands s out f.state
       → Comes nodes lengths (Copy_node ∷ []) out f (Finished nodes q b c (assign scalar v s))
   assign-comes scalar q b c w v s out f e value stands =
@@ -141,7 +141,7 @@ module _ (nodes : List FlowNode) (lengths : List ℕ) where
       })
 
   -- a store
-  store-comes : (array q b c : ℕ) (index w : Operand) (i v : ℤ) (place : ℕ) (s : SourceState) (out : List ℤ) (f : FlowState)
+  store-comes : (array q b c : ℕ) (index w : Operand) (i v : ℤ) (place : ℕ) (s : ProgramState) (out : List ℤ) (f : FlowState)
       → slice_get nodes f.node ≡ Some (Op (Store array index w) q) → operand_value f.state.names index ≡ i → operand_value f.state.names w ≡ v
       → place_in (slice_index lengths array) i ≡ Some place → Stands s out f.state
       → Comes nodes lengths (Store_node ∷ []) out f (Finished nodes q b c (store array place v s))
@@ -164,7 +164,7 @@ module _ (nodes : List FlowNode) (lengths : List ℕ) where
       item-comes nodes lengths item q f out P e (rw inside refl) (subst (λ (o : List ℤ). P o (standing q new)) (sym (append-nil out)) reaches)
 
   -- a print
-  print-comes : (q b c : ℕ) (w : Operand) (v : ℤ) (s : SourceState) (out : List ℤ) (f : FlowState)
+  print-comes : (q b c : ℕ) (w : Operand) (v : ℤ) (s : ProgramState) (out : List ℤ) (f : FlowState)
       → slice_get nodes f.node ≡ Some (Op (Print w) q) → operand_value f.state.names w ≡ v → Stands s out f.state
       → Comes nodes lengths (Print_node ∷ []) out f (Finished nodes q b c (GoesOn (add_printed v s)))
   print-comes q b c w v s out f e value stands =
@@ -181,7 +181,7 @@ module _ (nodes : List FlowNode) (lengths : List ℕ) where
 
   -- a value that is put into a scalar
   put-comes : (scalar : ℕ) (value : SourceExpression) (p q b c : ℕ) → Puts nodes lengths scalar value p q
-      → (s : SourceState) (out : List ℤ) (f : FlowState) → f.node ≡ p → Stands s out f.state
+      → (s : ProgramState) (out : List ℤ) (f : FlowState) → f.node ≡ p → Stands s out f.state
       → Comes nodes lengths (traced (trace lengths value s) (eval lengths value s) (λ v. passes Copy_node)) out f (Finished nodes q b c (do_with (eval lengths value s) (assign scalar)))
   put-comes scalar value p q b c g s out f at stands =
       do_with-comes (eval lengths value s) (trace lengths value s) (λ v. passes Copy_node) (assign scalar) out f (held value 0) 0 g.0 q b c f.state
@@ -195,7 +195,7 @@ module _ (nodes : List FlowNode) (lengths : List ℕ) where
 
   -- every assignment
   assigns-comes : (name line : ℕ) (index : Option SourceExpression) (bracket : ℕ) (op : Option BinaryOp) (at : ℕ) (value : SourceExpression) (p q b c : ℕ)
-      → Assigns nodes lengths name line index bracket op at value p q → (s : SourceState) (out : List ℤ) (f : FlowState) → f.node ≡ p → Stands s out f.state
+      → Assigns nodes lengths name line index bracket op at value p q → (s : ProgramState) (out : List ℤ) (f : FlowState) → f.node ≡ p → Stands s out f.state
       → Comes nodes lengths (assignment_trace lengths name line index op at value s) out f (Finished nodes q b c (assignment lengths name line index bracket op at value s))
   assigns-comes name line None bracket None at value p q b c g s out f e stands = put-comes name value p q b c g s out f e stands
   assigns-comes name line None bracket (Some op) at value p q b c g s out f e stands =
@@ -224,8 +224,8 @@ module _ (nodes : List FlowNode) (lengths : List ℕ) where
       (update lengths name op at value) (Finished nodes q b c) g.6 a1.at a1.value a1.stands
       (λ place found h2 at2 keeps2 stands2.
       let old = s1.cells name place in
-      let after = λ (v : ℤ) (u : SourceState). traced (operation_trace op v u) (operate op at old v u) (λ r. passes Store_node) in
-      let kont = λ (v : ℤ) (u : SourceState). do_with (operate op at old v u) (store name place) in
+      let after = λ (v : ℤ) (u : ProgramState). traced (operation_trace op v u) (operate op at old v u) (λ r. passes Store_node) in
+      let kont = λ (v : ℤ) (u : ProgramState). do_with (operate op at old v u) (store name place) in
       Comes-map nodes lengths (Load_node ∷ []) o1 h2 (Arrives own t g.2 h1.state old s1)
       (λ o h. Comes nodes lengths (traced (trace lengths value s1) (eval lengths value s1) after) o h (Finished nodes q b c (do_with (eval lengths value s1) kont)))
       (λ o3 h3 a3. do_with-comes (eval lengths value s1) (trace lengths value s1) after kont o3 h3 (held value (t + 1)) (t + 1) g.3 q b c h3.state
@@ -241,7 +241,7 @@ module _ (nodes : List FlowNode) (lengths : List ℕ) where
 
   -- every declarator
   declares-comes : (scalar : ℕ) (initial : Option SourceExpression) (p q b c : ℕ) → Declares nodes lengths scalar initial p q
-      → (s : SourceState) (out : List ℤ) (f : FlowState) → f.node ≡ p → Stands s out f.state
+      → (s : ProgramState) (out : List ℤ) (f : FlowState) → f.node ≡ p → Stands s out f.state
       → Comes nodes lengths (declaration_trace lengths initial s) out f (Finished nodes q b c (declare lengths scalar initial s))
   declares-comes scalar None p q b c g s out f at stands = assign-comes scalar q b c (Lit (pos 0)) (pos 0) s out f (here nodes f.node p _ at g.1) refl stands
   declares-comes scalar (Some initial) p q b c g s out f at stands = put-comes scalar initial p q b c g s out f at stands
@@ -249,24 +249,24 @@ module _ (nodes : List FlowNode) (lengths : List ℕ) where
   -- ---- loops
 
   -- a turn, where one is left
-  turn_from-comes : (left : ℕ) (body : SourceState → Completion) (passed : SourceState → List Kind) (y q b c : ℕ)
-      → ((s : SourceState) (out : List ℤ) (f : FlowState) → f.node ≡ y → Stands s out f.state → Comes nodes lengths (passed s) out f (Finished nodes q b c (body s)))
-      → (s : SourceState) (out : List ℤ) (f : FlowState) → f.node ≡ y → Stands s out f.state
+  turn_from-comes : (left : ℕ) (body : ProgramState → Completion) (passed : ProgramState → List Kind) (y q b c : ℕ)
+      → ((s : ProgramState) (out : List ℤ) (f : FlowState) → f.node ≡ y → Stands s out f.state → Comes nodes lengths (passed s) out f (Finished nodes q b c (body s)))
+      → (s : ProgramState) (out : List ℤ) (f : FlowState) → f.node ≡ y → Stands s out f.state
       → Comes nodes lengths (turn_trace_from left passed s) out f (Finished nodes q b c (turn_from left body s))
   turn_from-comes zero body passed y q b c h s out f at stands = stands.printed
   turn_from-comes (suc left) body passed y q b c h s out f at stands = h (set_turns left s) out f at (Stands-turn left s out f.state stands)
 
   -- a loop from h to q, whose condition comes to its test at m, whose body begins at y and comes to n, and whose step comes from n to h
-  module _ (test : SourceState → Evaluated) (test_trace : SourceState → List Kind)
-      (step : SourceState → Completion) (step_trace : SourceState → List Kind) (body : SourceState → Completion) (body_trace : SourceState → List Kind)
+  module _ (test : ProgramState → Evaluated) (test_trace : ProgramState → List Kind)
+      (step : ProgramState → Completion) (step_trace : ProgramState → List Kind) (body : ProgramState → Completion) (body_trace : ProgramState → List Kind)
       (w : Operand) (h m y n q b c : ℕ) (tests-at : TestsTurn nodes lengths m w y q)
-      (test-comes : (s : SourceState) (out : List ℤ) (f : FlowState) → f.node ≡ h → Stands s out f.state → Comes nodes lengths (test_trace s) out f (Valued nodes w 0 m f.state (test s)))
-      (step-comes : (s : SourceState) (out : List ℤ) (f : FlowState) → f.node ≡ n → Stands s out f.state → Comes nodes lengths (step_trace s) out f (Finished nodes h b c (step s)))
-      (round-comes : (s : SourceState) (out : List ℤ) (f : FlowState) → f.node ≡ y → Stands s out f.state → Comes nodes lengths (body_trace s) out f (Finished nodes n q n (body s))) where
+      (test-comes : (s : ProgramState) (out : List ℤ) (f : FlowState) → f.node ≡ h → Stands s out f.state → Comes nodes lengths (test_trace s) out f (Valued nodes w 0 m f.state (test s)))
+      (step-comes : (s : ProgramState) (out : List ℤ) (f : FlowState) → f.node ≡ n → Stands s out f.state → Comes nodes lengths (step_trace s) out f (Finished nodes h b c (step s)))
+      (round-comes : (s : ProgramState) (out : List ℤ) (f : FlowState) → f.node ≡ y → Stands s out f.state → Comes nodes lengths (body_trace s) out f (Finished nodes n q n (body s))) where
     -- a turn
-    turn-comes : (next : SourceState → Completion) (after : SourceState → List Kind)
-        → ((s : SourceState) (out : List ℤ) (f : FlowState) → f.node ≡ h → Stands s out f.state → Comes nodes lengths (after s) out f (Finished nodes q b c (next s)))
-        → (s : SourceState) (out : List ℤ) (f : FlowState) → f.node ≡ y → Stands s out f.state
+    turn-comes : (next : ProgramState → Completion) (after : ProgramState → List Kind)
+        → ((s : ProgramState) (out : List ℤ) (f : FlowState) → f.node ≡ h → Stands s out f.state → Comes nodes lengths (after s) out f (Finished nodes q b c (next s)))
+        → (s : ProgramState) (out : List ℤ) (f : FlowState) → f.node ≡ y → Stands s out f.state
         → Comes nodes lengths (turn_trace (round_trace body body_trace step step_trace after) s) out f (Finished nodes q b c (turn_of (round_of body step next) s))
     turn-comes next after follows s out f at stands =
         turn_from-comes s.turns (round_of body step next) (round_trace body body_trace step step_trace after) y q b c
@@ -276,7 +276,7 @@ module _ (nodes : List FlowNode) (lengths : List ℕ) where
         (λ s3 o3 f3 r3. follows s3 o3 f3 r3.at r3.stands))) s out f at stands
 
     -- a loop
-    loop-comes : (tests : ℕ) (s : SourceState) (out : List ℤ) (f : FlowState) → f.node ≡ h → Stands s out f.state
+    loop-comes : (tests : ℕ) (s : ProgramState) (out : List ℤ) (f : FlowState) → f.node ≡ h → Stands s out f.state
         → Comes nodes lengths (loop_trace tests test test_trace step step_trace body body_trace s) out f (Finished nodes q b c (loop tests test step body s))
     loop-comes zero s out f at stands = stands.printed
     loop-comes (suc tests) s out f at stands =
@@ -291,12 +291,12 @@ module _ (nodes : List FlowNode) (lengths : List ℕ) where
         (record { at = refl; stands = a1.stands }))
 
     -- a loop from a state
-    loop_from-comes : (s : SourceState) (out : List ℤ) (f : FlowState) → f.node ≡ h → Stands s out f.state
+    loop_from-comes : (s : ProgramState) (out : List ℤ) (f : FlowState) → f.node ≡ h → Stands s out f.state
         → Comes nodes lengths (loop_trace_from test test_trace step step_trace body body_trace s) out f (Finished nodes q b c (loop_from test step body s))
     loop_from-comes s out f at stands = loop-comes (suc s.turns) s out f at stands
 
   -- what is left out
-  nothing-comes : (p q b c : ℕ) → p ≡ q → (s : SourceState) (out : List ℤ) (f : FlowState) → f.node ≡ p → Stands s out f.state
+  nothing-comes : (p q b c : ℕ) → p ≡ q → (s : ProgramState) (out : List ℤ) (f : FlowState) → f.node ≡ p → Stands s out f.state
       → Comes nodes lengths (passes_nothing s) out f (Finished nodes q b c (GoesOn s))
   nothing-comes p q b c e s out f at stands = record { at = at ∙ e; stands = stands }
 
@@ -306,7 +306,7 @@ module _ (nodes : List FlowNode) (lengths : List ℕ) where
     mutual
       -- every statement
       pub implements-comes : (statement : SourceStatement) (b c p q : ℕ) → Implements nodes lengths statement b c r p q
-          → (s : SourceState) (out : List ℤ) (f : FlowState) → f.node ≡ p → Stands s out f.state
+          → (s : ProgramState) (out : List ℤ) (f : FlowState) → f.node ≡ p → Stands s out f.state
           → Comes nodes lengths (statement_trace lengths statement s) out f (Finished nodes q b c (execute lengths statement s))
       implements-comes (source.Scope items) b c p q g s out f at stands = list-comes items b c p q g s out f at stands
       implements-comes (source.ScalarDeclaration name line initial) b c p q g s out f at stands = declares-comes name initial p q b c g s out f at stands
@@ -356,14 +356,14 @@ module _ (nodes : List FlowNode) (lengths : List ℕ) where
 
       -- every statement that may be left out
       pub optional-comes : (statement : OptionalStatement) (b c p q : ℕ) → ImplementsOptional nodes lengths statement b c r p q
-          → (s : SourceState) (out : List ℤ) (f : FlowState) → f.node ≡ p → Stands s out f.state
+          → (s : ProgramState) (out : List ℤ) (f : FlowState) → f.node ≡ p → Stands s out f.state
           → Comes nodes lengths (optional_trace lengths statement s) out f (Finished nodes q b c (execute_optional lengths statement s))
       optional-comes source.Absent b c p q g s out f at stands = record { at = at ∙ g; stands = stands }
       optional-comes (source.Present statement) b c p q g s out f at stands = implements-comes statement b c p q g s out f at stands
 
       -- every list of statements
       pub list-comes : (items : SourceList) (b c p q : ℕ) → ImplementsList nodes lengths items b c r p q
-          → (s : SourceState) (out : List ℤ) (f : FlowState) → f.node ≡ p → Stands s out f.state
+          → (s : ProgramState) (out : List ℤ) (f : FlowState) → f.node ≡ p → Stands s out f.state
           → Comes nodes lengths (list_trace lengths items s) out f (Finished nodes q b c (execute_list lengths items s))
       list-comes source.No_more b c p q g s out f at stands = record { at = at ∙ g; stands = stands }
       list-comes (source.More first rest) b c p q g s out f at stands =

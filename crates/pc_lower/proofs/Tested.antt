@@ -5,7 +5,7 @@ use Rattle.std.specs.Prelude.{slice_get}
 use Rattle.pc_word.proofs.Lists.{set_length}
 use Rattle.pc_word.proofs.Truth.{decide_le}
 use Rattle.pc_syntax.specs.Source.{SourceExpression}
-use Rattle.pc_flow.specs.FlowGraph.{turn_of}
+use Rattle.pc_flow.specs.FlowGraph.{tested_loop}
 use Rattle.pc_flow.specs.declared.node.FlowNode.{FlowNode}
 use Rattle.pc_lower.specs.LoopTests.{HasTest}
 use Rattle.pc_lower.specs.models.Drafts.{Draft, PlacedTest, IsTested}
@@ -57,7 +57,7 @@ turn_tested {new = new} {at = at} turn =
       placed = record { there = get_below new.graph.nodes at turn.tested.is_there; ranked = turn.fills.filled at (omega (arith, e)) (omega arith) };
     }
 
-module _ (c : Draft) (at own : ℕ) (node : FlowNode) (header : ℕ) (turns : turn_of node ≡ Some own) (test : HasTest c.graph at own) where
+module _ (c : Draft) (at own : ℕ) (node : FlowNode) (header : ℕ) (turns : tested_loop node ≡ Some own) (test : HasTest c.graph at own) where
   abbrev new : Draft
   new = closed at node own header c
 
@@ -72,7 +72,7 @@ module _ (c : Draft) (at own : ℕ) (node : FlowNode) (header : ℕ) (turns : tu
             node = node;
             is_there = subst (λ (k : ℕ). slice_get new.graph.nodes k ≡ Some node) same
                 (get_set_same c.graph.nodes at node (subst (λ (k : ℕ). k < length c.graph.nodes) (sym same) t.placed.there));
-            tests = turns ∙ sym test.tests ∙ ap turn_of as_one ∙ t.test.tests;
+            tests = turns ∙ sym test.tests ∙ ap tested_loop as_one ∙ t.test.tests;
           }
       | inr other ↦ record {
         node = t.test.node;

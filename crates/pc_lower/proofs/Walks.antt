@@ -13,12 +13,12 @@ use Rattle.pc_word.specs.State.{State}
 use Rattle.pc_word.specs.Items.{operand_value, dest_of, value_of}
 use Rattle.pc_word.specs.Commit.{stores_of, prints_of, reads_of, fault_of, state_after}
 use Rattle.pc_word.specs.Row.{commit_of}
-use Rattle.pc_meaning.specs.SourceState.{SourceState}
+use Rattle.pc_meaning.specs.ProgramState.{ProgramState}
 use Rattle.pc_meaning.specs.Expression.{side, where_true}
 use Rattle.pc_meaning.specs.Trace.{Kind, Test_node, tested}
 use Rattle.pc_flow.specs.declared.node.FlowNode.{FlowNode}
 use Rattle.pc_flow.specs.declared.node.FlowNode.TheVariants.{Op, Test}
-use Rattle.pc_flow.specs.FlowRun.{FlowState, after_item, run_node, node_step}
+use Rattle.pc_flow.specs.FlowRun.{FlowState, step_after_item, run_node, node_step}
 use Rattle.pc_lower.specs.Kinds.{kind_of_item, kind_of_node}
 use Rattle.pc_lower.specs.Lowers.{temporary}
 
@@ -68,7 +68,7 @@ abbrev pub Keeps : ℕ → State → State → Type 0
 Keeps t old new = (x : ℕ) → x < temporary t → new.names x ≡ old.names x
 
 -- a state of the flow stands for a state of the source, where these numbers are printed
-pub record Stands (s : SourceState) (out : List ℤ) (m : State) : Type 0 where
+pub record Stands (s : ProgramState) (out : List ℤ) (m : State) : Type 0 where
   pub scalars : (x : ℕ) → x < 64 → m.names x ≡ s.scalars x
   pub cells : (a i : ℕ) → m.cells a i ≡ s.cells a i
   pub input : m.input ≡ s.input
@@ -102,7 +102,7 @@ pub Keeps-trans : (t d : ℕ) (a b c : State) → t ≤ d → Keeps t a b → Ke
 Keeps-trans t d a b c le p q x h = q x (omega arith) ∙ p x h
 
 -- a temporary's write changes nothing that the source sees
-pub Stands-wrote : (d : ℕ) (v : ℤ) (s : SourceState) (out : List ℤ) (old new : State) → Wrote (temporary d) v old new → Stands s out old → Stands s out new
+pub Stands-wrote : (d : ℕ) (v : ℤ) (s : ProgramState) (out : List ℤ) (old new : State) → Wrote (temporary d) v old new → Stands s out old → Stands s out new
 Stands-wrote d v s out old new w p = record {
   scalars = λ x h. w.elsewhere x (differs (temporary d) x (omega arith)) ∙ p.scalars x h;
   cells = λ a i. w.cells a i ∙ p.cells a i;
@@ -151,8 +151,8 @@ pub item-comes : (nodes : List FlowNode) (lengths : List ℕ) (item : Item) (q :
     → Comes nodes lengths (kind_of_item item ∷ []) out f P
 item-comes nodes lengths item q f out P e n p =
     let Q : List ℤ → FlowState → Type 0 = λ o g. P (out ++ o) g in
-    let after : Passed (after_item (commit_of lengths f.state (item ∷ []) q (fault_of lengths f.state (item ∷ [])))) Q =
-    subst (λ (fault : Option MachineFault). Passed (after_item (commit_of lengths f.state (item ∷ []) q fault)) Q) (sym n) p in
+    let after : Passed (step_after_item (commit_of lengths f.state (item ∷ []) q (fault_of lengths f.state (item ∷ [])))) Q =
+    subst (λ (fault : Option MachineFault). Passed (step_after_item (commit_of lengths f.state (item ∷ []) q fault)) Q) (sym n) p in
     (ap kind_of_node e, subst (λ (node : Option FlowNode). Passed (run_node lengths f.state node) Q) (sym e) after)
 
 -- an item that writes a name alone
@@ -184,8 +184,8 @@ abbrev pub standing : ℕ → State → FlowState
 standing q m = record { node = q; state = m }
 
 -- the side that came out
-where_true-comes : (nodes : List FlowNode) (lengths : List ℕ) (X : Type 0) (y z : ℕ) (b : Bool) (s : SourceState) (m : State) (out : List ℤ)
-    (one other : SourceState → List Kind) (one' other' : SourceState → X) (P : X → List ℤ → FlowState → Type 0)
+where_true-comes : (nodes : List FlowNode) (lengths : List ℕ) (X : Type 0) (y z : ℕ) (b : Bool) (s : ProgramState) (m : State) (out : List ℤ)
+    (one other : ProgramState → List Kind) (one' other' : ProgramState → X) (P : X → List ℤ → FlowState → Type 0)
     → Comes nodes lengths (one s) out (standing y m) (P (one' s))
     → Comes nodes lengths (other s) out (standing z m) (P (other' s))
     → Comes nodes lengths (where_true b one other s) out (standing (if b then y else z) m) (P (where_true b one' other' s))
@@ -193,8 +193,8 @@ where_true-comes nodes lengths X y z true s m out one other one' other' P p q = 
 where_true-comes nodes lengths X y z false s m out one other one' other' P p q = q
 
 -- a test, and the side that it chooses
-pub side-comes : (nodes : List FlowNode) (lengths : List ℕ) (X : Type 0) (on : Operand) (y z : ℕ) (turn : Option ℕ) (v : ℤ) (s : SourceState) (f : FlowState) (out : List ℤ)
-    (one other : SourceState → List Kind) (one' other' : SourceState → X) (P : X → List ℤ → FlowState → Type 0)
+pub side-comes : (nodes : List FlowNode) (lengths : List ℕ) (X : Type 0) (on : Operand) (y z : ℕ) (turn : Option ℕ) (v : ℤ) (s : ProgramState) (f : FlowState) (out : List ℤ)
+    (one other : ProgramState → List Kind) (one' other' : ProgramState → X) (P : X → List ℤ → FlowState → Type 0)
     → slice_get nodes f.node ≡ Some (Test on y z turn) → operand_value f.state.names on ≡ v
     → Comes nodes lengths (one s) out (standing y f.state) (P (one' s))
     → Comes nodes lengths (other s) out (standing z f.state) (P (other' s))

@@ -1,5 +1,5 @@
 -- Rows and codes as plain data, without the pointers that hold a tree together in memory.
-use Rattle.std.specs.Prelude.{ℕ, List, map}
+use Rattle.std.specs.Prelude.{ℕ, Bool, false, nat_eq, List, map}
 use Rattle.pc_word.specs.declared.item.TrapKind.{TrapKind}
 use Rattle.pc_word.specs.declared.item.Limits.{Limits}
 use Rattle.pc_word.specs.Row.{Row, Then, Either, At_leaf}
@@ -12,6 +12,12 @@ pub data Leaf : Type 0 where
   Leads_to : (row : ℕ) → Leaf
   Ends : Leaf
   Traps : (kind : TrapKind) → (line : ℕ) → Leaf
+
+-- whether a leaf leads to the row with this number
+abbrev pub is_goto : ℕ → Leaf → Bool
+is_goto target (Leads_to row) = nat_eq row target
+is_goto target Ends = false
+is_goto target (Traps kind line) = false
 
 -- a row of the machine: a row whose leaves say what comes next
 abbrev pub CodeRow : Type 0

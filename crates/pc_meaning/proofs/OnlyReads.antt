@@ -6,24 +6,24 @@ use Rattle.pc_word.specs.Word.{holds}
 use Rattle.pc_word.specs.Items.{place_in}
 use Rattle.pc_syntax.specs.declared.operator.BinaryOp.{BinaryOp}
 use Rattle.pc_syntax.specs.Source.{SourceExpression, Literal, Variable, Input, Indexed, Prefixed, Combined, Conjunction, Disjunction, Conditional}
-use Rattle.pc_meaning.specs.SourceState.{SourceState, set_left}
+use Rattle.pc_meaning.specs.ProgramState.{ProgramState, set_left}
 use Rattle.pc_meaning.specs.Expression.{Evaluated, Given, Caught, state_given, with_value, where_true, side, prefix_value, binary_value, divides}
 use Rattle.pc_meaning.specs.Expression.{with_divisor, operate, at_place, loaded, element, read_from, truth, eval}
 
 -- what changes nothing but the input
-pub record OnlyReads (f : SourceState → Evaluated) : Type 0 where
-  pub same : (s : SourceState) → state_given (f s) ≡ set_left (state_given (f s)).input s
+pub record OnlyReads (f : ProgramState → Evaluated) : Type 0 where
+  pub same : (s : ProgramState) → state_given (f s) ≡ set_left (state_given (f s)).input s
 
 -- what changes nothing at all
-unchanged : (f : SourceState → Evaluated) → ((s : SourceState) → state_given (f s) ≡ s) → OnlyReads f
-unchanged f same = record { same = λ s. same s ∙ ap (λ (t : SourceState). set_left t.input s) (sym (same s)) }
+unchanged : (f : ProgramState → Evaluated) → ((s : ProgramState) → state_given (f s) ≡ s) → OnlyReads f
+unchanged f same = record { same = λ s. same s ∙ ap (λ (t : ProgramState). set_left t.input s) (sym (same s)) }
 
 -- a value
 Given-reads : (value : ℤ) → OnlyReads (Given value)
 Given-reads value = unchanged (Given value) (λ s. refl)
 
 -- what follows a value
-with_value-same : (s : SourceState) (x : Evaluated) (next : ℤ → SourceState → Evaluated) → ((v : ℤ) → OnlyReads (next v)) →
+with_value-same : (s : ProgramState) (x : Evaluated) (next : ℤ → ProgramState → Evaluated) → ((v : ℤ) → OnlyReads (next v)) →
     state_given x ≡ set_left (state_given x).input s →
     state_given (with_value x next) ≡ set_left (state_given (with_value x next)).input s
 with_value-same s (Given v t) next q same =
@@ -31,21 +31,21 @@ with_value-same s (Given v t) next q same =
 with_value-same s (Caught kind line t) next q same = same
 
 -- a value, and what follows it
-with_value-reads : (f : SourceState → Evaluated) (next : ℤ → SourceState → Evaluated) → OnlyReads f → ((v : ℤ) → OnlyReads (next v)) →
+with_value-reads : (f : ProgramState → Evaluated) (next : ℤ → ProgramState → Evaluated) → OnlyReads f → ((v : ℤ) → OnlyReads (next v)) →
     OnlyReads (λ s. with_value (f s) next)
 with_value-reads f next p q = record { same = λ s. with_value-same s (f s) next q (p.same s) }
 
 -- the two sides of a test
-where_true-reads : (b : Bool) (f g : SourceState → Evaluated) → OnlyReads f → OnlyReads g → OnlyReads (where_true b f g)
+where_true-reads : (b : Bool) (f g : ProgramState → Evaluated) → OnlyReads f → OnlyReads g → OnlyReads (where_true b f g)
 where_true-reads true f g p q = p
 where_true-reads false f g p q = q
 
 -- the two sides of a condition
-side-reads : (v : ℤ) (f g : SourceState → Evaluated) → OnlyReads f → OnlyReads g → OnlyReads (side v f g)
+side-reads : (v : ℤ) (f g : ProgramState → Evaluated) → OnlyReads f → OnlyReads g → OnlyReads (side v f g)
 side-reads v f g p q = where_true-reads (holds v) f g p q
 
 -- what is done at a place, or where the index was outside
-at_place-reads : (place : Option ℕ) (outside : SourceState → Evaluated) (next : ℕ → SourceState → Evaluated) → OnlyReads outside →
+at_place-reads : (place : Option ℕ) (outside : ProgramState → Evaluated) (next : ℕ → ProgramState → Evaluated) → OnlyReads outside →
     ((i : ℕ) → OnlyReads (next i)) → OnlyReads (at_place place outside next)
 at_place-reads None outside next p q = p
 at_place-reads (Some i) outside next p q = q i
@@ -67,13 +67,13 @@ element-reads lengths array line index =
     (unchanged (Caught OutOfBounds line) (λ s. refl)) (λ i. unchanged (loaded array i) (λ s. refl))
 
 -- a read takes a number of the input
-read_from-same : (input : List ℤ) (line : ℕ) (s : SourceState) →
+read_from-same : (input : List ℤ) (line : ℕ) (s : ProgramState) →
     state_given (read_from input line s) ≡ set_left (state_given (read_from input line s)).input s
 read_from-same [] line s = refl
 read_from-same (value ∷ rest) line s = refl
 
 -- the right operand of `&&` and `||`
-right-reads : (f : SourceState → Evaluated) → OnlyReads f → OnlyReads (λ s. with_value (f s) truth)
+right-reads : (f : ProgramState → Evaluated) → OnlyReads f → OnlyReads (λ s. with_value (f s) truth)
 right-reads f p = with_value-reads f truth p (λ v. unchanged (truth v) (λ s. refl))
 
 -- every expression
@@ -99,14 +99,14 @@ eval-reads lengths (Conditional test one other) =
     (λ a. side-reads a (eval lengths one) (eval lengths other) (eval-reads lengths one) (eval-reads lengths other))
 
 -- an expression changes nothing but the input
-pub eval-only_reads : (lengths : List ℕ) (e : SourceExpression) (s : SourceState) →
+pub eval-only_reads : (lengths : List ℕ) (e : SourceExpression) (s : ProgramState) →
     state_given (eval lengths e s) ≡ set_left (state_given (eval lengths e s)).input s
 eval-only_reads lengths e s = (eval-reads lengths e).same s
 
 -- it leaves the scalars as they are
-pub eval-scalars : (lengths : List ℕ) (e : SourceExpression) (s : SourceState) → (state_given (eval lengths e s)).scalars ≡ s.scalars
-eval-scalars lengths e s = ap (λ (t : SourceState). t.scalars) (eval-only_reads lengths e s)
+pub eval-scalars : (lengths : List ℕ) (e : SourceExpression) (s : ProgramState) → (state_given (eval lengths e s)).scalars ≡ s.scalars
+eval-scalars lengths e s = ap (λ (t : ProgramState). t.scalars) (eval-only_reads lengths e s)
 
 -- and the elements
-pub eval-cells : (lengths : List ℕ) (e : SourceExpression) (s : SourceState) → (state_given (eval lengths e s)).cells ≡ s.cells
-eval-cells lengths e s = ap (λ (t : SourceState). t.cells) (eval-only_reads lengths e s)
+pub eval-cells : (lengths : List ℕ) (e : SourceExpression) (s : ProgramState) → (state_given (eval lengths e s)).cells ≡ s.cells
+eval-cells lengths e s = ap (λ (t : ProgramState). t.cells) (eval-only_reads lengths e s)

@@ -7,7 +7,7 @@ use Rattle.pc_word.specs.declared.item.MachineFault.{MachineFault}
 use Rattle.pc_word.specs.Run.{Begins, Grows}
 use Rattle.pc_word.proofs.Runs.{Begins-refl}
 use Rattle.pc_syntax.specs.Source.{ResolvedProgram}
-use Rattle.pc_meaning.specs.SourceState.{source_start}
+use Rattle.pc_meaning.specs.ProgramState.{source_start}
 use Rattle.pc_meaning.specs.Statement.{Completion, GoesOn, Breaks, Continues, Returns, Traps, Spent, state_at_end}
 use Rattle.pc_meaning.specs.SourceRun.{shown, outcome_of, source_run}
 use Rattle.pc_meaning.proofs.Statements.{Extends, execute_list-steady}

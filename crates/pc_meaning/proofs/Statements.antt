@@ -12,7 +12,7 @@ use Rattle.pc_syntax.specs.declared.operator.BinaryOp.{BinaryOp}
 use Rattle.pc_syntax.specs.Source.{SourceExpression, Variable, Combined, SourceStatement, SourceList, OptionalStatement, Scope, ScalarDeclaration}
 use Rattle.pc_syntax.specs.Source.{ArrayDeclaration, Assignment, Printing, Evaluation, Branch, WhileLoop, DoLoop, ForLoop, BreakOut, ContinueOn}
 use Rattle.pc_syntax.specs.Source.{ReturnFrom, Nothing, Absent, Present, No_more, More}
-use Rattle.pc_meaning.specs.SourceState.{SourceState, set_turns, add_printed}
+use Rattle.pc_meaning.specs.ProgramState.{ProgramState, set_turns, add_printed}
 use Rattle.pc_meaning.specs.Expression.{Evaluated, Given, Caught, where_true, side, operate, at_place, eval, state_given}
 use Rattle.pc_meaning.specs.Statement.{Completion, GoesOn, Breaks, Continues, Returns, Traps, Spent, state_at_end, do_with, then_do, after_body}
 use Rattle.pc_meaning.specs.Statement.{assign, store, with_place, update, assignment, declare, turn_from, turn_of, round_of, loop, loop_from}
@@ -20,7 +20,7 @@ use Rattle.pc_meaning.specs.Statement.{do_loop, execute, execute_optional, execu
 use Rattle.pc_meaning.proofs.Expressions.{with_more, shifted, Quiet, eval-quiet, operate-quiet}
 
 -- one state has printed what the other has, and maybe more
-abbrev pub PrintsOn : SourceState → SourceState → Type 0
+abbrev pub PrintsOn : ProgramState → ProgramState → Type 0
 PrintsOn s t = Begins s.printed t.printed
 
 -- with so many turns more, the same outcome; or where the turns were spent, one that has printed on
@@ -34,35 +34,35 @@ Extends k (Spent s) y = PrintsOn s (state_at_end y)
 
 -- the second prints on from where it begins, has no more turns left than there, and does with more turns what the first
 -- does
-pub record Steady (f g : SourceState → Completion) : Type 0 where
-  pub prints_on : (s : SourceState) → PrintsOn s (state_at_end (g s))
-  pub turns_fall : (s : SourceState) → (state_at_end (g s)).turns ≤ s.turns
-  pub extends : (k : ℕ) (s : SourceState) → Extends k (f s) (g (with_more k s))
+pub record Steady (f g : ProgramState → Completion) : Type 0 where
+  pub prints_on : (s : ProgramState) → PrintsOn s (state_at_end (g s))
+  pub turns_fall : (s : ProgramState) → (state_at_end (g s)).turns ≤ s.turns
+  pub extends : (k : ℕ) (s : ProgramState) → Extends k (f s) (g (with_more k s))
 
 -- printing on from where something has printed on
-prints_on_trans : (s t u : SourceState) → PrintsOn s t → PrintsOn t u → PrintsOn s u
+prints_on_trans : (s t u : ProgramState) → PrintsOn s t → PrintsOn t u → PrintsOn s u
 prints_on_trans s t u p q = Begins-trans s.printed t.printed u.printed p q
 
 -- ---- what is done with a value
 
 -- what follows a value prints on
-do_with-prints : (x : Evaluated) (next : ℤ → SourceState → Completion) → ((v : ℤ) (s : SourceState) → PrintsOn s (state_at_end (next v s))) → PrintsOn (state_given x) (state_at_end (do_with x next))
+do_with-prints : (x : Evaluated) (next : ℤ → ProgramState → Completion) → ((v : ℤ) (s : ProgramState) → PrintsOn s (state_at_end (next v s))) → PrintsOn (state_given x) (state_at_end (do_with x next))
 do_with-prints (Given v s) next q = q v s
 do_with-prints (Caught kind line s) next q = Begins-refl s.printed
 
 -- what follows a value starts turns, and gives none back
-do_with-falls : (x : Evaluated) (next : ℤ → SourceState → Completion) → ((v : ℤ) (s : SourceState) → (state_at_end (next v s)).turns ≤ s.turns) →
+do_with-falls : (x : Evaluated) (next : ℤ → ProgramState → Completion) → ((v : ℤ) (s : ProgramState) → (state_at_end (next v s)).turns ≤ s.turns) →
     (state_at_end (do_with x next)).turns ≤ (state_given x).turns
 do_with-falls (Given v s) next q = q v s
 do_with-falls (Caught kind line s) next q = omega arith
 
 -- what follows a value, with more turns
-do_with-extends : (k : ℕ) (x : Evaluated) (next next' : ℤ → SourceState → Completion) → ((v : ℤ) → Steady (next v) (next' v)) → Extends k (do_with x next) (do_with (shifted k x) next')
+do_with-extends : (k : ℕ) (x : Evaluated) (next next' : ℤ → ProgramState → Completion) → ((v : ℤ) → Steady (next v) (next' v)) → Extends k (do_with x next) (do_with (shifted k x) next')
 do_with-extends k (Given v s) next next' q = (q v).extends k s
 do_with-extends k (Caught kind line s) next next' q = refl
 
 -- a value, and what follows it
-pub do_with-steady : (f : SourceState → Evaluated) (next next' : ℤ → SourceState → Completion) → Quiet f → ((v : ℤ) → Steady (next v) (next' v)) →
+pub do_with-steady : (f : ProgramState → Evaluated) (next next' : ℤ → ProgramState → Completion) → Quiet f → ((v : ℤ) → Steady (next v) (next' v)) →
     Steady (λ s. do_with (f s) next) (λ s. do_with (f s) next')
 do_with-steady f next next' p q = record {
   prints_on = λ s. subst (λ (l : List ℤ). Begins l (state_at_end (do_with (f s) next')).printed) (p.prints_nothing s) (do_with-prints (f s) next' (λ v. (q v).prints_on));
@@ -73,7 +73,7 @@ do_with-steady f next next' p q = record {
 -- ---- one after another
 
 -- what follows a statement prints on
-then_do-prints : (x : Completion) (next : SourceState → Completion) → ((s : SourceState) → PrintsOn s (state_at_end (next s))) → PrintsOn (state_at_end x) (state_at_end (then_do x next))
+then_do-prints : (x : Completion) (next : ProgramState → Completion) → ((s : ProgramState) → PrintsOn s (state_at_end (next s))) → PrintsOn (state_at_end x) (state_at_end (then_do x next))
 then_do-prints (GoesOn s) next q = q s
 then_do-prints (Breaks s) next q = Begins-refl s.printed
 then_do-prints (Continues s) next q = Begins-refl s.printed
@@ -82,7 +82,7 @@ then_do-prints (Traps kind line s) next q = Begins-refl s.printed
 then_do-prints (Spent s) next q = Begins-refl s.printed
 
 -- what follows a statement starts turns, and gives none back
-then_do-falls : (x : Completion) (next : SourceState → Completion) → ((s : SourceState) → (state_at_end (next s)).turns ≤ s.turns) → (state_at_end (then_do x next)).turns ≤ (state_at_end x).turns
+then_do-falls : (x : Completion) (next : ProgramState → Completion) → ((s : ProgramState) → (state_at_end (next s)).turns ≤ s.turns) → (state_at_end (then_do x next)).turns ≤ (state_at_end x).turns
 then_do-falls (GoesOn s) next q = q s
 then_do-falls (Breaks s) next q = omega arith
 then_do-falls (Continues s) next q = omega arith
@@ -91,7 +91,7 @@ then_do-falls (Traps kind line s) next q = omega arith
 then_do-falls (Spent s) next q = omega arith
 
 -- what follows a statement, with more turns
-then_do-extends : (k : ℕ) (x y : Completion) (next next' : SourceState → Completion) → Extends k x y → Steady next next' → Extends k (then_do x next) (then_do y next')
+then_do-extends : (k : ℕ) (x y : Completion) (next next' : ProgramState → Completion) → Extends k x y → Steady next next' → Extends k (then_do x next) (then_do y next')
 then_do-extends k (GoesOn s) y next next' e q = subst (λ (o : Completion). Extends k (next s) (then_do o next')) (sym e) (q.extends k s)
 then_do-extends k (Breaks s) y next next' e q = ap (λ (o : Completion). then_do o next') e
 then_do-extends k (Continues s) y next next' e q = ap (λ (o : Completion). then_do o next') e
@@ -101,7 +101,7 @@ then_do-extends k (Spent s) y next next' e q =
     prints_on_trans s (state_at_end y) (state_at_end (then_do y next')) e (then_do-prints y next' q.prints_on)
 
 -- a statement, and what follows it
-pub then_do-steady : (f f' next next' : SourceState → Completion) → Steady f f' → Steady next next' → Steady (λ s. then_do (f s) next) (λ s. then_do (f' s) next')
+pub then_do-steady : (f f' next next' : ProgramState → Completion) → Steady f f' → Steady next next' → Steady (λ s. then_do (f s) next) (λ s. then_do (f' s) next')
 then_do-steady f f' next next' p q = record {
   prints_on = λ s. prints_on_trans s (state_at_end (f' s)) (state_at_end (then_do (f' s) next')) (p.prints_on s) (then_do-prints (f' s) next' q.prints_on);
   turns_fall = λ s. omega (arith, p.turns_fall s, then_do-falls (f' s) next' q.turns_fall);
@@ -109,7 +109,7 @@ then_do-steady f f' next next' p q = record {
 }
 
 -- what follows the body of a loop prints on
-after_body-prints : (x : Completion) (next : SourceState → Completion) → ((s : SourceState) → PrintsOn s (state_at_end (next s))) → PrintsOn (state_at_end x) (state_at_end (after_body x next))
+after_body-prints : (x : Completion) (next : ProgramState → Completion) → ((s : ProgramState) → PrintsOn s (state_at_end (next s))) → PrintsOn (state_at_end x) (state_at_end (after_body x next))
 after_body-prints (GoesOn s) next q = q s
 after_body-prints (Breaks s) next q = Begins-refl s.printed
 after_body-prints (Continues s) next q = q s
@@ -118,7 +118,7 @@ after_body-prints (Traps kind line s) next q = Begins-refl s.printed
 after_body-prints (Spent s) next q = Begins-refl s.printed
 
 -- what follows the body of a loop starts turns, and gives none back
-after_body-falls : (x : Completion) (next : SourceState → Completion) → ((s : SourceState) → (state_at_end (next s)).turns ≤ s.turns) →
+after_body-falls : (x : Completion) (next : ProgramState → Completion) → ((s : ProgramState) → (state_at_end (next s)).turns ≤ s.turns) →
     (state_at_end (after_body x next)).turns ≤ (state_at_end x).turns
 after_body-falls (GoesOn s) next q = q s
 after_body-falls (Breaks s) next q = omega arith
@@ -128,7 +128,7 @@ after_body-falls (Traps kind line s) next q = omega arith
 after_body-falls (Spent s) next q = omega arith
 
 -- what follows the body of a loop, with more turns
-after_body-extends : (k : ℕ) (x y : Completion) (next next' : SourceState → Completion) → Extends k x y → Steady next next' → Extends k (after_body x next) (after_body y next')
+after_body-extends : (k : ℕ) (x y : Completion) (next next' : ProgramState → Completion) → Extends k x y → Steady next next' → Extends k (after_body x next) (after_body y next')
 after_body-extends k (GoesOn s) y next next' e q = subst (λ (o : Completion). Extends k (next s) (after_body o next')) (sym e) (q.extends k s)
 after_body-extends k (Breaks s) y next next' e q = ap (λ (o : Completion). after_body o next') e
 after_body-extends k (Continues s) y next next' e q = subst (λ (o : Completion). Extends k (next s) (after_body o next')) (sym e) (q.extends k s)
@@ -138,7 +138,7 @@ after_body-extends k (Spent s) y next next' e q =
     prints_on_trans s (state_at_end y) (state_at_end (after_body y next')) e (after_body-prints y next' q.prints_on)
 
 -- the body of a loop, and what follows it
-pub after_body-steady : (f f' next next' : SourceState → Completion) → Steady f f' → Steady next next' → Steady (λ s. after_body (f s) next) (λ s. after_body (f' s) next')
+pub after_body-steady : (f f' next next' : ProgramState → Completion) → Steady f f' → Steady next next' → Steady (λ s. after_body (f s) next) (λ s. after_body (f' s) next')
 after_body-steady f f' next next' p q = record {
   prints_on = λ s. prints_on_trans s (state_at_end (f' s)) (state_at_end (after_body (f' s) next')) (p.prints_on s) (after_body-prints (f' s) next' q.prints_on);
   turns_fall = λ s. omega (arith, p.turns_fall s, after_body-falls (f' s) next' q.turns_fall);
@@ -148,16 +148,16 @@ after_body-steady f f' next next' p q = record {
 -- ---- choices
 
 -- the two sides of a test
-where_true-steady : (b : Bool) (f f' g g' : SourceState → Completion) → Steady f f' → Steady g g' → Steady (where_true b f g) (where_true b f' g')
+where_true-steady : (b : Bool) (f f' g g' : ProgramState → Completion) → Steady f f' → Steady g g' → Steady (where_true b f g) (where_true b f' g')
 where_true-steady true f f' g g' p q = p
 where_true-steady false f f' g g' p q = q
 
 -- the two sides of a condition
-pub side-steady : (v : ℤ) (f f' g g' : SourceState → Completion) → Steady f f' → Steady g g' → Steady (side v f g) (side v f' g')
+pub side-steady : (v : ℤ) (f f' g g' : ProgramState → Completion) → Steady f f' → Steady g g' → Steady (side v f g) (side v f' g')
 side-steady v f f' g g' p q = where_true-steady (holds v) f f' g g' p q
 
 -- what is done at a place, or where the index was outside
-at_place-steady : (place : Option ℕ) (outside : SourceState → Completion) (next : ℕ → SourceState → Completion) → Steady outside outside →
+at_place-steady : (place : Option ℕ) (outside : ProgramState → Completion) (next : ℕ → ProgramState → Completion) → Steady outside outside →
     ((i : ℕ) → Steady (next i) (next i)) → Steady (at_place place outside next) (at_place place outside next)
 at_place-steady None outside next p q = p
 at_place-steady (Some i) outside next p q = q i
@@ -199,7 +199,7 @@ print-steady v = record { prints_on = λ s. Begins-append s.printed (v ∷ []); 
 -- ---- assignments
 
 -- a bound test, and what is done at the place
-with_place-steady : (lengths : List ℕ) (array line : ℕ) (index : ℤ) (next : ℕ → SourceState → Completion) → ((i : ℕ) → Steady (next i) (next i)) →
+with_place-steady : (lengths : List ℕ) (array line : ℕ) (index : ℤ) (next : ℕ → ProgramState → Completion) → ((i : ℕ) → Steady (next i) (next i)) →
     Steady (with_place lengths array line index next) (with_place lengths array line index next)
 with_place-steady lengths array line index next q =
     at_place-steady (place_in (slice_index lengths array) index) (Traps OutOfBounds line) next (Traps-steady OutOfBounds line) q
@@ -209,7 +209,7 @@ updated-steady : (lengths : List ℕ) (array : ℕ) (op : BinaryOp) (at : ℕ) (
     → Steady (λ s. do_with (eval lengths value s) (λ b s'. do_with (operate op at old b s') (store array place)))
     (λ s. do_with (eval lengths value s) (λ b s'. do_with (operate op at old b s') (store array place)))
 updated-steady lengths array op at value place old =
-    let next = λ (b : ℤ) (s : SourceState). do_with (operate op at old b s) (store array place) in
+    let next = λ (b : ℤ) (s : ProgramState). do_with (operate op at old b s) (store array place) in
     do_with-steady (eval lengths value) next next (eval-quiet lengths value)
     (λ b. do_with-steady (operate op at old b) (store array place) (store array place) (operate-quiet op at old b) (store-steady array place))
 
@@ -232,7 +232,7 @@ assignment-steady lengths name line None bracket (Some op) at value =
     do_with-steady (eval lengths both) (assign name) (assign name) (eval-quiet lengths both) (assign-steady name)
 assignment-steady lengths name line (Some index) bracket None at value =
     let put = λ (i v : ℤ). with_place lengths name bracket i (λ place. store name place v) in
-    let next = λ (i : ℤ) (s : SourceState). do_with (eval lengths value s) (put i) in
+    let next = λ (i : ℤ) (s : ProgramState). do_with (eval lengths value s) (put i) in
     do_with-steady (eval lengths index) next next (eval-quiet lengths index)
     (λ i. do_with-steady (eval lengths value) (put i) (put i) (eval-quiet lengths value)
     (λ v. with_place-steady lengths name bracket i (λ place. store name place v) (λ place. store-steady name place v)))
@@ -250,25 +250,25 @@ declare-steady lengths name (Some initial) =
 -- ---- loops
 
 -- a turn prints on
-turn_from-prints : (left : ℕ) (body : SourceState → Completion) (s : SourceState) → ((s : SourceState) → PrintsOn s (state_at_end (body s))) → PrintsOn s (state_at_end (turn_from left body s))
+turn_from-prints : (left : ℕ) (body : ProgramState → Completion) (s : ProgramState) → ((s : ProgramState) → PrintsOn s (state_at_end (body s))) → PrintsOn s (state_at_end (turn_from left body s))
 turn_from-prints zero body s q = Begins-refl s.printed
 turn_from-prints (suc left) body s q = q (set_turns left s)
 
 -- a turn is started where one is left, and none is given back
-turn_from-falls : (left : ℕ) (body : SourceState → Completion) (s : SourceState) → left ≤ s.turns → ((s : SourceState) → (state_at_end (body s)).turns ≤ s.turns) →
+turn_from-falls : (left : ℕ) (body : ProgramState → Completion) (s : ProgramState) → left ≤ s.turns → ((s : ProgramState) → (state_at_end (body s)).turns ≤ s.turns) →
     (state_at_end (turn_from left body s)).turns ≤ s.turns
 turn_from-falls zero body s le q = omega arith
 turn_from-falls (suc left) body s le q = omega (arith, q (set_turns left s))
 
 -- a turn, with more turns left
-turn_from-extends : (left k : ℕ) (body body' : SourceState → Completion) (s : SourceState) → Steady body body' → Extends k (turn_from left body s) (turn_from (left + k) body' (with_more k s))
+turn_from-extends : (left k : ℕ) (body body' : ProgramState → Completion) (s : ProgramState) → Steady body body' → Extends k (turn_from left body s) (turn_from (left + k) body' (with_more k s))
 turn_from-extends zero k body body' s q = turn_from-prints (zero + k) body' (with_more k s) q.prints_on
 turn_from-extends (suc left) k body body' s q =
     let e : suc (left + k) ≡ suc left + k = omega arith in
     subst (λ (n : ℕ). Extends k (body (set_turns left s)) (turn_from n body' (with_more k s))) e (q.extends k (set_turns left s))
 
 -- a turn
-pub turn_of-steady : (body body' : SourceState → Completion) → Steady body body' → Steady (turn_of body) (turn_of body')
+pub turn_of-steady : (body body' : ProgramState → Completion) → Steady body body' → Steady (turn_of body) (turn_of body')
 turn_of-steady body body' q = record {
   prints_on = λ s. turn_from-prints s.turns body' s q.prints_on;
   turns_fall = λ s. turn_from-falls s.turns body' s (omega arith) q.turns_fall;
@@ -276,11 +276,11 @@ turn_of-steady body body' q = record {
 }
 
 -- the body, the step, and what follows
-round_of-steady : (body step next next' : SourceState → Completion) → Steady body body → Steady step step → Steady next next' → Steady (round_of body step next) (round_of body step next')
+round_of-steady : (body step next next' : ProgramState → Completion) → Steady body body → Steady step step → Steady next next' → Steady (round_of body step next) (round_of body step next')
 round_of-steady body step next next' p q r =
     after_body-steady body body (λ s. then_do (step s) next) (λ s. then_do (step s) next') p (then_do-steady step step next next' q r)
 
-module _ (test : SourceState → Evaluated) (step body : SourceState → Completion) (test-quiet : Quiet test) (step-steady : Steady step step) (body-steady : Steady body body) where
+module _ (test : ProgramState → Evaluated) (step body : ProgramState → Completion) (test-quiet : Quiet test) (step-steady : Steady step step) (body-steady : Steady body body) where
   -- one test more
   tested-steady : (m n : ℕ) → Steady (loop m test step body) (loop n test step body) → Steady (loop (suc m) test step body) (loop (suc n) test step body)
   tested-steady m n q =
@@ -308,7 +308,7 @@ module _ (test : SourceState → Evaluated) (step body : SourceState → Complet
   }
 
 -- a loop whose first turn comes before the first test
-do_loop-steady : (test : SourceState → Evaluated) (body : SourceState → Completion) → Quiet test → Steady body body → Steady (do_loop test body) (do_loop test body)
+do_loop-steady : (test : ProgramState → Evaluated) (body : ProgramState → Completion) → Quiet test → Steady body body → Steady (do_loop test body) (do_loop test body)
 do_loop-steady test body p q =
     let round = round_of body GoesOn (loop_from test GoesOn body) in
     turn_of-steady round round

@@ -11,32 +11,32 @@ use Rattle.pc_syntax.specs.declared.operator.UnaryOp.TheVariants.{Minus, Flip, N
 use Rattle.pc_syntax.specs.declared.operator.BinaryOp.{BinaryOp}
 use Rattle.pc_syntax.specs.declared.operator.BinaryOp.TheVariants.{Add, Sub, Mul, Div, Rem, Shl, Shr, Less, LessEq, Greater, GreaterEq, Equal, Unequal, BitAnd, BitXor, BitOr}
 use Rattle.pc_syntax.specs.Source.{SourceExpression, Literal, Variable, Input, Indexed, Prefixed, Combined, Conjunction, Disjunction, Conditional}
-use Rattle.pc_meaning.specs.SourceState.{SourceState, set_left}
+use Rattle.pc_meaning.specs.ProgramState.{ProgramState, set_left}
 
 -- what an expression comes to
 pub data Evaluated : Type 0 where
   -- its value
-  Given : (value : ℤ) → (state : SourceState) → Evaluated
+  Given : (value : ℤ) → (state : ProgramState) → Evaluated
   -- a trap, with the line that it is told by
-  Caught : (kind : TrapKind) → (line : ℕ) → (state : SourceState) → Evaluated
+  Caught : (kind : TrapKind) → (line : ℕ) → (state : ProgramState) → Evaluated
 
 -- the state after an expression
-abbrev pub state_given : Evaluated → SourceState
+abbrev pub state_given : Evaluated → ProgramState
 state_given (Given value s) = s
 state_given (Caught kind line s) = s
 
 -- what is done with a value; a trap stays
-abbrev pub with_value : Evaluated → (ℤ → SourceState → Evaluated) → Evaluated
+abbrev pub with_value : Evaluated → (ℤ → ProgramState → Evaluated) → Evaluated
 with_value (Given value s) next = next value s
 with_value (Caught kind line s) next = Caught kind line s
 
 -- the one where a test came out true, and else the other
-abbrev pub where_true : {X : Type 0} → Bool → (SourceState → X) → (SourceState → X) → SourceState → X
+abbrev pub where_true : {X : Type 0} → Bool → (ProgramState → X) → (ProgramState → X) → ProgramState → X
 where_true true one other s = one s
 where_true false one other s = other s
 
 -- the one where a condition's value is not 0, and else the other
-abbrev pub side : {X : Type 0} → ℤ → (SourceState → X) → (SourceState → X) → SourceState → X
+abbrev pub side : {X : Type 0} → ℤ → (ProgramState → X) → (ProgramState → X) → ProgramState → X
 side value one other s = where_true (holds value) one other s
 
 -- ---- operators
@@ -73,43 +73,43 @@ divides Rem = true
 divides _ = false
 
 -- where there is a divisor, a divisor 0 is a trap at the operator's line
-abbrev pub with_divisor : Bool → ℕ → ℤ → ℤ → SourceState → Evaluated
+abbrev pub with_divisor : Bool → ℕ → ℤ → ℤ → ProgramState → Evaluated
 with_divisor true line divisor value s = side divisor (Given value) (Caught DivideByZero line) s
 with_divisor false line divisor value s = Given value s
 
 -- an operator on its two values
-abbrev pub operate : BinaryOp → ℕ → ℤ → ℤ → SourceState → Evaluated
+abbrev pub operate : BinaryOp → ℕ → ℤ → ℤ → ProgramState → Evaluated
 operate op line a b s = with_divisor (divides op) line b (binary_value op a b) s
 
 -- ---- elements and input
 
 -- what is done at a place, or where the index was outside
-abbrev pub at_place : {X : Type 0} → Option ℕ → (SourceState → X) → (ℕ → SourceState → X) → SourceState → X
+abbrev pub at_place : {X : Type 0} → Option ℕ → (ProgramState → X) → (ℕ → ProgramState → X) → ProgramState → X
 at_place None outside next s = outside s
 at_place (Some place) outside next s = next place s
 
 -- the element at a place
-abbrev pub loaded : ℕ → ℕ → SourceState → Evaluated
+abbrev pub loaded : ℕ → ℕ → ProgramState → Evaluated
 loaded array place s = Given (s.cells array place) s
 
 -- the element that an index names; an index outside the array is a trap at the bracket's line
-abbrev pub element : List ℕ → ℕ → ℕ → ℤ → SourceState → Evaluated
+abbrev pub element : List ℕ → ℕ → ℕ → ℤ → ProgramState → Evaluated
 element lengths array line index s =
     at_place (place_in (slice_index lengths array) index) (Caught OutOfBounds line) (loaded array) s
 
 -- the next number of the input; where none is left, that is a trap at the line of `read`
-abbrev pub read_from : List ℤ → ℕ → SourceState → Evaluated
+abbrev pub read_from : List ℤ → ℕ → ProgramState → Evaluated
 read_from [] line s = Caught EndOfInput line s
 read_from (value ∷ rest) line s = Given value (set_left rest s)
 
 -- ---- expressions
 
 -- whether a value holds, as 0 or 1
-abbrev pub truth : ℤ → SourceState → Evaluated
+abbrev pub truth : ℤ → ProgramState → Evaluated
 truth value s = Given (word_of_test (holds value)) s
 
 -- an expression in a state, in a program with arrays of these lengths
-abbrev pub eval : List ℕ → SourceExpression → SourceState → Evaluated
+abbrev pub eval : List ℕ → SourceExpression → ProgramState → Evaluated
 eval lengths (Literal value) s = Given value s
 eval lengths (Variable scalar line) s = Given (s.scalars scalar) s
 eval lengths (Input line) s = read_from s.input line s

@@ -9,7 +9,7 @@ use Rattle.pc_word.specs.Items.{place_in}
 use Rattle.pc_syntax.specs.declared.operator.UnaryOp.{UnaryOp}
 use Rattle.pc_syntax.specs.declared.operator.BinaryOp.{BinaryOp}
 use Rattle.pc_syntax.specs.Source.{SourceExpression, SourceStatement, OptionalStatement, ResolvedProgram}
-use Rattle.pc_meaning.specs.SourceState.{SourceState, set_left}
+use Rattle.pc_meaning.specs.ProgramState.{ProgramState, set_left}
 use Rattle.pc_meaning.specs.Expression.{state_given, eval, prefix_value, binary_value}
 use Rattle.pc_meaning.specs.Lowered.{lowered_prefix, lowered_binary}
 use Rattle.pc_meaning.specs.Statement.{state_at_end, loop, execute, execute_optional}
@@ -23,7 +23,7 @@ SourceRunsGrow = (program : ResolvedProgram) (input : List ℤ) → Grows (sourc
 -- an expression changes nothing but the input: the scalars, the elements, what was printed and the turns are as before
 abbrev pub ExpressionsOnlyRead : Type 0
 ExpressionsOnlyRead =
-    (lengths : List ℕ) (e : SourceExpression) (s : SourceState)
+    (lengths : List ℕ) (e : SourceExpression) (s : ProgramState)
     → state_given (eval lengths e s) ≡ set_left (state_given (eval lengths e s)).input s
 
 -- no program comes to a machine's fault
@@ -35,7 +35,7 @@ SourceRunsAreFaultless =
 -- how many tests a loop may make changes nothing, where they are more than the turns that are left
 abbrev pub LoopsEndByTheirTurns : Type 0
 LoopsEndByTheirTurns =
-    (lengths : List ℕ) (test : SourceExpression) (step : OptionalStatement) (body : SourceStatement) (m n : ℕ) (s : SourceState) → s.turns < m → s.turns < n
+    (lengths : List ℕ) (test : SourceExpression) (step : OptionalStatement) (body : SourceStatement) (m n : ℕ) (s : ProgramState) → s.turns < m → s.turns < n
     → loop m (eval lengths test) (execute_optional lengths step) (execute lengths body) s ≡ loop n (eval lengths test) (execute_optional lengths step) (execute lengths body) s
 
 -- as many prints are passed as numbers are printed

@@ -1,4 +1,4 @@
-pub mod SourceState
+pub mod ProgramState
 pub mod Expression
 pub mod Statement
 pub mod SourceRun

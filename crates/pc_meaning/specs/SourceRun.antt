@@ -3,7 +3,7 @@ use Rattle.std.specs.Prelude.{ℕ, ℤ, List, Some, None}
 use Rattle.pc_word.specs.declared.item.End.TheVariants.{Ended, Trapped}
 use Rattle.pc_word.specs.Run.{Seen, Run}
 use Rattle.pc_syntax.specs.Source.{ResolvedProgram}
-use Rattle.pc_meaning.specs.SourceState.{source_start}
+use Rattle.pc_meaning.specs.ProgramState.{source_start}
 use Rattle.pc_meaning.specs.Statement.{Completion, GoesOn, Breaks, Continues, Returns, Traps, Spent, execute_list}
 
 -- what is seen of the outcome of a program's statements: the end of `main` ends it (C17 5.1.2.2.3)

@@ -9,7 +9,7 @@ use Rattle.pc_syntax.specs.Source.{ResolvedProgram, SourceExpression, Literal, V
 use Rattle.pc_syntax.specs.Source.{Disjunction, Conditional, SourceStatement, SourceList, OptionalStatement, Scope, ScalarDeclaration}
 use Rattle.pc_syntax.specs.Source.{ArrayDeclaration, Assignment, Printing, Evaluation, Branch, WhileLoop, DoLoop, ForLoop, BreakOut, ContinueOn}
 use Rattle.pc_syntax.specs.Source.{ReturnFrom, Nothing, Absent, Present, No_more, More}
-use Rattle.pc_meaning.specs.SourceState.{SourceState, source_start, set_turns}
+use Rattle.pc_meaning.specs.ProgramState.{ProgramState, source_start, set_turns}
 use Rattle.pc_meaning.specs.Expression.{Evaluated, Given, Caught, side, divides, operate, at_place, eval}
 use Rattle.pc_meaning.specs.Lowered.{prefix_code, binary_code}
 use Rattle.pc_meaning.specs.Statement.{Completion, GoesOn, Breaks, Continues, Returns, Traps, Spent, execute, execute_list, execute_optional}
@@ -46,12 +46,12 @@ is_read _ = false
 -- ---- one after another
 
 -- what an expression passed, and where it gave a value, what is passed after it
-abbrev pub traced : List Kind → Evaluated → (ℤ → SourceState → List Kind) → List Kind
+abbrev pub traced : List Kind → Evaluated → (ℤ → ProgramState → List Kind) → List Kind
 traced passed (Given value s) next = passed ++ next value s
 traced passed (Caught kind line s) next = passed
 
 -- what a statement passed, and where it goes on, what is passed after it
-abbrev pub traced_on : List Kind → Completion → (SourceState → List Kind) → List Kind
+abbrev pub traced_on : List Kind → Completion → (ProgramState → List Kind) → List Kind
 traced_on passed (GoesOn s) next = passed ++ next s
 traced_on passed (Breaks s) next = passed
 traced_on passed (Continues s) next = passed
@@ -60,7 +60,7 @@ traced_on passed (Traps kind line s) next = passed
 traced_on passed (Spent s) next = passed
 
 -- what the body of a loop passed, and where it goes on or continues, what is passed after it
-abbrev pub traced_body : List Kind → Completion → (SourceState → List Kind) → List Kind
+abbrev pub traced_body : List Kind → Completion → (ProgramState → List Kind) → List Kind
 traced_body passed (GoesOn s) next = passed ++ next s
 traced_body passed (Breaks s) next = passed
 traced_body passed (Continues s) next = passed ++ next s
@@ -69,15 +69,15 @@ traced_body passed (Traps kind line s) next = passed
 traced_body passed (Spent s) next = passed
 
 -- a test, and what is passed after it
-abbrev pub tested : (SourceState → List Kind) → SourceState → List Kind
+abbrev pub tested : (ProgramState → List Kind) → ProgramState → List Kind
 tested next s = Test_node ∷ next s
 
 -- nothing
-abbrev pub passes_nothing : SourceState → List Kind
+abbrev pub passes_nothing : ProgramState → List Kind
 passes_nothing s = []
 
 -- one operation
-abbrev pub passes : Kind → SourceState → List Kind
+abbrev pub passes : Kind → ProgramState → List Kind
 passes kind s = kind ∷ []
 
 -- ---- expressions
@@ -88,21 +88,21 @@ read_trace [] = More_node ∷ Test_node ∷ []
 read_trace (value ∷ rest) = More_node ∷ Test_node ∷ Read_node ∷ []
 
 -- a bound test, and what is passed at the place
-abbrev pub place_trace : List ℕ → ℕ → ℤ → (ℕ → SourceState → List Kind) → SourceState → List Kind
+abbrev pub place_trace : List ℕ → ℕ → ℤ → (ℕ → ProgramState → List Kind) → ProgramState → List Kind
 place_trace lengths array index next s =
     Binary_node codes.Below ∷ tested (at_place (place_in (slice_index lengths array) index) passes_nothing next) s
 
 -- an operation, after a test of its divisor where there is one
-abbrev pub divisor_trace : Bool → ℤ → Kind → SourceState → List Kind
+abbrev pub divisor_trace : Bool → ℤ → Kind → ProgramState → List Kind
 divisor_trace true divisor kind s = tested (side divisor (passes kind) passes_nothing) s
 divisor_trace false divisor kind s = passes kind s
 
 -- a binary operator on its two values
-abbrev pub operation_trace : BinaryOp → ℤ → SourceState → List Kind
+abbrev pub operation_trace : BinaryOp → ℤ → ProgramState → List Kind
 operation_trace op b s = divisor_trace (divides op) b (Binary_node (binary_code op)) s
 
 -- what an expression passes in a state
-abbrev pub trace : List ℕ → SourceExpression → SourceState → List Kind
+abbrev pub trace : List ℕ → SourceExpression → ProgramState → List Kind
 trace lengths (Literal value) s = []
 trace lengths (Variable scalar line) s = []
 trace lengths (Input line) s = read_trace s.input
@@ -128,13 +128,13 @@ trace lengths (Conditional test one other) s =
 -- ---- assignments
 
 -- the load, the value, the operator and the store of an element that is updated
-abbrev pub update_trace : List ℕ → ℕ → BinaryOp → ℕ → SourceExpression → ℕ → SourceState → List Kind
+abbrev pub update_trace : List ℕ → ℕ → BinaryOp → ℕ → SourceExpression → ℕ → ProgramState → List Kind
 update_trace lengths array op at value place s =
     Load_node ∷ traced (trace lengths value s) (eval lengths value s)
     (λ b s'. traced (operation_trace op b s') (operate op at (s.cells array place) b s') (λ v. passes Store_node))
 
 -- an assignment to a scalar or an element, with or without an operator
-abbrev pub assignment_trace : List ℕ → ℕ → ℕ → Option SourceExpression → Option BinaryOp → ℕ → SourceExpression → SourceState → List Kind
+abbrev pub assignment_trace : List ℕ → ℕ → ℕ → Option SourceExpression → Option BinaryOp → ℕ → SourceExpression → ProgramState → List Kind
 assignment_trace lengths name line None None at value s =
     traced (trace lengths value s) (eval lengths value s) (λ v. passes Copy_node)
 assignment_trace lengths name line None (Some op) at value s =
@@ -148,7 +148,7 @@ assignment_trace lengths name line (Some index) (Some op) at value s =
     (λ i. place_trace lengths name i (update_trace lengths name op at value))
 
 -- a declarator
-abbrev pub declaration_trace : List ℕ → Option SourceExpression → SourceState → List Kind
+abbrev pub declaration_trace : List ℕ → Option SourceExpression → ProgramState → List Kind
 declaration_trace lengths None s = Copy_node ∷ []
 declaration_trace lengths (Some initial) s =
     traced (trace lengths initial s) (eval lengths initial s) (λ v. passes Copy_node)
@@ -156,35 +156,35 @@ declaration_trace lengths (Some initial) s =
 -- ---- loops
 
 -- what a turn passes, where one is left
-abbrev pub turn_trace_from : ℕ → (SourceState → List Kind) → SourceState → List Kind
+abbrev pub turn_trace_from : ℕ → (ProgramState → List Kind) → ProgramState → List Kind
 turn_trace_from zero body s = []
 turn_trace_from (suc left) body s = body (set_turns left s)
 
 -- what a turn from a state passes
-abbrev pub turn_trace : (SourceState → List Kind) → SourceState → List Kind
+abbrev pub turn_trace : (ProgramState → List Kind) → ProgramState → List Kind
 turn_trace body s = turn_trace_from s.turns body s
 
 -- the body, then the step, then what follows; each is given by what it does and by what it passes
-abbrev pub round_trace : (SourceState → Completion) → (SourceState → List Kind) → (SourceState → Completion) → (SourceState → List Kind) → (SourceState → List Kind) → SourceState → List Kind
+abbrev pub round_trace : (ProgramState → Completion) → (ProgramState → List Kind) → (ProgramState → Completion) → (ProgramState → List Kind) → (ProgramState → List Kind) → ProgramState → List Kind
 round_trace body body_trace step step_trace next s =
     traced_body (body_trace s) (body s) (λ s. traced_on (step_trace s) (step s) next)
 
 -- a loop: its condition and a test each time, and its turns
-abbrev pub loop_trace : ℕ → (SourceState → Evaluated) → (SourceState → List Kind) → (SourceState → Completion) → (SourceState → List Kind) → (SourceState → Completion) →
-    (SourceState → List Kind) → SourceState → List Kind
+abbrev pub loop_trace : ℕ → (ProgramState → Evaluated) → (ProgramState → List Kind) → (ProgramState → Completion) → (ProgramState → List Kind) → (ProgramState → Completion) →
+    (ProgramState → List Kind) → ProgramState → List Kind
 loop_trace zero test test_trace step step_trace body body_trace s = []
 loop_trace (suc tests) test test_trace step step_trace body body_trace s =
     traced (test_trace s) (test s)
     (λ v. tested (side v (turn_trace (round_trace body body_trace step step_trace (loop_trace tests test test_trace step step_trace body body_trace))) passes_nothing))
 
 -- a loop from a state
-abbrev pub loop_trace_from : (SourceState → Evaluated) → (SourceState → List Kind) → (SourceState → Completion) → (SourceState → List Kind) → (SourceState → Completion) →
-    (SourceState → List Kind) → SourceState → List Kind
+abbrev pub loop_trace_from : (ProgramState → Evaluated) → (ProgramState → List Kind) → (ProgramState → Completion) → (ProgramState → List Kind) → (ProgramState → Completion) →
+    (ProgramState → List Kind) → ProgramState → List Kind
 loop_trace_from test test_trace step step_trace body body_trace s =
     loop_trace (suc s.turns) test test_trace step step_trace body body_trace s
 
 -- a loop whose first turn comes before the first test
-abbrev pub do_loop_trace : (SourceState → Evaluated) → (SourceState → List Kind) → (SourceState → Completion) → (SourceState → List Kind) → SourceState → List Kind
+abbrev pub do_loop_trace : (ProgramState → Evaluated) → (ProgramState → List Kind) → (ProgramState → Completion) → (ProgramState → List Kind) → ProgramState → List Kind
 do_loop_trace test test_trace body body_trace s =
     turn_trace (round_trace body body_trace GoesOn passes_nothing (loop_trace_from test test_trace GoesOn passes_nothing body body_trace)) s
 
@@ -192,7 +192,7 @@ do_loop_trace test test_trace body body_trace s =
 
 abbrev mutual
   -- what a statement passes in a state
-  pub statement_trace : List ℕ → SourceStatement → SourceState → List Kind
+  pub statement_trace : List ℕ → SourceStatement → ProgramState → List Kind
   statement_trace lengths (Scope items) s = list_trace lengths items s
   statement_trace lengths (ScalarDeclaration name line initial) s = declaration_trace lengths initial s
   statement_trace lengths (ArrayDeclaration name line at length) s = []
@@ -217,12 +217,12 @@ abbrev mutual
   statement_trace lengths Nothing s = []
 
   -- what a statement passes that may be left out
-  pub optional_trace : List ℕ → OptionalStatement → SourceState → List Kind
+  pub optional_trace : List ℕ → OptionalStatement → ProgramState → List Kind
   optional_trace lengths Absent s = []
   optional_trace lengths (Present statement) s = statement_trace lengths statement s
 
   -- what statements pass in order
-  pub list_trace : List ℕ → SourceList → SourceState → List Kind
+  pub list_trace : List ℕ → SourceList → ProgramState → List Kind
   list_trace lengths No_more s = []
   list_trace lengths (More first rest) s =
       traced_on (statement_trace lengths first s) (execute lengths first s) (list_trace lengths rest)

@@ -6,7 +6,7 @@ use Rattle.pc_word.specs.declared.item.Operand.{Operand}
 use Rattle.pc_window.specs.declared.window.Window.{Window as StoredWindow}
 use Rattle.pc_window.specs.StoredWindow.{tree_in}
 use Rattle.pc_window.specs.Tree.{tree_size}
-use Rattle.pc_moveop.specs.NodeTree.{NodeTree, Item_node, Test_node, Leads_to, Leads_out, nodes_in, tree_of, leaf_count, child_at, led_on, node_at, child_changed, with_node, HasRoot, NoEmptyNode}
+use Rattle.pc_moveop.specs.NodeTree.{NodeTree, Item_node, Test_node, Leads_to, Leads_out, nodes_in, whole_tree, leaf_count, child_at, led_on, node_at, child_changed, with_node, HasRoot, NoEmptyNode}
 use Rattle.pc_moveop.specs.Taking.{leaf_to}
 use Rattle.pc_moveop.proofs.Paths.{tree_same}
 use Rattle.pc_moveop.proofs.Shapes.{leaf_nodes, leaf_size, changed_nodes}
@@ -58,13 +58,13 @@ moved_nodes w v parent leaf h =
 
 -- ---- how many items and tests
 
-yes_size : (t : NodeTree) → tree_size (tree_of (yes_part t)) ≤ tree_size (tree_of t)
+yes_size : (t : NodeTree) → tree_size (whole_tree (yes_part t)) ≤ tree_size (whole_tree t)
 yes_size (Item_node t o x rest) = let h = yes_size rest in omega arith
 yes_size (Test_node t o on p q) = omega arith
 yes_size (Leads_to below) = omega arith
 yes_size (Leads_out out) = omega arith
 
-no_size : (t : NodeTree) → tree_size (tree_of (no_part t)) ≤ tree_size (tree_of t)
+no_size : (t : NodeTree) → tree_size (whole_tree (no_part t)) ≤ tree_size (whole_tree t)
 no_size (Item_node t o x rest) = let h = no_size rest in omega arith
 no_size (Test_node t o on p q) = omega arith
 no_size (Leads_to below) = omega arith
@@ -72,7 +72,7 @@ no_size (Leads_out out) = omega arith
 
 -- at most one more than twice as many
 abbrev IsDouble : NodeTree → NodeTree → Type 0
-IsDouble t u = tree_size (tree_of u) ≤ suc (tree_size (tree_of t) + tree_size (tree_of t))
+IsDouble t u = tree_size (whole_tree u) ≤ suc (tree_size (whole_tree t) + tree_size (whole_tree t))
 
 same_double : (t : NodeTree) → IsDouble t t
 same_double t = omega arith
@@ -127,7 +127,7 @@ moved_size w v parent leaf h =
     let m = h.test in
     let n = h.changes.node in
     let double = node_double parent n (divided m.tag m.origin m.on leaf n) (nodes_in w.tree) h.changes.at (divided_size m.tag m.origin m.on leaf n) in
-    let to : tree_size (tree_in v.tree) ≡ tree_size (tree_of (with_node parent (divided m.tag m.origin m.on leaf n) (nodes_in w.tree))) =
-    ap tree_size (sym (tree_same v.tree)) ∙ ap (λ (u : NodeTree). tree_size (tree_of u)) h.changes.tree in
-    let from : tree_size (tree_of (nodes_in w.tree)) ≡ tree_size (tree_in w.tree) = ap tree_size (tree_same w.tree) in
+    let to : tree_size (tree_in v.tree) ≡ tree_size (whole_tree (with_node parent (divided m.tag m.origin m.on leaf n) (nodes_in w.tree))) =
+    ap tree_size (sym (tree_same v.tree)) ∙ ap (λ (u : NodeTree). tree_size (whole_tree u)) h.changes.tree in
+    let from : tree_size (whole_tree (nodes_in w.tree)) ≡ tree_size (tree_in w.tree) = ap tree_size (tree_same w.tree) in
     omega arith

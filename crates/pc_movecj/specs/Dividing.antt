@@ -26,12 +26,12 @@ first_test (Leads_to below) = None
 first_test (Leads_out out) = None
 
 -- the first test of the node that a leaf leads to, and what it passes on its way to that leaf
-abbrev pub test_at : ℕ → NodeTree → Option MovingTest
-test_at leaf (Item_node tag origin item rest) = passing_test (Passed_item true origin item) (test_at leaf rest)
-test_at leaf (Test_node tag origin on on_yes on_no) =
-    if nat_lt leaf (leaf_count on_yes) then test_at leaf on_yes else test_at (leaf - leaf_count on_yes) on_no
-test_at leaf (Leads_to below) = if nat_eq leaf 0 then first_test below else None
-test_at leaf (Leads_out out) = None
+abbrev pub moving_test_at : ℕ → NodeTree → Option MovingTest
+moving_test_at leaf (Item_node tag origin item rest) = passing_test (Passed_item true origin item) (moving_test_at leaf rest)
+moving_test_at leaf (Test_node tag origin on on_yes on_no) =
+    if nat_lt leaf (leaf_count on_yes) then moving_test_at leaf on_yes else moving_test_at (leaf - leaf_count on_yes) on_no
+moving_test_at leaf (Leads_to below) = if nat_eq leaf 0 then first_test below else None
+moving_test_at leaf (Leads_out out) = None
 
 -- ---- the two sides
 

@@ -11,7 +11,7 @@ use Rattle.pc_moveop.specs.NodeTree.{NodeTree, nodes_in, node_at, node_front}
 use Rattle.pc_moveop.specs.Climbing.{first_defined}
 use Rattle.pc_moveop.specs.Refusing.{refused_first, depends_on}
 use Rattle.pc_moveop.specs.Moving.{NodeChanges, SameBounds}
-use Rattle.pc_movecj.specs.Dividing.{MovingTest, test_at, divided}
+use Rattle.pc_movecj.specs.Dividing.{MovingTest, moving_test_at, divided}
 
 -- a front that has no room for a test; a node behind the front has room for all
 abbrev pub no_room_for_test : List ℕ → Limits → Front → Option MoveError
@@ -20,7 +20,7 @@ no_room_for_test (leaf ∷ path) limits front = None
 
 -- the first test of the node behind a leaf of a node, if there is that node
 abbrev pub test_behind : ℕ → Option NodeTree → Option MovingTest
-test_behind leaf (Some node) = test_at leaf node
+test_behind leaf (Some node) = moving_test_at leaf node
 test_behind leaf None = None
 
 -- the test that a move names

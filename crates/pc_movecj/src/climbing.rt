@@ -5,7 +5,7 @@ ghost use Rattle.pc_window.specs.StoredWindow.{tree_in};
 ghost use Rattle.pc_moveop.specs.NodeTree.{nodes_in};
 ghost use Rattle.pc_moveop.specs.Climbing.{Passed_item, first_defined};
 ghost use Rattle.pc_moveop.specs.Refusing.{depends_on};
-ghost use Rattle.pc_movecj.specs.Dividing.{MovingTest, passing_test, first_test, test_at};
+ghost use Rattle.pc_movecj.specs.Dividing.{MovingTest, passing_test, first_test, moving_test_at};
 ghost use Rattle.pc_movecj.specs.models.TestClimbs.{FindsTest};
 
 use pc_moveop::{MoveError, defines, leaf_count};
@@ -63,21 +63,21 @@ fn first_test(tree: &WindowTree) -> Option<TestClimb>
 
 /// The first test of the node that a leaf leads to, on its way to that leaf.
 #[tactic(auto, using(crate::proofs::TestClimbs::searches))]
-pub(crate) fn test_at(tree: &WindowTree, leaf: u32) -> Option<TestClimb>
+pub(crate) fn moving_test_at(tree: &WindowTree, leaf: u32) -> Option<TestClimb>
     requires { tree_size (tree_in tree.now) < 2 ^ 31 }
-    ensures { FindsTest (test_at leaf (nodes_in tree.now)) result }
+    ensures { FindsTest (moving_test_at leaf (nodes_in tree.now)) result }
 {
     match tree {
-        WindowTree::Step { item, rest, .. } => match test_at(rest, leaf) {
+        WindowTree::Step { item, rest, .. } => match moving_test_at(rest, leaf) {
             None => None,
             Some(climb) => Some(past_item(climb, *item)),
         },
         WindowTree::Test { yes, no, .. } => {
             let on_yes = leaf_count(yes);
             if leaf < on_yes {
-                return test_at(yes, leaf);
+                return moving_test_at(yes, leaf);
             }
-            test_at(no, leaf - on_yes)
+            moving_test_at(no, leaf - on_yes)
         }
         WindowTree::Node { below } => {
             if leaf == 0 {

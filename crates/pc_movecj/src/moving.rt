@@ -10,7 +10,7 @@ ghost use Rattle.pc_movecj.specs.Dividing.{MovingTest, divided};
 ghost use Rattle.pc_movecj.specs.MovingTest.{no_room_for_test, test_of, refusal_of_test, IsWhyNotTest, TestHasMoved};
 ghost use Rattle.pc_movecj.specs.models.TestClimbs.{FindsTest, items_behind};
 
-use crate::climbing::{TestClimb, test_at};
+use crate::climbing::{TestClimb, moving_test_at};
 use crate::dividing::{Spare, divide, spare_for};
 use pc_moveop::{MoveError, RoomKind, node_at, swap_node};
 use pc_window::{Window, WindowTree};
@@ -58,7 +58,7 @@ fn find(window: &Window, parent: &[u16], leaf: u32) -> Option<TestClimb>
 {
     match node_at(&window.tree, parent) {
         None => None,
-        Some(node) => test_at(node, leaf),
+        Some(node) => moving_test_at(node, leaf),
     }
 }
 

@@ -4,11 +4,11 @@ use Rattle.std.specs.Prelude.{IsSome}
 use Rattle.pc_window.specs.declared.tree.WindowTree.{WindowTree}
 use Rattle.pc_window.specs.Tree.{Stop_exit, tree_size}
 use Rattle.pc_window.specs.StoredWindow.{tree_in}
-use Rattle.pc_moveop.specs.NodeTree.{NodeTree, Leads_out, nodes_in, tree_of, node_at, with_node}
+use Rattle.pc_moveop.specs.NodeTree.{NodeTree, Leads_out, nodes_in, whole_tree, node_at, with_node}
 use Rattle.pc_moveop.specs.Moving.{NodeChanges}
 use Rattle.pc_moveop.proofs.Paths.{tree_same, put_again, node_put, node_size_at, put_grows}
 
-same_size : (t : WindowTree) → tree_size (tree_of (nodes_in t)) ≡ tree_size (tree_in t)
+same_size : (t : WindowTree) → tree_size (whole_tree (nodes_in t)) ≡ tree_size (tree_in t)
 same_size t = ap tree_size (tree_same t)
 
 -- the node that is taken out is small
@@ -19,7 +19,7 @@ node_small m path t n at small = let a = same_size t in let b = same_size n in l
 pub left_small : (m : ℕ) (path : List ℕ) (t u : WindowTree) → nodes_in u ≡ with_node path (Leads_out Stop_exit) (nodes_in t) → tree_size (tree_in t) < m → tree_size (tree_in u) < m
 left_small m path t u is small =
     let a = same_size t in let b = same_size u in let c = put_grows path (Leads_out Stop_exit) (nodes_in t) in
-    let d : tree_size (tree_of (nodes_in u)) ≡ tree_size (tree_of (with_node path (Leads_out Stop_exit) (nodes_in t))) = ap (λ (n : NodeTree). tree_size (tree_of n)) is in
+    let d : tree_size (whole_tree (nodes_in u)) ≡ tree_size (whole_tree (with_node path (Leads_out Stop_exit) (nodes_in t))) = ap (λ (n : NodeTree). tree_size (whole_tree n)) is in
     omega arith
 
 -- the path still leads there

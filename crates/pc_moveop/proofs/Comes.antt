@@ -16,7 +16,7 @@ use Rattle.pc_window.specs.Opening.{Supply, with_name, changed}
 use Rattle.pc_window.specs.Filled.{given_supply, TwinsAlike}
 use Rattle.pc_window.specs.Rename.{with_dest}
 use Rattle.pc_window.proofs.Readiness.{alike, dest_named, not_written_named}
-use Rattle.pc_moveop.specs.NodeTree.{NodeTree, Item_node, Test_node, Leads_to, Leads_out, tree_of, node_front, leaf_count}
+use Rattle.pc_moveop.specs.NodeTree.{NodeTree, Item_node, Test_node, Leads_to, Leads_out, whole_tree, node_front, leaf_count}
 use Rattle.pc_moveop.specs.Climbing.{Passed_item, Mover, passing, mover_in, mover_at, crosses_test}
 use Rattle.pc_moveop.specs.Taking.{Coming, node_without, leaf_to, landed}
 use Rattle.pc_moveop.specs.Moving.{moved_item, moved_name, coming_of}
@@ -42,7 +42,7 @@ own m = record { tag = m.tag; origin = m.origin; item = m.item }
 module _ (forms : ℕ → Form) (base : ℕ → Bool) where
   abbrev pub EntersKept : (ℕ → Bool) → NodeTree → (Coming → NodeTree) → Option Mover → Type 0
   EntersKept known from to None = Unit {0}
-  EntersKept known from to (Some m) = ClearWay forms m.item m.way → crosses_test m ≡ false → ReadsKnown base m.item → IsNew base (dest_of m.item) → Scoped known (tree_of from)
+  EntersKept known from to (Some m) = ClearWay forms m.item m.way → crosses_test m ≡ false → ReadsKnown base m.item → IsNew base (dest_of m.item) → Scoped known (whole_tree from)
       → Enters base forms forms None (Some m.item) (node_front from) (node_front (to (own m))) × IsNew known (dest_of m.item)
 
   kept_behind : (known : ℕ → Bool) (t o : ℕ) (y : Item) (rest : NodeTree) (to : Coming → NodeTree) (found : Option Mover) → EntersKept (and_dest known y) rest to found
@@ -70,14 +70,14 @@ module _ (forms : ℕ → Form) (base : ℕ → Bool) where
       (record { enters = On_no t o on (Some m.item) (node_front p) (node_front q) (node_front (to (own m))) tt k.0.enters; twins = k.0.twins }, k.1)
       )
 
-  kept_found : (known : ℕ → Bool) (place : ℕ) (below : NodeTree) (found : Option Mover) → RisesKept forms known (tree_of below) (λ d. tree_of (node_without d place below)) found
+  kept_found : (known : ℕ → Bool) (place : ℕ) (below : NodeTree) (found : Option Mover) → RisesKept forms known (whole_tree below) (λ d. whole_tree (node_without d place below)) found
       → EntersKept known (Leads_to below) (λ c. Item_node c.tag c.origin c.item (leaf_to (node_without (dest_of c.item) place below))) found
   kept_found known place below None h = tt
   kept_found known place below (Some m) h = λ clear crosses reads isnew scoped. (
       let k = h clear crosses scoped in (
-        subst (λ (f : Front). Enters base forms forms None (Some m.item) (Unfinished (tree_of below)) (Issued m.tag m.origin m.item f))
+        subst (λ (f : Front). Enters base forms forms None (Some m.item) (Unfinished (whole_tree below)) (Issued m.tag m.origin m.item f))
             (sym (leaf_front (node_without (dest_of m.item) place below)))
-            (record { enters = Lands m.tag m.origin m.item (tree_of below) (tree_of (node_without (dest_of m.item) place below)) reads isnew refl refl k.0; twins = tt }),
+            (record { enters = Lands m.tag m.origin m.item (whole_tree below) (whole_tree (node_without (dest_of m.item) place below)) reads isnew refl refl k.0; twins = tt }),
         k.1,
       )
       )
@@ -111,7 +111,7 @@ module _ (forms forms' : ℕ → Form) (base : ℕ → Bool) (n : ℕ) where
   abbrev pub EntersNamed : NodeTree → (Coming → NodeTree) → Option Mover → Type 0
   EntersNamed from to None = Unit {0}
   EntersNamed from to (Some m) = ClearWay forms m.item m.way → crosses_test m ≡ true
-      → ReadsKnown base (with_dest n m.item) → IsNew base (dest_of (with_dest n m.item)) → Unwritten n (tree_of from)
+      → ReadsKnown base (with_dest n m.item) → IsNew base (dest_of (with_dest n m.item)) → Unwritten n (whole_tree from)
       → GivesForm forms forms' (with_dest n m.item) (dest_of (with_dest n m.item))
       → Enters base forms forms' (dest_of (with_dest n m.item)) (Some (with_dest n m.item)) (node_front from) (node_front (to (renamed_as n m)))
 
@@ -130,7 +130,7 @@ module _ (forms forms' : ℕ → Form) (base : ℕ → Bool) (n : ℕ) where
   named_yes t o on p q to None h = tt
   named_yes t o on p q to (Some m) h = λ clear crosses reads isnew free gives.
       let k = h clear crosses reads isnew free.0 gives in
-      let apart = subst (λ (u : Tree). NotWritten (dest_of (with_dest n m.item)) u) (sym (whole_front q)) (not_written_named n m.item (tree_of q) free.1) in
+      let apart = subst (λ (u : Tree). NotWritten (dest_of (with_dest n m.item)) u) (sym (whole_front q)) (not_written_named n m.item (whole_tree q) free.1) in
       record { enters = On_yes t o on (Some (with_dest n m.item)) (node_front p) (node_front q) (node_front (to (renamed_as n m))) apart k.enters; twins = k.twins }
 
   named_no : (t o : ℕ) (on : Operand) (p q : NodeTree) (to : Coming → NodeTree) (found : Option Mover) → EntersNamed q to found
@@ -138,18 +138,18 @@ module _ (forms forms' : ℕ → Form) (base : ℕ → Bool) (n : ℕ) where
   named_no t o on p q to None h = tt
   named_no t o on p q to (Some m) h = λ clear crosses reads isnew free gives.
       let k = h clear crosses reads isnew free.1 gives in
-      let apart = subst (λ (u : Tree). NotWritten (dest_of (with_dest n m.item)) u) (sym (whole_front p)) (not_written_named n m.item (tree_of p) free.0) in
+      let apart = subst (λ (u : Tree). NotWritten (dest_of (with_dest n m.item)) u) (sym (whole_front p)) (not_written_named n m.item (whole_tree p) free.0) in
       record { enters = On_no t o on (Some (with_dest n m.item)) (node_front p) (node_front q) (node_front (to (renamed_as n m))) apart k.enters; twins = k.twins }
 
-  named_found : (place : ℕ) (below : NodeTree) (found : Option Mover) → RisesNamed forms n (tree_of below) (λ d. tree_of (node_without d place below)) found
+  named_found : (place : ℕ) (below : NodeTree) (found : Option Mover) → RisesNamed forms n (whole_tree below) (λ d. whole_tree (node_without d place below)) found
       → EntersNamed (Leads_to below) (λ c. Item_node c.tag c.origin c.item (leaf_to (node_without (dest_of c.item) place below))) found
   named_found place below None h = tt
   named_found place below (Some m) h = λ clear crosses reads isnew free gives.
       let z = with_dest n m.item in
-      subst (λ (f : Front). Enters base forms forms' (dest_of z) (Some z) (Unfinished (tree_of below)) (Issued m.tag m.origin z f)) (sym (leaf_front (node_without (dest_of z) place below)))
+      subst (λ (f : Front). Enters base forms forms' (dest_of z) (Some z) (Unfinished (whole_tree below)) (Issued m.tag m.origin z f)) (sym (leaf_front (node_without (dest_of z) place below)))
       (record {
-        enters = Lands_renamed m.tag m.origin n m.item (tree_of below) (tree_of (node_without (dest_of z) place below)) reads isnew refl gives
-            (subst (λ (b : Bool). Rises forms m.tag m.origin m.item z b (tree_of below) (tree_of (node_without (dest_of z) place below))) crosses (h clear free));
+        enters = Lands_renamed m.tag m.origin n m.item (whole_tree below) (whole_tree (node_without (dest_of z) place below)) reads isnew refl gives
+            (subst (λ (b : Bool). Rises forms m.tag m.origin m.item z b (whole_tree below) (whole_tree (node_without (dest_of z) place below))) crosses (h clear free));
         twins = tt;
       })
 
@@ -190,8 +190,8 @@ gives_named names without x =
 
 -- what may move enters the node above, where names are known and the next name and form variable are new
 pub enters : (names : Supply) (known : ℕ → Bool) (leaf place : ℕ) (t : NodeTree) (m : Mover)
-    → mover_at leaf place t ≡ Some m → ClearWay names.forms m.item m.way → Scoped known (tree_of t)
-    → known names.next ≡ false → Unwritten names.next (tree_of t) → ((y : ℕ) → Without names.next_variable (names.forms y))
+    → mover_at leaf place t ≡ Some m → ClearWay names.forms m.item m.way → Scoped known (whole_tree t)
+    → known names.next ≡ false → Unwritten names.next (whole_tree t) → ((y : ℕ) → Without names.next_variable (names.forms y))
     → Enters known names.forms (given_supply names (moved_name names.next m) (Some (moved_item names.next m))).forms (moved_name names.next m) (Some (moved_item names.next m))
     (node_front t) (node_front (landed (coming_of names.next m) leaf place t))
 enters names known leaf place t m found clear scoped unknown free without = by_test (crosses_test m) refl
@@ -200,7 +200,7 @@ enters names known leaf place t m found clear scoped unknown free without = by_t
     forms = names.forms
 
     facts : ReadsKnown known m.item × IsNew known (dest_of m.item)
-    facts = (subst (IsKnownMover forms known (tree_of t)) found (known_at forms known leaf place t)) clear scoped
+    facts = (subst (IsKnownMover forms known (whole_tree t)) found (known_at forms known leaf place t)) clear scoped
 
     by_test : (b : Bool) → crosses_test m ≡ b
         → Enters known forms (given_supply names (if b then dest_of (with_dest names.next m.item) else None) (Some (if b then with_dest names.next m.item else m.item))).forms

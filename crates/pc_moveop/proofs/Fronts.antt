@@ -15,7 +15,7 @@ use Rattle.pc_window.specs.Conflict.{Touch, touch_of, NoStoreDependence, MayFoll
 use Rattle.pc_window.specs.Tree.{Tree, Front, Issued, Split, Unfinished}
 use Rattle.pc_window.specs.Filled.{AllItems, Independent, item_count, memory_count, test_count, WithinLimits}
 use Rattle.pc_window.proofs.Fronts.{SameKnownForms, TouchKnown}
-use Rattle.pc_moveop.specs.NodeTree.{NodeTree, Item_node, Test_node, Leads_to, Leads_out, tree_of, node_front, leaf_count, child_changed}
+use Rattle.pc_moveop.specs.NodeTree.{NodeTree, Item_node, Test_node, Leads_to, Leads_out, whole_tree, node_front, leaf_count, child_changed}
 
 -- ---- the same forms of what is known
 
@@ -63,7 +63,7 @@ front_changed leaf f (Test_node t o on p q) =
       | false ↦ Same_test t o on _ _ _ _ (same_front p) (front_changed (leaf - leaf_count p) f q)
     ]
 front_changed leaf f (Leads_to below) =
-    elim (nat_eq leaf 0) as (λ b. SameItems (Unfinished (tree_of below)) (node_front (if b then Leads_to (f below) else Leads_to below))) [
+    elim (nat_eq leaf 0) as (λ b. SameItems (Unfinished (whole_tree below)) (node_front (if b then Leads_to (f below) else Leads_to below))) [
       | true ↦ Same_leaf _ _
       | false ↦ Same_leaf _ _
     ]

@@ -11,7 +11,7 @@ use Rattle.pc_word.specs.Commit.{writes}
 use Rattle.pc_linear.specs.Form.{Form}
 use Rattle.pc_window.specs.Tree.{Tree, Pending, Undecided, Exit, Stop_exit, Trap_exit}
 use Rattle.pc_window.specs.Names.{IsKnown, ReadsKnown, IsNew, and_dest, Scoped, Unwritten, NotWritten}
-use Rattle.pc_moveop.specs.NodeTree.{NodeTree, Item_node, Test_node, Leads_to, Leads_out, tree_of, node_size, leaf_count}
+use Rattle.pc_moveop.specs.NodeTree.{NodeTree, Item_node, Test_node, Leads_to, Leads_out, whole_tree, node_size, leaf_count}
 use Rattle.pc_moveop.specs.Climbing.{Passed_item, Passed_test, Mover, passing, mover_in, mover_at}
 use Rattle.pc_moveop.proofs.Legal.{NotDefined, ClearWay}
 
@@ -85,21 +85,21 @@ module _ (forms : ℕ → Form) where
   past_no known t o on p q None h = tt
   past_no known t o on p q (Some m) h = λ clear scoped. h clear.1 scoped.2
 
-  pub known_in : (known : ℕ → Bool) (place : ℕ) (t : NodeTree) → IsKnownMover known (tree_of t) (mover_in place t)
+  pub known_in : (known : ℕ → Bool) (place : ℕ) (t : NodeTree) → IsKnownMover known (whole_tree t) (mover_in place t)
   known_in known place (Item_node t o y rest) =
-      elim (nat_eq place 0) as (λ b. IsKnownMover known (Pending t o y (tree_of rest))
+      elim (nat_eq place 0) as (λ b. IsKnownMover known (Pending t o y (whole_tree rest))
       (if b then Some (record { tag = t; origin = o; item = y; way = [] }) else passing (Passed_item false o y) (mover_in (place - 1) rest))) [
         | true ↦ λ clear scoped. (scoped.0, scoped.1)
-        | false ↦ past_item known t o y (tree_of rest) false (mover_in (place - 1) rest) (known_in (and_dest known y) (place - 1) rest)
+        | false ↦ past_item known t o y (whole_tree rest) false (mover_in (place - 1) rest) (known_in (and_dest known y) (place - 1) rest)
       ]
   known_in known place (Test_node t o on p q) =
-      elim (nat_eq place 0) as (λ b. IsKnownMover known (Undecided t o on (tree_of p) (tree_of q))
+      elim (nat_eq place 0) as (λ b. IsKnownMover known (Undecided t o on (whole_tree p) (whole_tree q))
       (if b then None else (if nat_lt (place - 1) (node_size p) then passing Passed_test (mover_in (place - 1) p) else passing Passed_test (mover_in (place - 1 - node_size p) q)))) [
         | true ↦ tt
-        | false ↦ (elim (nat_lt (place - 1) (node_size p)) as (λ b. IsKnownMover known (Undecided t o on (tree_of p) (tree_of q))
+        | false ↦ (elim (nat_lt (place - 1) (node_size p)) as (λ b. IsKnownMover known (Undecided t o on (whole_tree p) (whole_tree q))
             (if b then passing Passed_test (mover_in (place - 1) p) else passing Passed_test (mover_in (place - 1 - node_size p) q))) [
-              | true ↦ past_yes known t o on (tree_of p) (tree_of q) (mover_in (place - 1) p) (known_in known (place - 1) p)
-              | false ↦ past_no known t o on (tree_of p) (tree_of q) (mover_in (place - 1 - node_size p) q) (known_in known (place - 1 - node_size p) q)
+              | true ↦ past_yes known t o on (whole_tree p) (whole_tree q) (mover_in (place - 1) p) (known_in known (place - 1) p)
+              | false ↦ past_no known t o on (whole_tree p) (whole_tree q) (mover_in (place - 1 - node_size p) q) (known_in known (place - 1 - node_size p) q)
             ])
       ]
   known_in known place (Leads_to below) = tt
@@ -113,15 +113,15 @@ module _ (forms : ℕ → Form) where
   on_no known t o on p q None h = tt
   on_no known t o on p q (Some m) h = λ clear scoped. h clear scoped.2
 
-  pub known_at : (known : ℕ → Bool) (leaf place : ℕ) (t : NodeTree) → IsKnownMover known (tree_of t) (mover_at leaf place t)
-  known_at known leaf place (Item_node t o y rest) = past_item known t o y (tree_of rest) true (mover_at leaf place rest) (known_at (and_dest known y) leaf place rest)
+  pub known_at : (known : ℕ → Bool) (leaf place : ℕ) (t : NodeTree) → IsKnownMover known (whole_tree t) (mover_at leaf place t)
+  known_at known leaf place (Item_node t o y rest) = past_item known t o y (whole_tree rest) true (mover_at leaf place rest) (known_at (and_dest known y) leaf place rest)
   known_at known leaf place (Test_node t o on p q) =
-      elim (nat_lt leaf (leaf_count p)) as (λ b. IsKnownMover known (Undecided t o on (tree_of p) (tree_of q)) (if b then mover_at leaf place p else mover_at (leaf - leaf_count p) place q)) [
-        | true ↦ on_yes known t o on (tree_of p) (tree_of q) (mover_at leaf place p) (known_at known leaf place p)
-        | false ↦ on_no known t o on (tree_of p) (tree_of q) (mover_at (leaf - leaf_count p) place q) (known_at known (leaf - leaf_count p) place q)
+      elim (nat_lt leaf (leaf_count p)) as (λ b. IsKnownMover known (Undecided t o on (whole_tree p) (whole_tree q)) (if b then mover_at leaf place p else mover_at (leaf - leaf_count p) place q)) [
+        | true ↦ on_yes known t o on (whole_tree p) (whole_tree q) (mover_at leaf place p) (known_at known leaf place p)
+        | false ↦ on_no known t o on (whole_tree p) (whole_tree q) (mover_at (leaf - leaf_count p) place q) (known_at known (leaf - leaf_count p) place q)
       ]
   known_at known leaf place (Leads_to below) =
-      elim (nat_eq leaf 0) as (λ b. IsKnownMover known (tree_of below) (if b then mover_in place below else None)) [
+      elim (nat_eq leaf 0) as (λ b. IsKnownMover known (whole_tree below) (if b then mover_in place below else None)) [
         | true ↦ known_in known place below
         | false ↦ tt
       ]

@@ -21,7 +21,7 @@ use Rattle.pc_window.proofs.Moving.{moves_keep, scoped_moved}
 use Rattle.pc_window.proofs.Parameters.{parameters_known, scoped_parameters, independent_parameters}
 use Rattle.pc_window.proofs.Proper.{StaysNew, jump_below, given_next, proper_fresh}
 use Rattle.pc_window.proofs.Soundness.{TreeBelow-later}
-use Rattle.pc_moveop.specs.NodeTree.{NodeTree, Item_node, Test_node, Leads_to, Leads_out, tree_of, node_front, leaf_count, child_at, led_on, node_at, child_changed, with_node}
+use Rattle.pc_moveop.specs.NodeTree.{NodeTree, Item_node, Test_node, Leads_to, Leads_out, whole_tree, node_front, leaf_count, child_at, led_on, node_at, child_changed, with_node}
 use Rattle.pc_moveop.specs.Moving.{KeepsWalk}
 use Rattle.pc_moveop.proofs.Comes.{Enters}
 use Rattle.pc_moveop.proofs.Fronts.{front_changed, same_counts, same_independent}
@@ -62,15 +62,15 @@ same_forms names new comes known unknown x is = other_form names new comes x (el
 
 -- what is known where a node stands: its names are known before they are read, and what is new is new there
 pub record StandsNew (names : Supply) (known : ℕ → Bool) (t : NodeTree) : Type 0 where
-  pub scoped : Scoped known (tree_of t)
+  pub scoped : Scoped known (whole_tree t)
   pub unknown : known names.next ≡ false
-  pub free : Unwritten names.next (tree_of t)
-  pub below : TreeBelow names.next (tree_of t)
+  pub free : Unwritten names.next (whole_tree t)
+  pub below : TreeBelow names.next (whole_tree t)
 
 -- a tree moves, and what is new stays new
 pub record Goes (names after : Supply) (new : Option ℕ) (known : ℕ → Bool) (t u : NodeTree) : Type 0 where
-  pub moves : Moves names.forms after.forms new known (tree_of t) (tree_of u)
-  pub below : TreeBelow after.next (tree_of u)
+  pub moves : Moves names.forms after.forms new known (whole_tree t) (whole_tree u)
+  pub below : TreeBelow after.next (whole_tree u)
   pub forms_below : FormsBelow after
 
 module _ (names after : Supply) (new : Option ℕ) (next : IsNext names.next new) (later : names.next ≤ after.next) where
@@ -84,8 +84,8 @@ module _ (names after : Supply) (new : Option ℕ) (next : IsNext names.next new
         below = h.below.1;
       }) in
       record {
-        moves = Below known t o y (tree_of rest) (tree_of rest') (apart_from names.next new next (dest_of y) h.free.0) k.moves;
-        below = ((TreeBelow-later names.next after.next (Pending t o y (tree_of rest)) later h.below).0, k.below);
+        moves = Below known t o y (whole_tree rest) (whole_tree rest') (apart_from names.next new next (dest_of y) h.free.0) k.moves;
+        below = ((TreeBelow-later names.next after.next (Pending t o y (whole_tree rest)) later h.below).0, k.below);
         forms_below = k.forms_below;
       }
 
@@ -93,9 +93,9 @@ module _ (names after : Supply) (new : Option ℕ) (next : IsNext names.next new
       → (StandsNew names known p → Goes names after new known p p') → Goes names after new known (Test_node t o on p q) (Test_node t o on p' q)
   goes_yes known t o on p q p' h goes =
       let k = goes (record { scoped = h.scoped.1; unknown = h.unknown; free = h.free.0; below = h.below.1 }) in
-      let all = TreeBelow-later names.next after.next (Undecided t o on (tree_of p) (tree_of q)) later h.below in
+      let all = TreeBelow-later names.next after.next (Undecided t o on (whole_tree p) (whole_tree q)) later h.below in
       record {
-        moves = On_yes_side known t o on (tree_of p) (tree_of q) (tree_of p') (not_written names.next new next (tree_of q) h.free.1) k.moves;
+        moves = On_yes_side known t o on (whole_tree p) (whole_tree q) (whole_tree p') (not_written names.next new next (whole_tree q) h.free.1) k.moves;
         below = (all.0, k.below, all.2);
         forms_below = k.forms_below;
       }
@@ -104,9 +104,9 @@ module _ (names after : Supply) (new : Option ℕ) (next : IsNext names.next new
       → (StandsNew names known q → Goes names after new known q q') → Goes names after new known (Test_node t o on p q) (Test_node t o on p q')
   goes_no known t o on p q q' h goes =
       let k = goes (record { scoped = h.scoped.2; unknown = h.unknown; free = h.free.1; below = h.below.2 }) in
-      let all = TreeBelow-later names.next after.next (Undecided t o on (tree_of p) (tree_of q)) later h.below in
+      let all = TreeBelow-later names.next after.next (Undecided t o on (whole_tree p) (whole_tree q)) later h.below in
       record {
-        moves = On_no_side known t o on (tree_of p) (tree_of q) (tree_of q') (not_written names.next new next (tree_of p) h.free.0) k.moves;
+        moves = On_no_side known t o on (whole_tree p) (whole_tree q) (whole_tree q') (not_written names.next new next (whole_tree p) h.free.0) k.moves;
         below = (all.0, all.1, k.below);
         forms_below = k.forms_below;
       }
@@ -169,7 +169,7 @@ enters_goes names new comes next forms_below known n n' h e =
     let stays : StaysNew (node_window n' after limits None) = jump_below known (node_window n names limits None) (node_window n' after limits None) jump
     (record { names_below = subst (TreeBelow names.next) (sym (whole_front n)) h.below; forms_below = forms_below }) in
     record {
-      moves = subst (λ (u : Tree). Moves names.forms after.forms new known u (tree_of n')) (whole_front n)
+      moves = subst (λ (u : Tree). Moves names.forms after.forms new known u (whole_tree n')) (whole_front n)
           (subst (λ (u : Tree). Moves names.forms after.forms new known (whole (node_front n)) u) (whole_front n') (Into_node known comes (node_front n) (node_front n') e.enters));
       below = subst (TreeBelow after.next) (whole_front n') stays.names_below;
       forms_below = stays.forms_below;
@@ -194,9 +194,9 @@ module _ (names : Supply) (new : Option ℕ) (comes : Option Item) (limits : Lim
   -- so what a node's change keeps
   pub record WindowMoves (path : List ℕ) : Type 0 where
     pub proper : IsProper (node_window (with_node path n' t) (given_supply names new comes) limits inside)
-    pub moves : Moves names.forms (given_supply names new comes).forms new (uses (tree_of t)) (tree_of t) (tree_of (with_node path n' t))
-    pub is_new : IsNew (uses (tree_of t)) new
-    pub scoped : Scoped (uses (tree_of t)) (tree_of t)
+    pub moves : Moves names.forms (given_supply names new comes).forms new (uses (whole_tree t)) (whole_tree t) (whole_tree (with_node path n' t))
+    pub is_new : IsNew (uses (whole_tree t)) new
+    pub scoped : Scoped (uses (whole_tree t)) (whole_tree t)
 
   -- the front stays within its limits, and does not hang on itself
   front_kept : (path : List ℕ) → node_at path t ≡ Some n → IsWindow (uses (whole (node_front t))) (node_window t names limits inside) → RoomAt path limits comes (node_front t)
@@ -236,7 +236,7 @@ module _ (names : Supply) (new : Option ℕ) (comes : Option Item) (limits : Lim
       let goes : Goes names after new known t t' = node_goes names after new next (given_next names new comes) path n n' t known at
       (λ known' s. enters_goes names new comes next proper.forms_below known' n n' s (enters known' s)) stands in
       let scoped' : Scoped known (whole (node_front t')) = subst (Scoped known) (sym (whole_front t'))
-      (scoped_moved names.forms after.forms new known (tree_of t) (tree_of t') goes.moves stands.scoped) in
+      (scoped_moved names.forms after.forms new known (whole_tree t) (whole_tree t') goes.moves stands.scoped) in
       let front = front_kept path at proper.window room (same_forms names new comes known fresh.unknown)
       (λ e. enters known (subst (λ (u : NodeTree). StandsNew names known u) (here path e at) stands)) in
       record {
@@ -250,9 +250,9 @@ module _ (names : Supply) (new : Option ℕ) (comes : Option Item) (limits : Lim
           names_below = subst (TreeBelow after.next) (sym (whole_front t')) goes.below;
           forms_below = goes.forms_below;
         };
-        moves = subst (λ (u : Tree). Moves names.forms after.forms new (uses u) (tree_of t) (tree_of t')) (whole_front t) goes.moves;
+        moves = subst (λ (u : Tree). Moves names.forms after.forms new (uses u) (whole_tree t) (whole_tree t')) (whole_front t) goes.moves;
         is_new = subst (λ (u : Tree). IsNew (uses u) new) (whole_front t) (new_name new next fresh.unknown);
-        scoped = subst (λ (u : Tree). Scoped (uses u) (tree_of t)) (whole_front t) stands.scoped;
+        scoped = subst (λ (u : Tree). Scoped (uses u) (whole_tree t)) (whole_front t) stands.scoped;
       }
     where
       here : (path : List ℕ) → path ≡ [] → node_at path t ≡ Some n → t ≡ n

@@ -12,7 +12,7 @@ use Rattle.pc_window.specs.Conflict.{NoConflict}
 use Rattle.pc_window.specs.Jump.{Rises, Root, Past_item, Past_yes, Past_no}
 use Rattle.pc_window.specs.Rename.{map_operands, mapped, renamed, with_dest}
 use Rattle.pc_window.proofs.Readiness.{alike, dest_named, clear_alike as conflict_alike, not_written_named}
-use Rattle.pc_moveop.specs.NodeTree.{NodeTree, Item_node, Test_node, Leads_to, Leads_out, tree_of, node_front, node_size}
+use Rattle.pc_moveop.specs.NodeTree.{NodeTree, Item_node, Test_node, Leads_to, Leads_out, whole_tree, node_front, node_size}
 use Rattle.pc_moveop.specs.Climbing.{Passed_item, Passed_test, Mover, passing, mover_in, crosses_test}
 use Rattle.pc_moveop.specs.Taking.{nodes_mapped, node_without, leaf_to}
 use Rattle.pc_moveop.proofs.Legal.{ClearItem, ClearWay}
@@ -20,13 +20,13 @@ use Rattle.pc_moveop.proofs.Known.{new_apart, not_written_below}
 
 -- ---- renaming and leaves
 
-pub tree_mapped : (f : Operand → Operand) (t : NodeTree) → mapped f (tree_of t) ≡ tree_of (nodes_mapped f t)
+pub tree_mapped : (f : Operand → Operand) (t : NodeTree) → mapped f (whole_tree t) ≡ whole_tree (nodes_mapped f t)
 tree_mapped f (Item_node t o x rest) = ap (Pending t o (map_operands f x)) (tree_mapped f rest)
 tree_mapped f (Test_node t o on p q) = λ i. Undecided t o (f on) (tree_mapped f p i) (tree_mapped f q i)
 tree_mapped f (Leads_to below) = tree_mapped f below
 tree_mapped f (Leads_out out) = refl
 
-pub leaf_front : (t : NodeTree) → node_front (leaf_to t) ≡ Unfinished (tree_of t)
+pub leaf_front : (t : NodeTree) → node_front (leaf_to t) ≡ Unfinished (whole_tree t)
 leaf_front (Item_node t o x rest) = refl
 leaf_front (Test_node t o on p q) = refl
 leaf_front (Leads_to below) = refl
@@ -56,26 +56,26 @@ module _ (forms : ℕ → Form) where
   kept_past_test known from left None = tt
   kept_past_test known from left (Some m) = λ clear crosses scoped. absurd (let e : true ≡ false = crosses in cc)
 
-  pub rises_kept : (known : ℕ → Bool) (place : ℕ) (t : NodeTree) → RisesKept known (tree_of t) (λ d. tree_of (node_without d place t)) (mover_in place t)
+  pub rises_kept : (known : ℕ → Bool) (place : ℕ) (t : NodeTree) → RisesKept known (whole_tree t) (λ d. whole_tree (node_without d place t)) (mover_in place t)
   rises_kept known place (Item_node t o y rest) =
-      elim (nat_eq place 0) as (λ b. RisesKept known (Pending t o y (tree_of rest))
-      (λ d. tree_of (if b then nodes_mapped (renamed (dest_of y) d) rest else Item_node t o y (node_without d (place - 1) rest)))
+      elim (nat_eq place 0) as (λ b. RisesKept known (Pending t o y (whole_tree rest))
+      (λ d. whole_tree (if b then nodes_mapped (renamed (dest_of y) d) rest else Item_node t o y (node_without d (place - 1) rest)))
       (if b then Some (record { tag = t; origin = o; item = y; way = [] }) else passing (Passed_item false o y) (mover_in (place - 1) rest))) [
         | true ↦ λ clear crosses scoped. (
-          subst (λ (u : Tree). Rises forms t o y y false (Pending t o y (tree_of rest)) u) (tree_mapped (renamed (dest_of y) (dest_of y)) rest)
-              (Root (tree_of rest) (not_written_below y (tree_of rest) known scoped.2)),
+          subst (λ (u : Tree). Rises forms t o y y false (Pending t o y (whole_tree rest)) u) (tree_mapped (renamed (dest_of y) (dest_of y)) rest)
+              (Root (whole_tree rest) (not_written_below y (whole_tree rest) known scoped.2)),
           scoped.1,
         )
-        | false ↦ kept_past_item known t o y (tree_of rest) (λ d. tree_of (node_without d (place - 1) rest)) (mover_in (place - 1) rest) (rises_kept (and_dest known y) (place - 1) rest)
+        | false ↦ kept_past_item known t o y (whole_tree rest) (λ d. whole_tree (node_without d (place - 1) rest)) (mover_in (place - 1) rest) (rises_kept (and_dest known y) (place - 1) rest)
       ]
   rises_kept known place (Test_node t o on p q) =
-      elim (nat_eq place 0) as (λ b. RisesKept known (Undecided t o on (tree_of p) (tree_of q)) (λ d. tree_of (node_without d place (Test_node t o on p q)))
+      elim (nat_eq place 0) as (λ b. RisesKept known (Undecided t o on (whole_tree p) (whole_tree q)) (λ d. whole_tree (node_without d place (Test_node t o on p q)))
       (if b then None else (if nat_lt (place - 1) (node_size p) then passing Passed_test (mover_in (place - 1) p) else passing Passed_test (mover_in (place - 1 - node_size p) q)))) [
         | true ↦ tt
-        | false ↦ (elim (nat_lt (place - 1) (node_size p)) as (λ b. RisesKept known (Undecided t o on (tree_of p) (tree_of q)) (λ d. tree_of (node_without d place (Test_node t o on p q)))
+        | false ↦ (elim (nat_lt (place - 1) (node_size p)) as (λ b. RisesKept known (Undecided t o on (whole_tree p) (whole_tree q)) (λ d. whole_tree (node_without d place (Test_node t o on p q)))
             (if b then passing Passed_test (mover_in (place - 1) p) else passing Passed_test (mover_in (place - 1 - node_size p) q))) [
-              | true ↦ kept_past_test known (Undecided t o on (tree_of p) (tree_of q)) (λ d. tree_of (node_without d place (Test_node t o on p q))) (mover_in (place - 1) p)
-              | false ↦ kept_past_test known (Undecided t o on (tree_of p) (tree_of q)) (λ d. tree_of (node_without d place (Test_node t o on p q))) (mover_in (place - 1 - node_size p) q)
+              | true ↦ kept_past_test known (Undecided t o on (whole_tree p) (whole_tree q)) (λ d. whole_tree (node_without d place (Test_node t o on p q))) (mover_in (place - 1) p)
+              | false ↦ kept_past_test known (Undecided t o on (whole_tree p) (whole_tree q)) (λ d. whole_tree (node_without d place (Test_node t o on p q))) (mover_in (place - 1 - node_size p) q)
             ])
       ]
   rises_kept known place (Leads_to below) = tt
@@ -109,27 +109,27 @@ module _ (forms : ℕ → Form) (n : ℕ) where
   named_past_no t o on p q left (Some m) h = λ clear free.
       Past_no t o on (crosses_test m) p q (left (dest_of (with_dest n m.item))) ((alike n m.item).quiet ∙ clear.0) (not_written_named n m.item p free.0) (h clear.1 free.1)
 
-  pub rises_named : (place : ℕ) (t : NodeTree) → RisesNamed (tree_of t) (λ d. tree_of (node_without d place t)) (mover_in place t)
+  pub rises_named : (place : ℕ) (t : NodeTree) → RisesNamed (whole_tree t) (λ d. whole_tree (node_without d place t)) (mover_in place t)
   rises_named place (Item_node t o y rest) =
-      elim (nat_eq place 0) as (λ b. RisesNamed (Pending t o y (tree_of rest))
-      (λ d. tree_of (if b then nodes_mapped (renamed (dest_of y) d) rest else Item_node t o y (node_without d (place - 1) rest)))
+      elim (nat_eq place 0) as (λ b. RisesNamed (Pending t o y (whole_tree rest))
+      (λ d. whole_tree (if b then nodes_mapped (renamed (dest_of y) d) rest else Item_node t o y (node_without d (place - 1) rest)))
       (if b then Some (record { tag = t; origin = o; item = y; way = [] }) else passing (Passed_item false o y) (mover_in (place - 1) rest))) [
         | true ↦ λ clear free.
-            subst (λ (u : Tree). Rises forms t o y (with_dest n y) false (Pending t o y (tree_of rest)) u) (tree_mapped (renamed (dest_of y) (dest_of (with_dest n y))) rest)
-            (Root (tree_of rest) (not_written_named n y (tree_of rest) free.1))
-        | false ↦ named_past_item t o y (tree_of rest) (λ d. tree_of (node_without d (place - 1) rest)) (mover_in (place - 1) rest) (rises_named (place - 1) rest)
+            subst (λ (u : Tree). Rises forms t o y (with_dest n y) false (Pending t o y (whole_tree rest)) u) (tree_mapped (renamed (dest_of y) (dest_of (with_dest n y))) rest)
+            (Root (whole_tree rest) (not_written_named n y (whole_tree rest) free.1))
+        | false ↦ named_past_item t o y (whole_tree rest) (λ d. whole_tree (node_without d (place - 1) rest)) (mover_in (place - 1) rest) (rises_named (place - 1) rest)
       ]
   rises_named place (Test_node t o on p q) =
-      elim (nat_eq place 0) as (λ b. RisesNamed (Undecided t o on (tree_of p) (tree_of q))
-      (λ d. tree_of (if b then Test_node t o on p q else
+      elim (nat_eq place 0) as (λ b. RisesNamed (Undecided t o on (whole_tree p) (whole_tree q))
+      (λ d. whole_tree (if b then Test_node t o on p q else
       (if nat_lt (place - 1) (node_size p) then Test_node t o on (node_without d (place - 1) p) q else Test_node t o on p (node_without d (place - 1 - node_size p) q))))
       (if b then None else (if nat_lt (place - 1) (node_size p) then passing Passed_test (mover_in (place - 1) p) else passing Passed_test (mover_in (place - 1 - node_size p) q)))) [
         | true ↦ tt
-        | false ↦ (elim (nat_lt (place - 1) (node_size p)) as (λ b. RisesNamed (Undecided t o on (tree_of p) (tree_of q))
-            (λ d. tree_of (if b then Test_node t o on (node_without d (place - 1) p) q else Test_node t o on p (node_without d (place - 1 - node_size p) q)))
+        | false ↦ (elim (nat_lt (place - 1) (node_size p)) as (λ b. RisesNamed (Undecided t o on (whole_tree p) (whole_tree q))
+            (λ d. whole_tree (if b then Test_node t o on (node_without d (place - 1) p) q else Test_node t o on p (node_without d (place - 1 - node_size p) q)))
             (if b then passing Passed_test (mover_in (place - 1) p) else passing Passed_test (mover_in (place - 1 - node_size p) q))) [
-              | true ↦ named_past_yes t o on (tree_of p) (tree_of q) (λ d. tree_of (node_without d (place - 1) p)) (mover_in (place - 1) p) (rises_named (place - 1) p)
-              | false ↦ named_past_no t o on (tree_of p) (tree_of q) (λ d. tree_of (node_without d (place - 1 - node_size p) q))
+              | true ↦ named_past_yes t o on (whole_tree p) (whole_tree q) (λ d. whole_tree (node_without d (place - 1) p)) (mover_in (place - 1) p) (rises_named (place - 1) p)
+              | false ↦ named_past_no t o on (whole_tree p) (whole_tree q) (λ d. whole_tree (node_without d (place - 1 - node_size p) q))
                   (mover_in (place - 1 - node_size p) q) (rises_named (place - 1 - node_size p) q)
             ])
       ]

@@ -16,7 +16,7 @@ use Rattle.pc_window.specs.Filled.{given_supply, IsNext, HasSpace, item_count, m
 use Rattle.pc_window.specs.Steps.{IsProper}
 use Rattle.pc_window.proofs.Proper.{proper_fresh}
 use Rattle.pc_window.proofs.Readiness.{alike, dest_named}
-use Rattle.pc_moveop.specs.NodeTree.{NodeTree, nodes_in, tree_of, node_front, with_node}
+use Rattle.pc_moveop.specs.NodeTree.{NodeTree, nodes_in, whole_tree, node_front, with_node}
 use Rattle.pc_moveop.specs.Climbing.{Mover, mover_at, crosses_test}
 use Rattle.pc_moveop.specs.Taking.{landed}
 use Rattle.pc_moveop.specs.Refusing.{refusal_of_way, no_room_for, no_room_at, mover_behind, RefusesFound, IsWhyNot}
@@ -51,13 +51,13 @@ stored_moves w v path change new comes changes names bounds proper next room ent
     let t = nodes_in w.tree in
     let n = changes.node in
     let k = window_moves before new comes w.limits w.inside t n (change n) path next changes.at (subst (λ (u : Window). IsProper u) (sym (stored_window w)) proper) room enters in
-    let kept = walk_kept (forms_in w.names.forms) (given_supply before new comes).forms new (tree_of t) (tree_of (with_node path (change n) t)) k.moves k.is_new k.scoped in
-    let to : tree_of (with_node path (change n) t) ≡ tree_in v.tree = ap tree_of (sym changes.tree) ∙ tree_same v.tree in
+    let kept = walk_kept (forms_in w.names.forms) (given_supply before new comes).forms new (whole_tree t) (whole_tree (with_node path (change n) t)) k.moves k.is_new k.scoped in
+    let to : whole_tree (with_node path (change n) t) ≡ tree_in v.tree = ap whole_tree (sym changes.tree) ∙ tree_same v.tree in
     record {
       proper = subst (λ (u : Window). IsProper u) ((λ i. node_window (sym changes.tree i) (sym names i) (sym bounds.limits i) (sym bounds.inside i)) ∙ stored_window v) k.proper;
       walk = subst (λ (f : ℕ → Form). KeepsWalk (forms_in w.names.forms) (tree_in w.tree) f (tree_in v.tree)) (sym (ap (λ (s : Supply). s.forms) names))
           (subst (λ (u : Tree). KeepsWalk (forms_in w.names.forms) u (given_supply before new comes).forms (tree_in v.tree)) (tree_same w.tree)
-          (subst (λ (u : Tree). KeepsWalk (forms_in w.names.forms) (tree_of t) (given_supply before new comes).forms u) to kept));
+          (subst (λ (u : Tree). KeepsWalk (forms_in w.names.forms) (whole_tree t) (given_supply before new comes).forms u) to kept));
     }
 
 -- ---- a move of an item

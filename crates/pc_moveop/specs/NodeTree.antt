@@ -23,17 +23,17 @@ nodes_in stored.Stop = Leads_out Stop_exit
 nodes_in (stored.Trap kind line) = Leads_out (Trap_exit kind line)
 
 -- the tree, wherever its nodes end
-abbrev pub tree_of : NodeTree → Tree
-tree_of (Item_node tag origin item rest) = Pending tag origin item (tree_of rest)
-tree_of (Test_node tag origin on on_yes on_no) = Undecided tag origin on (tree_of on_yes) (tree_of on_no)
-tree_of (Leads_to below) = tree_of below
-tree_of (Leads_out out) = out
+abbrev pub whole_tree : NodeTree → Tree
+whole_tree (Item_node tag origin item rest) = Pending tag origin item (whole_tree rest)
+whole_tree (Test_node tag origin on on_yes on_no) = Undecided tag origin on (whole_tree on_yes) (whole_tree on_no)
+whole_tree (Leads_to below) = whole_tree below
+whole_tree (Leads_out out) = out
 
 -- its first node as a front
 abbrev pub node_front : NodeTree → Front
 node_front (Item_node tag origin item rest) = Issued tag origin item (node_front rest)
 node_front (Test_node tag origin on on_yes on_no) = Split tag origin on (node_front on_yes) (node_front on_no)
-node_front (Leads_to below) = Unfinished (tree_of below)
+node_front (Leads_to below) = Unfinished (whole_tree below)
 node_front (Leads_out out) = Unfinished out
 
 -- the items and tests of its first node

@@ -25,7 +25,7 @@ use Rattle.pc_object.specs.declared.tag.Tag.{Tag}
 use Rattle.pc_object.specs.declared.tag.Tag.TheVariants as tags
 use Rattle.pc_object.specs.ObjectText.{operator_byte, trap_byte, operand_text, word_text}
 use Rattle.pc_object.specs.Numbers.{OperandFits}
-use Rattle.pc_object.specs.Reading.{◌>>=◌, ◌>>◌, at_field, passes, known, byte_at, number_at, word_at, operators, operator_of, trap_kinds, trap_of}
+use Rattle.pc_object.specs.Reading.{◌>>=◌, ◌>>◌, at_field, unflawed, known, byte_at, number_at, word_at, operators, operator_of_byte, trap_kinds, trap_of}
 use Rattle.pc_object.specs.Reading.{operator_at, trap_at, register_at, dest_at, array_at, operand_at, tag_byte, all_tags, tag_of, tag_at}
 
 -- ---- bytes
@@ -73,7 +73,7 @@ pub checked_ok : {X : Type 0} (bytes : List ℕ) (told : List Flaw) (x y : X) �
 checked_ok bytes [] x y e = (refl, cc)
 checked_ok bytes (flaw ∷ told) x y e = absurd cc
 
-pub passes_then : {A : Type 0} (bytes : List ℕ) (told : List Flaw) (x y : A) → (passes bytes told >> Ok x) ≡ Ok y → (told ≡ []) × (x ≡ y)
+pub passes_then : {A : Type 0} (bytes : List ℕ) (told : List Flaw) (x y : A) → (unflawed bytes told >> Ok x) ≡ Ok y → (told ≡ []) × (x ≡ y)
 passes_then bytes [] x y e = (refl, cc)
 passes_then bytes (flaw ∷ told) x y e = absurd cc
 
@@ -153,15 +153,15 @@ word_again z rest fits =
 
 -- ---- a byte that is checked
 
-pub checked_byte_takes : (told : ℕ → List Flaw) (bytes : List ℕ) (n : ℕ) (rest : List ℕ) → IsBytes bytes → (byte_at bytes >>= λ x. passes bytes (told x.0) >> Ok x) ≡ Ok (n, rest)
+pub checked_byte_takes : (told : ℕ → List Flaw) (bytes : List ℕ) (n : ℕ) (rest : List ℕ) → IsBytes bytes → (byte_at bytes >>= λ x. unflawed bytes (told x.0) >> Ok x) ≡ Ok (n, rest)
     → Takes bytes (n ∷ []) rest × (told n ≡ []) × (n < 256)
 checked_byte_takes told bytes n rest fits e =
-    let b = bind_ok (byte_at bytes) (λ x. passes bytes (told x.0) >> Ok x) (n, rest) e in
+    let b = bind_ok (byte_at bytes) (λ x. unflawed bytes (told x.0) >> Ok x) (n, rest) e in
     let p = passes_then bytes (told b.0.0) b.0 (n, rest) b.2 in
     let t = byte_takes bytes b.0.0 b.0.1 fits b.1 in
     subst (λ (y : ℕ × List ℕ). Takes bytes (y.0 ∷ []) y.1 × (told y.0 ≡ []) × (y.0 < 256)) p.1 (t.0, p.0, t.1)
 
-pub checked_byte_again : (told : ℕ → List Flaw) (n : ℕ) (rest : List ℕ) → told n ≡ [] → (byte_at (n ∷ rest) >>= λ x. passes (n ∷ rest) (told x.0) >> Ok x) ≡ Ok (n, rest)
+pub checked_byte_again : (told : ℕ → List Flaw) (n : ℕ) (rest : List ℕ) → told n ≡ [] → (byte_at (n ∷ rest) >>= λ x. unflawed (n ∷ rest) (told x.0) >> Ok x) ≡ Ok (n, rest)
 checked_byte_again told n rest none = rw none refl
 
 -- ---- a byte of a table
@@ -188,11 +188,11 @@ table_takes {A} name all flaw bytes x rest fits e =
     subst (λ (y : A × List ℕ). Takes bytes (name y.0 ∷ []) y.1) k.2 text
 
 pub operator_takes : (bytes : List ℕ) (op : OpCode) (rest : List ℕ) → IsBytes bytes → operator_at bytes ≡ Ok (op, rest) → Takes bytes (operator_byte op ∷ []) rest
-unfolding operator_at operator_of
+unfolding operator_at operator_of_byte
 operator_takes bytes op rest fits e = table_takes operator_byte operators flaws.Operator bytes op rest fits e
 
 pub operator_again : (op : OpCode) (rest : List ℕ) → operator_at (operator_byte op ∷ rest) ≡ Ok (op, rest)
-unfolding operator_at operator_of
+unfolding operator_at operator_of_byte
 operator_again Add rest = refl
 operator_again Sub rest = refl
 operator_again Mul rest = refl

@@ -29,8 +29,8 @@ use Rattle.pc_object.specs.declared.refusal.ObjectError.TheVariants.{BadField}
 use Rattle.pc_object.specs.declared.tag.ItemKind.TheVariants as kinds
 use Rattle.pc_object.specs.declared.tag.Tag.TheVariants as tags
 use Rattle.pc_object.specs.ObjectText.{CodeWithNotes, u32_text, operator_byte, operand_text, item_text, row_text, leaf_text, header_text, notes_text, object_text}
-use Rattle.pc_object.specs.Numbers.{OperandFits, ItemFits, LeafFits, RowFits, HasWords, TargetFits, TargetsFit, HasCounts}
-use Rattle.pc_object.specs.Reading.{◌>>=◌, ◌>>◌, at_field, passes, number_at, limit_at, limits_at, lengths_at, array_count_at, row_count_at}
+use Rattle.pc_object.specs.Numbers.{OperandFits, ItemNumbersFit, LeafFits, RowNumbersFit, HasWords, TargetFits, TargetsFit, HasCounts}
+use Rattle.pc_object.specs.Reading.{◌>>=◌, ◌>>◌, at_field, unflawed, number_at, limit_at, limits_at, lengths_at, array_count_at, row_count_at}
 use Rattle.pc_object.specs.Reading.{register_at, dest_at, array_at, operator_at, operand_at, fields_at, goto_at, PartOfRow, ReadsPart, tag_byte}
 use Rattle.pc_object.specs.Reading.{is_memory_kind, is_effect_kind, step_at, test_at, counted_item, counted_test, behind_tag, row_at, deepest}
 use Rattle.pc_object.specs.Reading.{rows_at, notes_at, end_at, Header, header_at, header_bounds, object_at, told_of, object_reading}
@@ -83,7 +83,7 @@ field_tells bytes [] x = refl
 field_tells bytes (f ∷ fs) x = (length bytes, refl)
 
 -- a value that is checked
-passes_tells : {A : Type 0} (bytes : List ℕ) (fs : List Flaw) (x : A) → Tells fs x (passes bytes fs >> Ok x)
+passes_tells : {A : Type 0} (bytes : List ℕ) (fs : List Flaw) (x : A) → Tells fs x (unflawed bytes fs >> Ok x)
 passes_tells bytes [] x = refl
 passes_tells bytes (f ∷ fs) x = (length bytes, refl)
 
@@ -106,7 +106,7 @@ operand_tells (Name register) rest fits =
 operand_tells (Lit value) rest fits = operand_again (Lit value) rest refl fits
 
 -- the fields of an item behind its tag
-fields_tell : (arrays : ℕ) (above : Above) (item : Item) (rest : List ℕ) → ItemFits item
+fields_tell : (arrays : ℕ) (above : Above) (item : Item) (rest : List ℕ) → ItemNumbersFit item
     → Tells (field_flaws arrays above item) (item, rest) (fields_at arrays above (kind_of item) (fields_text item ++ rest))
 unfolding fields_at
 fields_tell arrays above (items.Bin op dest left right) rest fits =
@@ -157,7 +157,7 @@ goto_tells : (rows row : ℕ) (rest : List ℕ) → row < 2 ^ 32 → Tells (targ
 unfolding goto_at
 goto_tells rows row rest fits =
     let bytes : List ℕ = u32_text row ++ rest in
-    tells_next (target_flaws rows row) (row, rest) (At_leaf (Leads_to row), rest) (number_at w32 bytes) (λ n. passes bytes (target_flaws rows n.0) >> Ok (At_leaf (Leads_to n.0), n.1))
+    tells_next (target_flaws rows row) (row, rest) (At_leaf (Leads_to row), rest) (number_at w32 bytes) (λ n. unflawed bytes (target_flaws rows n.0) >> Ok (At_leaf (Leads_to n.0), n.1))
     (number_again w32 (2 ^ 32) wide32 row rest fits) (passes_tells bytes (target_flaws rows row) (At_leaf (Leads_to row), rest))
 
 leaf_tells : (bounds : Bounds) (depth : ℕ) (counts : Counts) (above : Above) (leaf : Leaf) (rest : List ℕ) → bounds.rows ≤ 2 ^ 32 → LeafFits leaf → TargetFits leaf
@@ -173,7 +173,7 @@ leaf_tells bounds depth counts above (Traps kind line) rest few fits target = le
 
 -- what stands behind the tag of an item, where the part below it tells its flaws
 item_tells : (bounds : Bounds) (below : ReadsPart) (counts : Counts) (above : Above) (item : Item) (bytes tail : List ℕ) (gs : List Flaw) (next : CodeRow) (after : Counts) (rest : List ℕ)
-    → ItemFits item
+    → ItemNumbersFit item
     → (item_tag_flaws bounds.limits counts above (is_memory item) (is_effect item) ≡ []
     → Tells gs (next, after, rest) (below (counts_with_item (is_memory item) counts) (above_with item above) tail))
     → Tells (item_flaws bounds counts above item ++ gs) (Then item next, after, rest) (behind_tag bounds below counts above bytes (tags.Item (kind_of item)) (fields_text item ++ tail))
@@ -214,7 +214,7 @@ test_tells bounds below counts above on bytes behind_on behind_yes fs gs on_yes 
     tells_then fs gs (on_yes, between, behind_yes) row (below behind above behind_on) (λ y. below y.1 above y.2 >>= λ n. Ok (Either on y.0 n.0, n.1, n.2)) (yes_tells none) (λ none3.
     tells_last gs (on_no, after, rest) row (below between above behind_yes) (λ n. Ok (Either on on_yes n.0, n.1, n.2)) (no_tells none) refl))))
 
-row_tells : (bounds : Bounds) (row : CodeRow) (depth : ℕ) (counts : Counts) (above : Above) (rest : List ℕ) → bounds.rows ≤ 2 ^ 32 → RowFits row → TargetsFit row → room bounds counts < depth
+row_tells : (bounds : Bounds) (row : CodeRow) (depth : ℕ) (counts : Counts) (above : Above) (rest : List ℕ) → bounds.rows ≤ 2 ^ 32 → RowNumbersFit row → TargetsFit row → room bounds counts < depth
     → Tells (row_flaws bounds counts above row) (row, counts_after row counts, rest) (row_at bounds depth counts above (row_text row ++ rest))
 row_tells bounds row zero counts above rest few fits targets deep = absurd (omega arith)
 row_tells bounds (Then item next) (suc depth) counts above rest few fits targets deep =
@@ -253,7 +253,7 @@ row_tells bounds (Either on on_yes on_no) (suc depth) counts above rest few fits
     (λ none. let some = few_tests none in row_tells bounds on_no depth between above rest few fits.2 targets.1 (omega (arith, some, grown.0, grown.1))))
 row_tells bounds (At_leaf leaf) (suc depth) counts above rest few fits targets deep = leaf_tells bounds depth counts above leaf rest few fits targets
 
-rows_tell : (bounds : Bounds) (rows : List CodeRow) (rest : List ℕ) → bounds.rows ≤ 2 ^ 32 → room bounds no_counts < deepest → AllByRecursion RowFits rows → AllByRecursion TargetsFit rows
+rows_tell : (bounds : Bounds) (rows : List CodeRow) (rest : List ℕ) → bounds.rows ≤ 2 ^ 32 → room bounds no_counts < deepest → AllByRecursion RowNumbersFit rows → AllByRecursion TargetsFit rows
     → Tells (flat_map (row_flaws bounds no_counts nothing_above) rows) (rows, rest) (rows_at bounds (length rows) (flat_map row_text rows ++ rest))
 unfolding rows_at
 rows_tell bounds [] rest few deep fits targets = refl
@@ -309,7 +309,7 @@ row_count_tells : (count : ℕ) (rest : List ℕ) → count < 2 ^ 32 → Tells (
 unfolding row_count_at
 row_count_tells count rest few =
     let bytes : List ℕ = u32_text count ++ rest in
-    tells_next (row_count_flaws count) (count, rest) (count, rest) (number_at w32 bytes) (λ n. passes bytes (row_count_flaws n.0) >> Ok n) (number_again w32 (2 ^ 32) wide32 count rest few)
+    tells_next (row_count_flaws count) (count, rest) (count, rest) (number_at w32 bytes) (λ n. unflawed bytes (row_count_flaws n.0) >> Ok n) (number_again w32 (2 ^ 32) wide32 count rest few)
     (passes_tells bytes (row_count_flaws count) (count, rest))
 
 -- the header of a code

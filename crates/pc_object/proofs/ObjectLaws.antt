@@ -17,8 +17,8 @@ use Rattle.pc_machine.proofs.Flaws.{well_formed_without_flaw, no_flaw_well_forme
 use Rattle.pc_object.specs.declared.object.Note.{Note}
 use Rattle.pc_object.specs.declared.refusal.Refusal.TheVariants.{NotMagic}
 use Rattle.pc_object.specs.ObjectText.{CodeWithNotes, u16_text, u32_text, row_text, header_text, note_text, notes_text, object_text, IsChoice, IsObject}
-use Rattle.pc_object.specs.Numbers.{RowFits, NoteFits, HasWords}
-use Rattle.pc_object.specs.Reading.{◌>>=◌, ◌>>◌, at_field, passes, number_at, magic_at, limit_at, limits_at, lengths_at, array_count_at}
+use Rattle.pc_object.specs.Numbers.{RowNumbersFit, NoteFits, HasWords}
+use Rattle.pc_object.specs.Reading.{◌>>=◌, ◌>>◌, at_field, unflawed, number_at, magic_at, limit_at, limits_at, lengths_at, array_count_at}
 use Rattle.pc_object.specs.Reading.{row_count_at, choice_at, note_at, notes_at, row_at, rows_at, deepest, Header, header_at, header_bounds, end_at}
 use Rattle.pc_object.specs.Reading.{object_at}
 use Rattle.pc_object.proofs.FieldLaws.{IsBytes, IsBytes-rest, Takes, Takes-then, bind_ok, ok_is, checked_ok, passes_then, wide16, wide32}
@@ -134,7 +134,7 @@ array_count_again n rest none = checked_byte_again array_count_flaws n rest none
 row_count_takes : (bytes : List ℕ) (n : ℕ) (rest : List ℕ) → IsBytes bytes → row_count_at bytes ≡ Ok (n, rest) → Takes bytes (u32_text n) rest × (row_count_flaws n ≡ []) × (n < 2 ^ 32)
 unfolding row_count_at
 row_count_takes bytes n rest fits e =
-    let a = bind_ok (number_at w32 bytes) (λ x. passes bytes (row_count_flaws x.0) >> Ok x) (n, rest) e in
+    let a = bind_ok (number_at w32 bytes) (λ x. unflawed bytes (row_count_flaws x.0) >> Ok x) (n, rest) e in
     let p = passes_then bytes (row_count_flaws a.0.0) a.0 (n, rest) a.2 in
     let t = number_takes w32 (2 ^ 32) wide32 bytes a.0.0 a.0.1 fits a.1 in
     subst (λ (y : ℕ × List ℕ). Takes bytes (u32_text y.0) y.1 × (row_count_flaws y.0 ≡ []) × (y.0 < 2 ^ 32)) p.1 (t.0, p.0, t.1)
@@ -145,7 +145,7 @@ row_count_again n rest lt none = rw (number_again w32 (2 ^ 32) wide32 n rest lt,
 
 abbrev Rows : Bounds → ℕ → List ℕ → (List CodeRow × List ℕ) → Type 0
 Rows bounds count bytes read =
-    Takes bytes (flat_map row_text read.0) read.1 × (length read.0 ≡ count) × (flat_map (row_flaws bounds no_counts nothing_above) read.0 ≡ []) × AllByRecursion RowFits read.0
+    Takes bytes (flat_map row_text read.0) read.1 × (length read.0 ≡ count) × (flat_map (row_flaws bounds no_counts nothing_above) read.0 ≡ []) × AllByRecursion RowNumbersFit read.0
 
 rows_take : (bounds : Bounds) (count : ℕ) (bytes : List ℕ) (read : List CodeRow × List ℕ) → IsBytes bytes → rows_at bounds count bytes ≡ Ok read → Rows bounds count bytes read
 unfolding rows_at
@@ -164,7 +164,7 @@ rows_take bounds (suc count) bytes read fits e =
     )
 
 rows_again : (bounds : Bounds) (rows : List CodeRow) (rest : List ℕ) → bounds.rows ≤ 2 ^ 32 → room bounds no_counts < deepest → flat_map (row_flaws bounds no_counts nothing_above) rows ≡ []
-    → AllByRecursion RowFits rows
+    → AllByRecursion RowNumbersFit rows
     → rows_at bounds (length rows) (flat_map row_text rows ++ rest) ≡ Ok (rows, rest)
 unfolding rows_at
 rows_again bounds [] rest few deep none fits = refl

@@ -12,7 +12,7 @@ use Rattle.pc_machine.specs.WellFormed.{IsOperand, IsItem, IsLeaf, IsRow}
 use Rattle.pc_object.specs.declared.object.Object.{Object}
 use Rattle.pc_object.specs.ObjectText.{CodeWithNotes, row_text, item_text, header_text, notes_text, object_of, IsObject}
 use Rattle.pc_object.specs.models.InRange.{IsInRange}
-use Rattle.pc_object.specs.Numbers.{RowFits, NoteFits, HasWords}
+use Rattle.pc_object.specs.Numbers.{RowNumbersFit, NoteFits, HasWords}
 use Rattle.pc_word.proofs.Lists.{all_front, all_back}
 use Rattle.pc_word.specs.MachineLimits.{most_arrays}
 
@@ -107,12 +107,12 @@ all_in_range object h =
 
 -- ---- words
 
-rows_fit : (trees : List Tree) → AllByRecursion (λ tree. RowFits (row_of tree)) trees → AllByRecursion RowFits (rows_of trees)
+rows_fit : (trees : List Tree) → AllByRecursion (λ tree. RowNumbersFit (row_of tree)) trees → AllByRecursion RowNumbersFit (rows_of trees)
 rows_fit [] h = tt
 rows_fit (tree ∷ trees) h = (h.0, rows_fit trees h.1)
 
-pub has_words : (object : Object) → All (λ tree. RowFits (row_of tree)) object.code.rows → All NoteFits object.notes → HasWords (object_of object)
+pub has_words : (object : Object) → All (λ tree. RowNumbersFit (row_of tree)) object.code.rows → All NoteFits object.notes → HasWords (object_of object)
 has_words object rows notes = record {
-  rows = rows_fit object.code.rows (recursion_from_All (λ tree. RowFits (row_of tree)) object.code.rows rows);
+  rows = rows_fit object.code.rows (recursion_from_All (λ tree. RowNumbersFit (row_of tree)) object.code.rows rows);
   notes = recursion_from_All NoteFits object.notes notes;
 }

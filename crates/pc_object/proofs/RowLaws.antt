@@ -19,8 +19,8 @@ use Rattle.pc_object.specs.declared.tag.ItemKind.TheVariants as kinds
 use Rattle.pc_object.specs.declared.tag.Tag.{Tag}
 use Rattle.pc_object.specs.declared.tag.Tag.TheVariants as tags
 use Rattle.pc_object.specs.ObjectText.{operator_byte, trap_byte, operand_text, item_text, leaf_text, row_text, u32_text}
-use Rattle.pc_object.specs.Numbers.{ItemFits, LeafFits, RowFits}
-use Rattle.pc_object.specs.Reading.{◌>>=◌, ◌>>◌, at_field, passes, number_at, operator_at, trap_at, dest_at, array_at, operand_at, tag_byte, tag_at}
+use Rattle.pc_object.specs.Numbers.{ItemNumbersFit, LeafFits, RowNumbersFit}
+use Rattle.pc_object.specs.Reading.{◌>>=◌, ◌>>◌, at_field, unflawed, number_at, operator_at, trap_at, dest_at, array_at, operand_at, tag_byte, tag_at}
 use Rattle.pc_object.specs.Reading.{is_memory_kind, is_effect_kind, fields_at, goto_at, trap_fields_at, PartOfRow, ReadsPart, counted_item}
 use Rattle.pc_object.specs.Reading.{counted_test, step_at, test_at, behind_tag, row_at}
 use Rattle.pc_object.proofs.FieldLaws.{IsBytes, Takes, Takes-then, bind_ok, ok_is, checked_ok, passes_then, wide32, number_takes, number_again}
@@ -90,7 +90,7 @@ pub record AreFields (arrays : ℕ) (above : Above) (kind : ItemKind) (bytes : L
   pub kind_is : kind ≡ kind_of item
   pub takes : Takes bytes (fields_text item) rest
   pub sound : field_flaws arrays above item ≡ []
-  pub fits : ItemFits item
+  pub fits : ItemNumbersFit item
 
 abbrev pub Fields : ℕ → Above → ItemKind → List ℕ → (Item × List ℕ) → Type 0
 Fields arrays above kind bytes read = AreFields arrays above kind bytes read.0 read.1
@@ -175,7 +175,7 @@ fields_take arrays above kinds.More bytes read fits e =
     let made : Item × List ℕ = (items.More a.0.0, a.0.1) in
     subst (Fields arrays above kinds.More bytes) (ok_is made read a.2) (record { kind_is = refl; takes = ta.0; sound = ta.1; fits = tt })
 
-fields_again : (arrays : ℕ) (above : Above) (item : Item) (rest : List ℕ) → field_flaws arrays above item ≡ [] → ItemFits item
+fields_again : (arrays : ℕ) (above : Above) (item : Item) (rest : List ℕ) → field_flaws arrays above item ≡ [] → ItemNumbersFit item
     → fields_at arrays above (kind_of item) (fields_text item ++ rest) ≡ Ok (item, rest)
 unfolding fields_at
 fields_again arrays above (items.Bin op dest left right) rest none fits =
@@ -214,7 +214,7 @@ fields_again arrays above (items.More dest) rest none fits = rw (dest_again abov
 pub record IsReadRow (bounds : Bounds) (counts : Counts) (above : Above) (bytes : List ℕ) (row : CodeRow) (after : Counts) (rest : List ℕ) : Type 0 where
   pub takes : Takes bytes (row_text row) rest
   pub sound : row_flaws bounds counts above row ≡ []
-  pub fits : RowFits row
+  pub fits : RowNumbersFit row
   pub counted : after ≡ counts_after row counts
 
 abbrev pub Part : Bounds → Counts → Above → List ℕ → PartOfRow → Type 0
@@ -293,7 +293,7 @@ goto_takes : (bounds : Bounds) (counts : Counts) (above : Above) (bytes rest : L
 unfolding goto_at
 goto_takes bounds counts above bytes rest read tag e =
     let a = bind_ok (goto_at bounds.rows rest) (λ leaf. Ok (leaf.0, counts, leaf.1)) read e in
-    let b = bind_ok (number_at w32 rest) (λ row. passes rest (target_flaws bounds.rows row.0) >> Ok (At_leaf (Leads_to row.0), row.1)) a.0 a.1 in
+    let b = bind_ok (number_at w32 rest) (λ row. unflawed rest (target_flaws bounds.rows row.0) >> Ok (At_leaf (Leads_to row.0), row.1)) a.0 a.1 in
     let p = passes_then rest (target_flaws bounds.rows b.0.0) (At_leaf (Leads_to b.0.0), b.0.1) a.0 b.2 in
     let t = number_takes w32 (2 ^ 32) wide32 rest b.0.0 b.0.1 tag.rest_fits b.1 in
     let part = leaf_part bounds counts above bytes (Leads_to b.0.0) b.0.1 (Takes-then bytes (0x01 ∷ []) rest (u32_text b.0.0) b.0.1 tag t.0) p.0 tt in
@@ -395,7 +395,7 @@ leaf_again bounds depth counts above (Traps kind line) rest few none fits =
     at_tag bounds depth counts above tags.Trap (trap_byte kind ∷ (u32_text line ++ rest)) ∙ rw (trap_again kind (u32_text line ++ rest), number_again w32 (2 ^ 32) wide32 line rest fits) refl
 
 -- a row without a flaw is read, where the reader may go deep enough
-pub row_again : (bounds : Bounds) (row : CodeRow) (depth : ℕ) (counts : Counts) (above : Above) (rest : List ℕ) → bounds.rows ≤ 2 ^ 32 → row_flaws bounds counts above row ≡ [] → RowFits row
+pub row_again : (bounds : Bounds) (row : CodeRow) (depth : ℕ) (counts : Counts) (above : Above) (rest : List ℕ) → bounds.rows ≤ 2 ^ 32 → row_flaws bounds counts above row ≡ [] → RowNumbersFit row
     → room bounds counts < depth
     → row_at bounds depth counts above (row_text row ++ rest) ≡ Ok (row, counts_after row counts, rest)
 row_again bounds row zero counts above rest few none fits deep = absurd (omega arith)

@@ -28,8 +28,8 @@ use Rattle.pc_object.specs.declared.tag.Tag.{Tag}
 use Rattle.pc_object.specs.declared.tag.Tag.TheVariants as tags
 use Rattle.pc_object.specs.ObjectText.{CodeWithNotes, object_text, IsObject}
 use Rattle.pc_object.specs.Numbers.{HasWords}
-use Rattle.pc_object.specs.Reading.{◌>>=◌, ◌>>◌, at_field, passes, known, byte_at, number_at, word_at, magic_at, limit_at, limits_at, lengths_at}
-use Rattle.pc_object.specs.Reading.{array_count_at, row_count_at, operator_of, trap_of, operator_at, trap_at, register_at, dest_at, array_at}
+use Rattle.pc_object.specs.Reading.{◌>>=◌, ◌>>◌, at_field, unflawed, known, byte_at, number_at, word_at, magic_at, limit_at, limits_at, lengths_at}
+use Rattle.pc_object.specs.Reading.{array_count_at, row_count_at, operator_of_byte, trap_of, operator_at, trap_at, register_at, dest_at, array_at}
 use Rattle.pc_object.specs.Reading.{operand_at, tag_of, tag_at, is_memory_kind, is_effect_kind, fields_at, goto_at, trap_fields_at, PartOfRow}
 use Rattle.pc_object.specs.Reading.{ReadsPart, step_at, test_at, counted_item, counted_test, behind_tag, row_at, deepest, rows_at, choice_at}
 use Rattle.pc_object.specs.Reading.{note_at, notes_at, end_at, Header, header_at, header_bounds, object_at, told_of, object_reading}
@@ -118,11 +118,11 @@ word_extends bytes q =
 
 -- a byte that is checked
 checked_byte_extends : (told : ℕ → List Flaw) (bytes q : List ℕ)
-    → Extends (Gives (with_more q)) (byte_at bytes >>= λ x. passes bytes (told x.0) >> Ok x) (byte_at (bytes ++ q) >>= λ x. passes (bytes ++ q) (told x.0) >> Ok x)
+    → Extends (Gives (with_more q)) (byte_at bytes >>= λ x. unflawed bytes (told x.0) >> Ok x) (byte_at (bytes ++ q) >>= λ x. unflawed (bytes ++ q) (told x.0) >> Ok x)
 checked_byte_extends told bytes q =
-    both_extend (with_more q) (Gives (with_more q)) (byte_at bytes) (byte_at (bytes ++ q)) (λ x. passes bytes (told x.0) >> Ok x) (λ x. passes (bytes ++ q) (told x.0) >> Ok x)
+    both_extend (with_more q) (Gives (with_more q)) (byte_at bytes) (byte_at (bytes ++ q)) (λ x. unflawed bytes (told x.0) >> Ok x) (λ x. unflawed (bytes ++ q) (told x.0) >> Ok x)
     (byte_extends bytes q)
-    (λ x. both_extend same (Gives (with_more q)) (passes bytes (told x.0)) (passes (bytes ++ q) (told x.0)) (λ u. Ok x) (λ u. Ok (with_more q x))
+    (λ x. both_extend same (Gives (with_more q)) (unflawed bytes (told x.0)) (unflawed (bytes ++ q) (told x.0)) (λ u. Ok x) (λ u. Ok (with_more q x))
     (field_extends bytes (bytes ++ q) (checked {X = Unit {0}} (told x.0) tt)) (λ u. refl))
 
 -- a byte that a table knows
@@ -187,8 +187,8 @@ row_count_extends : (bytes q : List ℕ) → Extends (Gives (with_more q)) (row_
 unfolding row_count_at
 row_count_extends bytes q =
     both_extend (with_more q) (Gives (with_more q)) (number_at w32 bytes) (number_at w32 (bytes ++ q))
-    (λ x. passes bytes (row_count_flaws x.0) >> Ok x) (λ x. passes (bytes ++ q) (row_count_flaws x.0) >> Ok x) (number_extends w32 bytes q)
-    (λ x. both_extend same (Gives (with_more q)) (passes bytes (row_count_flaws x.0)) (passes (bytes ++ q) (row_count_flaws x.0)) (λ u. Ok x) (λ u. Ok (with_more q x))
+    (λ x. unflawed bytes (row_count_flaws x.0) >> Ok x) (λ x. unflawed (bytes ++ q) (row_count_flaws x.0) >> Ok x) (number_extends w32 bytes q)
+    (λ x. both_extend same (Gives (with_more q)) (unflawed bytes (row_count_flaws x.0)) (unflawed (bytes ++ q) (row_count_flaws x.0)) (λ u. Ok x) (λ u. Ok (with_more q x))
     (field_extends bytes (bytes ++ q) (checked {X = Unit {0}} (row_count_flaws x.0) tt)) (λ u. refl))
 
 header_extends : (bytes q : List ℕ) → Extends (Gives (with_more q)) (header_at bytes) (header_at (bytes ++ q))
@@ -218,7 +218,7 @@ header_extends bytes q =
 
 operator_extends : (bytes q : List ℕ) → Extends (Gives (with_more q)) (operator_at bytes) (operator_at (bytes ++ q))
 unfolding operator_at
-operator_extends bytes q = table_extends operator_of flaws.Operator bytes q
+operator_extends bytes q = table_extends operator_of_byte flaws.Operator bytes q
 
 trap_extends : (bytes q : List ℕ) → Extends (Gives (with_more q)) (trap_at bytes) (trap_at (bytes ++ q))
 unfolding trap_at
@@ -287,9 +287,9 @@ goto_extends : (rows : ℕ) (bytes q : List ℕ) → Extends (Gives (with_more q
 unfolding goto_at
 goto_extends rows bytes q =
     both_extend (with_more q) (Gives (with_more q)) (number_at w32 bytes) (number_at w32 (bytes ++ q))
-    (λ row. passes bytes (target_flaws rows row.0) >> Ok (At_leaf (Leads_to row.0), row.1)) (λ row. passes (bytes ++ q) (target_flaws rows row.0) >> Ok (At_leaf (Leads_to row.0), row.1))
+    (λ row. unflawed bytes (target_flaws rows row.0) >> Ok (At_leaf (Leads_to row.0), row.1)) (λ row. unflawed (bytes ++ q) (target_flaws rows row.0) >> Ok (At_leaf (Leads_to row.0), row.1))
     (number_extends w32 bytes q) (λ row.
-    both_extend same (Gives (with_more q)) (passes bytes (target_flaws rows row.0)) (passes (bytes ++ q) (target_flaws rows row.0))
+    both_extend same (Gives (with_more q)) (unflawed bytes (target_flaws rows row.0)) (unflawed (bytes ++ q) (target_flaws rows row.0))
     (λ u. Ok (At_leaf (Leads_to row.0), row.1)) (λ u. Ok (At_leaf (Leads_to row.0), row.1 ++ q))
     (field_extends bytes (bytes ++ q) (checked {X = Unit {0}} (target_flaws rows row.0) tt)) (λ u. refl))
 

@@ -17,14 +17,14 @@ OperandFits (Name register) = Unit {0}
 OperandFits (Lit value) = FitsSigned w32 value
 
 -- each literal of an item is a word
-abbrev pub ItemFits : Item → Type 0
-ItemFits (Bin op dest left right) = OperandFits left × OperandFits right
-ItemFits (Copy dest from) = OperandFits from
-ItemFits (Load dest array index) = OperandFits index
-ItemFits (Store array index value) = OperandFits index × OperandFits value
-ItemFits (Print value) = OperandFits value
-ItemFits (Read dest) = Unit {0}
-ItemFits (More dest) = Unit {0}
+abbrev pub ItemNumbersFit : Item → Type 0
+ItemNumbersFit (Bin op dest left right) = OperandFits left × OperandFits right
+ItemNumbersFit (Copy dest from) = OperandFits from
+ItemNumbersFit (Load dest array index) = OperandFits index
+ItemNumbersFit (Store array index value) = OperandFits index × OperandFits value
+ItemNumbersFit (Print value) = OperandFits value
+ItemNumbersFit (Read dest) = Unit {0}
+ItemNumbersFit (More dest) = Unit {0}
 
 -- a line is below 2^32
 abbrev pub LeafFits : Leaf → Type 0
@@ -33,10 +33,10 @@ LeafFits Ends = Unit {0}
 LeafFits (Traps kind line) = line < 2 ^ 32
 
 -- each literal of a row is a word, and each line is below 2^32
-abbrev pub RowFits : CodeRow → Type 0
-RowFits (Then item rest) = ItemFits item × RowFits rest
-RowFits (Either on on_yes on_no) = OperandFits on × RowFits on_yes × RowFits on_no
-RowFits (At_leaf leaf) = LeafFits leaf
+abbrev pub RowNumbersFit : CodeRow → Type 0
+RowNumbersFit (Then item rest) = ItemNumbersFit item × RowNumbersFit rest
+RowNumbersFit (Either on on_yes on_no) = OperandFits on × RowNumbersFit on_yes × RowNumbersFit on_no
+RowNumbersFit (At_leaf leaf) = LeafFits leaf
 
 -- the line, number and limit of a note are below 2^32
 pub record NoteFits (note : Note) : Type 0 where
@@ -46,7 +46,7 @@ pub record NoteFits (note : Note) : Type 0 where
 
 -- each literal is a word, and each line and number is below 2^32, as in every object in memory
 pub record HasWords (object : CodeWithNotes) : Type 0 where
-  pub rows : AllByRecursion RowFits object.code.rows
+  pub rows : AllByRecursion RowNumbersFit object.code.rows
   pub notes : AllByRecursion NoteFits object.notes
 
 -- the row that a goto leads to is below 2^32

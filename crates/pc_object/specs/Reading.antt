@@ -50,8 +50,8 @@ at_field bytes (Ok x) = Ok x
 at_field bytes (Err flaw) = Err (Flawed (length bytes) flaw)
 
 -- that field is fine, or has a first flaw
-abbrev pub passes : List ℕ → List Flaw → Result (Unit {0}) Refusal
-passes bytes flaws = at_field bytes (checked {X = Unit {0}} flaws tt)
+abbrev pub unflawed : List ℕ → List Flaw → Result (Unit {0}) Refusal
+unflawed bytes flaws = at_field bytes (checked {X = Unit {0}} flaws tt)
 
 -- what a number stands for in that field, if the table has it
 abbrev pub known : {A : Type 0} → List ℕ → Flaw → Option A → Result A Refusal
@@ -89,7 +89,7 @@ magic_at (first ∷ magic) (byte ∷ bytes) = if byte == first then magic_at mag
 unfoldable pub limit_at : ℕ → List ℕ → Result (ℕ × List ℕ) Refusal
 limit_at most bytes = do
   limit ← byte_at bytes
-  passes bytes (limit_flaws most limit.0)
+  unflawed bytes (limit_flaws most limit.0)
   Ok limit
 
 -- the limits of items, of tests, and of loads and stores
@@ -113,14 +113,14 @@ lengths_at (suc count) before bytes = do
 unfoldable pub array_count_at : List ℕ → Result (ℕ × List ℕ) Refusal
 array_count_at bytes = do
   count ← byte_at bytes
-  passes bytes (array_count_flaws count.0)
+  unflawed bytes (array_count_flaws count.0)
   Ok count
 
 -- the number of rows
 unfoldable pub row_count_at : List ℕ → Result (ℕ × List ℕ) Refusal
 row_count_at bytes = do
   count ← number_at w32 bytes
-  passes bytes (row_count_flaws count.0)
+  unflawed bytes (row_count_flaws count.0)
   Ok count
 
 -- ---- the fields of a row
@@ -130,8 +130,8 @@ abbrev pub operators : List OpCode
 operators = Add ∷ Sub ∷ Mul ∷ Div ∷ Rem ∷ Shl ∷ Shr ∷ And ∷ Or ∷ Xor ∷ Less ∷ LessEq ∷ Equal ∷ Unequal ∷ Below ∷ []
 
 -- the operator whose byte it is, if there is one
-unfoldable pub operator_of : ℕ → Option OpCode
-operator_of byte = find (λ op. operator_byte op == byte) operators
+unfoldable pub operator_of_byte : ℕ → Option OpCode
+operator_of_byte byte = find (λ op. operator_byte op == byte) operators
 
 -- the kind of trap that a byte stands for
 abbrev pub trap_kinds : List TrapKind
@@ -145,7 +145,7 @@ trap_of byte = find (λ kind. trap_byte kind == byte) trap_kinds
 unfoldable pub operator_at : List ℕ → Result (OpCode × List ℕ) Refusal
 operator_at bytes = do
   byte ← byte_at bytes
-  op ← known bytes flaws.Operator (operator_of byte.0)
+  op ← known bytes flaws.Operator (operator_of_byte byte.0)
   Ok (op, byte.1)
 
 -- the byte of a kind of trap
@@ -159,21 +159,21 @@ trap_at bytes = do
 unfoldable pub register_at : List ℕ → Result (ℕ × List ℕ) Refusal
 register_at bytes = do
   register ← byte_at bytes
-  passes bytes (register_flaws register.0)
+  unflawed bytes (register_flaws register.0)
   Ok register
 
 -- a register that is written
 unfoldable pub dest_at : Above → List ℕ → Result (ℕ × List ℕ) Refusal
 dest_at above bytes = do
   register ← byte_at bytes
-  passes bytes (dest_flaws above register.0)
+  unflawed bytes (dest_flaws above register.0)
   Ok register
 
 -- an array, of so many
 unfoldable pub array_at : ℕ → List ℕ → Result (ℕ × List ℕ) Refusal
 array_at arrays bytes = do
   array ← byte_at bytes
-  passes bytes (array_flaws arrays array.0)
+  unflawed bytes (array_flaws arrays array.0)
   Ok array
 
 -- a register behind 00, or a literal behind 01
@@ -269,7 +269,7 @@ fields_at arrays above kinds.More bytes = do
 unfoldable pub goto_at : ℕ → List ℕ → Result (CodeRow × List ℕ) Refusal
 goto_at rows bytes = do
   row ← number_at w32 bytes
-  passes bytes (target_flaws rows row.0)
+  unflawed bytes (target_flaws rows row.0)
   Ok (At_leaf (Leads_to row.0), row.1)
 
 -- the kind and the line of a trap
@@ -351,7 +351,7 @@ rows_at bounds (suc count) bytes = do
 unfoldable pub choice_at : List ℕ → Result (ℕ × List ℕ) Refusal
 choice_at bytes = do
   choice ← byte_at bytes
-  passes bytes (flaw_where (nat_lt 7 choice.0) flaws.Choice)
+  unflawed bytes (flaw_where (nat_lt 7 choice.0) flaws.Choice)
   Ok choice
 
 -- a note: its choice, line, number and limit

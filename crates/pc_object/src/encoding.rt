@@ -7,7 +7,7 @@ ghost use Rattle.pc_machine.specs.WellFormed.{IsOperand, IsItem};
 ghost use Rattle.pc_object.specs.ObjectText.{object_of, IsObject, object_text, header_text, notes_text, note_text, row_text, item_text, operand_text};
 ghost use Rattle.pc_object.specs.ObjectText.{word_text, u16_text, u32_text, operator_byte, trap_byte};
 ghost use Rattle.pc_object.specs.models.InRange.{IsInRange};
-ghost use Rattle.pc_object.specs.Numbers.{OperandFits, ItemFits, RowFits, NoteFits, HasWords};
+ghost use Rattle.pc_object.specs.Numbers.{OperandFits, ItemNumbersFit, RowNumbersFit, NoteFits, HasWords};
 ghost use Rattle.pc_word.specs.MachineLimits.{most_arrays};
 
 use crate::object::{Note, Object};
@@ -91,7 +91,7 @@ fn push_lengths(out: &mut Vec<u8>, lengths: &[u32]) -> Result<(), AllocError>
 fn push_rows(out: &mut Vec<u8>, rows: &[Tree]) -> Result<(), AllocError>
     requires { All (λ tree. IsInRange most_arrays (2 ^ 32) (row_of tree)) rows.now }
     ensures text { OnOk result (out.new.items ≡ out.old.items ++ flat_map row_text (rows_of rows.now)) }
-    ensures words { OnOk result (All (λ tree. RowFits (row_of tree)) rows.now) }
+    ensures words { OnOk result (All (λ tree. RowNumbersFit (row_of tree)) rows.now) }
 {
     for row in rows {
         push_row(out, row)?;
@@ -102,7 +102,7 @@ fn push_rows(out: &mut Vec<u8>, rows: &[Tree]) -> Result<(), AllocError>
 fn push_row(out: &mut Vec<u8>, row: &Tree) -> Result<(), AllocError>
     requires { IsInRange most_arrays (2 ^ 32) (row_of row.now) }
     ensures text { OnOk result (out.new.items ≡ out.old.items ++ row_text (row_of row.now)) }
-    ensures words { OnOk result (RowFits (row_of row.now)) }
+    ensures words { OnOk result (RowNumbersFit (row_of row.now)) }
 {
     match row {
         Tree::Step { item, next } => {
@@ -130,7 +130,7 @@ fn push_row(out: &mut Vec<u8>, row: &Tree) -> Result<(), AllocError>
 fn push_item(out: &mut Vec<u8>, item: Item) -> Result<(), AllocError>
     requires { IsItem most_arrays item }
     ensures text { OnOk result (out.new.items ≡ out.old.items ++ item_text item) }
-    ensures words { OnOk result (ItemFits item) }
+    ensures words { OnOk result (ItemNumbersFit item) }
 {
     match item {
         Item::Bin {

@@ -11,7 +11,7 @@ ghost use Rattle.pc_object.specs.Reading.{trap_at, register_at, dest_at, array_a
 ghost use Rattle.pc_word.specs.MachineLimits.{registers};
 
 use crate::refusal::{Halt, Refusal};
-use crate::tag::{Tag, operator_of, tag_of, trap_of};
+use crate::tag::{Tag, operator_of_byte, tag_of, trap_of};
 use byteorder::{BigEndian, ByteOrder};
 use pc_machine::{Bounds, Flaw, Path, array_count, is_register, limit, row_count};
 use pc_word::{Limits, MOST_MEM, MOST_OPS, MOST_TESTS, OpCode, Operand, TrapKind};
@@ -115,7 +115,7 @@ pub fn operator(bytes: &[u8]) -> Result<(OpCode, &[u8]), Halt>
     ensures { IsExact (λ x. (x.0, x.1.now)) halt_cause result (operator_at bytes.now) }
 {
     let (byte, rest) = byte(bytes)?;
-    let Some(op) = operator_of(byte) else {
+    let Some(op) = operator_of_byte(byte) else {
         return Err(flawed(bytes, Flaw::Operator));
     };
     Ok((op, rest))

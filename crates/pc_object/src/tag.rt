@@ -1,5 +1,5 @@
 ghost use Rattle.std.specs.Prelude.{◌≡◌};
-ghost use Rattle.pc_object.specs.Reading.{tag_of, operator_of, trap_of, is_memory_kind, is_effect_kind};
+ghost use Rattle.pc_object.specs.Reading.{tag_of, operator_of_byte, trap_of, is_memory_kind, is_effect_kind};
 
 use pc_word::{OpCode, TrapKind};
 
@@ -59,9 +59,9 @@ pub fn tag_of(byte: u8) -> Option<Tag>
     }
 }
 
-#[tactic(auto, unfolding(crate::specs::Reading::operator_of))]
-pub fn operator_of(byte: u8) -> Option<OpCode>
-    ensures { result ≡ operator_of byte }
+#[tactic(auto, unfolding(crate::specs::Reading::operator_of_byte))]
+pub fn operator_of_byte(byte: u8) -> Option<OpCode>
+    ensures { result ≡ operator_of_byte byte }
 {
     match byte {
         0x00 => Some(OpCode::Add),

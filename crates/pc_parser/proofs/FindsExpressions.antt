@@ -12,7 +12,7 @@ use Rattle.pc_syntax.specs.Source.{SourceExpression, Literal, Input, Conditional
 use Rattle.pc_parser.specs.declared.operator.Operator.{Operator}
 use Rattle.pc_parser.specs.Places.{kind_at, line_at}
 use Rattle.pc_parser.specs.models.Tests.{is_mark}
-use Rattle.pc_parser.specs.Operators.{operator_of, prefix_of, joined, prefixed}
+use Rattle.pc_parser.specs.Operators.{operator_of, prefix_of, infixed, prefixed}
 use Rattle.pc_parser.specs.Expressions.{ReadsExpression, ReadsLevel, ReadsUnary, ReadsPrimary}
 use Rattle.pc_parser.specs.models.Outcome.{Parsed, after}
 use Rattle.pc_parser.specs.models.ExpressionParser.{operator_from, sign_of, target_tree, target_height, target_named, number_at, name_at, grouped, input, primary_on, signed, unary_on}
@@ -166,7 +166,7 @@ module _ (tokens : List Token) where
     joins : (m level : ℕ) (left right : SourceExpression) (turns i q j to : ℕ) (mark : Mark) (operator : Operator) → m ≤ level → b ≤ turns + i → max i j + 1 ≤ b →
         kind_at tokens q ≡ Some (kinds.Mark mark) → operator_of mark ≡ Some (operator, level) → below tokens b (level + 1) (q + 1) ≡ Parsed right j to →
         (fewer : ℕ) × (b ≤ fewer + (max i j + 1))
-        × (climb tokens (below tokens b) b m turns left i q ≡ climb tokens (below tokens b) b m fewer (joined operator (line_at tokens q) left right) (max i j + 1) to)
+        × (climb tokens (below tokens b) b m turns left i q ≡ climb tokens (below tokens b) b m fewer (infixed operator (line_at tokens q) left right) (max i j + 1) to)
     unfolding joined_at
     joins m level left right turns i q j to mark operator low enough fits is found deep =
         let turned = climb-turns tokens (below tokens b) b m turns left i q (operator, level) (omega arith) (operator_from-found level m (kind_at tokens q) mark operator is found low) in

@@ -12,7 +12,7 @@ use Rattle.pc_syntax.specs.Source.{SourceExpression}
 use Rattle.pc_parser.specs.declared.operator.Operator.{Operator}
 use Rattle.pc_parser.specs.Places.{kind_at, line_at}
 use Rattle.pc_parser.specs.models.Tests.{mark_is, key_is}
-use Rattle.pc_parser.specs.Operators.{prefix_of, joined}
+use Rattle.pc_parser.specs.Operators.{prefix_of, infixed}
 use Rattle.pc_parser.specs.Expressions.{ReadsExpression, ReadsLevel, ReadsUnary, ReadsPrimary}
 use Rattle.pc_parser.specs.Statements.{Target, ReadsTarget}
 use Rattle.pc_parser.specs.models.Outcome.{ParseOutcome, Parsed, Unreadable, TooHigh}
@@ -175,7 +175,7 @@ module _ (tokens : List Token) where
       size = is.size;
     }
 
-    -- two operands that were joined, higher than the first
+    -- two operands that were infixed, higher than the first
     record Joined (level p height : ℕ) (t : SourceExpression) (h q : ℕ) : Type 0 where
       pub left : Left level p t h q
       pub rises : height + 1 ≤ h
@@ -191,7 +191,7 @@ module _ (tokens : List Token) where
         after-good (length tokens) (b + p) (b - 1 + (at + 1)) (Sound (b - 1) (found.1 + 1) (at + 1)) (Joined level p h) (inner (found.1 + 1) (at + 1)) _ (omega arith)
         (holds (found.1 + 1) (at + 1) (omega arith) (omega arith)) (λ right j q sound.
         let size = sound.size in let a = size.low in let l = size.long in let w = size.within in
-        let both : ReadsLevel tokens found.1 p (joined found.0 (line_at tokens at) left right) (max h j + 1) q = ReadsLevel.binary (first.ready found is) f.is f.operator (sound.part (omega arith)) in
+        let both : ReadsLevel tokens found.1 p (infixed found.0 (line_at tokens at) left right) (max h j + 1) q = ReadsLevel.binary (first.ready found is) f.is f.operator (sound.part (omega arith)) in
         record {
           rises = omega arith;
           left = record {

@@ -11,7 +11,7 @@ use Rattle.pc_syntax.specs.Source.{SourceExpression, Input, Conditional}
 use Rattle.pc_parser.specs.declared.operator.Operator.{Operator}
 use Rattle.pc_parser.specs.Places.{kind_at, line_at}
 use Rattle.pc_parser.specs.models.Tests.{is_mark, mark_is, key_is}
-use Rattle.pc_parser.specs.Operators.{joined}
+use Rattle.pc_parser.specs.Operators.{infixed}
 use Rattle.pc_parser.specs.Statements.{Target}
 use Rattle.pc_parser.specs.models.Outcome.{ParseOutcome, Parsed, Unreadable, TooHigh, after, allowed, expect}
 use Rattle.pc_parser.specs.models.ExpressionParser.{Inner, operator_from, sign_of, target_named, number_at, name_at, grouped, input, primary_on, signed, unary_on, unary_at, joined_at}
@@ -34,7 +34,7 @@ input_with tokens inner budget from line = allowed 1 budget from
 
 abbrev joined_with : List Token → Inner → ℕ → SourceExpression → (height at : ℕ) → Operator × ℕ → (line : ℕ) → ParseOutcome SourceExpression
 joined_with tokens inner budget left height at found line = allowed (height + 1) budget at (after (inner (found.1 + 1) (at + 1)) (λ right other to.
-    Parsed (joined found.0 line left right) (max height other + 1) to))
+    Parsed (infixed found.0 line left right) (max height other + 1) to))
 
 module _ (k : ℕ) (E : Type 0) (ts ws : List Token) (kinds_agree : (i : ℕ) → i ≤ k → kind_at ws i ≡ kind_at ts i)
     (lines_agree : (i : ℕ) → i ≤ k → line_at ws i ≡ line_at ts i) (inner other : Inner) (b c : ℕ) (budgets : Budgets E b c)

@@ -11,7 +11,7 @@ use Rattle.pc_syntax.specs.declared.operator.UnaryOp.{UnaryOp}
 use Rattle.pc_syntax.specs.Source.{SourceExpression, Literal, Variable, Input, Indexed, Conditional}
 use Rattle.pc_parser.specs.declared.operator.Operator.{Operator}
 use Rattle.pc_parser.specs.Places.{kind_at, line_at}
-use Rattle.pc_parser.specs.Operators.{operator_of, prefix_of, joined, prefixed}
+use Rattle.pc_parser.specs.Operators.{operator_of, prefix_of, infixed, prefixed}
 
 -- the token at a place is this mark
 abbrev pub HasMark : List Token → ℕ → Mark → Type 0
@@ -53,7 +53,7 @@ mutual
         HasMark tokens q mark →
         operator_of mark ≡ Some (operator, level) →
         ReadsLevel tokens (level + 1) (q + 1) right j to →
-        ReadsLevel tokens level from (joined operator (line_at tokens q) left right) (max i j + 1) to
+        ReadsLevel tokens level from (infixed operator (line_at tokens q) left right) (max i j + 1) to
 
   -- unary: primary, or one of `-` `+` `~` `!` and unary
   pub data ReadsUnary (tokens : List Token) : (from : ℕ) → (tree : SourceExpression) → (height to : ℕ) → Type 0 where

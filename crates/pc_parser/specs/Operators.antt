@@ -62,10 +62,10 @@ step_of marks.MinusMinus = Some ops.Sub
 step_of _ = None
 
 -- two operands that an operator of a line joins
-abbrev pub joined : Operator → ℕ → SourceExpression → SourceExpression → SourceExpression
-joined (joins.Binary op) at left right = Combined op at left right
-joined joins.Both at left right = Conjunction left right
-joined joins.Either at left right = Disjunction left right
+abbrev pub infixed : Operator → ℕ → SourceExpression → SourceExpression → SourceExpression
+infixed (joins.Binary op) at left right = Combined op at left right
+infixed joins.Both at left right = Conjunction left right
+infixed joins.Either at left right = Disjunction left right
 
 -- an operand under a unary operator, or under `+`
 abbrev pub prefixed : Option UnaryOp → SourceExpression → SourceExpression

@@ -16,8 +16,8 @@ use Rattle.pc_parser.specs.Operators.{assignment_of, step_of}
 use Rattle.pc_parser.specs.Expressions.{HasMark, HasName, HasNumber, ReadsExpression}
 
 -- the token at a place is this keyword
-abbrev pub HasKey : List Token → ℕ → Keyword → Type 0
-HasKey tokens place key = kind_at tokens place ≡ Some (kinds.Key key)
+abbrev pub HasKeyword : List Token → ℕ → Keyword → Type 0
+HasKeyword tokens place key = kind_at tokens place ≡ Some (kinds.Key key)
 
 -- what is assigned to: a name, with an index where it is an element, whose bracket's line is `bracket`
 pub record Target : Type 0 where
@@ -69,7 +69,7 @@ pub data ReadsSimple (tokens : List Token) : (from : ℕ) → (tree : SourceStat
       ReadsTarget tokens (from + 1) target height to →
       ReadsSimple tokens from (assigned target (Some op) (line_at tokens from) (Literal (pos 1))) (height + 1) to
   print : {from height to : ℕ} {value : SourceExpression} →
-      HasKey tokens from keys.Print →
+      HasKeyword tokens from keys.Print →
       ReadsTest tokens (from + 1) value height to →
       ReadsSimple tokens from (Printing (line_at tokens from) value) (height + 1) to
   evaluation : {from height to : ℕ} {value : SourceExpression} →
@@ -108,7 +108,7 @@ pub data ReadsDeclarators (tokens : List Token) : (from : ℕ) → (trees : Sour
 -- declaration: `int` declarator {`,` declarator} `;`
 pub data ReadsDeclaration (tokens : List Token) : (from : ℕ) → (trees : SourceList) → (height to : ℕ) → Type 0 where
   declaration : {from height to : ℕ} {trees : SourceList} →
-      HasKey tokens from keys.Int →
+      HasKeyword tokens from keys.Int →
       ReadsDeclarators tokens (from + 1) trees height to →
       ReadsDeclaration tokens from trees height to
 
@@ -178,32 +178,32 @@ mutual
         HasMark tokens q marks.Semicolon →
         ReadsStatement tokens from tree height (q + 1)
     branch : {from i q j to : ℕ} {test : SourceExpression} {body : SourceStatement} →
-        HasKey tokens from keys.If →
+        HasKeyword tokens from keys.If →
         ReadsTest tokens (from + 1) test i q →
         ReadsStatement tokens q body j to →
         ReadsStatement tokens from (Branch (line_at tokens from) test body Absent) (max i j + 1) to
     branch_else : {from i q j r k to : ℕ} {test : SourceExpression} {body other : SourceStatement} →
-        HasKey tokens from keys.If →
+        HasKeyword tokens from keys.If →
         ReadsTest tokens (from + 1) test i q →
         ReadsStatement tokens q body j r →
         ends_open body ≡ false →
-        HasKey tokens r keys.Else →
+        HasKeyword tokens r keys.Else →
         ReadsStatement tokens (r + 1) other k to →
         ReadsStatement tokens from (Branch (line_at tokens from) test body (Present other)) (max i (max j k) + 1) to
     while_loop : {from i q j to : ℕ} {test : SourceExpression} {body : SourceStatement} →
-        HasKey tokens from keys.While →
+        HasKeyword tokens from keys.While →
         ReadsTest tokens (from + 1) test i q →
         ReadsStatement tokens q body j to →
         ReadsStatement tokens from (WhileLoop (line_at tokens from) test body) (max i j + 1) to
     do_loop : {from i q j r : ℕ} {body : SourceStatement} {test : SourceExpression} →
-        HasKey tokens from keys.Do →
+        HasKeyword tokens from keys.Do →
         ReadsStatement tokens (from + 1) body i q →
-        HasKey tokens q keys.While →
+        HasKeyword tokens q keys.While →
         ReadsTest tokens (q + 1) test j r →
         HasMark tokens r marks.Semicolon →
         ReadsStatement tokens from (DoLoop (line_at tokens from) body test) (max i j + 1) (r + 1)
     for_loop : {from i q j r k s l to : ℕ} {first : SourceList} {test : SourceExpression} {step : OptionalStatement} {body : SourceStatement} →
-        HasKey tokens from keys.For →
+        HasKeyword tokens from keys.For →
         HasMark tokens (from + 1) marks.LeftParen →
         ReadsFirst tokens (from + 2) first i q →
         ReadsCondition tokens q test j r →
@@ -211,15 +211,15 @@ mutual
         ReadsStatement tokens s body l to →
         ReadsStatement tokens from (ForLoop (line_at tokens from) first test step body) (max (max i (max j k)) l + 1) to
     break_out : {from : ℕ} →
-        HasKey tokens from keys.Break →
+        HasKeyword tokens from keys.Break →
         HasMark tokens (from + 1) marks.Semicolon →
         ReadsStatement tokens from (BreakOut (line_at tokens from)) 1 (from + 2)
     continue_on : {from : ℕ} →
-        HasKey tokens from keys.Continue →
+        HasKeyword tokens from keys.Continue →
         HasMark tokens (from + 1) marks.Semicolon →
         ReadsStatement tokens from (ContinueOn (line_at tokens from)) 1 (from + 2)
     return_from : {from height q : ℕ} {value : SourceExpression} →
-        HasKey tokens from keys.Return →
+        HasKeyword tokens from keys.Return →
         ReadsExpression tokens (from + 1) value height q →
         HasMark tokens q marks.Semicolon →
         ReadsStatement tokens from (ReturnFrom (line_at tokens from) value) (height + 1) (q + 1)
@@ -241,8 +241,8 @@ mutual
 -- unit: `int` `main` `(` [`void`] `)` block, and nothing behind it
 pub data ReadsProgram (tokens : List Token) : (program : SourceProgram) → (height : ℕ) → Type 0 where
   without_void : {height to : ℕ} {items : SourceList} →
-      HasKey tokens 0 keys.Int →
-      HasKey tokens 1 keys.Main →
+      HasKeyword tokens 0 keys.Int →
+      HasKeyword tokens 1 keys.Main →
       HasMark tokens 2 marks.LeftParen →
       HasMark tokens 3 marks.RightParen →
       HasMark tokens 4 marks.LeftBrace →
@@ -250,10 +250,10 @@ pub data ReadsProgram (tokens : List Token) : (program : SourceProgram) → (hei
       kind_at tokens to ≡ None →
       ReadsProgram tokens record { items = items } (height + 1)
   with_void : {height to : ℕ} {items : SourceList} →
-      HasKey tokens 0 keys.Int →
-      HasKey tokens 1 keys.Main →
+      HasKeyword tokens 0 keys.Int →
+      HasKeyword tokens 1 keys.Main →
       HasMark tokens 2 marks.LeftParen →
-      HasKey tokens 3 keys.Void →
+      HasKeyword tokens 3 keys.Void →
       HasMark tokens 4 marks.RightParen →
       HasMark tokens 5 marks.LeftBrace →
       ReadsItems tokens 6 items height to →

@@ -2,7 +2,7 @@ ghost use Rattle.std.specs.Prelude.{◌≡◌, MatchResult};
 ghost use Rattle.pc_syntax.specs.Source.{Combined, Conjunction, Disjunction, Conditional, Branch, WhileLoop, DoLoop, ForLoop};
 ghost use Rattle.pc_syntax.specs.Erasure.{expression_of, statement_of, list_of, optional_of};
 ghost use Rattle.pc_parser.specs.models.Parsing.{optional_tree};
-ghost use Rattle.pc_parser.specs.Operators.{joined, prefixed};
+ghost use Rattle.pc_parser.specs.Operators.{infixed, prefixed};
 ghost use Rattle.pc_parser.specs.declared.outcome.Failure.TheVariants.{Memory};
 
 use crate::operator::Operator;
@@ -18,7 +18,7 @@ pub(crate) fn join_trees(
     left: Expr,
     right: Expr,
 ) -> Result<Expr, Failure>
-    ensures { MatchResult result (λ tree. expression_of tree ≡ joined operator at (expression_of left) (expression_of right)) (λ failure. failure ≡ Memory) }
+    ensures { MatchResult result (λ tree. expression_of tree ≡ infixed operator at (expression_of left) (expression_of right)) (λ failure. failure ≡ Memory) }
 {
     match operator {
         Operator::Binary(op) => binary(alloc, op, at, left, right),

@@ -18,7 +18,7 @@ use Rattle.pc_word.proofs.Runs.{Agree-sym, Agree-simulated_in_time}
 use Rattle.pc_flow.specs.declared.node.FlowNode.{FlowNode}
 use Rattle.pc_flow.specs.declared.node.FlowNode.TheVariants.{Op, Test, Stop, Trap}
 use Rattle.pc_flow.specs.FlowGraph.{FlowGraph, IsFlow, IsTarget, HasEdge, TestFits, NodeFits}
-use Rattle.pc_flow.specs.FlowRun.{FlowState, after_item, run_node, flow_step, flow_start, flow_run}
+use Rattle.pc_flow.specs.FlowRun.{FlowState, step_after_item, run_node, flow_step, flow_start, flow_run}
 use Rattle.pc_live.proofs.Dead.{Same, operand_same, operands_same, StatesAlike, OutcomesAlike, does_alike}
 use Rattle.pc_flow.specs.Reachable.{IsReachableNode, Entry, Behind}
 use Rattle.pc_pass.specs.models.Change.{Change, Way, Here, Past, LeadsPast, AlikeIn, Corresponds, ItemBecomes, SideBecomes, Becomes, Does, Tests, Stops_too, Traps_too}
@@ -111,7 +111,7 @@ module _ (change : Change) where
         subst (λ (n : ℕ). Corresponds change (record { node = n; state = after }) (record { node = onward; state = moved })) same.leads behind
 
     outcomes_correspond : (one again moved : RowOutcome ℕ) → item_step lengths item to s ≡ one → OutcomesAlike to (dest_of other) s t one again
-        → SameBefore onward again moved → StepsCorrespond (after_item one) (after_item moved)
+        → SameBefore onward again moved → StepsCorrespond (step_after_item one) (step_after_item moved)
     outcomes_correspond (Faults fault) (Faults other_fault) (Faults last_fault) is h k = (refl, ap Fault (k ∙ h))
     outcomes_correspond (Commits printed after leaf) (Commits again more last) (Commits third moved node) is h k = (
       k.0 ∙ h.0,
@@ -124,7 +124,7 @@ module _ (change : Change) where
     outcomes_correspond (Commits printed after leaf) (Commits again more last) (Faults third) is h k = absurd k
 
     -- the two items
-    items_correspond : StepsCorrespond (after_item (item_step lengths item to s)) (after_item (item_step lengths other onward t))
+    items_correspond : StepsCorrespond (step_after_item (item_step lengths item to s)) (step_after_item (item_step lengths other onward t))
     items_correspond =
         let same : Same s.names t.names (operands_of other) = operands_same s.names t.names (operands_of other) (λ x e. alike.same_names x (becomes.reads x e)) in
         let alone = does_alike lengths other to s t same alike.same_cells alike.same_input in

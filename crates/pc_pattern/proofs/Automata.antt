@@ -31,7 +31,7 @@ use Rattle.pc_automaton.specs.Automaton.{AutomatonState, is_parameter, LeafIsKno
 use Rattle.pc_automaton.specs.Automaton.{IsAutomaton}
 use Rattle.pc_canon.specs.Pairs.{Pair, corresponds, others, themselves, defined, operands_for, OperandsAlike, ArgumentsAlike, HomesAlike}
 use Rattle.pc_pattern.specs.NamedRow.{RowsNamed, named_item, named_test, named_leaf, LeavesAlike}
-use Rattle.pc_pattern.specs.Searches.{Rules, IsClosed, bare_leaf, Leads, to_member, to_bare, to_region, to_end, to_trap, StateFor, Automates}
+use Rattle.pc_pattern.specs.Searches.{Rules, IsClosed, bare_leaf, LeafFor, to_member, to_bare, to_region, to_end, to_trap, StateFor, Automates}
 use Rattle.pc_canon.proofs.ParameterLists.{parameters_listed}
 use Rattle.pc_canon.specs.Canonical.{parameter_pairs}
 use Rattle.pc_pattern.proofs.Shifts.{shifted_many}
@@ -165,7 +165,7 @@ alike_known names known f (Trap kind line) (Out region other) h = absurd h
 
 leaf_known : {rules : Rules} {members : List Window} {names : List Pair} {left : Left} {leaf : AutomatonLeaf} (known : ℕ → Bool)
     → OthersKnown names known
-    → Leads rules members names left leaf → LeafIsKnown known leaf
+    → LeafFor rules members names left leaf → LeafIsKnown known leaf
 leaf_known {names} known f (to_member {arguments} brought member brings items at shifted given) =
     arguments_known names known f (operands_for (parameters_of (whole brought.front))) arguments given
 leaf_known {names} known f (to_bare {other} brought leaf brings bare alike) = alike_known names known f leaf other alike
@@ -188,7 +188,7 @@ defined_known names known (Some a) None f y h = f y h
 
 leaves_known : {rules : Rules} {members : List Window} {names : List Pair} {row : Row Left} {other : Row AutomatonLeaf} (known : ℕ → Bool)
     → OthersKnown names known
-    → RowsNamed (Leads rules members) names row other → LeavesAreKnown known other
+    → RowsNamed (LeafFor rules members) names row other → LeavesAreKnown known other
 leaves_known known f (named_item {names} {item} name h) =
     leaves_known (and_dest known (with_dest name item)) (defined_known names known (dest_of item) (dest_of (with_dest name item)) f) h
 leaves_known known f (named_test h g) = (leaves_known known f h, leaves_known known f g)
@@ -230,7 +230,7 @@ module _ (rules : Rules) (members : List Window) (states : List AutomatonState) 
       let e = auto.each number member at in
       subst (λ (o : Option AutomatonState). Takes o count) (sym e.1) (many ∙ sym (ap (λ (l : List ℕ). length l) e.2.parameters))
 
-  leaf_leads : {names : List Pair} {left : Left} {leaf : AutomatonLeaf} → Leads rules members names left leaf → LeafLeads states leaf
+  leaf_leads : {names : List Pair} {left : Left} {leaf : AutomatonLeaf} → LeafFor rules members names left leaf → LeafLeads states leaf
   leaf_leads {names} (to_member {number} {arguments} brought member brings items at shifted given) =
       takes_arguments number (length arguments) member at
       (as_many_alike names (operands_for (parameters_of (whole brought.front))) arguments given
@@ -240,7 +240,7 @@ module _ (rules : Rules) (members : List Window) (states : List AutomatonState) 
   leaf_leads to_end = tt
   leaf_leads to_trap = tt
 
-  leaves_lead : {names : List Pair} {row : Row Left} {other : Row AutomatonLeaf} → RowsNamed (Leads rules members) names row other
+  leaves_lead : {names : List Pair} {row : Row Left} {other : Row AutomatonLeaf} → RowsNamed (LeafFor rules members) names row other
       → AllByRecursion (LeafLeads states) (leaves_of other)
   leaves_lead (named_item name h) = leaves_lead h
   leaves_lead (named_test {other_yes} {other_no} h g) =

@@ -6,7 +6,7 @@ use Rattle.pc_word.specs.declared.item.TrapKind.{TrapKind}
 use Rattle.pc_word.specs.declared.item.Operand.{Operand}
 use Rattle.pc_word.specs.declared.item.End.{End}
 use Rattle.pc_word.specs.declared.item.End.TheVariants.{Ended, Trapped}
-use Rattle.pc_word.specs.Run.{Seen, Run, Answers, Follows, Agree, after_printing, seen_of, run_from, ended_run}
+use Rattle.pc_word.specs.Run.{Seen, Run, Answers, Follows, Agree, after_printing, seen_of, run_from, ended_run, NeverFaults}
 use Rattle.pc_word.proofs.Runs.{Answers-equal, Answers-after, Agree-equal, run_from-answers}
 use Rattle.pc_word.specs.State.{State}
 use Rattle.pc_word.specs.Row.{Row, RowOutcome, Commits, row_step}
@@ -17,7 +17,7 @@ use Rattle.pc_window.specs.declared.home.Home.{Home}
 use Rattle.pc_window.specs.Tree.{Tree, Pending, Undecided, Exit, Stop_exit, Trap_exit, whole, home_state}
 use Rattle.pc_window.specs.Names.{uses, parameters_of}
 use Rattle.pc_window.specs.WindowRun.{Window, enter, window_step, tree_run, window_run, FormsHold}
-use Rattle.pc_window.specs.Kept.{Left, Gone, Finished, Trapped_at, left_run, NeverFaults, KeepsPace, GainsUnit, RestKept, OutKept, LeftKept, TakenKept, RowKeeps, IsBare, IsRooted}
+use Rattle.pc_window.specs.Kept.{Left, Gone, Finished, Trapped_at, left_run, KeepsPace, GainsUnit, RestKept, OutKept, LeftKept, TakenKept, RowKeeps, IsBare, IsRooted}
 use Rattle.pc_window.specs.Steps.{LeftIs, EachLeft, IsProper}
 use Rattle.pc_window.proofs.Paces.{answer_of_answer, Agree-ends_at_once}
 use Rattle.pc_window.proofs.Units.{beyond_is_region}
@@ -29,7 +29,7 @@ use Rattle.pc_automaton.specs.Automaton.{AutomatonState, names_written}
 use Rattle.pc_automaton.specs.AutomatonRun.{In_region, At_state, passed_state, state_parameters, leaf_step, outcome_step, state_step, automaton_step}
 use Rattle.pc_canon.specs.Pairs.{Pair, ones, others, operands_for, ArgumentsAlike, Correspond}
 use Rattle.pc_pattern.specs.NamedRow.{RowsNamed, named_item, named_test, named_leaf, LeavesAlike}
-use Rattle.pc_pattern.specs.Searches.{Rules, RowFor, bare_leaf, Leads, to_member, to_bare, to_region, to_end, to_trap, StateFor, Automates}
+use Rattle.pc_pattern.specs.Searches.{Rules, RowFor, bare_leaf, LeafFor, to_member, to_bare, to_region, to_end, to_trap, StateFor, Automates}
 use Rattle.pc_pattern.proofs.NamedRows.{WritesOnce, OutcomesNamed, both_fault, both_commit, named_rows_do}
 use Rattle.pc_pattern.proofs.WritesOnce.{cut_once, each_once, distinct_back}
 use Rattle.pc_canon.specs.Canonical.{parameter_pairs}
@@ -263,7 +263,7 @@ module _ (rules : Rules) (keeps : TableKeeps rules.table) (members : List Window
   goes : {left : Left} {leaf : AutomatonLeaf} (names : List Pair) → Automates rules members states
       → (w : Window) (s : State) (out : List ℤ) (new new' : State)
       → Correspond names new new' → NeverFaults (window_run rules.table w s) → LeftKept rules.table w s out new left → LeftIs IsProper left
-      → Leads rules members names left leaf → Goes_on w s out new' leaf
+      → LeafFor rules members names left leaf → Goes_on w s out new' leaf
   goes names auto w s out new new' c never kept proper (to_member {rest} {number} {arguments} brought member brings items at shifted given) =
       let k = rest_kept_on rules.table w rest brought s new out kept never (brings_on_keeps rules keeps rest brought brings proper).1 in
       let e = auto.each number member at in
@@ -307,7 +307,7 @@ module _ (rules : Rules) (keeps : TableKeeps rules.table) (members : List Window
       commits : {out : List ℤ} {new : State} {leaf : AutomatonLeaf} → Goes_on w s out new leaf → Row_goes w s (Commits out new leaf)
 
     taken_goes : {a : RowOutcome Left} {b : RowOutcome AutomatonLeaf} (w : Window) (s : State) → NeverFaults (window_run rules.table w s)
-        → TakenKept rules.table w s a → OutcomesNamed (λ names left leaf. LeftIs IsProper left × Leads rules members names left leaf) a b
+        → TakenKept rules.table w s a → OutcomesNamed (λ names left leaf. LeftIs IsProper left × LeafFor rules members names left leaf) a b
         → Row_goes w s b
     taken_goes w s never kept both_fault = absurd kept
     taken_goes w s never kept (both_commit {printed} {new} {new'} names c leads) =

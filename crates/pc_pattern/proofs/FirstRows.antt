@@ -19,7 +19,7 @@ use Rattle.pc_automaton.specs.RunsAsRegion.{LeadsUntested}
 use Rattle.pc_canon.specs.Pairs.{Pair, themselves}
 use Rattle.pc_window.specs.Names.{parameters_of}
 use Rattle.pc_pattern.specs.NamedRow.{RowsNamed, named_leaf}
-use Rattle.pc_pattern.specs.Searches.{Rules, IsClosed, Leads, to_region, to_end, to_trap, StateFor, Automates}
+use Rattle.pc_pattern.specs.Searches.{Rules, IsClosed, LeafFor, to_region, to_end, to_trap, StateFor, Automates}
 use Rattle.pc_pattern.proofs.Ends.{ends_in, tidied_ends, unwound_untested}
 use Rattle.pc_pattern.proofs.Members.{bare_fills, matched_items, begins_with}
 
@@ -31,14 +31,14 @@ items_lead table region (Either on p q) items = tt
 items_lead table region (At_leaf leaf) items = absurd items
 
 module _ (rules : Rules) (members : List Window) (table : Table) (region : ℕ) where
-  out_leads : (to : ℕ) (homes : List Home) {names : List Pair} {row : Row AutomatonLeaf} → RowsNamed (Leads rules members) names (At_leaf (Gone to homes)) row
+  out_leads : (to : ℕ) (homes : List Home) {names : List Pair} {row : Row AutomatonLeaf} → RowsNamed (LeafFor rules members) names (At_leaf (Gone to homes)) row
       → ComesUntested table region to → LeadsUntested table region row
   out_leads to homes (named_leaf (to_region alike)) comes = comes
 
-  end_leads : {names : List Pair} {row : Row AutomatonLeaf} → RowsNamed (Leads rules members) names (At_leaf Finished) row → LeadsUntested table region row
+  end_leads : {names : List Pair} {row : Row AutomatonLeaf} → RowsNamed (LeafFor rules members) names (At_leaf Finished) row → LeadsUntested table region row
   end_leads (named_leaf to_end) = tt
 
-  trap_leads : (kind : TrapKind) (line : ℕ) {names : List Pair} {row : Row AutomatonLeaf} → RowsNamed (Leads rules members) names (At_leaf (Trapped_at kind line)) row
+  trap_leads : (kind : TrapKind) (line : ℕ) {names : List Pair} {row : Row AutomatonLeaf} → RowsNamed (LeafFor rules members) names (At_leaf (Trapped_at kind line)) row
       → LeadsUntested table region row
   trap_leads kind line (named_leaf to_trap) = tt
 
@@ -58,7 +58,7 @@ module _ (rules : Rules) (members : List Window) (region : ℕ) (w : Window) (fi
       ∙ ap (cut_row rules.table w) is
 
   abbrev Matches : Row Left → Type 0
-  Matches row = RowsNamed (Leads rules members) (themselves (parameters_of (whole w.front))) row first.row
+  Matches row = RowsNamed (LeafFor rules members) (themselves (parameters_of (whole w.front))) row first.row
 
   first_leads : (tree : Tree) → w.front ≡ front_of tree → ((to tag : ℕ) (homes : List Home) → tree ≡ Exit to tag homes → ComesUntested rules.table region to)
       → LeadsUntested rules.table region first.row

@@ -1,13 +1,13 @@
 -- Changes that keep a window's run and forms, one after the other.
 use Rattle.std.proofs.Common.{suc, List}
 use Rattle.std.specs.Prelude.{ℤ}
-use Rattle.pc_word.specs.Run.{Run, Follows, after_printing}
+use Rattle.pc_word.specs.Run.{Run, Follows, after_printing, NeverFaults}
 use Rattle.pc_word.specs.State.{State}
 use Rattle.pc_word.proofs.Runs.{Follows-trans, Answers-after}
 use Rattle.pc_table.specs.Table.{Table}
 use Rattle.pc_table.specs.TableKeeps.{TableKeeps}
 use Rattle.pc_window.specs.WindowRun.{Window, window_run}
-use Rattle.pc_window.specs.Kept.{KeepsPace, NeverFaults, KeptIn, WindowKeeps, RestKept}
+use Rattle.pc_window.specs.Kept.{KeepsPace, KeptIn, WindowKeeps, RestKept}
 use Rattle.pc_window.specs.Steps.{IsProper}
 use Rattle.pc_window.proofs.Paces.{answer_of_answer, NeverFaults-follows}
 use Rattle.pc_window.proofs.Proper.{unwinds_proper, tidies_proper, rebases_proper}

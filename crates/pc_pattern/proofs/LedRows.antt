@@ -36,7 +36,7 @@ use Rattle.pc_automaton.specs.declared.automaton.AutomatonLeaf.TheVariants.{Out,
 use Rattle.pc_automaton.specs.Automaton.{names_written}
 use Rattle.pc_canon.specs.Pairs.{Pair, corresponds, others, themselves, defined, operands_for, OperandsAlike, ArgumentsAlike, HomesAlike}
 use Rattle.pc_pattern.specs.NamedRow.{RowsNamed, named_item, named_test, named_leaf, LeavesAlike}
-use Rattle.pc_pattern.specs.Searches.{Rules, BringsOn, bare_leaf, Leads, to_member, to_bare, to_region, to_end, to_trap}
+use Rattle.pc_pattern.specs.Searches.{Rules, BringsOn, bare_leaf, LeafFor, to_member, to_bare, to_region, to_end, to_trap}
 use Rattle.pc_pattern.specs.models.Renaming.{renamed_name, renamed_operand, renamed_homes, renamed_leaf, renamed_bare, arguments_for}
 use Rattle.pc_pattern.specs.models.Pools.{Pool}
 use Rattle.pc_pattern.specs.models.Leading.{WindowLeads, leads_member, leads_bare, LeftLeads, leads_rest, leads_region, leads_end, leads_trap}
@@ -244,7 +244,7 @@ module _ (known : ℕ → Bool) (pairs written : List Pair) (next : ℕ) (r : Re
   -- a window that is a leaf leads on among the members
   window_leads : (rules : Rules) (final : List Window) (pool later : Pool) (rest brought : Window) (leaf : AutomatonLeaf)
       → BringsOn rules rest brought → IsProper rest → IsProper brought → Scoped known (whole rest.front)
-      → WindowLeads written pool brought leaf later → KeysStand final later.keys → Leads rules final pairs (Rest rest) leaf
+      → WindowLeads written pool brought leaf later → KeysStand final later.keys → LeafFor rules final pairs (Rest rest) leaf
   window_leads rules final pool later rest brought leaf brings old proper scoped (leads_member {number} none numbered) stand =
       let member = stand number (key_of brought) (number_there pool later brought number numbered) in
       to_member brought member.0 brings (none_bare written (bare_leaf (whole brought.front)) none) member.1
@@ -254,13 +254,13 @@ module _ (known : ℕ → Bool) (pairs written : List Pair) (next : ℕ) (r : Re
       (λ x used. brought_known rules rest brought brings old scoped x used) (parameters_used (whole brought.front))))
   window_leads rules final pool later rest brought leaf brings old proper scoped (leads_bare some) stand =
       let bare = some_bare written (bare_leaf (whole brought.front)) leaf some in
-      subst (λ (l : AutomatonLeaf). Leads rules final pairs (Rest rest) l) bare.2
+      subst (λ (l : AutomatonLeaf). LeafFor rules final pairs (Rest rest) l) bare.2
       (to_bare brought bare.0 brings bare.1
       (bare_alike (whole brought.front) bare.0 (λ x used. brought_known rules rest brought brings old scoped x used) bare.1))
 
   left_leads : (rules : Rules) → TableKeeps rules.table → (final : List Window) (pool later : Pool) (left : Left) (leaf : AutomatonLeaf)
       → LeftIs IsProper left → LeftScoped known left → LeftLeads rules written pool left leaf later → KeysStand final later.keys
-      → Leads rules final pairs left leaf
+      → LeafFor rules final pairs left leaf
   left_leads rules keeps final pool later left leaf proper scoped (leads_rest {rest} {brought} brings leads) stand =
       window_leads rules final pool later rest brought leaf brings proper (brings_on_keeps rules keeps rest brought brings proper).0 scoped leads stand
   left_leads rules keeps final pool later left leaf proper scoped (leads_region {homes}) stand = to_region (homes_alike homes scoped)
@@ -290,7 +290,7 @@ defined_some pairs d d' x y e e' = (λ i. defined pairs (e i) (e' i))
 pub row_leads : {rules : Rules} {written : List Pair} {next later : ℕ} {pool after : Pool} {row : Row Left} {other : Row AutomatonLeaf}
     → TableKeeps rules.table → (final : List Window) (known : ℕ → Bool) (pairs : List Pair)
     → Renames known pairs written next → EachLeft IsProper row → LeavesScoped known row
-    → RowLeads rules written next pool row other later after → KeysStand final after.keys → RowsNamed (Leads rules final) pairs row other
+    → RowLeads rules written next pool row other later after → KeysStand final after.keys → RowsNamed (LeafFor rules final) pairs row other
 row_leads {rules} {written} {next} keeps final known pairs r proper scoped (leads_plain {item} none leads) stand =
     named_item next
     (row_leads keeps final (and_dest known item) (defined pairs (dest_of item) (dest_of (with_dest next item)))

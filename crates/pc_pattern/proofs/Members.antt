@@ -3,7 +3,7 @@ use Rattle.std.proofs.Common.{◌≡◌, ℕ, zero, suc, ◌<◌, List, [], ◌�
 use Rattle.std.specs.Prelude.{Option, Some, None, slice_get}
 use Rattle.std.specs.List.{AllByRecursion}
 use Rattle.std.proofs.lemmas.Option.{slice_get_within}
-use Rattle.pc_word.specs.Run.{Answers}
+use Rattle.pc_word.specs.Run.{Answers, NeverFaults}
 use Rattle.pc_word.proofs.Runs.{Agree-trans}
 use Rattle.pc_word.proofs.Lists.{all_both, all_at}
 use Rattle.pc_word.specs.State.{State}
@@ -22,7 +22,7 @@ use Rattle.pc_window.specs.Jump.{Lands_once, Behind_item, On_yes, On_no}
 use Rattle.pc_window.specs.Filled.{Filled, Full, Goes_on}
 use Rattle.pc_window.specs.Tree.{Tree, Pending, Undecided, Exit, Stop_exit, Trap_exit, Front, Issued, Split, Unfinished, whole}
 use Rattle.pc_window.specs.WindowRun.{Window, window_run}
-use Rattle.pc_window.specs.Kept.{Left, NeverFaults, IsBare, IsRooted, HasFront, HasItems}
+use Rattle.pc_window.specs.Kept.{Left, IsBare, IsRooted, HasFront, HasItems}
 use Rattle.pc_window.specs.Steps.{LeftIs, EachLeft, Positive, IsProper, cut_row, opened_window}
 use Rattle.pc_window.proofs.Paces.{answer_of_answer, NeverFaults-follows}
 use Rattle.pc_window.proofs.Proper.{opens_proper, fills_proper, cuts_proper}
@@ -34,7 +34,7 @@ use Rattle.pc_automaton.specs.RunsAsRegion.{RunsAlike}
 use Rattle.pc_canon.specs.Pairs.{Pair}
 use Rattle.pc_pattern.specs.NamedRow.{RowsNamed, named_item, named_test, named_leaf}
 use Rattle.pc_pattern.specs.Searches.{Rules, Settles, bare_leaf, Looks, looks_new, looks_known, looks_bare, looks_out, looks_end, looks_trap}
-use Rattle.pc_pattern.specs.Searches.{Search, begins, takes, looks, IsClosed, Leads, to_member, to_bare, to_region, to_end, to_trap}
+use Rattle.pc_pattern.specs.Searches.{Search, begins, takes, looks, IsClosed, LeafFor, to_member, to_bare, to_region, to_end, to_trap}
 use Rattle.pc_pattern.specs.Searches.{StateFor, Automates}
 use Rattle.pc_canon.specs.Canonical.{parameter_pairs}
 use Rattle.pc_pattern.proofs.Shifts.{shifted_goes_on}
@@ -283,7 +283,7 @@ slice_get_more (y ∷ xs) more zero x at = at
 slice_get_more (y ∷ xs) more (suc i) x at = slice_get_more xs more i x at
 
 leads_more : {rules : Rules} {members : List Window} {names : List Pair} {left : Left} {leaf : AutomatonLeaf} (more : List Window)
-    → Leads rules members names left leaf → Leads rules (members ++ more) names left leaf
+    → LeafFor rules members names left leaf → LeafFor rules (members ++ more) names left leaf
 leads_more {members} more (to_member {number} brought member brings items at shifted arguments) =
     to_member brought member brings items (slice_get_more members more number member at) shifted arguments
 leads_more more (to_bare brought leaf brings bare alike) = to_bare brought leaf brings bare alike
@@ -300,7 +300,7 @@ match_more f (named_leaf {names} {leaf} {other} h) = named_leaf (f names leaf ot
 
 -- rows that lead on among some members lead on among more
 pub rows_more : (rules : Rules) (members more : List Window) {names : List Pair} {row : Row Left} {other : Row AutomatonLeaf}
-    → RowsNamed (Leads rules members) names row other → RowsNamed (Leads rules (members ++ more)) names row other
+    → RowsNamed (LeafFor rules members) names row other → RowsNamed (LeafFor rules (members ++ more)) names row other
 rows_more rules members more h = match_more (λ ns l m k. leads_more more k) h
 
 -- the state of a member is its state too where there are more members

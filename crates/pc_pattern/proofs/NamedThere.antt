@@ -28,7 +28,7 @@ use Rattle.pc_automaton.specs.There.{LeafIsThere, StateIsThere}
 use Rattle.pc_canon.specs.Pairs.{Pair, HomesAlike}
 use Rattle.pc_pattern.specs.NamedRow.{RowsNamed, named_item, named_test, named_leaf, LeavesAlike}
 use Rattle.pc_pattern.specs.Searches.{Rules, Settles, BringsOn, bare_leaf, Looks, looks_new, looks_known, looks_bare, looks_out, looks_end, looks_trap}
-use Rattle.pc_pattern.specs.Searches.{Search, begins, takes, looks, Leads, to_member, to_bare, to_region, to_end, to_trap, StateFor}
+use Rattle.pc_pattern.specs.Searches.{Search, begins, takes, looks, LeafFor, to_member, to_bare, to_region, to_end, to_trap, StateFor}
 use Rattle.pc_pattern.specs.Laws.{PatternsNameWhatIsThere, PatternsBeginWithLiveVariables}
 use Rattle.pc_pattern.proofs.Members.{begins_with, state_of}
 use Rattle.pc_pattern.proofs.Automata.{all_from_places}
@@ -120,7 +120,7 @@ module _ (rules : Rules) (keeps : TableKeeps rules.table) (room : Positive rules
   bare_there most Stop_exit leaf is h = let same : Stop ≡ leaf = cc in subst (LeafIsThere rules.table) same tt
   bare_there most (Trap_exit kind line) leaf is h = let same : Trap kind line ≡ leaf = cc in subst (LeafIsThere rules.table) same tt
 
-  led_there : {members : List Window} {names : List Pair} {left : Left} {leaf : AutomatonLeaf} → Leads rules members names left leaf → LeftNamed left
+  led_there : {members : List Window} {names : List Pair} {left : Left} {leaf : AutomatonLeaf} → LeafFor rules members names left leaf → LeftNamed left
       → LeafIsThere rules.table leaf
   led_there (to_member brought member brings items at shifted args) h = tt
   led_there {names} (to_bare {rest} {other} brought leaf brings bare alike) h =
@@ -129,7 +129,7 @@ module _ (rules : Rules) (keeps : TableKeeps rules.table) (room : Positive rules
   led_there to_end h = tt
   led_there to_trap h = tt
 
-  row_items : {members : List Window} {names : List Pair} {cut : Row Left} {row : Row AutomatonLeaf} → RowsNamed (Leads rules members) names cut row
+  row_items : {members : List Window} {names : List Pair} {cut : Row Left} {row : Row AutomatonLeaf} → RowsNamed (LeafFor rules members) names cut row
       → AllByRecursion (ArrayIsThere rules.table) (items_of cut) → AllByRecursion (ArrayIsThere rules.table) (items_of row)
   row_items (named_item {item} name h) all = (array_named name item all.0, row_items h all.1)
   row_items (named_test {on_yes} {on_no} {other_yes} {other_no} h k) all =
@@ -137,7 +137,7 @@ module _ (rules : Rules) (keeps : TableKeeps rules.table) (room : Positive rules
       (row_items h (all_front (ArrayIsThere rules.table) (items_of on_yes) (items_of on_no) all)) (row_items k (all_back (ArrayIsThere rules.table) (items_of on_yes) (items_of on_no) all))
   row_items (named_leaf h) all = tt
 
-  row_leaves : {members : List Window} {names : List Pair} {cut : Row Left} {row : Row AutomatonLeaf} → RowsNamed (Leads rules members) names cut row
+  row_leaves : {members : List Window} {names : List Pair} {cut : Row Left} {row : Row AutomatonLeaf} → RowsNamed (LeafFor rules members) names cut row
       → AllByRecursion LeftNamed (leaves_of cut) → AllByRecursion (LeafIsThere rules.table) (leaves_of row)
   row_leaves (named_item name h) all = row_leaves h all
   row_leaves (named_test {on_yes} {on_no} {other_yes} {other_no} h k) all =

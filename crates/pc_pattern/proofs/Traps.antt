@@ -21,7 +21,7 @@ use Rattle.pc_automaton.specs.declared.automaton.AutomatonLeaf.{AutomatonLeaf}
 use Rattle.pc_automaton.specs.declared.automaton.AutomatonLeaf.TheVariants.{Trap}
 use Rattle.pc_automaton.specs.Automaton.{AutomatonState}
 use Rattle.pc_pattern.specs.NamedRow.{RowsNamed, named_leaf}
-use Rattle.pc_pattern.specs.Searches.{Rules, RowFor, Settles, Leads, to_trap, StateFor, Search, begins, takes, looks, IsPattern, HasNoPattern}
+use Rattle.pc_pattern.specs.Searches.{Rules, RowFor, Settles, LeafFor, to_trap, StateFor, Search, begins, takes, looks, IsPattern, HasNoPattern}
 use Rattle.pc_pattern.specs.Searches.{Looks, looks_new, looks_known, looks_bare, looks_out, looks_end, looks_trap}
 use Rattle.pc_pattern.specs.Laws.{trap_state, TrapsHaveOneState}
 use Rattle.pc_pattern.proofs.Determinism.{settles_one, row_one}
@@ -155,13 +155,13 @@ module _ (rules : Rules) (region : ℕ) (kind : TrapKind) (line : ℕ) (is : reg
   state_is : (members : List Window) (state : AutomatonState) → StateFor rules members trap_window state → state ≡ trap_state kind line
   state_is members state for_w =
       let cut_is = row_one rules trap_window for_w.cut (At_leaf (Trapped_at kind line)) for_w.row_for trap_row in
-      let row_is = row_of_trap state.row (subst (λ (r : Row Left). RowsNamed (Leads rules members) [] r state.row) cut_is for_w.matches) in
+      let row_is = row_of_trap state.row (subst (λ (r : Row Left). RowsNamed (LeafFor rules members) [] r state.row) cut_is for_w.matches) in
       λ i. record { parameters = for_w.parameters i; row = row_is i }
     where
-      leaf_of_trap : (leaf : AutomatonLeaf) → Leads rules members [] (Trapped_at kind line) leaf → leaf ≡ Trap kind line
+      leaf_of_trap : (leaf : AutomatonLeaf) → LeafFor rules members [] (Trapped_at kind line) leaf → leaf ≡ Trap kind line
       leaf_of_trap leaf to_trap = refl
 
-      row_of_trap : (row : Row AutomatonLeaf) → RowsNamed (Leads rules members) [] (At_leaf (Trapped_at kind line)) row
+      row_of_trap : (row : Row AutomatonLeaf) → RowsNamed (LeafFor rules members) [] (At_leaf (Trapped_at kind line)) row
           → row ≡ At_leaf (Trap kind line)
       row_of_trap row (named_leaf {other} leads) = ap (λ (l : AutomatonLeaf). At_leaf l) (leaf_of_trap other leads)
 

@@ -1,6 +1,7 @@
 -- What a search finds: the automaton of a region, and what it keeps.
 use Rattle.std.specs.Prelude.{◌≡◌, ℕ, suc, ◌<◌, ◌≤◌, true, nat_eq, List, length, map, Contains, Some, slice_get}
 use Rattle.std.specs.List.{AllByRecursion, count_by, list_any}
+use Rattle.pc_word.specs.Run.{NeverFaults}
 use Rattle.pc_word.specs.declared.item.Limits.{Limits}
 use Rattle.pc_word.specs.declared.item.Operand.{Operand}
 use Rattle.pc_word.specs.State.{State}
@@ -8,7 +9,7 @@ use Rattle.pc_word.specs.Items.{is_memory, is_effect}
 use Rattle.pc_word.specs.Row.{Row, items_of, tests_of, leaves_of, paths_of}
 use Rattle.pc_table.specs.Table.{Table, Next, region_live}
 use Rattle.pc_table.specs.RegionRun.{region_run}
-use Rattle.pc_window.specs.Kept.{NeverFaults, HasItems}
+use Rattle.pc_window.specs.Kept.{HasItems}
 use Rattle.pc_automaton.specs.declared.automaton.AutomatonLeaf.TheVariants.{To}
 use Rattle.pc_automaton.specs.Automaton.{AutomatonState, IsAutomaton}
 use Rattle.pc_automaton.specs.There.{StateIsThere}

@@ -104,19 +104,19 @@ IsReached rules region members = (steps : ℕ) × (number : ℕ) × (lefts : Lis
 -- what is left at a leaf of a row, and the leaf that it becomes, where these names of the row and of the automaton's row
 -- correspond: a member that is equal up to a shift, with the parameters that correspond to its own, in the order of first use; or
 -- what it is already
-pub data Leads (rules : Rules) (members : List Window) : List Pair → Left → AutomatonLeaf → Type 0 where
+pub data LeafFor (rules : Rules) (members : List Window) : List Pair → Left → AutomatonLeaf → Type 0 where
   to_member : {names : List Pair} {rest : Window} {number : ℕ} {arguments : List Operand} (brought member : Window)
       → BringsOn rules rest brought → bare_leaf (whole brought.front) ≡ None
       → slice_get members number ≡ Some member → ShiftedBy (parameter_pairs brought member) brought member
       → ArgumentsAlike names (operands_for (parameters_of (whole brought.front))) arguments
-      → Leads rules members names (Rest rest) (To number arguments)
+      → LeafFor rules members names (Rest rest) (To number arguments)
   to_bare : {names : List Pair} {rest : Window} {other : AutomatonLeaf} (brought : Window) (leaf : AutomatonLeaf)
       → BringsOn rules rest brought → bare_leaf (whole brought.front) ≡ Some leaf → LeavesAlike names leaf other
-      → Leads rules members names (Rest rest) other
+      → LeafFor rules members names (Rest rest) other
   to_region : {names : List Pair} {region : ℕ} {homes homes' : List Home} → HomesAlike names homes homes'
-      → Leads rules members names (Gone region homes) (Out region homes')
-  to_end : {names : List Pair} → Leads rules members names Finished Stop
-  to_trap : {names : List Pair} {kind : TrapKind} {line : ℕ} → Leads rules members names (Trapped_at kind line) (Trap kind line)
+      → LeafFor rules members names (Gone region homes) (Out region homes')
+  to_end : {names : List Pair} → LeafFor rules members names Finished Stop
+  to_trap : {names : List Pair} {kind : TrapKind} {line : ℕ} → LeafFor rules members names (Trapped_at kind line) (Trap kind line)
 
 -- the state of a member: its parameters, and its row with a name of its own for each place that writes one, and with leaves
 -- that lead on
@@ -124,7 +124,7 @@ pub record StateFor (rules : Rules) (members : List Window) (w : Window) (state 
   pub parameters : state.parameters ≡ parameters_of (whole w.front)
   pub cut : Row Left
   pub row_for : RowFor rules w cut
-  pub matches : RowsNamed (Leads rules members) (themselves (parameters_of (whole w.front))) cut state.row
+  pub matches : RowsNamed (LeafFor rules members) (themselves (parameters_of (whole w.front))) cut state.row
   pub once : IsDistinct nat_eq (state.parameters ++ names_written state.row)
 
 -- one state for each member, in their order

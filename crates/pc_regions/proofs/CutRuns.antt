@@ -12,7 +12,7 @@ use Rattle.pc_word.specs.Run.{Seen, AgreeOnInputs, after_printing, seen_of, run_
 use Rattle.pc_word.proofs.Runs.{Agree-equal}
 use Rattle.pc_flow.specs.declared.node.FlowNode.{FlowNode}
 use Rattle.pc_flow.specs.FlowGraph.{FlowGraph}
-use Rattle.pc_flow.specs.FlowRun.{after_item, run_node, flow_step, flow_run}
+use Rattle.pc_flow.specs.FlowRun.{step_after_item, run_node, flow_step, flow_run}
 use Rattle.pc_table.specs.Table.{TableTree, TableRegion, Table, tree_of, region_tree}
 use Rattle.pc_table.specs.RegionRun.{arrive, place_at, lead_on, region_step, region_step_at, table_run}
 use Rattle.pc_regions.specs.Cut.{IsTreeOf, An_item, A_test, A_stop, A_trap, IsBehind, Taken, Not_taken, IsRegionOf, IsCutOf, heads_of}
@@ -62,7 +62,7 @@ module _ (flow : FlowGraph) (Head : ℕ → Type 0) (table : Table) (same_arrays
   -- an item that has been done
   item_shows : (n next : ℕ) (item : Item) (rest : TableTree) (s : State) (fault : Option MachineFault) → Shows n (arrive table rest) next
       → seen_of (lead_on (commit_of flow.arrays s (item ∷ []) rest fault) (place_at table)) (run_from (region_step table) n)
-      ≡ seen_of (after_item (commit_of flow.arrays s (item ∷ []) next fault)) (run_from (flow_step flow) n)
+      ≡ seen_of (step_after_item (commit_of flow.arrays s (item ∷ []) next fault)) (run_from (flow_step flow) n)
   item_shows n next item rest s (Some fault) shows = refl
   item_shows n next item rest s None shows =
       ap (λ (seen : Seen). after_printing (prints_of s (item ∷ [])) seen) (shows (state_after flow.arrays s (item ∷ [])))

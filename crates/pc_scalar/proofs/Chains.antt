@@ -6,7 +6,7 @@ use Rattle.std.proofs.lemmas.List.{get_or_append_left, get_or_push}
 use Rattle.pc_word.proofs.Lists.{index_set_same, index_set_other}
 use Rattle.pc_flow.specs.declared.node.FlowNode.{FlowNode}
 use Rattle.pc_flow.specs.declared.node.FlowNode.TheVariants.{Op, Test, Stop, Trap}
-use Rattle.pc_flow.specs.FlowGraph.{FlowGraph, Descends, TestFits, NodeFits, HasEdge, turn_of, KeepsTurn}
+use Rattle.pc_flow.specs.FlowGraph.{FlowGraph, Descends, TestFits, NodeFits, HasEdge, tested_loop, KeepsTurn}
 use Rattle.pc_pass.specs.models.Change.{Way, Here, Past, LeadsPast}
 use Rattle.pc_scalar.specs.models.Ends.{Jump, FallsAlong, IsShortened, EndsAt, AreEnds, led}
 
@@ -161,7 +161,7 @@ module _ (flow : FlowGraph) (table ends : List ℕ) (falls : FallsAlong flow tab
   led_fits from (Trap kind line) h = tt
 
 -- it tests the same loop's condition
-pub led_turn : (ends : List ℕ) (node : FlowNode) → turn_of (led ends node) ≡ turn_of node
+pub led_turn : (ends : List ℕ) (node : FlowNode) → tested_loop (led ends node) ≡ tested_loop node
 led_turn ends (Op item to) = refl
 led_turn ends (Test on on_yes on_no turn) = refl
 led_turn ends Stop = refl
@@ -183,10 +183,10 @@ edge_led_from ends (Test on on_yes on_no turn) to (inr e) = (on_no, inr refl, e)
 edge_led_from ends Stop to e = absurd e
 edge_led_from ends (Trap kind line) to e = absurd e
 
-turn_kept : (old : FlowNode) (turn : Option ℕ) → turn_of old ≡ turn → IfSome turn (λ (t : ℕ). turn_of old ≡ Some t)
+turn_kept : (old : FlowNode) (turn : Option ℕ) → tested_loop old ≡ turn → IfSome turn (λ (t : ℕ). tested_loop old ≡ Some t)
 turn_kept old None e = tt
 turn_kept old (Some t) e = e
 
 -- a node that keeps its turn
-pub keeps_turn : (old new : FlowNode) → turn_of new ≡ turn_of old → KeepsTurn old new
-keeps_turn old new e = turn_kept old (turn_of new) (sym e)
+pub keeps_turn : (old new : FlowNode) → tested_loop new ≡ tested_loop old → KeepsTurn old new
+keeps_turn old new e = turn_kept old (tested_loop new) (sym e)

@@ -17,8 +17,8 @@ use Rattle.pc_word.proofs.Items.{item_step-is}
 use Rattle.pc_word.proofs.Truth.{and_made, not_true}
 use Rattle.pc_flow.specs.declared.node.FlowNode.{FlowNode}
 use Rattle.pc_flow.specs.declared.node.FlowNode.TheVariants.{Op, Test, Stop, Trap}
-use Rattle.pc_flow.specs.FlowGraph.{FlowGraph, IsVariable, IsTarget, HasEdge, NodeFits, IsFlow, turn_of, variables}
-use Rattle.pc_flow.specs.FlowRun.{after_item, run_node}
+use Rattle.pc_flow.specs.FlowGraph.{FlowGraph, IsVariable, IsTarget, HasEdge, NodeFits, IsFlow, tested_loop, variables}
+use Rattle.pc_flow.specs.FlowRun.{step_after_item, run_node}
 use Rattle.pc_live.specs.declared.variable_set.VariableSet.{VariableSet}
 use Rattle.pc_live.specs.Live.{is_variable, node_reads, node_writes, IsLive, Read_here, Read_later}
 use Rattle.pc_live.specs.Liveness.{member, set_at}
@@ -155,7 +155,7 @@ more_kept sets Stop e = refl
 more_kept sets (Trap kind line) e = refl
 
 -- nor is the test of a loop
-loop_kept : (sets : List VariableSet) (turn : ℕ) (node : FlowNode) → turn_of node ≡ Some turn → node_needless sets node ≡ false
+loop_kept : (sets : List VariableSet) (turn : ℕ) (node : FlowNode) → tested_loop node ≡ Some turn → node_needless sets node ≡ false
 loop_kept sets turn (Op item to) e = absurd (cc)
 loop_kept sets turn (Test on on_yes on_no loop) e = refl
 loop_kept sets turn Stop e = refl
@@ -326,7 +326,7 @@ module _ (flow : FlowGraph) (plan : Plan) (is : IsClearing flow plan) where
             let does = only_does flow.arrays it.item next s it.dest it.only in
             record {
               after = set_name it.dest does.0 s;
-              steps = ap (run_node flow.arrays s) it.there ∙ ap after_item does.1;
+              steps = ap (run_node flow.arrays s) it.there ∙ ap step_after_item does.1;
               known = tt;
               same_cells = refl;
               same_input = refl;

@@ -13,7 +13,7 @@ use Rattle.pc_flow.specs.Reachable.{IsReachableNode, Entry, Behind}
 use Rattle.pc_scalar.specs.declared.plan.Plan.{Plan}
 use Rattle.pc_scalar.specs.declared.rule.Rule.{Rule}
 use Rattle.pc_scalar.specs.declared.rule.Rule.TheVariants.{CopiedNames, KnownValues}
-use Rattle.pc_scalar.specs.LoopTests.{Leads}
+use Rattle.pc_scalar.specs.LoopTests.{IsEdge}
 use Rattle.pc_scalar.specs.Tally.{AreMany, without_edges, IsChangedNode, IsWorkedOn}
 use Rattle.pc_scalar.specs.models.Counted.{Differ, differs_from, TellByOperands}
 use Rattle.pc_scalar.specs.models.Plan.{planned}
@@ -106,7 +106,7 @@ module _ (flow : FlowGraph) (rule : Rule) (plan : Plan) (is : IsRewriting flow r
   new = planned plan flow
 
   -- no node is skipped
-  none_skipped : (at : ℕ) → IsReachableNode flow at → at ≢ new.entry → ((from : ℕ) → IsReachableNode flow from → Leads new from at → ⊥) → ⊥
+  none_skipped : (at : ℕ) → IsReachableNode flow at → at ≢ new.entry → ((from : ℕ) → IsReachableNode flow from → IsEdge new from at → ⊥) → ⊥
   none_skipped _ Entry not_entry led_past = not_entry (sym is.entry)
   none_skipped _ (Behind {from = from} {to = at} {node = node} reached there edge) not_entry led_past =
       let it = changed_edge flow rule plan is from at node there edge in

@@ -13,7 +13,7 @@ use Rattle.pc_word.specs.Items.{dest_of}
 use Rattle.pc_word.specs.Row.{item_step}
 use Rattle.pc_flow.specs.declared.node.FlowNode.{FlowNode}
 use Rattle.pc_flow.specs.declared.node.FlowNode.TheVariants.{Op, Test, Stop, Trap}
-use Rattle.pc_flow.specs.FlowGraph.{FlowGraph, ItemFits, IsTarget, HasEdge, Descends, NodeFits, IsFlow, turn_of}
+use Rattle.pc_flow.specs.FlowGraph.{FlowGraph, ItemFits, IsTarget, HasEdge, Descends, NodeFits, IsFlow, tested_loop}
 use Rattle.pc_flow.specs.FlowRun.{FlowState, run_node}
 use Rattle.pc_pass.specs.Pass.{Keeps}
 use Rattle.pc_flow.specs.Reachable.{IsReachableNode, Behind}
@@ -91,7 +91,7 @@ folded_fits flow at (Trap kind line) h = h
 pub folded_there : (flow : FlowGraph) (at count : ℕ) (node : FlowNode) → count ≡ length flow.nodes → NodeFits flow at node → NodeThere count (folded node)
 folded_there flow at count node e fits = fits_there flow at count (folded node) e (folded_fits flow at node fits)
 
-folded_turn : (node : FlowNode) → turn_of (folded node) ≡ turn_of node
+folded_turn : (node : FlowNode) → tested_loop (folded node) ≡ tested_loop node
 folded_turn (Op item to) = refl
 folded_turn (Test on on_yes on_no turn) = refl
 folded_turn Stop = refl
@@ -139,7 +139,7 @@ edge_taken true on_yes on_no next e = inl (sym e)
 edge_taken false on_yes on_no next e = inr (sym e)
 
 -- no other takes the place of a loop's test
-taken_of_loop : (at turn : ℕ) (node : FlowNode) → turn_of node ≡ Some turn → taken at node ≡ at
+taken_of_loop : (at turn : ℕ) (node : FlowNode) → tested_loop node ≡ Some turn → taken at node ≡ at
 taken_of_loop at turn (Op item to) e = refl
 taken_of_loop at turn (Test (Name name) on_yes on_no loop) e = refl
 taken_of_loop at turn (Test (Lit value) on_yes on_no None) e = absurd (cc)

@@ -8,7 +8,7 @@ use Rattle.pc_word.specs.State.{State, start_state}
 use Rattle.pc_word.specs.Row.{Commits, item_step}
 use Rattle.pc_flow.specs.declared.node.FlowNode.{FlowNode}
 use Rattle.pc_flow.specs.declared.node.FlowNode.TheVariants.{Op, Test, Stop, Trap}
-use Rattle.pc_flow.specs.FlowGraph.{FlowGraph, HasEdge, turn_of, variables}
+use Rattle.pc_flow.specs.FlowGraph.{FlowGraph, HasEdge, tested_loop, variables}
 use Rattle.pc_pass.specs.Pass.{Keeps}
 use Rattle.pc_flow.specs.Reachable.{IsReachableNode, Entry, Behind}
 use Rattle.pc_pass.specs.models.Change.{Change, Here, LeadsPast, Becomes, Does, Tests, Stops_too, Traps_too, IsChange}
@@ -36,7 +36,7 @@ rewritten_edge_from rule known (Test on on_yes on_no turn) to e = e
 rewritten_edge_from rule known Stop to e = e
 rewritten_edge_from rule known (Trap kind line) to e = e
 
-pub rewritten_turn : (rule : Rule) (known : List (Option Item)) (node : FlowNode) → turn_of (rewritten rule known node) ≡ turn_of node
+pub rewritten_turn : (rule : Rule) (known : List (Option Item)) (node : FlowNode) → tested_loop (rewritten rule known node) ≡ tested_loop node
 rewritten_turn rule known (Op item next) = refl
 rewritten_turn rule known (Test on on_yes on_no turn) = refl
 rewritten_turn rule known Stop = refl
@@ -158,12 +158,12 @@ module _ (flow : FlowGraph) (rule : Rule) (plan : Plan) (is : IsRewriting flow r
         (rewritten rule w.known w.node, w.stands, rewritten_edge rule w.known w.node to (subst (λ (n : FlowNode). HasEdge n to) (sym is_node) edge))
   ]
 
-  changed_turn : (at : ℕ) (node : FlowNode) → slice_get flow.nodes at ≡ Some node → (other : FlowNode) × (slice_get new.nodes at ≡ Some other) × (turn_of other ≡ turn_of node)
+  changed_turn : (at : ℕ) (node : FlowNode) → slice_get flow.nodes at ≡ Some node → (other : FlowNode) × (slice_get new.nodes at ≡ Some other) × (tested_loop other ≡ tested_loop node)
   changed_turn at node there = elim (is.rewrites.each at node there) [
     | inl same ↦ (node, same, refl)
     | inr w ↦
         let is_node : w.node ≡ node = (let a = w.there in cc) in
-        (rewritten rule w.known w.node, w.stands, rewritten_turn rule w.known w.node ∙ ap turn_of is_node)
+        (rewritten rule w.known w.node, w.stands, rewritten_turn rule w.known w.node ∙ ap tested_loop is_node)
   ]
 
   pub rewriting_keeps_tests : KeepsLoopTests flow new

@@ -7,7 +7,7 @@ use Rattle.pc_flow.specs.FlowGraph.{FlowGraph, HasEdge}
 use Rattle.pc_flow.specs.Reachable.{IsReachableNode, Entry, Behind}
 use Rattle.pc_pass.proofs.Changes.{edge_target, node_there, reachable_there}
 use Rattle.pc_scalar.specs.declared.plan.Plan.{Plan}
-use Rattle.pc_scalar.specs.LoopTests.{Leads}
+use Rattle.pc_scalar.specs.LoopTests.{IsEdge}
 use Rattle.pc_scalar.specs.Tally.{AreMany, without_edges, IsSkippedNode, IsWorkedOn}
 use Rattle.pc_scalar.specs.models.Counted.{IsReachedAnd}
 use Rattle.pc_scalar.specs.models.Ends.{led}
@@ -35,7 +35,7 @@ module _ (flow : FlowGraph) (plan : Plan) (table ends : List ℕ) (made : FlowNo
   new = planned plan flow
 
   -- an edge of the new graph leads to a node that keeps its place
-  edge_stays : (from at : ℕ) → Leads new from at → slice_index table at ≡ at
+  edge_stays : (from at : ℕ) → IsEdge new from at → slice_index table at ≡ at
   edge_stays from at leads =
       let before = new_made_of flow plan table ends made is from leads.node leads.there in
       let led_edge : HasEdge (led ends (made before.0)) at = subst (λ (n : FlowNode). HasEdge n at) (sym before.2) leads.edge in
@@ -57,7 +57,7 @@ module _ (flow : FlowGraph) (plan : Plan) (table ends : List ℕ) (made : FlowNo
 
   -- one that keeps its place is not
   not_skipped : (at : ℕ) → IsReachableNode flow at → slice_index table at ≡ at → at ≢ new.entry
-      → ((from : ℕ) → IsReachableNode flow from → Leads new from at → ⊥) → ⊥
+      → ((from : ℕ) → IsReachableNode flow from → IsEdge new from at → ⊥) → ⊥
   not_skipped _ Entry stays not_entry led_past =
       not_entry (sym (is.entry ∙ stays_end table flow.entry (slice_index ends flow.entry) stays (end_leads flow plan table ends made is flow.entry is.is_flow.begins).way))
   not_skipped _ (Behind {from = from} {to = at} {node = node} reached there edge) stays not_entry led_past =

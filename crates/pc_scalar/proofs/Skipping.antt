@@ -5,7 +5,7 @@ use Rattle.std.proofs.lemmas.List.{length-map}
 use Rattle.std.proofs.lemmas.Option.{slice_get_within}
 use Rattle.pc_flow.specs.declared.node.FlowNode.{FlowNode}
 use Rattle.pc_flow.specs.declared.node.FlowNode.TheVariants.{Op, Test, Stop, Trap}
-use Rattle.pc_flow.specs.FlowGraph.{FlowGraph, IsTarget, HasEdge, TestFits, NodeFits, IsFlow, KeepsTurn, turn_of}
+use Rattle.pc_flow.specs.FlowGraph.{FlowGraph, IsTarget, HasEdge, TestFits, NodeFits, IsFlow, KeepsTurn, tested_loop}
 use Rattle.pc_flow.specs.Reachable.{IsReachableNode, Entry, Behind}
 use Rattle.pc_pass.specs.models.Change.{LeadsPast}
 use Rattle.pc_pass.proofs.Changes.{edge_target}
@@ -35,7 +35,7 @@ fits_there flow at count (Trap kind line) e fits = tt
 -- nodes that others are made of, with the same edges
 pub record KeepsEdges (flow : FlowGraph) (made : FlowNode → FlowNode) : Type 0 where
   pub fits : (at : ℕ) (node : FlowNode) → NodeFits flow at node → NodeFits flow at (made node)
-  pub turn : (node : FlowNode) → turn_of (made node) ≡ turn_of node
+  pub turn : (node : FlowNode) → tested_loop (made node) ≡ tested_loop node
   pub edge : (node : FlowNode) (to : ℕ) → HasEdge node to → HasEdge (made node) to
   pub edge_from : (node : FlowNode) (to : ℕ) → HasEdge (made node) to → HasEdge node to
 

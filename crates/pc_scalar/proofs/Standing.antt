@@ -13,7 +13,7 @@ use Rattle.pc_word.specs.Commit.{writes}
 use Rattle.pc_word.proofs.Truth.{or_false}
 use Rattle.pc_flow.specs.declared.node.FlowNode.{FlowNode}
 use Rattle.pc_flow.specs.declared.node.FlowNode.TheVariants.{Op, Test, Stop, Trap}
-use Rattle.pc_flow.specs.FlowGraph.{FlowGraph, IsVariable, ItemFits, IsFlow, NodeFits, KeepsTurn, turn_of, variables}
+use Rattle.pc_flow.specs.FlowGraph.{FlowGraph, IsVariable, ItemFits, IsFlow, NodeFits, KeepsTurn, tested_loop, variables}
 use Rattle.pc_live.specs.Live.{is_variable}
 use Rattle.pc_flow.specs.Reachable.{IsReachableNode}
 use Rattle.pc_scalar.specs.declared.plan.Plan.{Plan}
@@ -133,7 +133,7 @@ module _ (flow : FlowGraph) (rule : Rule) (plan : Plan) (is : IsRewriting flow r
         let is_old : w.node ≡ old = (let a = w.there in cc) in
         let fits = known_fits flow rule at w.known is.is_flow w.known_at in (
           subst (NodeFits flow at) is_other (rewritten_fits w.known fits flow rule at w.node (is.is_flow.nodes_fit at w.node w.there)),
-          subst (KeepsTurn old) is_other (keeps_turn old (rewritten rule w.known w.node) (rewritten_turn rule w.known w.node ∙ ap turn_of is_old)),
+          subst (KeepsTurn old) is_other (keeps_turn old (rewritten rule w.known w.node) (rewritten_turn rule w.known w.node ∙ ap tested_loop is_old)),
         )
   ]
 

@@ -4,7 +4,7 @@ use Rattle.pc_flow.specs.declared.node.FlowNode.{FlowNode}
 use Rattle.pc_flow.specs.declared.node.FlowNode.TheVariants.{Op, Test, Stop, Trap}
 use Rattle.pc_flow.specs.FlowGraph.{FlowGraph}
 use Rattle.pc_flow.specs.Reachable.{IsReachableNode}
-use Rattle.pc_scalar.specs.LoopTests.{Leads}
+use Rattle.pc_scalar.specs.LoopTests.{IsEdge}
 
 -- the count with so many more, which stands still at the end of u64
 abbrev pub counted : ℕ → ℕ → ℕ
@@ -36,7 +36,7 @@ pub record IsChangedNode (old new : FlowGraph) (at : ℕ) : Type 0 where
 pub record IsSkippedNode (old new : FlowGraph) (at : ℕ) : Type 0 where
   pub reached : IsReachableNode old at
   pub not_entry : at ≢ new.entry
-  pub led_past : (from : ℕ) → IsReachableNode old from → Leads new from at → ⊥
+  pub led_past : (from : ℕ) → IsReachableNode old from → IsEdge new from at → ⊥
 
 -- a node was changed or skipped
 abbrev pub IsWorkedOn : FlowGraph → FlowGraph → ℕ → Type 0

@@ -1,5 +1,6 @@
 -- The laws of pace. Each is the contract of a function of laws.rt, which does nothing.
 use Rattle.std.specs.Prelude.{◌≡◌, ℕ, ℤ, List, Option, Some}
+use Rattle.pc_word.specs.Run.{NeverFaults}
 use Rattle.pc_word.specs.declared.item.Limits.{Limits}
 use Rattle.pc_table.specs.Table.{Table}
 use Rattle.pc_table.specs.TableKeeps.{TableKeeps}
@@ -8,7 +9,6 @@ use Rattle.pc_machine.specs.MachineRun.{machine_run}
 use Rattle.pc_emit.specs.Emitted.{Emission, RegionForm, BeginsAtFirstRow, IsEmitted}
 use Rattle.pc_emit.specs.PackedForm.{IsRegionForm}
 use Rattle.pc_emit.specs.Laws.{code_with}
-use Rattle.pc_tighten.specs.Pace.{NeverFaults}
 use Rattle.pc_tighten.specs.Tightened.{IsTightened}
 use Rattle.pc_schedule.specs.Pace.{KeepsPaceOn}
 

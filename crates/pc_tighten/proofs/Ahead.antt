@@ -2,8 +2,7 @@
 use Rattle.std.proofs.Common.{◌≡◌, ℕ, zero, suc, List, [], ◌++◌, Option, Some, refl, sym, ◌∙◌, ap, subst, append_assoc, append-nil}
 use Rattle.std.specs.Prelude.{ℤ}
 use Rattle.pc_word.specs.declared.item.End.{End}
-use Rattle.pc_word.specs.Run.{Seen, Begins, Answers, Agree, Step, Goes, Stops, after_printing, seen_of, run_from}
-use Rattle.pc_tighten.specs.Pace.{NeverFaults}
+use Rattle.pc_word.specs.Run.{Seen, Begins, Answers, Agree, Step, Goes, Stops, after_printing, seen_of, run_from, NeverFaults}
 use Rattle.pc_word.proofs.Runs.{Answers-after}
 
 -- no run from here ends in a fault

@@ -9,11 +9,11 @@ use Rattle.std.proofs.lemmas.List.Folds.{list_any-append}
 use Rattle.pc_word.specs.declared.item.Item.{Item}
 use Rattle.pc_word.specs.declared.item.Operand.{Operand}
 use Rattle.pc_word.specs.declared.item.Limits.{Limits}
-use Rattle.pc_machine.specs.MachineCode.{Leaf, Leads_to, Ends, Traps, CodeRow, RowCode}
+use Rattle.pc_machine.specs.MachineCode.{Leaf, Leads_to, Ends, Traps, CodeRow, RowCode, is_goto}
 use Rattle.pc_word.specs.Row.{Then, Either, At_leaf, items_of, tests_of, leaves_of}
 use Rattle.pc_word.specs.Items.{is_memory}
 use Rattle.pc_word.proofs.Lists.{count_more, count_both, all_imply}
-use Rattle.pc_tighten.specs.Compact.{stays, is_goto, paths_to, IsPair, EachStays, Compact}
+use Rattle.pc_tighten.specs.Compact.{stays, paths_to, IsPair, EachStays, Compact}
 use Rattle.pc_machine.specs.Reachable.{IsReachable, Entry, Behind}
 use Rattle.pc_tighten.specs.Tightened.{EachIsReachable}
 use Rattle.pc_tighten.specs.Removals.{shifted, sent, sent_leaf, sent_row, without_row, removed, MayGo}

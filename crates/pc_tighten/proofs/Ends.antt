@@ -3,10 +3,10 @@ use Rattle.std.proofs.Common.{◌≡◌, ℕ, suc, ◌+◌, Bool, true, false, c
 use Rattle.std.specs.Prelude.{if◌then◌else◌, nat_eq}
 use Rattle.std.specs.List.{AllByRecursion, count_by}
 use Rattle.pc_word.specs.declared.item.Item.{Item}
-use Rattle.pc_machine.specs.MachineCode.{Leads_to, Ends, Traps, CodeRow, RowCode}
+use Rattle.pc_machine.specs.MachineCode.{Leads_to, Ends, Traps, CodeRow, RowCode, is_goto}
 use Rattle.pc_word.specs.Row.{Then, Either, At_leaf, items_of, tests_of, leaves_of}
 use Rattle.pc_word.proofs.Lists.{count_more, count_both}
-use Rattle.pc_tighten.specs.Compact.{stays, is_goto, paths_to, IsPair, EachStays, Compact}
+use Rattle.pc_tighten.specs.Compact.{stays, paths_to, IsPair, EachStays, Compact}
 use Rattle.pc_tighten.specs.Moves.{below, MayMove}
 use Rattle.pc_machine.specs.Reachable.{IsReachable}
 

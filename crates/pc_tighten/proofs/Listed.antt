@@ -8,9 +8,8 @@ use Rattle.std.proofs.lemmas.List.Sums.{count_by-le-length}
 use Rattle.std.proofs.lemmas.List.{get_or-replicate, length-replicate}
 use Rattle.pc_word.proofs.Lists.{count_more, set_at, set_length}
 use Rattle.pc_word.specs.Row.{leaves_of}
-use Rattle.pc_machine.specs.MachineCode.{Leaf, Leads_to, Ends, Traps, CodeRow}
+use Rattle.pc_machine.specs.MachineCode.{Leaf, Leads_to, Ends, Traps, CodeRow, is_goto}
 use Rattle.pc_machine.specs.Reachable.{Entry, Behind}
-use Rattle.pc_tighten.specs.Compact.{is_goto}
 use Rattle.pc_tighten.specs.models.Listing.{Listed, put_row, with_listed, with_target, with_targets, LeadsFrom, IsBehind, IsListing, IsList, AreListed, nothing_listed, AllListed}
 use Rattle.pc_tighten.proofs.Lists.{nat_eq-refl}
 use Rattle.pc_tighten.proofs.Places.{get_front, get_last, get_more, length_more, set_there, set_elsewhere}

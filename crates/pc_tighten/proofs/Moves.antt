@@ -9,7 +9,7 @@ use Rattle.pc_word.specs.declared.item.Operand.{Operand}
 use Rattle.pc_word.specs.declared.item.End.TheVariants.{Ended}
 use Rattle.pc_word.specs.declared.item.MachineFault.{MachineFault}
 use Rattle.pc_word.specs.Run.{Answers, Agree, Step, Goes, Stops, seen_of, run_from}
-use Rattle.pc_machine.specs.MachineCode.{Leaf, Leads_to, Ends, Traps, CodeRow, RowCode}
+use Rattle.pc_machine.specs.MachineCode.{Leaf, Leads_to, Ends, Traps, CodeRow, RowCode, is_goto}
 use Rattle.pc_word.specs.Row.{Then, path_of, leaf_of, commit_of, items_of, tests_of, leaves_of}
 use Rattle.pc_word.specs.State.{State}
 use Rattle.pc_word.specs.Items.{dest_of, is_effect}
@@ -18,7 +18,7 @@ use Rattle.pc_machine.specs.MachineRun.{Cycle, follow_leaf, after_row, run_row, 
 use Rattle.pc_machine.specs.WellFormed.{IsPath, WellFormed}
 use Rattle.pc_word.proofs.Lists.{all_front, all_back, all_both, all_imply, count_more}
 use Rattle.pc_machine.proofs.Paths.{items_taken, taken_is_path}
-use Rattle.pc_tighten.specs.Compact.{is_dest, reads_dest, hangs_on, comes_after, is_awaited_by, stores_under, is_loaded_by, is_full, stays, is_goto, paths_to}
+use Rattle.pc_tighten.specs.Compact.{is_dest, reads_dest, hangs_on, comes_after, is_awaited_by, stores_under, is_loaded_by, is_full, stays, paths_to}
 use Rattle.pc_tighten.specs.Moves.{below, with_item, moved, MayMove}
 use Rattle.pc_tighten.proofs.Lists.{or_left, or_right, and_false, none_of, nat_eq-sound}
 use Rattle.pc_tighten.proofs.Apart.{IsFaultless, faultless, no_fault}

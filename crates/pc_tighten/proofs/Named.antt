@@ -10,11 +10,10 @@ use Rattle.std.proofs.lemmas.Option.{slice_get_within, slice_get-get_or}
 use Rattle.pc_word.proofs.Lists.{count_more}
 use Rattle.pc_word.proofs.Truth.{less_of}
 use Rattle.pc_word.specs.Row.{leaves_of}
-use Rattle.pc_machine.specs.MachineCode.{Leaf, Leads_to, Ends, Traps, CodeRow}
+use Rattle.pc_machine.specs.MachineCode.{Leaf, Leads_to, Ends, Traps, CodeRow, is_goto}
 use Rattle.pc_machine.specs.Reachable.{IsReachable, Behind}
 use Rattle.pc_tighten.specs.declared.parents.Naming.{Naming}
 use Rattle.pc_tighten.specs.declared.parents.Naming.TheVariants.{Never, Once, Often}
-use Rattle.pc_tighten.specs.Compact.{is_goto}
 use Rattle.pc_tighten.specs.models.Listing.{Listed, AreListed, IsBehind}
 use Rattle.pc_tighten.specs.models.Parents.{named_again, put_name, with_name, with_names, with_all_names, IsParent, HasParent, if_before, parent_by, parent_in}
 use Rattle.pc_tighten.proofs.Lists.{nat_eq-refl, nat_eq-apart}

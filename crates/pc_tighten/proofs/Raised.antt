@@ -16,10 +16,10 @@ use Rattle.pc_word.specs.declared.item.Operand.{Operand}
 use Rattle.pc_word.specs.declared.item.Limits.{Limits}
 use Rattle.pc_word.specs.Items.{dest_of}
 use Rattle.pc_word.specs.Row.{Then, items_of, tests_of, leaves_of}
-use Rattle.pc_machine.specs.MachineCode.{Leaf, CodeRow}
+use Rattle.pc_machine.specs.MachineCode.{Leaf, CodeRow, is_goto}
 use Rattle.pc_tighten.specs.declared.draft.Draft.{Draft}
 use Rattle.pc_tighten.specs.declared.parents.Parents.{Parents}
-use Rattle.pc_tighten.specs.Compact.{is_dest, is_full, comes_after, is_awaited_by, stays, is_goto, paths_to, IsPair}
+use Rattle.pc_tighten.specs.Compact.{is_dest, is_full, comes_after, is_awaited_by, stays, paths_to, IsPair}
 use Rattle.pc_tighten.specs.Moves.{below, with_item, MayMove}
 use Rattle.pc_tighten.specs.Tightened.{Tightens, Done, Moves}
 use Rattle.pc_tighten.specs.models.Drafts.{below_row, draft_row, draft_rows, held, items_but, FirstStay, MayGoUp}

@@ -8,10 +8,9 @@ use Rattle.std.proofs.lemmas.List.Folds.{list_any-append, list_any_at}
 use Rattle.pc_word.specs.declared.item.Item.{Item}
 use Rattle.pc_word.proofs.Lists.{set_at}
 use Rattle.pc_machine.specs.Reachable.{HasLeafTo, IsReachable, Entry, Behind}
-use Rattle.pc_machine.specs.MachineCode.{Leaf, Leads_to, Ends, Traps, CodeRow, RowCode}
+use Rattle.pc_machine.specs.MachineCode.{Leaf, Leads_to, Ends, Traps, CodeRow, RowCode, is_goto}
 use Rattle.pc_word.specs.Row.{Then, Either, At_leaf, leaves_of}
 use Rattle.pc_tighten.specs.Tightened.{EachIsReachable}
-use Rattle.pc_tighten.specs.Compact.{is_goto}
 use Rattle.pc_tighten.specs.Moves.{below, with_item, moved, MayMove}
 use Rattle.pc_tighten.specs.Removals.{shifted, sent, sent_row, without_row, removed, MayGo}
 use Rattle.pc_tighten.proofs.Lists.{nat_eq-refl, nat_eq-sound, nat_eq-apart}

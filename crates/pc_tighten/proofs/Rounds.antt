@@ -11,10 +11,10 @@ use Rattle.pc_word.specs.declared.item.Item.{Item}
 use Rattle.pc_word.specs.declared.item.Operand.{Operand}
 use Rattle.pc_word.specs.declared.item.Limits.{Limits}
 use Rattle.pc_word.specs.Row.{items_of, tests_of, leaves_of}
-use Rattle.pc_machine.specs.MachineCode.{CodeRow}
+use Rattle.pc_machine.specs.MachineCode.{CodeRow, is_goto}
 use Rattle.pc_tighten.specs.declared.draft.Draft.{Draft}
 use Rattle.pc_tighten.specs.declared.parents.Parents.{Parents}
-use Rattle.pc_tighten.specs.Compact.{is_goto, paths_to, EachStays, Compact}
+use Rattle.pc_tighten.specs.Compact.{paths_to, EachStays, Compact}
 use Rattle.pc_tighten.specs.Moves.{below}
 use Rattle.pc_tighten.specs.models.Drafts.{below_row, draft_row, draft_rows, held, items_but, FirstStay}
 use Rattle.pc_tighten.specs.models.Listing.{listed_of}

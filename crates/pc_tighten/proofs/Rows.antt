@@ -6,14 +6,14 @@ use Rattle.std.proofs.lemmas.Bool.Decides.{nat_tests}
 use Rattle.std.proofs.lemmas.List.Folds.{list_any-append}
 use Rattle.pc_word.specs.declared.item.Item.{Item}
 use Rattle.pc_word.specs.Word.{holds}
-use Rattle.pc_machine.specs.MachineCode.{Leaf, Leads_to, Ends, Traps, CodeRow}
+use Rattle.pc_machine.specs.MachineCode.{Leaf, Leads_to, Ends, Traps, CodeRow, is_goto}
 use Rattle.pc_word.specs.Row.{Then, Either, At_leaf, path_of, leaf_of, items_of, tests_of, leaves_of}
 use Rattle.pc_word.specs.State.{State}
 use Rattle.pc_word.specs.Items.{operand_value, dest_of, is_effect}
 use Rattle.pc_word.specs.Commit.{names_after}
 use Rattle.pc_word.proofs.Lists.{all_front, all_back, all_imply, all_of_map, count_more, count_both}
 use Rattle.pc_machine.proofs.Paths.{leaf_taken}
-use Rattle.pc_tighten.specs.Compact.{is_dest, writes_both, is_goto, paths_to}
+use Rattle.pc_tighten.specs.Compact.{is_dest, writes_both, paths_to}
 use Rattle.pc_tighten.specs.Moves.{below, with_item}
 use Rattle.pc_tighten.proofs.Lists.{none_of}
 use Rattle.pc_tighten.proofs.Alike.{operand_kept}

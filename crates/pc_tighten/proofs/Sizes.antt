@@ -7,8 +7,7 @@ use Rattle.std.proofs.lemmas.List.Sums.{sum_by-cons}
 use Rattle.pc_word.specs.declared.item.Item.{Item}
 use Rattle.pc_word.specs.Row.{Then, Either, At_leaf, leaves_of}
 use Rattle.pc_word.proofs.Lists.{count_more, count_both}
-use Rattle.pc_machine.specs.MachineCode.{Leads_to, Ends, Traps, CodeRow, RowCode}
-use Rattle.pc_tighten.specs.Compact.{is_goto}
+use Rattle.pc_machine.specs.MachineCode.{Leads_to, Ends, Traps, CodeRow, RowCode, is_goto}
 use Rattle.pc_tighten.specs.Moves.{below, with_item, moved, MayMove}
 use Rattle.pc_tighten.specs.Removals.{sent, sent_row, without_row}
 use Rattle.pc_tighten.specs.Sizes.{Room, row_room, rows_room}

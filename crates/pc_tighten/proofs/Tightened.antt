@@ -3,7 +3,7 @@ use Rattle.std.proofs.Common.{◌≡◌, List, Option, Some, None, refl, ◌∙�
 use Rattle.std.specs.Prelude.{ℤ}
 use Rattle.pc_word.specs.declared.item.End.{End}
 use Rattle.pc_word.specs.declared.item.End.TheVariants.{Fault}
-use Rattle.pc_word.specs.Run.{Run, Answers, Agree}
+use Rattle.pc_word.specs.Run.{Run, Answers, Agree, NeverFaults}
 use Rattle.pc_word.proofs.Runs.{Agree-refl, Agree-trans, Answers-refl, Answers-trans}
 use Rattle.pc_machine.specs.MachineCode.{RowCode}
 use Rattle.pc_machine.specs.MachineRun.{machine_run}
@@ -11,7 +11,7 @@ use Rattle.pc_machine.specs.WellFormed.{WellFormed}
 use Rattle.pc_tighten.specs.Moves.{moved}
 use Rattle.pc_tighten.specs.Removals.{removed}
 use Rattle.pc_tighten.specs.Tightened.{Tightens, Done, Moves, Removes, EachIsReachable}
-use Rattle.pc_tighten.specs.Pace.{NeverFaults, IsNoSlower}
+use Rattle.pc_tighten.specs.Pace.{IsNoSlower}
 use Rattle.pc_tighten.proofs.Moves.{move_agrees, move_keeps_pace}
 use Rattle.pc_tighten.proofs.Removals.{removal_agrees, removal_keeps_pace}
 use Rattle.pc_tighten.proofs.Reaches.{move_keeps_all_reached, removal_keeps_all_reached}

@@ -7,12 +7,12 @@ use Rattle.std.proofs.lemmas.Bool.Decides.{nat_tests}
 use Rattle.std.proofs.lemmas.List.Elements.{filter_map-append}
 use Rattle.pc_word.specs.declared.item.Item.{Item}
 use Rattle.pc_word.specs.declared.item.Operand.{Operand}
-use Rattle.pc_machine.specs.MachineCode.{Leaf, Leads_to, Ends, Traps, CodeRow, RowCode}
+use Rattle.pc_machine.specs.MachineCode.{Leaf, Leads_to, Ends, Traps, CodeRow, RowCode, is_goto}
 use Rattle.pc_word.specs.Row.{Then, Either, At_leaf, items_of, tests_of, leaves_of, paths_of}
 use Rattle.pc_word.specs.Items.{dest_of, is_memory, is_effect}
 use Rattle.pc_machine.specs.WellFormed.{IsOperand, IsItem, IsLeaf, IsPath, IsRow, WellFormed}
 use Rattle.pc_word.proofs.Lists.{set_length, all_front, all_back, all_both, all_imply, all_of_map, map_of_all, all_at, count_more, count_both}
-use Rattle.pc_tighten.specs.Compact.{reads_dest, writes_both, hangs_on, is_full, stays, is_goto, paths_to}
+use Rattle.pc_tighten.specs.Compact.{reads_dest, writes_both, hangs_on, is_full, stays, paths_to}
 use Rattle.pc_tighten.specs.Moves.{below, with_item, moved, MayMove}
 use Rattle.pc_tighten.proofs.Lists.{or_left, or_right, and_false}
 use Rattle.pc_tighten.proofs.Commits.{MayEnd}

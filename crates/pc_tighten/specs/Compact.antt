@@ -7,7 +7,7 @@ use Rattle.pc_word.specs.declared.item.Item.TheVariants.{Bin, Copy, Load, Store,
 use Rattle.pc_word.specs.declared.item.Operand.{Operand}
 use Rattle.pc_word.specs.declared.item.Operand.TheVariants.{Name, Lit}
 use Rattle.pc_word.specs.declared.item.Limits.{Limits}
-use Rattle.pc_machine.specs.MachineCode.{Leaf, Leads_to, Ends, Traps, CodeRow, RowCode}
+use Rattle.pc_machine.specs.MachineCode.{Leaf, Leads_to, Ends, Traps, CodeRow, RowCode, is_goto}
 use Rattle.pc_machine.specs.Reachable.{IsReachable}
 use Rattle.pc_word.specs.Row.{Then, Either, At_leaf, items_of, tests_of, leaves_of}
 use Rattle.pc_word.specs.Items.{dest_of, is_memory, is_effect}
@@ -84,12 +84,6 @@ stays limits above path x others tests =
     || (list_any (is_awaited_by x) others || list_any (λ on. is_dest on (dest_of x)) tests))
 
 -- ---- which row is above
-
--- whether a leaf leads to the row with this number
-abbrev pub is_goto : ℕ → Leaf → Bool
-is_goto target (Leads_to row) = nat_eq row target
-is_goto target Ends = false
-is_goto target (Traps kind line) = false
 
 -- the items on each path of a row to a leaf that leads to the row t
 abbrev pub paths_to : ℕ → CodeRow → List (List Item)

@@ -1,5 +1,6 @@
 -- Laws of tightening. Each is a clause of a function of laws.rt, which does nothing.
 use Rattle.std.specs.Prelude.{ℕ, ◌<◌, ◌≤◌, ℤ, Bool, List}
+use Rattle.pc_word.specs.Run.{NeverFaults}
 use Rattle.pc_word.specs.declared.item.Item.{Item}
 use Rattle.pc_machine.specs.MachineCode.{CodeRow, RowCode}
 use Rattle.pc_machine.specs.MachineRun.{machine_run}
@@ -9,7 +10,7 @@ use Rattle.pc_tighten.specs.Compact.{Compact}
 use Rattle.pc_tighten.specs.Moves.{MayMove}
 use Rattle.pc_tighten.specs.Removals.{MayGo, removed, IsGotoAlone, HasNoGotoAlone}
 use Rattle.pc_tighten.specs.Removing.{without_marked, Shrinks, AreMarks}
-use Rattle.pc_tighten.specs.Pace.{NeverFaults, IsNoSlower}
+use Rattle.pc_tighten.specs.Pace.{IsNoSlower}
 use Rattle.pc_tighten.specs.Sizes.{Room, rows_room}
 use Rattle.pc_tighten.specs.Tightened.{Tightens, EachIsReachable}
 

@@ -2,9 +2,9 @@
 use Rattle.std.specs.Prelude.{◌≡◌, ℕ, false, if◌then◌else◌, List, [], ◌∷◌, ◌++◌, slice_set}
 use Rattle.std.specs.List.{AllByRecursion}
 use Rattle.pc_word.specs.declared.item.Item.{Item}
-use Rattle.pc_machine.specs.MachineCode.{CodeRow, RowCode}
+use Rattle.pc_machine.specs.MachineCode.{CodeRow, RowCode, is_goto}
 use Rattle.pc_word.specs.Row.{Then, Either, At_leaf, items_of, tests_of}
-use Rattle.pc_tighten.specs.Compact.{stays, is_goto, paths_to, IsPair}
+use Rattle.pc_tighten.specs.Compact.{stays, paths_to, IsPair}
 
 -- a row that stands below these items
 abbrev pub below : List Item → CodeRow → CodeRow

@@ -2,11 +2,7 @@
 use Rattle.std.specs.Prelude.{◌≢◌, ℕ, Some}
 use Rattle.pc_word.specs.declared.item.End.TheVariants.{Fault}
 use Rattle.pc_word.specs.declared.item.MachineFault.{MachineFault}
-use Rattle.pc_word.specs.Run.{Run, Answers, Agree}
-
--- no fault of the machine ends the run
-abbrev pub NeverFaults : Run → Type 0
-NeverFaults X = (n : ℕ) (fault : MachineFault) → (X n).end ≢ Some (Fault fault)
+use Rattle.pc_word.specs.Run.{Run, Answers, Agree, NeverFaults}
 
 -- the second run agrees with the first, and after as many cycles shows at least what the first shows
 pub record IsNoSlower (X Y : Run) : Type 0 where

@@ -1,5 +1,6 @@
 -- What the tightening of a code gives.
 use Rattle.std.specs.Prelude.{◌≡◌, ℕ, ◌≤◌, ℤ, List, Some, slice_get}
+use Rattle.pc_word.specs.Run.{NeverFaults}
 use Rattle.pc_word.specs.declared.item.Item.{Item}
 use Rattle.pc_machine.specs.MachineCode.{CodeRow, RowCode}
 use Rattle.pc_machine.specs.MachineRun.{machine_run}
@@ -8,7 +9,7 @@ use Rattle.pc_machine.specs.WellFormed.{WellFormed}
 use Rattle.pc_tighten.specs.Compact.{Compact}
 use Rattle.pc_tighten.specs.Moves.{MayMove, moved}
 use Rattle.pc_tighten.specs.Removals.{MayGo, removed, HasNoGotoAlone}
-use Rattle.pc_tighten.specs.Pace.{NeverFaults, IsNoSlower}
+use Rattle.pc_tighten.specs.Pace.{IsNoSlower}
 use Rattle.pc_tighten.specs.Sizes.{Room, rows_room}
 
 -- one code comes from another by moves and removals

@@ -10,7 +10,7 @@ use Rattle.pc_lexer.specs.declared.piece.Shape.{Shape}
 use Rattle.pc_lexer.specs.declared.error.LexError.{LexError}
 use Rattle.pc_lexer.specs.declared.error.LexError.TheVariants as lex
 use Rattle.pc_lexer.specs.Cut.{Cut, Done, Next, Stuck, line_behind, pieces_of}
-use Rattle.pc_lexer.specs.Tokens.{kind_of, names_after, token_before, read, lexed}
+use Rattle.pc_lexer.specs.Tokens.{kind_of, names_after_piece, token_before, read, lexed}
 use Rattle.pc_syntax.specs.Source.{SourceProgram}
 use Rattle.pc_parser.specs.Parse.{IsReadWithin}
 use Rattle.pc_parser.proofs.Top.{one-program}
@@ -93,15 +93,15 @@ few_next true begun token (Ok rest) tokens is more e =
 
 few_of : (kind : Option TokenKind) (begun : ℕ) (names : List (List ℕ)) (before spelling : List ℕ) (shape : Shape) (others : Cut) (tokens : List Token)
     → (read begun names others ≡ Ok tokens → begun + length tokens ≤ most_tokens)
-    → ((rest : List Token) → read (begun + 1) (names_after names spelling shape) others ≡ Ok rest → begun + 1 ≤ most_tokens → begun + 1 + length rest ≤ most_tokens)
+    → ((rest : List Token) → read (begun + 1) (names_after_piece names spelling shape) others ≡ Ok rest → begun + 1 ≤ most_tokens → begun + 1 + length rest ≤ most_tokens)
     → elim kind as (λ _. Result (List Token) LexError) [
       | None ↦ read begun names others
       | Some kind ↦ cond (nat_lt begun most_tokens)
-          (token_before (record { kind = kind; line = line_behind before }) (read (begun + 1) (names_after names spelling shape) others)) (Err lex.TooManyTokens)
+          (token_before (record { kind = kind; line = line_behind before }) (read (begun + 1) (names_after_piece names spelling shape) others)) (Err lex.TooManyTokens)
     ] ≡ Ok tokens → begun + length tokens ≤ most_tokens
 few_of None begun names before spelling shape others tokens same more e = same e
 few_of (Some kind) begun names before spelling shape others tokens same more e =
-    few_next (nat_lt begun most_tokens) begun (record { kind = kind; line = line_behind before }) (read (begun + 1) (names_after names spelling shape) others) tokens refl more e
+    few_next (nat_lt begun most_tokens) begun (record { kind = kind; line = line_behind before }) (read (begun + 1) (names_after_piece names spelling shape) others) tokens refl more e
 
 nothing_read : (none tokens : List Token) → length none ≡ 0 → (r : Result (List Token) LexError) → r ≡ Ok none → r ≡ Ok tokens → length tokens ≡ 0
 nothing_read none tokens z r d e = ap length (sym (ok_same none tokens r d e)) ∙ z
@@ -113,7 +113,7 @@ few_read begun names (Stuck before rest why) tokens small e = absurd cc
 few_read begun names (Next before spelling shape others) tokens small e =
     few_of (kind_of names spelling shape) begun names before spelling shape others tokens
     (few_read begun names others tokens small)
-    (λ rest is room. few_read (begun + 1) (names_after names spelling shape) others rest room is)
+    (λ rest is room. few_read (begun + 1) (names_after_piece names spelling shape) others rest room is)
     e
 
 -- the tokens of a text are at most so many

@@ -21,7 +21,7 @@ use Rattle.pc_window.specs.Steps.{IsProper}
 use Rattle.pc_window.proofs.Moving.{scoped_moved}
 use Rattle.pc_window.proofs.Parameters.{scoped_parameters, independent_parameters}
 use Rattle.pc_moveop.specs.declared.error.MoveError.TheVariants.{Depends}
-use Rattle.pc_moveop.specs.NodeTree.{NodeTree, Item_node, Test_node, Leads_to, Leads_out, nodes_in, tree_of, node_front, node_size, leaf_count, child_at, led_on, node_at}
+use Rattle.pc_moveop.specs.NodeTree.{NodeTree, Item_node, Test_node, Leads_to, Leads_out, nodes_in, whole_tree, node_front, node_size, leaf_count, child_at, led_on, node_at}
 use Rattle.pc_moveop.specs.Taking.{leaf_to}
 use Rattle.pc_moveop.specs.Moving.{KeepsWalk}
 use Rattle.pc_moveop.proofs.Fronts.{SameItems, Same_item, Same_test, Same_leaf, same_counts, same_independent}
@@ -31,7 +31,7 @@ use Rattle.pc_moveop.proofs.Rising.{leaf_front}
 use Rattle.pc_moveop.proofs.Windows.{Keeps, stored_window}
 use Rattle.pc_unify.specs.Deleting.{standing_at, used_below, refusal_of_item, refusal_of_standing, refusal_in_node, node_deleted, child_closed, item_deleted, IsDeleted}
 
-leaf_tree : (t : NodeTree) → tree_of (leaf_to t) ≡ tree_of t
+leaf_tree : (t : NodeTree) → whole_tree (leaf_to t) ≡ whole_tree t
 leaf_tree (Item_node t o x rest) = refl
 leaf_tree (Test_node t o on p q) = refl
 leaf_tree (Leads_to below) = refl
@@ -57,14 +57,14 @@ can_go (More d) rest e = (refl, unused d rest e)
 
 module _ (forms : ℕ → Form) where
   abbrev pub Goes : (ℕ → Bool) → NodeTree → NodeTree → Type 0
-  Goes known t u = Moves forms forms None known (tree_of t) (tree_of u)
+  Goes known t u = Moves forms forms None known (whole_tree t) (whole_tree u)
 
   node_goes : (known : ℕ → Bool) (place : ℕ) (t : NodeTree) → refusal_of_standing (standing_at place t) ≡ None → Goes known t (node_deleted place t)
   node_goes known place (Item_node t o x rest) e =
       elim (nat_eq place 0) as (λ b. refusal_of_standing (if b then Some (record { item = x; rest = rest }) else standing_at (place - 1) rest) ≡ None
       → Goes known (Item_node t o x rest) (if b then rest else Item_node t o x (node_deleted (place - 1) rest))) [
-        | true ↦ λ h. (let k = can_go x (tree_of rest) h in Deletes known t o x (tree_of rest) k.0 k.1 refl refl)
-        | false ↦ λ h. Below known t o x (tree_of rest) (tree_of (node_deleted (place - 1) rest)) tt (node_goes (and_dest known x) (place - 1) rest h)
+        | true ↦ λ h. (let k = can_go x (whole_tree rest) h in Deletes known t o x (whole_tree rest) k.0 k.1 refl refl)
+        | false ↦ λ h. Below known t o x (whole_tree rest) (whole_tree (node_deleted (place - 1) rest)) tt (node_goes (and_dest known x) (place - 1) rest h)
       ] e
   node_goes known place (Test_node t o on p q) e =
       elim (nat_eq place 0) as (λ b. refusal_of_standing
@@ -74,8 +74,8 @@ module _ (forms : ℕ → Form) where
         | true ↦ λ h. absurd (cc)
         | false ↦ (elim (nat_lt (place - 1) (node_size p)) as (λ b. refusal_of_standing (if b then standing_at (place - 1) p else standing_at (place - 1 - node_size p) q) ≡ None
             → Goes known (Test_node t o on p q) (if b then Test_node t o on (node_deleted (place - 1) p) q else Test_node t o on p (node_deleted (place - 1 - node_size p) q))) [
-              | true ↦ λ h. On_yes_side known t o on (tree_of p) (tree_of q) (tree_of (node_deleted (place - 1) p)) tt (node_goes known (place - 1) p h)
-              | false ↦ λ h. On_no_side known t o on (tree_of p) (tree_of q) (tree_of (node_deleted (place - 1 - node_size p) q)) tt (node_goes known (place - 1 - node_size p) q h)
+              | true ↦ λ h. On_yes_side known t o on (whole_tree p) (whole_tree q) (whole_tree (node_deleted (place - 1) p)) tt (node_goes known (place - 1) p h)
+              | false ↦ λ h. On_no_side known t o on (whole_tree p) (whole_tree q) (whole_tree (node_deleted (place - 1 - node_size p) q)) tt (node_goes known (place - 1 - node_size p) q h)
             ])
       ] e
   node_goes known place (Leads_to below) e = absurd (cc)
@@ -83,16 +83,17 @@ module _ (forms : ℕ → Form) where
 
   child_goes : (leaf : ℕ) (f : NodeTree → NodeTree) (next : NodeTree → Option NodeTree) (n : NodeTree) → ((c : NodeTree) (known : ℕ → Bool) → next c ≡ Some n → Goes known c (f c))
       → (t : NodeTree) (known : ℕ → Bool) → led_on (child_at leaf t) next ≡ Some n → Goes known t (child_closed leaf f t)
-  child_goes leaf f next n goes (Item_node t o x rest) known at = Below known t o x (tree_of rest) (tree_of (child_closed leaf f rest)) tt (child_goes leaf f next n goes rest (and_dest known x) at)
+  child_goes leaf f next n goes (Item_node t o x rest) known at =
+    Below known t o x (whole_tree rest) (whole_tree (child_closed leaf f rest)) tt (child_goes leaf f next n goes rest (and_dest known x) at)
   child_goes leaf f next n goes (Test_node t o on p q) known at =
       elim (nat_lt leaf (leaf_count p)) as (λ b. led_on (if b then child_at leaf p else child_at (leaf - leaf_count p) q) next ≡ Some n
       → Goes known (Test_node t o on p q) (if b then Test_node t o on (child_closed leaf f p) q else Test_node t o on p (child_closed (leaf - leaf_count p) f q))) [
-        | true ↦ λ e. On_yes_side known t o on (tree_of p) (tree_of q) (tree_of (child_closed leaf f p)) tt (child_goes leaf f next n goes p known e)
-        | false ↦ λ e. On_no_side known t o on (tree_of p) (tree_of q) (tree_of (child_closed (leaf - leaf_count p) f q)) tt (child_goes (leaf - leaf_count p) f next n goes q known e)
+        | true ↦ λ e. On_yes_side known t o on (whole_tree p) (whole_tree q) (whole_tree (child_closed leaf f p)) tt (child_goes leaf f next n goes p known e)
+        | false ↦ λ e. On_no_side known t o on (whole_tree p) (whole_tree q) (whole_tree (child_closed (leaf - leaf_count p) f q)) tt (child_goes (leaf - leaf_count p) f next n goes q known e)
       ] at
   child_goes leaf f next n goes (Leads_to below) known at =
       elim (nat_eq leaf 0) as (λ b. led_on (if b then Some below else None) next ≡ Some n → Goes known (Leads_to below) (if b then leaf_to (f below) else Leads_to below)) [
-        | true ↦ λ e. subst (λ (u : Tree). Moves forms forms None known (tree_of below) u) (sym (leaf_tree (f below))) (goes below known e)
+        | true ↦ λ e. subst (λ (u : Tree). Moves forms forms None known (whole_tree below) u) (sym (leaf_tree (f below))) (goes below known e)
         | false ↦ λ e. absurd (cc)
       ] at
   child_goes leaf f next n goes (Leads_out out) known at = absurd (cc)
@@ -106,15 +107,15 @@ module _ (forms : ℕ → Form) where
 
 -- ---- names stay below
 
-node_below : (m place : ℕ) (t : NodeTree) → TreeBelow m (tree_of t) → TreeBelow m (tree_of (node_deleted place t))
+node_below : (m place : ℕ) (t : NodeTree) → TreeBelow m (whole_tree t) → TreeBelow m (whole_tree (node_deleted place t))
 node_below m place (Item_node t o x rest) h =
-    elim (nat_eq place 0) as (λ b. TreeBelow m (tree_of (if b then rest else Item_node t o x (node_deleted (place - 1) rest)))) [ true ↦ h.1 | false ↦ (h.0, node_below m (place - 1) rest h.1) ]
+    elim (nat_eq place 0) as (λ b. TreeBelow m (whole_tree (if b then rest else Item_node t o x (node_deleted (place - 1) rest)))) [ true ↦ h.1 | false ↦ (h.0, node_below m (place - 1) rest h.1) ]
 node_below m place (Test_node t o on p q) h =
-    elim (nat_eq place 0) as (λ b. TreeBelow m (tree_of (if b then Test_node t o on p q
+    elim (nat_eq place 0) as (λ b. TreeBelow m (whole_tree (if b then Test_node t o on p q
     else (if nat_lt (place - 1) (node_size p) then Test_node t o on (node_deleted (place - 1) p) q else Test_node t o on p (node_deleted (place - 1 - node_size p) q))))) [
       | true ↦ h
       | false ↦ (elim (nat_lt (place - 1) (node_size p)) as
-          (λ b. TreeBelow m (tree_of (if b then Test_node t o on (node_deleted (place - 1) p) q else Test_node t o on p (node_deleted (place - 1 - node_size p) q)))) [
+          (λ b. TreeBelow m (whole_tree (if b then Test_node t o on (node_deleted (place - 1) p) q else Test_node t o on p (node_deleted (place - 1 - node_size p) q)))) [
             | true ↦ (h.0, node_below m (place - 1) p h.1, h.2)
             | false ↦ (h.0, h.1, node_below m (place - 1 - node_size p) q h.2)
           ])
@@ -122,22 +123,22 @@ node_below m place (Test_node t o on p q) h =
 node_below m place (Leads_to below) h = h
 node_below m place (Leads_out out) h = h
 
-child_below : (m leaf : ℕ) (f : NodeTree → NodeTree) → ((c : NodeTree) → TreeBelow m (tree_of c) → TreeBelow m (tree_of (f c))) → (t : NodeTree) → TreeBelow m (tree_of t)
-    → TreeBelow m (tree_of (child_closed leaf f t))
+child_below : (m leaf : ℕ) (f : NodeTree → NodeTree) → ((c : NodeTree) → TreeBelow m (whole_tree c) → TreeBelow m (whole_tree (f c))) → (t : NodeTree) → TreeBelow m (whole_tree t)
+    → TreeBelow m (whole_tree (child_closed leaf f t))
 child_below m leaf f keeps (Item_node t o x rest) h = (h.0, child_below m leaf f keeps rest h.1)
 child_below m leaf f keeps (Test_node t o on p q) h =
-    elim (nat_lt leaf (leaf_count p)) as (λ b. TreeBelow m (tree_of (if b then Test_node t o on (child_closed leaf f p) q else Test_node t o on p (child_closed (leaf - leaf_count p) f q)))) [
+    elim (nat_lt leaf (leaf_count p)) as (λ b. TreeBelow m (whole_tree (if b then Test_node t o on (child_closed leaf f p) q else Test_node t o on p (child_closed (leaf - leaf_count p) f q)))) [
       | true ↦ (h.0, child_below m leaf f keeps p h.1, h.2)
       | false ↦ (h.0, h.1, child_below m (leaf - leaf_count p) f keeps q h.2)
     ]
 child_below m leaf f keeps (Leads_to below) h =
-    elim (nat_eq leaf 0) as (λ b. TreeBelow m (tree_of (if b then leaf_to (f below) else Leads_to below))) [
+    elim (nat_eq leaf 0) as (λ b. TreeBelow m (whole_tree (if b then leaf_to (f below) else Leads_to below))) [
       | true ↦ subst (TreeBelow m) (sym (leaf_tree (f below))) (keeps below h)
       | false ↦ h
     ]
 child_below m leaf f keeps (Leads_out out) h = h
 
-path_below : (m : ℕ) (path : List ℕ) (place : ℕ) (t : NodeTree) → TreeBelow m (tree_of t) → TreeBelow m (tree_of (item_deleted path place t))
+path_below : (m : ℕ) (path : List ℕ) (place : ℕ) (t : NodeTree) → TreeBelow m (whole_tree t) → TreeBelow m (whole_tree (item_deleted path place t))
 path_below m [] place t h = node_below m place t h
 path_below m (leaf ∷ path) place t h = child_below m leaf (item_deleted path place) (λ c k. path_below m path place c k) t h
 
@@ -216,7 +217,7 @@ no_more place (Test_node t o on p q) =
                 (node_front (node_deleted (place - 1 - node_size p) q)) (as_many (node_front p)) (no_more (place - 1 - node_size p) q)
           ])
     ]
-no_more place (Leads_to below) = as_many (Unfinished (tree_of below))
+no_more place (Leads_to below) = as_many (Unfinished (whole_tree below))
 no_more place (Leads_out out) = as_many (Unfinished out)
 
 same_front : (t : NodeTree) → SameItems (node_front t) (node_front t)
@@ -234,8 +235,8 @@ front_closed leaf f (Test_node t o on p q) =
       | false ↦ Same_test t o on _ _ _ _ (same_front p) (front_closed (leaf - leaf_count p) f q)
     ]
 front_closed leaf f (Leads_to below) =
-    elim (nat_eq leaf 0) as (λ b. SameItems (Unfinished (tree_of below)) (node_front (if b then leaf_to (f below) else Leads_to below))) [
-      | true ↦ subst (λ (g : Front). SameItems (Unfinished (tree_of below)) g) (sym (leaf_front (f below))) (Same_leaf _ _)
+    elim (nat_eq leaf 0) as (λ b. SameItems (Unfinished (whole_tree below)) (node_front (if b then leaf_to (f below) else Leads_to below))) [
+      | true ↦ subst (λ (g : Front). SameItems (Unfinished (whole_tree below)) g) (sym (leaf_front (f below))) (Same_leaf _ _)
       | false ↦ Same_leaf _ _
     ]
 front_closed leaf f (Leads_out out) = Same_leaf _ _
@@ -272,9 +273,9 @@ deletion_keeps w v path place deleted legal proper = by_node (node_at path (node
         let known = uses (whole (node_front t)) in
         let u = item_deleted path place t in
         let kept : IsProper old = subst (λ (x : Window). IsProper x) (sym (stored_window w)) proper in
-        let scoped : Scoped known (tree_of t) = subst (Scoped known) (whole_front t) kept.window.scoped in
-        let moves : Moves forms forms None known (tree_of t) (tree_of u) = path_goes forms path place n t known at e in
-        let scoped' : Scoped known (whole (node_front u)) = subst (Scoped known) (sym (whole_front u)) (scoped_moved forms forms None known (tree_of t) (tree_of u) moves scoped) in
+        let scoped : Scoped known (whole_tree t) = subst (Scoped known) (whole_front t) kept.window.scoped in
+        let moves : Moves forms forms None known (whole_tree t) (whole_tree u) = path_goes forms path place n t known at e in
+        let scoped' : Scoped known (whole (node_front u)) = subst (Scoped known) (sym (whole_front u)) (scoped_moved forms forms None known (whole_tree t) (whole_tree u) moves scoped) in
         let front = front_kept forms known w.limits path place t kept.window.independent kept.window.within in
         let new : IsProper (node_window u (supply_in w.names) w.limits w.inside) = record {
           window = record {
@@ -287,13 +288,13 @@ deletion_keeps w v path place deleted legal proper = by_node (node_at path (node
               (path_below (length w.names.forms) path place t (subst (TreeBelow (length w.names.forms)) (whole_front t) kept.names_below));
           forms_below = kept.forms_below;
         } in
-        let walk : KeepsWalk forms (tree_of t) forms (tree_of u) = walk_kept forms forms None (tree_of t) (tree_of u)
-        (subst (λ (x : Tree). Moves forms forms None (uses x) (tree_of t) (tree_of u)) (whole_front t) moves) tt
-        (subst (λ (x : Tree). Scoped (uses x) (tree_of t)) (whole_front t) scoped) in
-        let to : tree_of u ≡ tree_in v.tree = ap tree_of (sym deleted.tree) ∙ tree_same v.tree in
+        let walk : KeepsWalk forms (whole_tree t) forms (whole_tree u) = walk_kept forms forms None (whole_tree t) (whole_tree u)
+        (subst (λ (x : Tree). Moves forms forms None (uses x) (whole_tree t) (whole_tree u)) (whole_front t) moves) tt
+        (subst (λ (x : Tree). Scoped (uses x) (whole_tree t)) (whole_front t) scoped) in
+        let to : whole_tree u ≡ tree_in v.tree = ap whole_tree (sym deleted.tree) ∙ tree_same v.tree in
         record {
           proper = subst (λ (x : Window). IsProper x)
               ((λ i. node_window (sym deleted.tree i) (supply_in (sym deleted.names i)) (sym deleted.bounds.limits i) (sym deleted.bounds.inside i)) ∙ stored_window v) new;
           walk = subst (λ (names : NameTable). KeepsWalk forms (tree_in w.tree) (forms_in names.forms) (tree_in v.tree)) (sym deleted.names)
-              (subst (λ (x : Tree). KeepsWalk forms x forms (tree_in v.tree)) (tree_same w.tree) (subst (λ (x : Tree). KeepsWalk forms (tree_of t) forms x) to walk));
+              (subst (λ (x : Tree). KeepsWalk forms x forms (tree_in v.tree)) (tree_same w.tree) (subst (λ (x : Tree). KeepsWalk forms (whole_tree t) forms x) to walk));
         }

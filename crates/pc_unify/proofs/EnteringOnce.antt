@@ -11,7 +11,7 @@ use Rattle.pc_window.specs.Names.{IsNew, ReadsKnown, Unwritten, NotWritten}
 use Rattle.pc_window.specs.Jump.{GivesForm, Rises, EntersFront, Lands_once, Behind_item, On_yes, On_no}
 use Rattle.pc_window.specs.Rename.{with_dest}
 use Rattle.pc_window.proofs.Readiness.{alike, dest_named, not_written_named}
-use Rattle.pc_moveop.specs.NodeTree.{NodeTree, Item_node, Test_node, Leads_to, tree_of, node_front, leaf_count}
+use Rattle.pc_moveop.specs.NodeTree.{NodeTree, Item_node, Test_node, Leads_to, whole_tree, node_front, leaf_count}
 use Rattle.pc_moveop.specs.Climbing.{Passed_item, Mover, passing, mover_in, mover_at, crosses_test}
 use Rattle.pc_moveop.specs.Taking.{Coming, node_without, leaf_to, leaf_without}
 use Rattle.pc_moveop.proofs.Legal.{ClearWay, clear_alike}
@@ -26,7 +26,7 @@ module _ (forms forms' : ℕ → Form) (base : ℕ → Bool) (n : ℕ) where
   EnterOnce None other from to = Unit {0}
   EnterOnce (Some m) None from to = Unit {0}
   EnterOnce (Some m) (Some k) from to = ClearWay forms m.item m.way → ClearWay forms k.item k.way → with_dest n k.item ≡ with_dest n m.item
-      → ReadsKnown base (with_dest n m.item) → IsNew base (dest_of (with_dest n m.item)) → Unwritten n (tree_of from)
+      → ReadsKnown base (with_dest n m.item) → IsNew base (dest_of (with_dest n m.item)) → Unwritten n (whole_tree from)
       → GivesForm forms forms' (with_dest n m.item) (dest_of (with_dest n m.item))
       → EntersFront base forms forms' (dest_of (with_dest n m.item)) (Some (with_dest n m.item)) (node_front from) (node_front (to (joint_of n m)))
 
@@ -47,7 +47,7 @@ module _ (forms forms' : ℕ → Form) (base : ℕ → Bool) (n : ℕ) where
   once_yes t o on p q to (Some m) None h = tt
   once_yes t o on p q to (Some m) (Some k) h = λ clear clear' same reads isnew free gives.
       let z = with_dest n m.item in
-      let apart = subst (λ (u : Tree). NotWritten (dest_of z) u) (sym (whole_front q)) (not_written_named n m.item (tree_of q) free.1) in
+      let apart = subst (λ (u : Tree). NotWritten (dest_of z) u) (sym (whole_front q)) (not_written_named n m.item (whole_tree q) free.1) in
       On_yes t o on (Some z) (node_front p) (node_front q) (node_front (to (joint_of n m))) apart (h clear clear' same reads isnew free.0 gives)
 
   once_no : (t o : ℕ) (on : Operand) (p q : NodeTree) (to : Coming → NodeTree) (found other : Option Mover) → EnterOnce found other q to
@@ -56,14 +56,14 @@ module _ (forms forms' : ℕ → Form) (base : ℕ → Bool) (n : ℕ) where
   once_no t o on p q to (Some m) None h = tt
   once_no t o on p q to (Some m) (Some k) h = λ clear clear' same reads isnew free gives.
       let z = with_dest n m.item in
-      let apart = subst (λ (u : Tree). NotWritten (dest_of z) u) (sym (whole_front p)) (not_written_named n m.item (tree_of p) free.0) in
+      let apart = subst (λ (u : Tree). NotWritten (dest_of z) u) (sym (whole_front p)) (not_written_named n m.item (whole_tree p) free.0) in
       On_no t o on (Some z) (node_front p) (node_front q) (node_front (to (joint_of n m))) apart (h clear clear' same reads isnew free.1 gives)
 
   module _ (yes_place no_place : ℕ) where
     -- right below the test
     once_here : (t o : ℕ) (on : Operand) (below below' : NodeTree) (found other : Option Mover)
-        → RisesNamed forms n (tree_of below) (λ d. tree_of (node_without d yes_place below)) found
-        → RisesNamed forms n (tree_of below') (λ d. tree_of (node_without d no_place below')) other
+        → RisesNamed forms n (whole_tree below) (λ d. whole_tree (node_without d yes_place below)) found
+        → RisesNamed forms n (whole_tree below') (λ d. whole_tree (node_without d no_place below')) other
         → EnterOnce found other (Test_node t o on (Leads_to below) (Leads_to below'))
         (λ c. Item_node c.tag c.origin c.item (Test_node t o on (leaf_to (node_without (dest_of c.item) yes_place below)) (leaf_to (node_without (dest_of c.item) no_place below'))))
     once_here t o on below below' None other h h' = tt
@@ -72,13 +72,13 @@ module _ (forms forms' : ℕ → Form) (base : ℕ → Bool) (n : ℕ) where
         let z = with_dest n m.item in
         let left = node_without (dest_of z) yes_place below in
         let left' = node_without (dest_of z) no_place below' in
-        let rises' : Rises forms k.tag k.origin k.item z (crosses_test k) (tree_of below') (tree_of left') =
-        subst (λ (x : Item). Rises forms k.tag k.origin k.item x (crosses_test k) (tree_of below') (tree_of (node_without (dest_of x) no_place below'))) same (h' clear' free.1) in
-        subst (λ (f : Front). EntersFront base forms forms' (dest_of z) (Some z) (Split t o on (Unfinished (tree_of below)) (Unfinished (tree_of below')))
+        let rises' : Rises forms k.tag k.origin k.item z (crosses_test k) (whole_tree below') (whole_tree left') =
+        subst (λ (x : Item). Rises forms k.tag k.origin k.item x (crosses_test k) (whole_tree below') (whole_tree (node_without (dest_of x) no_place below'))) same (h' clear' free.1) in
+        subst (λ (f : Front). EntersFront base forms forms' (dest_of z) (Some z) (Split t o on (Unfinished (whole_tree below)) (Unfinished (whole_tree below')))
         (Issued m.tag m.origin z (Split t o on f (node_front (leaf_to left'))))) (sym (leaf_front left))
-        (subst (λ (f : Front). EntersFront base forms forms' (dest_of z) (Some z) (Split t o on (Unfinished (tree_of below)) (Unfinished (tree_of below')))
-        (Issued m.tag m.origin z (Split t o on (Unfinished (tree_of left)) f))) (sym (leaf_front left'))
-        (Lands_once t o on m.tag m.origin k.tag k.origin n m.item k.item (crosses_test m) (crosses_test k) (tree_of below) (tree_of below') (tree_of left) (tree_of left')
+        (subst (λ (f : Front). EntersFront base forms forms' (dest_of z) (Some z) (Split t o on (Unfinished (whole_tree below)) (Unfinished (whole_tree below')))
+        (Issued m.tag m.origin z (Split t o on (Unfinished (whole_tree left)) f))) (sym (leaf_front left'))
+        (Lands_once t o on m.tag m.origin k.tag k.origin n m.item k.item (crosses_test m) (crosses_test k) (whole_tree below) (whole_tree below') (whole_tree left) (whole_tree left')
         same reads isnew refl gives (h clear free.0) rises'))
 
     -- where these two leaves are

@@ -23,7 +23,7 @@ use Rattle.pc_window.proofs.Moving.{scoped_moved}
 use Rattle.pc_window.proofs.Parameters.{scoped_parameters, independent_parameters}
 use Rattle.pc_window.proofs.Proper.{given_next, proper_fresh}
 use Rattle.pc_window.proofs.Readiness.{alike, dest_named}
-use Rattle.pc_moveop.specs.NodeTree.{NodeTree, nodes_in, tree_of, node_front, node_at, with_node}
+use Rattle.pc_moveop.specs.NodeTree.{NodeTree, nodes_in, whole_tree, node_front, node_at, with_node}
 use Rattle.pc_moveop.specs.Climbing.{Mover, mover_at}
 use Rattle.pc_moveop.specs.Taking.{Coming}
 use Rattle.pc_moveop.specs.Refusing.{refusal_of_way, no_room_at, mover_behind, mover_of, RefusesFound, RefusesMover, IsWhyNot}
@@ -68,7 +68,7 @@ module _ (names : Supply) (new : Option ℕ) (comes : Option Item) (limits : Lim
       let after = given_supply names new comes in
       let stays = stays_new names new comes known (node_front n) (node_front n') next enters forms_below (subst (TreeBelow names.next) (sym (whole_front n)) h.below) in
       record {
-        moves = subst (λ (u : Tree). Moves names.forms after.forms new known u (tree_of n')) (whole_front n)
+        moves = subst (λ (u : Tree). Moves names.forms after.forms new known u (whole_tree n')) (whole_front n)
             (subst (λ (u : Tree). Moves names.forms after.forms new known (whole (node_front n)) u) (whole_front n') (Into_node known comes (node_front n) (node_front n') enters));
         below = subst (TreeBelow after.next) (whole_front n') stays.0;
         forms_below = stays.1;
@@ -110,7 +110,7 @@ module _ (names : Supply) (new : Option ℕ) (comes : Option Item) (limits : Lim
       let goes : Goes names after new known t t' = node_goes names after new next (given_next names new comes) path n n' t known at
       (λ known' s. node_moves next proper.forms_below known' s (enters known' s)) stands in
       let scoped' : Scoped known (whole (node_front t')) = subst (Scoped known) (sym (whole_front t'))
-      (scoped_moved names.forms after.forms new known (tree_of t) (tree_of t') goes.moves stands.scoped) in
+      (scoped_moved names.forms after.forms new known (whole_tree t) (whole_tree t') goes.moves stands.scoped) in
       let front = front_kept path at proper.window room (same_forms names new comes known fresh.unknown)
       (λ e. enters known (subst (λ (u : NodeTree). StandsNew names known u) (here path e at) stands)) in
       record {
@@ -124,9 +124,9 @@ module _ (names : Supply) (new : Option ℕ) (comes : Option Item) (limits : Lim
           names_below = subst (TreeBelow after.next) (sym (whole_front t')) goes.below;
           forms_below = goes.forms_below;
         };
-        moves = subst (λ (u : Tree). Moves names.forms after.forms new (uses u) (tree_of t) (tree_of t')) (whole_front t) goes.moves;
+        moves = subst (λ (u : Tree). Moves names.forms after.forms new (uses u) (whole_tree t) (whole_tree t')) (whole_front t) goes.moves;
         is_new = subst (λ (u : Tree). IsNew (uses u) new) (whole_front t) (new_name new next fresh.unknown);
-        scoped = subst (λ (u : Tree). Scoped (uses u) (tree_of t)) (whole_front t) stands.scoped;
+        scoped = subst (λ (u : Tree). Scoped (uses u) (whole_tree t)) (whole_front t) stands.scoped;
       }
     where
       here : (path : List ℕ) → path ≡ [] → node_at path t ≡ Some n → t ≡ n
@@ -182,7 +182,7 @@ joined_keeps w v parent leaf yes_place no_place h why proper =
     let new : Option ℕ = dest_of z in
     let after = given_supply before new (Some z) in
     let enters = λ (known : ℕ → Bool) (s : StandsNew before known n). (
-    let facts = (subst (IsKnownMover before.forms known (tree_of n)) found (known_at before.forms known leaf yes_place n)) yes_free.0 s.scoped in
+    let facts = (subst (IsKnownMover before.forms known (whole_tree n)) found (known_at before.forms known leaf yes_place n)) yes_free.0 s.scoped in
     let to = λ (c : Coming). joined c leaf yes_place no_place n in
     let once : EnterOnce before.forms after.forms known next (Some m) (Some k) n to =
     subst (λ (o : Option Mover). EnterOnce before.forms after.forms known next (Some m) o n to) twins.is_no
@@ -194,11 +194,11 @@ joined_keeps w v parent leaf yes_place no_place h why proper =
     let kept = window_moves before new (Some z) w.limits w.inside t n n' parent (dest_named next m.item (IsNext next) refl tt) h.changes.at
     (subst (λ (u : Window). IsProper u) (sym (stored_window w)) proper)
     (room_at parent w.limits m.item z (node_front t) (alike next m.item).memory yes_free.1) enters in
-    let walk = walk_kept before.forms after.forms new (tree_of t) (tree_of (with_node parent n' t)) kept.moves kept.is_new kept.scoped in
-    let to : tree_of (with_node parent n' t) ≡ tree_in v.tree = ap tree_of (sym h.changes.tree) ∙ tree_same v.tree in
+    let walk = walk_kept before.forms after.forms new (whole_tree t) (whole_tree (with_node parent n' t)) kept.moves kept.is_new kept.scoped in
+    let to : whole_tree (with_node parent n' t) ≡ tree_in v.tree = ap whole_tree (sym h.changes.tree) ∙ tree_same v.tree in
     record {
       proper = subst (λ (u : Window). IsProper u) ((λ i. node_window (sym h.changes.tree i) (sym h.names i) (sym h.bounds.limits i) (sym h.bounds.inside i)) ∙ stored_window v) kept.proper;
       walk = subst (λ (f : ℕ → Form). KeepsWalk before.forms (tree_in w.tree) f (tree_in v.tree)) (sym (ap (λ (s : Supply). s.forms) h.names))
           (subst (λ (u : Tree). KeepsWalk before.forms u after.forms (tree_in v.tree)) (tree_same w.tree)
-          (subst (λ (u : Tree). KeepsWalk before.forms (tree_of t) after.forms u) to walk));
+          (subst (λ (u : Tree). KeepsWalk before.forms (whole_tree t) after.forms u) to walk));
     }

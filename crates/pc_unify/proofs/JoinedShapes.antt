@@ -8,7 +8,7 @@ use Rattle.pc_window.specs.declared.window.Window.{Window as StoredWindow}
 use Rattle.pc_window.specs.StoredWindow.{tree_in}
 use Rattle.pc_window.specs.Tree.{Tree, Pending, Undecided, Exit, Stop_exit, Trap_exit, tree_size}
 use Rattle.pc_window.specs.Rename.{mapped, renamed}
-use Rattle.pc_moveop.specs.NodeTree.{NodeTree, Item_node, Test_node, Leads_to, Leads_out, nodes_in, tree_of, node_size}
+use Rattle.pc_moveop.specs.NodeTree.{NodeTree, Item_node, Test_node, Leads_to, Leads_out, nodes_in, whole_tree, node_size}
 use Rattle.pc_moveop.specs.NodeTree.{leaf_count, child_at, led_on, node_at, child_changed, with_node, HasRoot, NoEmptyNode}
 use Rattle.pc_moveop.specs.Climbing.{Passed, Passed_item, Passed_test, Mover, passing, mover_in, mover_at}
 use Rattle.pc_moveop.specs.Taking.{nodes_mapped, node_without, leaf_to, leaf_without, Coming}
@@ -21,7 +21,7 @@ use Rattle.pc_unify.proofs.TwoSides.{Sides, Here, Behind, Within_yes, Within_no,
 
 -- one item or test less, and no node is empty where none was
 pub record Shrinks (from to : NodeTree) : Type 0 where
-  pub size : suc (tree_size (tree_of to)) ≡ tree_size (tree_of from)
+  pub size : suc (tree_size (whole_tree to)) ≡ tree_size (whole_tree from)
   pub nodes : NoEmptyNode from → NoEmptyNode to
 
 below_item : (t o : ℕ) (y : Item) (rest rest' : NodeTree) → Shrinks rest rest' → Shrinks (Item_node t o y rest) (Item_node t o y rest')
@@ -40,7 +40,7 @@ tree_mapped_size f (Exit region tag homes) = refl
 tree_mapped_size f Stop_exit = refl
 tree_mapped_size f (Trap_exit kind line) = refl
 
-mapped_size : (f : Operand → Operand) (t : NodeTree) → tree_size (tree_of (nodes_mapped f t)) ≡ tree_size (tree_of t)
+mapped_size : (f : Operand → Operand) (t : NodeTree) → tree_size (whole_tree (nodes_mapped f t)) ≡ tree_size (whole_tree t)
 mapped_size f (Item_node t o x rest) = ap suc (mapped_size f rest)
 mapped_size f (Test_node t o on p q) = λ i. suc (mapped_size f p i + mapped_size f q i)
 mapped_size f (Leads_to below) = mapped_size f below
@@ -175,27 +175,27 @@ module _ (c : Coming) (yes_place no_place : ℕ) where
 -- ---- the whole window
 
 child_less : (leaf : ℕ) (f : NodeTree → NodeTree) (next : NodeTree → Option NodeTree) (n : NodeTree)
-    → ((c : NodeTree) → next c ≡ Some n → suc (tree_size (tree_of (f c))) ≡ tree_size (tree_of c)) → (t : NodeTree) → led_on (child_at leaf t) next ≡ Some n
-    → suc (tree_size (tree_of (child_changed leaf f t))) ≡ tree_size (tree_of t)
+    → ((c : NodeTree) → next c ≡ Some n → suc (tree_size (whole_tree (f c))) ≡ tree_size (whole_tree c)) → (t : NodeTree) → led_on (child_at leaf t) next ≡ Some n
+    → suc (tree_size (whole_tree (child_changed leaf f t))) ≡ tree_size (whole_tree t)
 child_less leaf f next n less (Item_node t o x rest) at = ap suc (child_less leaf f next n less rest at)
 child_less leaf f next n less (Test_node t o on p q) at =
     elim (nat_lt leaf (leaf_count p)) as (λ b. led_on (if b then child_at leaf p else child_at (leaf - leaf_count p) q) next ≡ Some n
-    → suc (tree_size (tree_of (if b then Test_node t o on (child_changed leaf f p) q else Test_node t o on p (child_changed (leaf - leaf_count p) f q))))
-    ≡ suc (tree_size (tree_of p) + tree_size (tree_of q))) [
+    → suc (tree_size (whole_tree (if b then Test_node t o on (child_changed leaf f p) q else Test_node t o on p (child_changed (leaf - leaf_count p) f q))))
+    ≡ suc (tree_size (whole_tree p) + tree_size (whole_tree q))) [
       | true ↦ λ e. (let h = child_less leaf f next n less p e in omega (arith, h))
       | false ↦ λ e. (let h = child_less (leaf - leaf_count p) f next n less q e in omega (arith, h))
     ] at
 child_less leaf f next n less (Leads_to below) at =
     elim (nat_eq leaf 0) as (λ b. led_on (if b then Some below else None) next ≡ Some n
-    → suc (tree_size (tree_of (if b then Leads_to (f below) else Leads_to below))) ≡ tree_size (tree_of below)) [
+    → suc (tree_size (whole_tree (if b then Leads_to (f below) else Leads_to below))) ≡ tree_size (whole_tree below)) [
       | true ↦ λ e. less below e
       | false ↦ λ e. absurd (cc)
     ] at
 child_less leaf f next n less (Leads_out out) at = absurd (cc)
 
-node_less : (path : List ℕ) (n n' t : NodeTree) → node_at path t ≡ Some n → suc (tree_size (tree_of n')) ≡ tree_size (tree_of n)
-    → suc (tree_size (tree_of (with_node path n' t))) ≡ tree_size (tree_of t)
-node_less [] n n' t at less = let here : n ≡ t = cc in less ∙ ap (λ (u : NodeTree). tree_size (tree_of u)) here
+node_less : (path : List ℕ) (n n' t : NodeTree) → node_at path t ≡ Some n → suc (tree_size (whole_tree n')) ≡ tree_size (whole_tree n)
+    → suc (tree_size (whole_tree (with_node path n' t))) ≡ tree_size (whole_tree t)
+node_less [] n n' t at less = let here : n ≡ t = cc in less ∙ ap (λ (u : NodeTree). tree_size (whole_tree u)) here
 node_less (leaf ∷ path) n n' t at less = child_less leaf (with_node path n') (node_at path) n (λ c e. node_less path n n' c e less) t at
 
 module _ (w v : StoredWindow) (parent : List ℕ) (leaf yes_place no_place : ℕ) (h : HaveJoined w v parent leaf yes_place no_place) where
@@ -211,7 +211,7 @@ module _ (w v : StoredWindow) (parent : List ℕ) (leaf yes_place no_place : ℕ
   pub joined_size : suc (tree_size (tree_in v.tree)) ≡ tree_size (tree_in w.tree)
   unfolding coming
   joined_size =
-      ap (λ (u : Tree). suc (tree_size u)) (sym (tree_same v.tree)) ∙ ap (λ (u : NodeTree). suc (tree_size (tree_of u))) h.changes.tree
+      ap (λ (u : Tree). suc (tree_size u)) (sym (tree_same v.tree)) ∙ ap (λ (u : NodeTree). suc (tree_size (whole_tree u))) h.changes.tree
       ∙ node_less parent h.changes.node (joined coming leaf yes_place no_place h.changes.node) (nodes_in w.tree) h.changes.at shrinks.size ∙ ap tree_size (tree_same w.tree)
 
   pub joined_nodes : NoEmptyNode (nodes_in w.tree) → NoEmptyNode (nodes_in v.tree)

@@ -7,17 +7,17 @@ use Rattle.pc_window.specs.Tree.{Tree}
 use Rattle.pc_window.specs.Names.{uses}
 use Rattle.pc_moveop.specs.declared.error.MoveError.{MoveError}
 use Rattle.pc_moveop.specs.declared.error.MoveError.TheVariants.{NotThere, Depends}
-use Rattle.pc_moveop.specs.NodeTree.{NodeTree, Item_node, Test_node, Leads_to, Leads_out, nodes_in, tree_of, node_size, leaf_count, node_at}
+use Rattle.pc_moveop.specs.NodeTree.{NodeTree, Item_node, Test_node, Leads_to, Leads_out, nodes_in, whole_tree, node_size, leaf_count, node_at}
 use Rattle.pc_moveop.specs.Taking.{leaf_to}
 use Rattle.pc_moveop.specs.Moving.{SameBounds}
 
 -- an item, and what stands below it
-pub record Standing : Type 0 where
+pub record StandingItem : Type 0 where
   pub item : Item
   pub rest : NodeTree
 
 -- the item at a preorder place of a node
-abbrev pub standing_at : ℕ → NodeTree → Option Standing
+abbrev pub standing_at : ℕ → NodeTree → Option StandingItem
 standing_at place (Item_node tag origin item rest) = if nat_eq place 0 then Some (record { item = item; rest = rest }) else standing_at (place - 1) rest
 standing_at place (Test_node tag origin on on_yes on_no) =
     if nat_eq place 0 then None
@@ -41,8 +41,8 @@ refusal_of_item (Read dest) rest = Some NotThere
 refusal_of_item (More dest) rest = used_below dest rest
 
 -- the same where there may be no item
-abbrev pub refusal_of_standing : Option Standing → Option MoveError
-refusal_of_standing (Some it) = refusal_of_item it.item (tree_of it.rest)
+abbrev pub refusal_of_standing : Option StandingItem → Option MoveError
+refusal_of_standing (Some it) = refusal_of_item it.item (whole_tree it.rest)
 refusal_of_standing None = Some NotThere
 
 -- the same where there may be no node

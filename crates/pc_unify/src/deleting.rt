@@ -7,7 +7,7 @@ ghost use Rattle.pc_window.specs.Tree.{tree_size};
 ghost use Rattle.pc_window.specs.Names.{uses, homes_use};
 ghost use Rattle.pc_window.specs.Steps.{IsProper};
 ghost use Rattle.pc_window.specs.StoredWindow.{tree_in, window_in};
-ghost use Rattle.pc_moveop.specs.NodeTree.{nodes_in, tree_of};
+ghost use Rattle.pc_moveop.specs.NodeTree.{nodes_in, whole_tree};
 ghost use Rattle.pc_moveop.specs.Moving.{WalkKept};
 ghost use Rattle.pc_moveop.specs.declared.error.MoveError.TheVariants.{Depends};
 ghost use Rattle.pc_unify.specs.Deleting.{refusal_of_item, closed, refusal_of_standing, standing_at, IsWhyNotDelete, node_deleted, child_closed, item_deleted, IsDeleted};
@@ -76,7 +76,7 @@ fn homes_use(homes: &[Home], name: u32) -> bool
 
 /// Whether a name is used in a tree, and not defined above.
 fn uses(tree: &WindowTree, name: u32) -> bool
-    ensures { result ≡ uses (tree_of (nodes_in tree.now)) name }
+    ensures { result ≡ uses (whole_tree (nodes_in tree.now)) name }
 {
     match tree {
         WindowTree::Step { item, rest, .. } => {
@@ -106,7 +106,7 @@ fn uses(tree: &WindowTree, name: u32) -> bool
 
 /// Why a name may not go that is used below.
 fn used_below(name: u32, rest: &WindowTree) -> Option<MoveError>
-    ensures { result ≡ (if uses (tree_of (nodes_in rest.now)) name then Some (Depends name) else None) }
+    ensures { result ≡ (if uses (whole_tree (nodes_in rest.now)) name then Some (Depends name) else None) }
 {
     if uses(rest, name) {
         return Some(MoveError::Depends { name });
@@ -116,7 +116,7 @@ fn used_below(name: u32, rest: &WindowTree) -> Option<MoveError>
 
 /// Why an item may not be deleted.
 fn refusal_of_item(item: Item, rest: &WindowTree) -> Option<MoveError>
-    ensures { result ≡ refusal_of_item item (tree_of (nodes_in rest.now)) }
+    ensures { result ≡ refusal_of_item item (whole_tree (nodes_in rest.now)) }
 {
     match item {
         Item::Bin { dest, .. } => used_below(dest, rest),

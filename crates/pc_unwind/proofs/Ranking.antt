@@ -8,7 +8,7 @@ use Rattle.std.specs.List.{IsDistinct, AllByRecursion, list_any}
 use Rattle.std.proofs.lemmas.Map.Steps.{length-le_from_distinct_below}
 use Rattle.pc_table.specs.Table.{TableTree, Does, Asks, Next, Stops_here, Traps_here, TableRegion, Table, tree_of, region_tree}
 use Rattle.pc_table.specs.TableKeeps.{TableKeeps, TreeIsThere, ComesUntested, By_one, By_more, untested}
-use Rattle.pc_unwind.specs.models.Ranks.{one_more, untested_run, rank}
+use Rattle.pc_unwind.specs.models.Ranks.{rank_above, untested_run, rank}
 
 -- a region that follows is in the table
 untested_there : (arrays regions next : ℕ) (tree : TableTree) → TreeIsThere arrays regions tree → untested tree ≡ Some next → next < regions
@@ -44,7 +44,7 @@ module _ (table : Table) (keeps : TableKeeps table) where
   path_length zero region = refl
   path_length (suc most) region = by_next (untested (region_tree table region)) (λ r. path_length most r)
     where
-      by_next : (next : Option ℕ) → ((r : ℕ) → length (path most r) ≡ untested_run table most r) → length (path_by next (path most)) ≡ one_more next (untested_run table most)
+      by_next : (next : Option ℕ) → ((r : ℕ) → length (path most r) ≡ untested_run table most r) → length (path_by next (path most)) ≡ rank_above next (untested_run table most)
       by_next None more = refl
       by_next (Some r) more = ap suc (more r)
 
@@ -102,8 +102,8 @@ module _ (table : Table) (keeps : TableKeeps table) where
   settled zero region less = absurd (omega arith)
   settled (suc most) region less = by_next (untested (region_tree table region)) less (λ r. settled most r)
     where
-      by_next : (next : Option ℕ) → one_more next (untested_run table most) < suc most → ((r : ℕ) → untested_run table most r < most → untested_run table (suc most) r ≡ untested_run table most r)
-          → one_more next (untested_run table (suc most)) ≡ one_more next (untested_run table most)
+      by_next : (next : Option ℕ) → rank_above next (untested_run table most) < suc most → ((r : ℕ) → untested_run table most r < most → untested_run table (suc most) r ≡ untested_run table most r)
+          → rank_above next (untested_run table (suc most)) ≡ rank_above next (untested_run table most)
       by_next None le more = refl
       by_next (Some r) le more = ap suc (more r (omega arith))
 
@@ -113,7 +113,7 @@ module _ (table : Table) (keeps : TableKeeps table) where
   rank_falls region next there is =
       let n = length table.regions in
       let same = settled n region (short n region there) in
-      let one : untested_run table (suc n) region ≡ suc (untested_run table n next) = ap (λ (o : Option ℕ). one_more o (untested_run table n)) is in
+      let one : untested_run table (suc n) region ≡ suc (untested_run table n next) = ap (λ (o : Option ℕ). rank_above o (untested_run table n)) is in
       omega arith
 
   -- at most as many as there are regions
@@ -125,6 +125,6 @@ module _ (table : Table) (keeps : TableKeeps table) where
       at_most zero r = omega arith
       at_most (suc most) r = by_next (untested (region_tree table r)) (λ x. at_most most x)
         where
-          by_next : (next : Option ℕ) → ((x : ℕ) → untested_run table most x ≤ most) → one_more next (untested_run table most) ≤ suc most
+          by_next : (next : Option ℕ) → ((x : ℕ) → untested_run table most x ≤ most) → rank_above next (untested_run table most) ≤ suc most
           by_next None more = omega arith
           by_next (Some x) more = let le = more x in omega arith

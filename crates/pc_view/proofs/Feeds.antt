@@ -6,7 +6,7 @@ use Rattle.std.proofs.lemmas.Bool.Decides.{nat_tests}
 use Rattle.std.specs.List.{AllByRecursion, count_by}
 use Rattle.std.specs.Fmt.{decimal, digits, digits_onto, digit_glyph, signed_decimal}
 use Rattle.pc_word.proofs.Lists.{count_more, count_both, all_both}
-use Rattle.pc_word.specs.Line.{line}
+use Rattle.pc_word.specs.Line.{line, is_line_feed}
 use Rattle.pc_word.specs.declared.item.OpCode.{OpCode}
 use Rattle.pc_word.specs.declared.item.OpCode.TheVariants.{Add, Sub, Mul, Div, Rem, Shl, Shr, And, Or, Xor, Less, LessEq, Equal, Unequal, Below}
 use Rattle.pc_word.specs.declared.item.Operand.{Operand}
@@ -28,7 +28,7 @@ use Rattle.pc_view.specs.Leading.{rows_leading_to}
 use Rattle.pc_view.specs.Tree.{tree_lines}
 use Rattle.pc_view.specs.Listing.{separator, arrays_from, array_words, row_numbers_from, leading_words, limit_words, limits_line, count_words}
 use Rattle.pc_view.specs.Listing.{heading, row_lines, rows_lines, listing_lines, listing_text, lines_text}
-use Rattle.pc_view.specs.Laws.{is_line_feed, line_count}
+use Rattle.pc_view.specs.Laws.{line_count}
 use Rattle.pc_view.proofs.Lines.{length-listing_lines}
 
 -- a text has no line feed

@@ -11,8 +11,8 @@ use Rattle.std.proofs.lemmas.List.Folds.{list_any-append}
 use Rattle.pc_word.proofs.Lists.{all_at, all_imply}
 use Rattle.pc_word.specs.Row.{Either, leaves_of}
 use Rattle.pc_word.specs.declared.item.Operand.{Operand}
-use Rattle.pc_machine.specs.MachineCode.{CodeRow}
-use Rattle.pc_view.specs.Leading.{is_goto, leads_to, rows_leading_to}
+use Rattle.pc_machine.specs.MachineCode.{CodeRow, is_goto}
+use Rattle.pc_view.specs.Leading.{leads_to, rows_leading_to}
 use Rattle.pc_view.specs.models.Lists.{is_number, noted, noted_where, AreLists}
 
 -- ---- one list

@@ -6,9 +6,9 @@ use Rattle.std.specs.List.{AllByRecursion, list_any}
 use Rattle.std.proofs.lemmas.Bool.Decides.{nat_tests}
 use Rattle.pc_word.proofs.Lists.{all_imply}
 use Rattle.pc_word.specs.Row.{leaves_of}
-use Rattle.pc_machine.specs.MachineCode.{Leaf, Leads_to, Ends, Traps, CodeRow}
+use Rattle.pc_machine.specs.MachineCode.{Leaf, Leads_to, Ends, Traps, CodeRow, is_goto}
 use Rattle.pc_machine.specs.Reachable.{HasLeafTo}
-use Rattle.pc_view.specs.Leading.{is_goto, leads_to, rows_leading_to}
+use Rattle.pc_view.specs.Leading.{leads_to, rows_leading_to}
 use Rattle.pc_view.specs.Laws.{LeadTo, Rise}
 
 -- ---- elements

@@ -2,6 +2,7 @@
 use Rattle.std.specs.Prelude.{◌≡◌, ℕ, ◌+◌, ◌<◌, ◌↔◌, Bool, true, false, nat_eq, List, [], ◌∷◌, ◌++◌, length}
 use Rattle.std.specs.Prelude.{Contains, Some, slice_get}
 use Rattle.std.specs.List.{AllByRecursion, count_by, sum_by}
+use Rattle.pc_word.specs.Line.{is_line_feed}
 use Rattle.pc_word.specs.Row.{Then, Either, At_leaf, items_of, tests_of, leaves_of}
 use Rattle.pc_machine.specs.MachineCode.{Leaf, Leads_to, Ends, Traps, CodeRow}
 use Rattle.pc_machine.specs.Reachable.{HasLeafTo}
@@ -43,10 +44,6 @@ line_count object = 1 + (sum_by (λ row. 1 + part_count row) object.code.rows + 
 -- the listing of an object has so many lines
 abbrev pub ListingsHaveALineEach : Type 0
 ListingsHaveALineEach = (object : CodeWithNotes) → length (listing_lines object) ≡ line_count object
-
--- whether a byte is a line feed
-abbrev pub is_line_feed : ℕ → Bool
-is_line_feed byte = nat_eq byte 10
 
 -- and as many line feeds, so that no line has one in it
 abbrev pub ListingsHaveALineFeedEach : Type 0

@@ -2,15 +2,9 @@
 use Rattle.std.specs.Prelude.{ℕ, suc, Bool, false, nat_eq, if◌then◌else◌, List, [], ◌∷◌}
 use Rattle.std.specs.List.{list_any}
 use Rattle.pc_word.specs.Row.{leaves_of}
-use Rattle.pc_machine.specs.MachineCode.{Leaf, Leads_to, Ends, Traps, CodeRow}
+use Rattle.pc_machine.specs.MachineCode.{Leaf, Leads_to, Ends, Traps, CodeRow, is_goto}
 
--- whether a leaf leads to the row with this number
-abbrev pub is_goto : ℕ → Leaf → Bool
-is_goto target (Leads_to row) = nat_eq row target
-is_goto target Ends = false
-is_goto target (Traps kind line) = false
-
--- whether a leaf of a row does
+-- whether a leaf of a row leads to the row with this number
 abbrev pub leads_to : ℕ → CodeRow → Bool
 leads_to target row = list_any (is_goto target) (leaves_of row)
 

@@ -4,7 +4,7 @@ use Rattle.std.specs.Prelude.{ℤ, Bool, true, false, if◌then◌else◌}
 use Rattle.pc_word.specs.declared.item.Item.{Item}
 use Rattle.pc_word.specs.declared.item.Operand.{Operand}
 use Rattle.pc_word.specs.Word.{holds}
-use Rattle.pc_word.specs.Run.{Seen, Answers, Follows, Agree, after_printing, seen_of, run_from}
+use Rattle.pc_word.specs.Run.{Seen, Answers, Follows, Agree, after_printing, seen_of, run_from, NeverFaults}
 use Rattle.pc_word.proofs.Runs.{Answers-refl, Answers-after, Follows-trans}
 use Rattle.pc_word.specs.declared.item.MachineFault.{MachineFault}
 use Rattle.pc_word.specs.State.{State}
@@ -16,7 +16,7 @@ use Rattle.pc_word.specs.Row.{Row, RowOutcome, Faults, Commits, commit_of, row_s
 use Rattle.pc_table.specs.RegionRun.{lead_on}
 use Rattle.pc_window.specs.Tree.{Front, Issued, Split, Unfinished, whole}
 use Rattle.pc_window.specs.WindowRun.{Window, enter, window_step, tree_run, window_run, seen_first, seen_side, front_run}
-use Rattle.pc_window.specs.Kept.{Left, Rest, Gone, Finished, Trapped_at, left_run, NeverFaults, KeepsPace, GainsUnit, LeftKept, TakenKept, RowKeeps}
+use Rattle.pc_window.specs.Kept.{Left, Rest, Gone, Finished, Trapped_at, left_run, KeepsPace, GainsUnit, LeftKept, TakenKept, RowKeeps}
 use Rattle.pc_window.specs.Kept.{IsBare, IsRooted, FilledIn, OutKept, OutCut, LeftCut, TakenCut}
 use Rattle.pc_window.specs.Steps.{FillsTo, Cuts, IsProper}
 use Rattle.pc_window.proofs.Units.{led, entered, first_answers, side_answers, front_grows}

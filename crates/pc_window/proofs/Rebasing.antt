@@ -13,7 +13,7 @@ use Rattle.pc_word.specs.State.{State}
 use Rattle.pc_word.specs.Items.{operand_value, dest_of, value_of}
 use Rattle.pc_word.specs.Commit.{state_after, writes}
 use Rattle.pc_linear.specs.declared.term.Term.{Term}
-use Rattle.pc_linear.specs.Form.{most_terms, Form, sum_of, ◌≈◌, number_of, says, Means, factor_of}
+use Rattle.pc_linear.specs.Form.{most_terms, Form, sum_of, ◌≈◌, form_number, says, Means, factor_of}
 use Rattle.pc_linear.specs.Combine.{plus, variable_form}
 use Rattle.pc_window.specs.Opening.{FormBelow, Supply, changed, OperandBelow, ItemBelow, StubBelow, TreeBelow, FormsBelow}
 use Rattle.pc_window.specs.declared.home.Home.{Home}
@@ -31,7 +31,7 @@ use Rattle.pc_window.proofs.Uses.{nat_eq-tells}
 use Rattle.pc_window.proofs.Unwinding.{Side-map, used_below}
 
 -- a value that is a form's number, as words, is what a form with a term says
-number_says : (σ : ℕ → ℤ) (f : Form) (value : ℤ) → (f.terms ≡ [] → ⊥) → value ≈ number_of σ f → Means σ f value
+number_says : (σ : ℕ → ℤ) (f : Form) (value : ℤ) → (f.terms ≡ [] → ⊥) → value ≈ form_number σ f → Means σ f value
 number_says σ f value some h = by_terms f.terms some h
   where
     by_terms : (ts : List Term) → (ts ≡ [] → ⊥) → value ≈ (sum_of σ ts +ℤ f.constant) → says σ ts f.constant value
@@ -39,16 +39,16 @@ number_says σ f value some h = by_terms f.terms some h
     by_terms (t ∷ ts) some h = h
 
 -- a form's number depends on its variables alone
-number-agree : (m : ℕ) (σ τ : ℕ → ℤ) (f : Form) → ((v : ℕ) → v < m → τ v ≡ σ v) → FormBelow m f → number_of τ f ≡ number_of σ f
+number-agree : (m : ℕ) (σ τ : ℕ → ℤ) (f : Form) → ((v : ℕ) → v < m → τ v ≡ σ v) → FormBelow m f → form_number τ f ≡ form_number σ f
 number-agree m σ τ f same b = ap (λ (z : ℤ). z +ℤ f.constant) (sum_of-agree m σ τ f.terms same b)
 
 -- the number of a variable alone
-variable-number : (σ : ℕ → ℤ) (v : ℕ) → number_of σ (variable_form v) ≡ σ v
+variable-number : (σ : ℕ → ℤ) (v : ℕ) → form_number σ (variable_form v) ≡ σ v
 variable-number σ v = +ℤ_idr ((pos 1 *ℤ σ v) +ℤ pos 0) ∙ +ℤ_idr (pos 1 *ℤ σ v) ∙ one_times (σ v)
 
 -- the number of a difference between a variable and a form
-pub difference-number : (σ : ℕ → ℤ) (y : ℕ) (form : Form) → number_of σ (plus (variable_form y) (negsuc 0) form) ≈ (σ y +ℤ neg_ℤ (number_of σ form))
-difference-number σ y form = plus-number σ (variable_form y) (negsuc 0) form ∙ ap (int_wrap w32) (λ i. variable-number σ y i +ℤ minus_one (number_of σ form) i)
+pub difference-number : (σ : ℕ → ℤ) (y : ℕ) (form : Form) → form_number σ (plus (variable_form y) (negsuc 0) form) ≈ (σ y +ℤ neg_ℤ (form_number σ form))
+difference-number σ y form = plus-number σ (variable_form y) (negsuc 0) form ∙ ap (int_wrap w32) (λ i. variable-number σ y i +ℤ minus_one (form_number σ form) i)
 
 -- ---- a rewritten form has a term
 
@@ -72,11 +72,11 @@ cancel_left a k b h =
 
 module _ (y : ℕ) (f form : Form) (fb : FormBelow y f) (gb : FormBelow y form) where
   -- the number of what is rewritten
-  rewritten-number : (σ : ℕ → ℤ) (k : ℤ) → number_of σ (plus f k (plus (variable_form y) (negsuc 0) form)) ≈ (number_of σ f +ℤ (k *ℤ (σ y +ℤ neg_ℤ (number_of σ form))))
+  rewritten-number : (σ : ℕ → ℤ) (k : ℤ) → form_number σ (plus f k (plus (variable_form y) (negsuc 0) form)) ≈ (form_number σ f +ℤ (k *ℤ (σ y +ℤ neg_ℤ (form_number σ form))))
   rewritten-number σ k =
       plus-number σ f k (plus (variable_form y) (negsuc 0) form)
-      ∙ add_same (number_of σ f) (number_of σ f) (k *ℤ number_of σ (plus (variable_form y) (negsuc 0) form)) (k *ℤ (σ y +ℤ neg_ℤ (number_of σ form))) refl
-      (times_same k k (number_of σ (plus (variable_form y) (negsuc 0) form)) (σ y +ℤ neg_ℤ (number_of σ form)) refl (difference-number σ y form))
+      ∙ add_same (form_number σ f) (form_number σ f) (k *ℤ form_number σ (plus (variable_form y) (negsuc 0) form)) (k *ℤ (σ y +ℤ neg_ℤ (form_number σ form))) refl
+      (times_same k k (form_number σ (plus (variable_form y) (negsuc 0) form)) (σ y +ℤ neg_ℤ (form_number σ form)) refl (difference-number σ y form))
 
   -- it has a term, the new variable's: with another value of that variable alone its number is another
   rewritten_has_term : (k : ℤ) → (k ≈ pos 0 → ⊥) → (plus f k (plus (variable_form y) (negsuc 0) form)).terms ≡ [] → ⊥
@@ -86,28 +86,28 @@ module _ (y : ℕ) (f form : Form) (fb : FormBelow y f) (gb : FormBelow y form) 
       let same : (v : ℕ) → v < y → τ v ≡ σ v = λ v lt. ap (λ (b : Bool). if b then pos 1 else pos 0) (nat_eq-less y v lt) in
       let at_y : τ y ≡ pos 1 = ap (λ (b : Bool). if b then pos 1 else pos 0) (nat_eq-same y) in
       let whole = plus f k (plus (variable_form y) (negsuc 0) form) in
-      let equal : number_of τ whole ≡ number_of σ whole =
+      let equal : form_number τ whole ≡ form_number σ whole =
       ap (λ (ts : List Term). sum_of τ ts +ℤ whole.constant) e ∙ sym (ap (λ (ts : List Term). sum_of σ ts +ℤ whole.constant) e) in
-      let a = number_of σ f in
-      let b = neg_ℤ (number_of σ form) in
-      let left : number_of τ whole ≈ (a +ℤ (k *ℤ (pos 1 +ℤ b))) =
+      let a = form_number σ f in
+      let b = neg_ℤ (form_number σ form) in
+      let left : form_number τ whole ≈ (a +ℤ (k *ℤ (pos 1 +ℤ b))) =
       rewritten-number τ k ∙ (λ i. int_wrap w32 (number-agree y σ τ f same fb i +ℤ (k *ℤ (at_y i +ℤ neg_ℤ (number-agree y σ τ form same gb i))))) in
       some (cancel_left a k b (sym left ∙ ap (int_wrap w32) equal ∙ rewritten-number σ k))
 
   -- where the new variable has the value of the parameter's form, a rewritten form says the same
-  rewritten_number_same : (σ : ℕ → ℤ) (k value : ℤ) → σ y ≡ number_of σ form → value ≈ number_of σ f → value ≈ number_of σ (plus f k (plus (variable_form y) (negsuc 0) form))
+  rewritten_number_same : (σ : ℕ → ℤ) (k value : ℤ) → σ y ≡ form_number σ form → value ≈ form_number σ f → value ≈ form_number σ (plus f k (plus (variable_form y) (negsuc 0) form))
   rewritten_number_same σ k value at h =
       h ∙ ap (int_wrap w32) (sym (
-      ap (λ (z : ℤ). number_of σ f +ℤ (k *ℤ (z +ℤ neg_ℤ (number_of σ form)))) at
-      ∙ ap (λ (z : ℤ). number_of σ f +ℤ (k *ℤ z)) (none (number_of σ form))
-      ∙ ap (λ (z : ℤ). number_of σ f +ℤ z) (*ℤ-zero k)
-      ∙ +ℤ_idr (number_of σ f)))
+      ap (λ (z : ℤ). form_number σ f +ℤ (k *ℤ (z +ℤ neg_ℤ (form_number σ form)))) at
+      ∙ ap (λ (z : ℤ). form_number σ f +ℤ (k *ℤ z)) (none (form_number σ form))
+      ∙ ap (λ (z : ℤ). form_number σ f +ℤ z) (*ℤ-zero k)
+      ∙ +ℤ_idr (form_number σ f)))
       ∙ sym (rewritten-number σ k)
     where
       none : (z : ℤ) → z +ℤ neg_ℤ z ≡ pos 0
       none z = omega (arith, ints)
 
-  rewritten_by-means : (σ : ℕ → ℤ) (k value : ℤ) → int_wrap w32 k ≡ k → σ y ≡ number_of σ form → Means σ f value
+  rewritten_by-means : (σ : ℕ → ℤ) (k value : ℤ) → int_wrap w32 k ≡ k → σ y ≡ form_number σ form → Means σ f value
       → Means σ (rewritten_by k (plus (variable_form y) (negsuc 0) form) f) value
   rewritten_by-means σ (pos zero) value word at h = h
   rewritten_by-means σ (pos (suc n)) value word at h =
@@ -185,11 +185,11 @@ Stage-form next old m σ names n f s below means =
 Stage-variable : (next : ℕ) (old : ℕ → Form) (m : ℕ) (σ : ℕ → ℤ) (names : Supply) (n : ℕ) → Stage next old m σ names → Stage next old m σ (with_variable names n)
 Stage-variable next old m σ names n s =
     let z = names.next_variable in
-    let τ : ℕ → ℤ = changed s.values z (number_of σ (old n)) in
+    let τ : ℕ → ℤ = changed s.values z (form_number σ (old n)) in
     let le = s.more in
     let same_next = s.next_is in
-    let at_z : τ z ≡ number_of σ (old n) = ap (λ (b : Bool). if b then number_of σ (old n) else s.values z) (nat_eq-same z) in
-    let earlier : (v : ℕ) → v < z → τ v ≡ s.values v = λ v lt. ap (λ (b : Bool). if b then number_of σ (old n) else s.values v) (nat_eq-less z v lt) in
+    let at_z : τ z ≡ form_number σ (old n) = ap (λ (b : Bool). if b then form_number σ (old n) else s.values z) (nat_eq-same z) in
+    let earlier : (v : ℕ) → v < z → τ v ≡ s.values v = λ v lt. ap (λ (b : Bool). if b then form_number σ (old n) else s.values v) (nat_eq-less z v lt) in
     record {
       next_is = s.next_is;
       more = omega arith;
@@ -223,7 +223,7 @@ Stage-settled next old m σ names n f s below means = by_length (nat_lt most_ter
     by_length false = Stage-form next old m σ names n f s below means
 
 -- all names rewritten by a new variable that has the value of a form
-Stage-rewrite_all : (next y x : ℕ) (form : Form) (old : ℕ → Form) (σ : ℕ → ℤ) → FormBelow y form → ((n : ℕ) → FormBelow y (old n)) → σ y ≡ number_of σ form
+Stage-rewrite_all : (next y x : ℕ) (form : Form) (old : ℕ → Form) (σ : ℕ → ℤ) → FormBelow y form → ((n : ℕ) → FormBelow y (old n)) → σ y ≡ form_number σ form
     → (ns : List ℕ) (names : Supply) → Stage next old (suc y) σ names → Stage next old (suc y) σ (rewrite_all x (plus (variable_form y) (negsuc 0) form) old ns names)
 Stage-rewrite_all next y x form old σ gb fb at [] names s = s
 Stage-rewrite_all next y x form old σ gb fb at (n ∷ ns) names s =
@@ -241,13 +241,13 @@ Stage-make_base : (next : ℕ) (old : ℕ → Form) (m : ℕ) (σ : ℕ → ℤ)
 Stage-make_base next old m σ all p x names lt s =
     let y = names.next_variable in
     let form = names.forms p in
-    let σ' : ℕ → ℤ = changed s.values y (number_of s.values form) in
+    let σ' : ℕ → ℤ = changed s.values y (form_number s.values form) in
     let le = s.more in
     let same_next = s.next_is in
     let fb : (n : ℕ) → FormBelow y (names.forms n) = λ n. s.below.form n in
-    let earlier : (v : ℕ) → v < y → σ' v ≡ s.values v = λ v h. ap (λ (b : Bool). if b then number_of s.values form else s.values v) (nat_eq-less y v h) in
-    let at_y : σ' y ≡ number_of s.values form = ap (λ (b : Bool). if b then number_of s.values form else s.values y) (nat_eq-same y) in
-    let at : σ' y ≡ number_of σ' form = at_y ∙ sym (number-agree y s.values σ' form earlier (fb p)) in
+    let earlier : (v : ℕ) → v < y → σ' v ≡ s.values v = λ v h. ap (λ (b : Bool). if b then form_number s.values form else s.values v) (nat_eq-less y v h) in
+    let at_y : σ' y ≡ form_number s.values form = ap (λ (b : Bool). if b then form_number s.values form else s.values y) (nat_eq-same y) in
+    let at : σ' y ≡ form_number σ' form = at_y ∙ sym (number-agree y s.values σ' form earlier (fb p)) in
     let start : Stage next names.forms (suc y) σ' (one_variable_more names) = record {
       next_is = s.next_is;
       more = omega arith;

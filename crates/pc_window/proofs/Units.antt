@@ -5,7 +5,7 @@ use Rattle.pc_word.specs.declared.item.Item.{Item}
 use Rattle.pc_word.specs.declared.item.MachineFault.{MachineFault}
 use Rattle.pc_word.specs.declared.item.End.TheVariants.{Fault}
 use Rattle.pc_word.specs.Word.{holds}
-use Rattle.pc_word.specs.Run.{Seen, Run, Step, Goes, Stops, Begins, Answers, Follows, after_printing, seen_of, run_from}
+use Rattle.pc_word.specs.Run.{Seen, Run, Step, Goes, Stops, Begins, Answers, Follows, after_printing, seen_of, run_from, NeverFaults}
 use Rattle.pc_word.proofs.Runs.{Begins-refl, Begins-trans, Begins-after, Answers-after, run_from-answers}
 use Rattle.pc_word.specs.State.{State}
 use Rattle.pc_word.specs.Items.{operand_value}
@@ -17,7 +17,7 @@ use Rattle.pc_window.specs.Tree.{Tree, Pending, Undecided, Exit, Stop_exit, Trap
 use Rattle.pc_window.specs.Walk.{Walked, Leaves, Finishes, IsWhole, printing, done_first, after_item, walk}
 use Rattle.pc_window.proofs.Shown.{walk_length, behind_length, shown, front_shown}
 use Rattle.pc_window.specs.WindowRun.{Beyond, beyond, enter, window_step, tree_run, seen_first, seen_side, front_run}
-use Rattle.pc_window.specs.Kept.{NeverFaults, KeepsPace}
+use Rattle.pc_window.specs.Kept.{KeepsPace}
 use Rattle.pc_window.proofs.Rising.{Begins-none}
 
 -- ---- a window that was left

@@ -3,7 +3,7 @@ use Rattle.std.specs.Prelude.{◌≡◌, ◌≢◌, ℕ, suc, ℤ, List, [], Som
 use Rattle.pc_word.specs.declared.item.TrapKind.{TrapKind}
 use Rattle.pc_word.specs.declared.item.MachineFault.{MachineFault}
 use Rattle.pc_word.specs.declared.item.End.TheVariants.{Ended, Trapped, Fault}
-use Rattle.pc_word.specs.Run.{Run, Answers, Follows, Agree, after_printing, ended_run}
+use Rattle.pc_word.specs.Run.{Run, Answers, Follows, Agree, after_printing, ended_run, NeverFaults}
 use Rattle.pc_word.specs.State.{State}
 use Rattle.pc_table.specs.Table.{Table, Next}
 use Rattle.pc_table.specs.RegionRun.{region_run}
@@ -25,10 +25,6 @@ left_run table (Rest w) s = window_run table w s
 left_run table (Gone region homes) s = region_run table (Next region) (home_state s homes)
 left_run table Finished s = ended_run [] Ended
 left_run table (Trapped_at kind line) s = ended_run [] (Trapped kind line)
-
--- no fault of the machine ends the run
-abbrev pub NeverFaults : Run → Type 0
-NeverFaults X = (n : ℕ) (fault : MachineFault) → (X n).end ≢ Some (Fault fault)
 
 -- after as many units, Y shows at least what X shows
 abbrev pub KeepsPace : Run → Run → Type 0

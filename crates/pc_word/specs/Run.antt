@@ -1,6 +1,8 @@
 -- Runs: what a program shows as it goes on, and when two of them agree.
-use Rattle.std.specs.Prelude.{◌≡◌, ℕ, zero, suc, ◌≤◌, ℤ, List, [], ◌++◌, All, Option, Some, None}
+use Rattle.std.specs.Prelude.{◌≡◌, ◌≢◌, ℕ, zero, suc, ◌≤◌, ℤ, List, [], ◌++◌, All, Option, Some, None}
 use Rattle.pc_word.specs.declared.item.End.{End}
+use Rattle.pc_word.specs.declared.item.End.TheVariants.{Fault}
+use Rattle.pc_word.specs.declared.item.MachineFault.{MachineFault}
 use Rattle.pc_word.specs.Word.{IsWord}
 
 -- what is seen of a run: the numbers printed so far, and how it ended, if it has
@@ -20,6 +22,10 @@ Begins xs ys = (rest : List ℤ) × (xs ++ rest ≡ ys)
 pub record Grows (X : Run) : Type 0 where
   pub prints_more : (n m : ℕ) → n ≤ m → Begins (X n).printed (X m).printed
   pub stays_ended : (n m : ℕ) (e : End) → n ≤ m → (X n).end ≡ Some e → X m ≡ X n
+
+-- no fault of the machine ends the run
+abbrev pub NeverFaults : Run → Type 0
+NeverFaults X = (n : ℕ) (fault : MachineFault) → (X n).end ≢ Some (Fault fault)
 
 -- where x has ended, y has printed the same and ended alike; where x goes on, what y has printed begins with what x has
 abbrev pub Answers : Seen → Seen → Option End → Type 0

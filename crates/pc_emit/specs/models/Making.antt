@@ -15,7 +15,7 @@ use Rattle.pc_emit.specs.models.Layout.{forms_at, emission_in, rows_end}
 -- ---- what copies lead to, and what leads to them
 
 -- a leaf that copies may lead to: a row of a region, or the end
-pub record MayFollow (plan : Plan) (leaf : Leaf) : Type 0 where
+pub record CopiesMayLeadTo (plan : Plan) (leaf : Leaf) : Type 0 where
   pub within : IsLeaf (rows_end plan) leaf
   pub short : length (leaf_text leaf) ≤ goto_bytes
 

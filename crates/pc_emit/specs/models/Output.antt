@@ -13,10 +13,10 @@ use Rattle.pc_emit.specs.declared.target.Target.{Target}
 use Rattle.pc_emit.specs.declared.target.Target.TheVariants as target
 
 -- the leaf that leads to a target
-abbrev pub leaf_of : Target → Leaf
-leaf_of (target.Row row) = Leads_to row
-leaf_of target.Stop = Ends
-leaf_of (target.Trap kind line) = Traps kind line
+abbrev pub target_leaf : Target → Leaf
+target_leaf (target.Row row) = Leads_to row
+target_leaf target.Stop = Ends
+target_leaf (target.Trap kind line) = Traps kind line
 
 -- the registers of a state's names
 abbrev pub of_state : StateNames → ℕ → ℕ
@@ -32,7 +32,7 @@ pub record Stays (output : Output) (final : List CodeRow) : Type 0 where
   pub copies_stay : (at : ℕ) (row : CodeRow) → slice_get (rows_of output.copies.items) at ≡ Some row → slice_get final (output.base + at) ≡ Some row
 
 -- more was made, and all that there was has its place still
-pub record Grows (old new : Output) : Type 0 where
+pub record OutputGrows (old new : Output) : Type 0 where
   pub base : new.base ≡ old.base
   pub more : length old.copies.items ≤ length new.copies.items
   pub stays : (final : List CodeRow) → Stays new final → Stays old final

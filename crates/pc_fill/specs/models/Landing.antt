@@ -145,16 +145,16 @@ abbrev pub coming_of : Window → ReadyNode → Option ℕ → Coming
 coming_of w r twin = record { tag = r.tag; origin = r.origin; item = came w.next (renames w r twin) r.item; twin = twin }
 
 -- the names
-abbrev pub names_after : Window → ReadyNode → Option ℕ → Supply
-names_after w r twin = given_supply (supply_of w) (new_name w.next (renames w r twin) r.item) (came w.next (renames w r twin) r.item)
+abbrev pub supply_after : Window → ReadyNode → Option ℕ → Supply
+supply_after w r twin = given_supply (supply_of w) (new_name w.next (renames w r twin) r.item) (came w.next (renames w r twin) r.item)
 
 -- the window
 abbrev pub landed_window : Window → ReadyNode → Option ℕ → Window
 landed_window w r twin = record {
   front = landed (coming_of w r twin) w.front r.place;
-  forms = (names_after w r twin).forms;
-  next = (names_after w r twin).next;
-  next_variable = (names_after w r twin).next_variable;
+  forms = (supply_after w r twin).forms;
+  next = (supply_after w r twin).next;
+  next_variable = (supply_after w r twin).next_variable;
   limits = w.limits;
   inside = w.inside;
 }

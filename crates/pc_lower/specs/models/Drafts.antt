@@ -7,7 +7,7 @@ use Rattle.pc_word.specs.declared.item.Operand.{Operand}
 use Rattle.pc_word.specs.declared.loop_mark.LoopMark.{LoopMark}
 use Rattle.pc_flow.specs.declared.node.FlowNode.{FlowNode}
 use Rattle.pc_flow.specs.declared.node.FlowNode.TheVariants.{Op, Test, Stop, Trap}
-use Rattle.pc_flow.specs.FlowGraph.{FlowGraph, IsFlow, ItemFits, IsVariable, IsTarget, turn_of}
+use Rattle.pc_flow.specs.FlowGraph.{FlowGraph, IsFlow, ItemFits, IsVariable, IsTarget, tested_loop}
 use Rattle.pc_lower.specs.LoopTests.{HasTest, TestsInside}
 
 -- the graph, and the greatest rank so far
@@ -48,7 +48,7 @@ pub record MayPlace (graph : FlowGraph) (node : FlowNode) : Type 0 where
 
 -- a node stands where it may: the test of a loop in that loop
 abbrev pub StandsIn : Option ℕ → FlowNode → Type 0
-StandsIn inside node = IfSome (turn_of node) (λ turn. inside ≡ Some turn)
+StandsIn inside node = IfSome (tested_loop node) (λ turn. inside ≡ Some turn)
 
 -- a node may be placed at a number, inside a loop that there is or none, while there are ranks
 pub record CanPlace (draft : Draft) (at : ℕ) (node : FlowNode) (inside : Option ℕ) : Type 0 where

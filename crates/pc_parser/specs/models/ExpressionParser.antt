@@ -11,7 +11,7 @@ use Rattle.pc_syntax.specs.Source.{SourceExpression, Literal, Variable, Input, I
 use Rattle.pc_parser.specs.declared.operator.Operator.{Operator}
 use Rattle.pc_parser.specs.Places.{kind_at, line_at}
 use Rattle.pc_parser.specs.models.Tests.{is_mark, mark_is, key_is}
-use Rattle.pc_parser.specs.Operators.{operator_of, prefix_of, joined, prefixed}
+use Rattle.pc_parser.specs.Operators.{operator_of, prefix_of, infixed, prefixed}
 use Rattle.pc_parser.specs.Statements.{Target}
 use Rattle.pc_parser.specs.models.Outcome.{ParseOutcome, Parsed, Unreadable, TooHigh, after, allowed, expect}
 
@@ -112,10 +112,10 @@ module _ (tokens : List Token) (inner : Inner) (budget : ℕ) where
   last_turn left height at None = Parsed left height at
   last_turn left height at (Some found) = TooHigh at
 
-  -- an operand joined by an operator to the operand behind it
+  -- an operand infixed by an operator to the operand behind it
   unfoldable pub joined_at : SourceExpression → (height at : ℕ) → Operator × ℕ → ParseOutcome SourceExpression
   joined_at left height at found = allowed (height + 1) budget at (after (inner (found.1 + 1) (at + 1)) (λ right other to.
-      Parsed (joined found.0 (line_at tokens at) left right) (max height other + 1) to))
+      Parsed (infixed found.0 (line_at tokens at) left right) (max height other + 1) to))
 
   -- an operand, and where an operator follows, what goes on behind the two that it joins
   unfoldable pub turn : (SourceExpression → (height at : ℕ) → ParseOutcome SourceExpression) →

@@ -3,9 +3,8 @@ use Rattle.std.specs.Prelude.{◌≡◌, ◌⊎◌, ℕ, ◌<◌, ◌≤◌, tru
 use Rattle.std.specs.List.{count_by, list_any}
 use Rattle.pc_word.specs.Row.{leaves_of}
 use Rattle.pc_machine.specs.Reachable.{IsReachable}
-use Rattle.pc_machine.specs.MachineCode.{Leaf, Leads_to, Ends, Traps, CodeRow}
+use Rattle.pc_machine.specs.MachineCode.{Leaf, Leads_to, Ends, Traps, CodeRow, is_goto}
 use Rattle.pc_tighten.specs.declared.listing.Listing.{Listing}
-use Rattle.pc_tighten.specs.Compact.{is_goto}
 
 -- the place of each row in the list, if it is there, and the rows in order
 pub record Listed : Type 0 where

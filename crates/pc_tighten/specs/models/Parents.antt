@@ -2,11 +2,10 @@
 use Rattle.std.specs.Prelude.{◌≡◌, ◌≢◌, ℕ, suc, ◌<◌, false, if◌then◌else◌, nat_eq, nat_lt, List, [], ◌∷◌, length, Option, Some, None, replicate, slice_get, slice_set}
 use Rattle.std.specs.List.{count_by, list_any}
 use Rattle.pc_word.specs.Row.{leaves_of}
-use Rattle.pc_machine.specs.MachineCode.{Leaf, Leads_to, Ends, Traps, CodeRow}
+use Rattle.pc_machine.specs.MachineCode.{Leaf, Leads_to, Ends, Traps, CodeRow, is_goto}
 use Rattle.pc_tighten.specs.declared.parents.Parents.{Parents}
 use Rattle.pc_tighten.specs.declared.parents.Naming.{Naming}
 use Rattle.pc_tighten.specs.declared.parents.Naming.TheVariants.{Never, Once, Often}
-use Rattle.pc_tighten.specs.Compact.{is_goto}
 use Rattle.pc_tighten.specs.models.Listing.{listed_of, AreListed}
 
 -- named once more, by a leaf of this row

@@ -8,14 +8,14 @@ use Rattle.pc_window.specs.Tree.{Tree, Pending, Undecided, Exit, Stop_exit, Trap
 use Rattle.pc_window.specs.StoredWindow.{tree_in}
 
 -- one more than from a region that follows
-abbrev pub one_more : Option ℕ → (ℕ → ℕ) → ℕ
-one_more None from = zero
-one_more (Some region) from = suc (from region)
+abbrev pub rank_above : Option ℕ → (ℕ → ℕ) → ℕ
+rank_above None from = zero
+rank_above (Some region) from = suc (from region)
 
 -- how many regions follow a region without a test, counted up to a number
 abbrev pub untested_run : Table → ℕ → ℕ → ℕ
 untested_run table zero region = zero
-untested_run table (suc most) region = one_more (untested (region_tree table region)) (untested_run table most)
+untested_run table (suc most) region = rank_above (untested (region_tree table region)) (untested_run table most)
 
 -- how many regions follow a region without a test
 unfoldable pub rank : Table → ℕ → ℕ

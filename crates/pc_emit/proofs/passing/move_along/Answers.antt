@@ -3,14 +3,14 @@ use Rattle.pc_assign.specs.Pressure.{allowed}
 use Rattle.pc_copies.specs.Moves.{IsArranged}
 use Rattle.pc_copies.specs.Laws.{copy_row}
 use Rattle.pc_machine.specs.MachineCode.{row_of}
-use Rattle.pc_emit.specs.models.Output.{leaf_of}
+use Rattle.pc_emit.specs.models.Output.{target_leaf}
 use Rattle.pc_emit.proofs.Passings.{LeadsThrough, through_rest_of_none, through_from, through_one, row_at, along_short}
 use Rattle.pc_emit.proofs.passing.move_along.Goals as goal
 
 pub loop-at-init : goal.loop-at-init
 loop-at-init c = record {
   within = omega arith;
-  through = through_rest_of_none c.args.plan.now c.args.output.now c.as_slice-rows.result.now (leaf_of c.args.target) c.requires.target;
+  through = through_rest_of_none c.args.plan.now c.args.output.now c.as_slice-rows.result.now (target_leaf c.args.target) c.requires.target;
 }
 
 pub loop-at-preserved : goal.loop-at-preserved
@@ -23,13 +23,16 @@ loop-at-preserved c =
     let new = c.push_copies.new.self in
     let copies = c.as_slice.result.now in
     let made = c.in_ok-push_copies.ensures in
-    let is : row_of c.in_ok-row.row ≡ copy_row copies (leaf_of c.loop-at.from) = search rules in
-    let before = subst (λ at. LeadsThrough c.args.plan.now c.args.output.now c.loop-at.output (leaf_of c.loop-at.from) (drop at rows) (leaf_of c.args.target)) next c.loop-at.invariant.through in
+    let is : row_of c.in_ok-row.row ≡ copy_row copies (target_leaf c.loop-at.from) = search rules in
+    let before = subst
+      (λ at. LeadsThrough c.args.plan.now c.args.output.now c.loop-at.output (target_leaf c.loop-at.from) (drop at rows) (target_leaf c.args.target))
+      next c.loop-at.invariant.through in
     record {
       within = omega (arith, within);
-      through = through_from c.args.plan.now c.args.output.now new rows (c.loop-at.at - 1) copies _ (leaf_of c.args.target) below (search rules)
+      through = through_from c.args.plan.now c.args.output.now new rows (c.loop-at.at - 1) copies _ (target_leaf c.args.target) below (search rules)
           (through_one c.args.plan.now c.args.output.now c.loop-at.output new c.in_ok-push_copies.field-0 (row_of c.in_ok-row.row) copies (drop (suc (c.loop-at.at - 1)) rows)
-          (leaf_of c.loop-at.from) (leaf_of c.args.target) is before made.grows made.stands (row_at c.args.plan.now.limits.ops rows (c.loop-at.at - 1) copies (search rules) below (search rules))
+          (target_leaf c.loop-at.from) (target_leaf c.args.target) is before made.grows made.stands
+          (row_at c.args.plan.now.limits.ops rows (c.loop-at.at - 1) copies (search rules) below (search rules))
           made.rows made.copies made.number);
     }
 
@@ -37,6 +40,8 @@ pub returns-clause-short : goal.returns-clause-short
 returns-clause-short c =
     let rows = c.as_slice-rows.result.now in
     let none : c.loop-at.at ≡ 0 = omega (arith, c.loop-at-test.false) in
-    let through = subst (λ at. LeadsThrough c.args.plan.now c.args.output.now c.loop-at.output (leaf_of c.loop-at.from) (drop at rows) (leaf_of c.args.target)) none c.loop-at.invariant.through in
+    let through = subst
+      (λ at. LeadsThrough c.args.plan.now c.args.output.now c.loop-at.output (target_leaf c.loop-at.from) (drop at rows) (target_leaf c.args.target))
+      none c.loop-at.invariant.through in
     let arranged = subst (IsArranged c.args.moves.now c.args.plan.now.limits.ops allowed) (sym c.as_slice-rows.ensures) c.in_ok-rows.ensures in
-    along_short c.args.plan.now c.args.output.now c.loop-at.output (leaf_of c.loop-at.from) (leaf_of c.args.target) c.args.moves.now rows through arranged
+    along_short c.args.plan.now c.args.output.now c.loop-at.output (target_leaf c.loop-at.from) (target_leaf c.args.target) c.args.moves.now rows through arranged

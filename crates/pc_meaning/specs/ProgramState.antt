@@ -3,7 +3,7 @@
 use Rattle.std.specs.Prelude.{ℕ, ℤ, pos, List, [], ◌∷◌, ◌++◌, if◌then◌else◌, ◌&&◌, nat_eq}
 
 -- the state of a program
-pub record SourceState : Type 0 where
+pub record ProgramState : Type 0 where
   -- the value of each scalar, by its number
   pub scalars : ℕ → ℤ
   -- the value of each element, by the number of its array and its place there
@@ -16,27 +16,27 @@ pub record SourceState : Type 0 where
   pub turns : ℕ
 
 -- where a program starts: all scalars and elements are 0 (C17 6.7.9 has that for objects of static storage only)
-abbrev pub source_start : List ℤ → ℕ → SourceState
+abbrev pub source_start : List ℤ → ℕ → ProgramState
 source_start input turns =
     record { scalars = λ x. pos 0; cells = λ array place. pos 0; input = input; printed = []; turns = turns }
 
 -- the state with another value in one scalar
-abbrev pub set_scalar : ℕ → ℤ → SourceState → SourceState
+abbrev pub set_scalar : ℕ → ℤ → ProgramState → ProgramState
 set_scalar scalar value s = record s { scalars = λ x. if nat_eq scalar x then value else s.scalars x }
 
 -- the state with another value in one element
-abbrev pub set_element : ℕ → ℕ → ℤ → SourceState → SourceState
+abbrev pub set_element : ℕ → ℕ → ℤ → ProgramState → ProgramState
 set_element array place value s =
     record s { cells = λ a i. if nat_eq array a && nat_eq place i then value else s.cells a i }
 
 -- the state in which the rest of the input is left
-abbrev pub set_left : List ℤ → SourceState → SourceState
+abbrev pub set_left : List ℤ → ProgramState → ProgramState
 set_left rest s = record s { input = rest }
 
 -- the state in which one number more was printed
-abbrev pub add_printed : ℤ → SourceState → SourceState
+abbrev pub add_printed : ℤ → ProgramState → ProgramState
 add_printed value s = record s { printed = s.printed ++ value ∷ [] }
 
 -- the state in which so many turns are left
-abbrev pub set_turns : ℕ → SourceState → SourceState
+abbrev pub set_turns : ℕ → ProgramState → ProgramState
 set_turns turns s = record s { turns = turns }
