@@ -1,18 +1,16 @@
 -- What a region's tree brings into a window.
-use Rattle.std.proofs.Common.{◌≡◌, ℕ, suc, ◌+◌, ◌*◌, ◌<◌, ◌≤◌, List, [], ◌∷◌, Option, Some, None, length, refl, sym, ◌∙◌, ap, subst, arith}
+use Rattle.std.proofs.Common.{◌≡◌, ℕ, suc, ◌+◌, ◌*◌, ◌<◌, ◌≤◌, Option, Some, None, length, refl, sym, ◌∙◌, ap, subst, arith}
 use Rattle.pc_word.specs.Items.{array_of}
-use Rattle.std.specs.Prelude.{IfSome, Bool, true, false, if◌then◌else◌, nat_eq, slice_get}
-use Rattle.std.specs.List.{AllByRecursion, list_any}
+use Rattle.std.specs.Prelude.{IfSome, Bool, true, false, if◌then◌else◌}
 use Rattle.pc_word.specs.declared.item.Item.{Item}
 use Rattle.pc_word.specs.declared.item.Item.TheVariants.{Bin, Copy, Load, Store, Print, Read, More}
 use Rattle.pc_word.specs.declared.item.Operand.{Operand}
 use Rattle.pc_word.specs.declared.item.TrapKind.{TrapKind}
 use Rattle.pc_linear.specs.Form.{Form}
-use Rattle.pc_table.specs.Table.{TableTree, Does, Asks, Next, Stops_here, Traps_here, TableRegion, Table, tree_of, region_tree, region_live}
+use Rattle.pc_table.specs.Table.{TableTree, Does, Asks, Next, Stops_here, Traps_here, Table, region_live}
 use Rattle.pc_table.specs.TableKeeps.{TableKeeps, TreeIsThere, units, untested}
-use Rattle.pc_window.specs.declared.home.Home.{Home}
 use Rattle.pc_window.specs.Tree.{Tree, Pending, Undecided, Exit, Stop_exit, Trap_exit, tree_size}
-use Rattle.pc_window.specs.Opening.{Supply, first_new, with_name, stub_tag, homes_at, graft}
+use Rattle.pc_window.specs.Opening.{Supply, with_name, stub_tag, homes_at, graft}
 use Rattle.pc_unwind.specs.models.Named.{TagsAtMost, ArraysAreThere, StubsAreThere}
 use Rattle.pc_window.specs.Unwinding.{lesser_tag, least_tag}
 use Rattle.pc_window.proofs.There.{homes_live}

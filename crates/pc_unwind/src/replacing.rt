@@ -38,8 +38,16 @@ pub(crate) fn replacement(
     if growth.size + more > MOST_UNWOUND {
         return Ok(None);
     }
-    let homes = homes_by_variable(homes);
-    let tree = graft(alloc, table, inside, tag, from, &mut growth.names, homes)?;
+    let mut homes = homes_by_variable(homes);
+    let tree = graft(
+        alloc,
+        table,
+        inside,
+        tag,
+        from,
+        &mut growth.names,
+        &mut homes,
+    )?;
     growth.size += more;
     Ok(Some(tree))
 }

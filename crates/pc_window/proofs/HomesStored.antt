@@ -1,6 +1,7 @@
 -- Homes in a list by variable.
 use Rattle.std.proofs.Common.{◌≡◌, ℕ, zero, suc, ◌+◌, ◌<◌, List, [], ◌∷◌, ◌++◌, length, refl, sym, ◌∙◌, ap, arith, get_or-set_same, get_or-set_other}
-use Rattle.std.specs.Prelude.{pos, Bool, true, false, if◌then◌else◌, nat_eq, nat_lt, replicate, slice_index, slice_set, take}
+use Rattle.std.specs.Prelude.{pos, Bool, true, false, if◌then◌else◌, nat_eq, nat_lt, replicate, slice_index, slice_index_or, slice_set, take}
+use Rattle.std.proofs.lemmas.List.{set-set, set-get_or}
 use Rattle.pc_word.specs.declared.item.Operand.{Operand}
 use Rattle.pc_word.specs.declared.item.Operand.TheVariants.{Name, Lit}
 use Rattle.pc_window.specs.declared.home.Home.{Home}
@@ -25,6 +26,10 @@ home_moved homes variable home within = λ i x. at x i
         by_test : (b : Bool) → nat_eq variable x ≡ b → homes_in (slice_set homes variable home) x ≡ (if b then home else homes_in homes x)
         by_test true e = ap (homes_in (slice_set homes variable home)) (sym (same e)) ∙ get_or-set_same homes variable home (Lit (pos 0)) within
         by_test false e = get_or-set_other homes variable x home (Lit (pos 0)) (other e)
+
+-- a home that comes back
+pub home_put_back : (homes : List Operand) (variable : ℕ) (home other : Operand) → slice_set (slice_set homes variable home) variable (slice_index_or homes variable other) ≡ homes
+home_put_back homes variable home other = set-set homes variable home (slice_index_or homes variable other) ∙ set-get_or homes variable other
 
 -- the homes of one variable more
 pub homes_more : (homes : ℕ → Operand) (variables : List ℕ) (at : ℕ) → at < length variables
@@ -91,4 +96,4 @@ named_more homes n within is = home_moved homes n (Name n) within ∙ (λ i x. a
 
 pub ruleset first_homes = (none_yet, named_more)
 
-pub ruleset homes = (home_moved, homes_more, homes_all)
+pub ruleset homes = (home_moved, home_put_back, homes_more, homes_all)

@@ -1,5 +1,5 @@
 //! A region's tree, brought into a window: with homes in place of its variables.
-ghost use Rattle.std.specs.Prelude.{◌≡◌, ◌<◌, ◌≤◌, ◌^◌, true, false, length, IfOk};
+ghost use Rattle.std.specs.Prelude.{◌≡◌, ◌<◌, ◌≤◌, ◌^◌, true, false, length, slice_set, OnOk, IfOk};
 ghost use Rattle.pc_word.specs.declared.item.Operand.TheVariants.{Name};
 ghost use Rattle.pc_table.specs.Table.{table_tree, table_of, region_live};
 ghost use Rattle.pc_table.specs.TableKeeps.{TreeIsThere, units};
@@ -22,15 +22,16 @@ use std::alloc::{AllocError, Global};
 /// How many variables there are.
 pub const VARIABLES: usize = (MOST_SCALARS + MOST_TEMPORARIES) as usize;
 
-/// Homes, with another one for a variable.
+/// Gives a variable another home. Tells the one that it had.
 #[tactic(auto, using(crate::proofs::HomesStored::homes))]
-fn moved(homes: [Operand; VARIABLES], variable: u32, home: Operand) -> [Operand; VARIABLES]
+fn replace_home(homes: &mut [Operand; VARIABLES], variable: u32, home: Operand) -> Operand
     requires { variable < first_new }
-    ensures { homes_in result ≡ changed (homes_in homes) variable home }
+    ensures moved { homes_in homes.new ≡ changed (homes_in homes.old) variable home }
+    ensures back { slice_set homes.new variable result ≡ homes.old }
 {
-    let mut homes = homes;
+    let before = homes[variable as usize];
     homes[variable as usize] = home;
-    homes
+    before
 }
 
 /// The homes of these variables.
@@ -76,7 +77,7 @@ fn stub(
     })
 }
 
-/// A region's tree with homes in place of its variables.
+/// A region's tree with homes in place of its variables. Homes that move on the path come back with it.
 #[tactic(auto, using(crate::proofs::GraftsStored::grafts))]
 pub fn graft(
     alloc: Global,
@@ -85,22 +86,25 @@ pub fn graft(
     tag: u32,
     from: &RegionTree,
     names: &mut NameTable,
-    homes: [Operand; VARIABLES],
+    homes: &mut [Operand; VARIABLES],
 ) -> Result<WindowTree, AllocError>
     requires there { TreeIsThere (length table.now.arrays) (length table.now.regions) (table_tree from.now) }
     requires tag { tag < 2 ^ 31 }
     requires room { HasNames names.old (table_tree from.now) }
     ensures tree { IfOk result (λ tree.
-        Grafts (table_of table.now) inside tag (table_tree from.now) (supply_in names.old) (homes_in homes) (tree_in tree) (supply_in names.new)) }
+        Grafts (table_of table.now) inside tag (table_tree from.now) (supply_in names.old) (homes_in homes.old) (tree_in tree) (supply_in names.new)) }
+    ensures homes { OnOk result (homes.new ≡ homes.old) }
     ensures names { IfOk result (λ tree. TakesNames (table_tree from.now) names.old names.new) }
     ensures nodes { IfOk result (λ tree. InNodes true tree) }
     ensures size { IfOk result (λ tree. tree_size (tree_in tree) ≤ units (table_tree from.now)) }
 {
     match from {
-        RegionTree::Step { origin, item, next } => match bring(names, &homes, *item) {
+        RegionTree::Step { origin, item, next } => match bring(names, homes, *item) {
             Brought::MovesHome { variable, from } => {
-                let homes = moved(homes, variable, from);
-                graft(alloc, table, inside, tag, next, names, homes)
+                let before = replace_home(homes, variable, from);
+                let tree = graft(alloc, table, inside, tag, next, names, homes)?;
+                homes[variable as usize] = before;
+                Ok(tree)
             }
             Brought::GetsName {
                 variable,
@@ -108,8 +112,9 @@ pub fn graft(
                 form,
             } => {
                 let name = names.add(form)?;
-                let homes = moved(homes, variable, Operand::Name(name));
+                let before = replace_home(homes, variable, Operand::Name(name));
                 let rest = graft(alloc, table, inside, tag, next, names, homes)?;
+                homes[variable as usize] = before;
                 let rest = in_node(alloc, rest)?;
                 Ok(WindowTree::Step {
                     tag,
@@ -135,7 +140,7 @@ pub fn graft(
             yes,
             no,
         } => {
-            let on = at_home(&homes, *on);
+            let on = at_home(homes, *on);
             let yes = graft(alloc, table, inside, tag, yes, names, homes)?;
             let no = graft(alloc, table, inside, tag, no, names, homes)?;
             let yes = in_node(alloc, yes)?;
@@ -148,7 +153,7 @@ pub fn graft(
                 no,
             })
         }
-        RegionTree::Next { region } => stub(alloc, table, inside, tag, *region, &homes),
+        RegionTree::Next { region } => stub(alloc, table, inside, tag, *region, homes),
         RegionTree::Stop => Ok(WindowTree::Stop),
         RegionTree::Trap { kind, line } => Ok(WindowTree::Trap {
             kind: *kind,

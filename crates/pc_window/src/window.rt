@@ -50,10 +50,18 @@ impl Window {
         ensures small { IfOk result (λ window. IsJustOpened window) }
     {
         let mut names = NameTable::first(alloc)?;
-        let homes = first_homes();
+        let mut homes = first_homes();
         let inside = loop_of(table, region);
         let opened = region_at(table, region);
-        let tree = graft(alloc, table, inside, 0, &opened.tree, &mut names, homes)?;
+        let tree = graft(
+            alloc,
+            table,
+            inside,
+            0,
+            &opened.tree,
+            &mut names,
+            &mut homes,
+        )?;
         Ok(Window {
             tree,
             names,

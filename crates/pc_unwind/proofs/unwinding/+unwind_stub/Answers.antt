@@ -1,4 +1,4 @@
-use Rattle.std.proofs.Common.{◌≡◌, ℕ, ◌∙◌, sym, ap, subst, arith}
+use Rattle.std.proofs.Common.{◌≡◌, ◌∙◌, sym, ap, subst, arith}
 use Rattle.std.specs.Prelude.{◌<◌, None}
 use Rattle.std.proofs.lemmas.Result.{IfOk-weaker}
 use Rattle.pc_table.specs.Table.{table_of}

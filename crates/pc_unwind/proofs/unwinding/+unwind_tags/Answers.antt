@@ -1,10 +1,10 @@
-use Rattle.std.proofs.Common.{◌≡◌, ℕ, suc, ◌∙◌, Option, Some, sym, ap, subst, arith}
-use Rattle.std.specs.Prelude.{◌+◌, ◌-◌, ◌^◌, ◌<◌, ◌≤◌, false}
+use Rattle.std.proofs.Common.{◌≡◌, ◌∙◌, Some, sym, ap, subst, arith}
+use Rattle.std.specs.Prelude.{◌-◌, ◌^◌, ◌<◌, false}
 use Rattle.std.proofs.lemmas.Result.{IfOk-weaker}
 use Rattle.pc_table.specs.Table.{table_of}
-use Rattle.pc_window.specs.Unwinding.{least_inside, front_tag, unwinds_no_more}
+use Rattle.pc_window.specs.Unwinding.{least_inside, unwinds_no_more}
 use Rattle.pc_window.specs.StoredWindow.{tree_in}
-use Rattle.pc_unwind.specs.models.Walking.{most_tag, with_growth, AtMostLeast, Walks, tags_from}
+use Rattle.pc_unwind.specs.models.Walking.{most_tag, with_growth, Walks, tags_from}
 use Rattle.pc_unwind.proofs.Reaching.{done_high}
 use Rattle.pc_unwind.proofs.TagWalks.{front_most, least_itself, fewer_tags, walked_size, walked_root, walked_least, walked_full, walked_on, unwinds_none}
 use Rattle.pc_unwind.proofs.unwinding.+unwind_tags.Goals as goal
