@@ -3,7 +3,7 @@ ghost use Rattle.std.specs.Prelude.{◌≡◌, ◌<◌, ◌≤◌, ◌^◌, true
 ghost use Rattle.pc_word.specs.declared.item.Operand.TheVariants.{Name};
 ghost use Rattle.pc_table.specs.Table.{table_tree, table_of, region_live};
 ghost use Rattle.pc_table.specs.TableKeeps.{TreeIsThere, units};
-ghost use Rattle.pc_window.specs.Tree.{Exit, tree_size};
+ghost use Rattle.pc_window.specs.Tree.{Pending, Undecided, Exit, tree_size};
 ghost use Rattle.pc_window.specs.Opening.{first_new, changed, same_loop, stub_tag, homes_at};
 ghost use Rattle.pc_window.specs.StoredWindow.{tree_in, supply_in, homes_in, InNodes};
 ghost use Rattle.pc_window.specs.Grafting.{Grafts, HasNames, TakesNames};
@@ -16,7 +16,7 @@ use crate::names::NameTable;
 use crate::nodes::in_node;
 use crate::tree::WindowTree;
 use pc_table::{RegionTable, RegionTree};
-use pc_word::{MOST_SCALARS, MOST_TEMPORARIES, Operand};
+use pc_word::{Item, MOST_SCALARS, MOST_TEMPORARIES, Operand};
 use std::alloc::{AllocError, Global};
 
 /// How many variables there are.
@@ -77,6 +77,52 @@ fn stub(
     })
 }
 
+/// An item above a tree, each in a node of its own.
+fn step(
+    alloc: Global,
+    tag: u32,
+    origin: u32,
+    item: Item,
+    below: WindowTree,
+) -> Result<WindowTree, AllocError>
+    requires { InNodes true below }
+    ensures tree { IfOk result (λ tree. tree_in tree ≡ Pending tag origin item (tree_in below)) }
+    ensures nodes { IfOk result (λ tree. InNodes true tree) }
+{
+    let rest = in_node(alloc, below)?;
+    Ok(WindowTree::Step {
+        tag,
+        origin,
+        item,
+        rest,
+    })
+}
+
+/// A test above two trees, each in a node of its own.
+fn test(
+    alloc: Global,
+    tag: u32,
+    origin: u32,
+    on: Operand,
+    yes: WindowTree,
+    no: WindowTree,
+) -> Result<WindowTree, AllocError>
+    requires yes { InNodes true yes }
+    requires no { InNodes true no }
+    ensures tree { IfOk result (λ tree. tree_in tree ≡ Undecided tag origin on (tree_in yes) (tree_in no)) }
+    ensures nodes { IfOk result (λ tree. InNodes true tree) }
+{
+    let yes = in_node(alloc, yes)?;
+    let no = in_node(alloc, no)?;
+    Ok(WindowTree::Test {
+        tag,
+        origin,
+        on,
+        yes,
+        no,
+    })
+}
+
 /// A region's tree with homes in place of its variables. Homes that move on the path come back with it.
 #[tactic(auto, using(crate::proofs::GraftsStored::grafts))]
 pub fn graft(
@@ -115,23 +161,11 @@ pub fn graft(
                 let before = replace_home(homes, variable, Operand::Name(name));
                 let rest = graft(alloc, table, inside, tag, next, names, homes)?;
                 homes[variable as usize] = before;
-                let rest = in_node(alloc, rest)?;
-                Ok(WindowTree::Step {
-                    tag,
-                    origin: *origin,
-                    item,
-                    rest,
-                })
+                Ok(step(alloc, tag, *origin, item, rest)?)
             }
             Brought::StaysPlain { item } => {
                 let rest = graft(alloc, table, inside, tag, next, names, homes)?;
-                let rest = in_node(alloc, rest)?;
-                Ok(WindowTree::Step {
-                    tag,
-                    origin: *origin,
-                    item,
-                    rest,
-                })
+                Ok(step(alloc, tag, *origin, item, rest)?)
             }
         },
         RegionTree::Test {
@@ -143,15 +177,7 @@ pub fn graft(
             let on = at_home(homes, *on);
             let yes = graft(alloc, table, inside, tag, yes, names, homes)?;
             let no = graft(alloc, table, inside, tag, no, names, homes)?;
-            let yes = in_node(alloc, yes)?;
-            let no = in_node(alloc, no)?;
-            Ok(WindowTree::Test {
-                tag,
-                origin: *origin,
-                on,
-                yes,
-                no,
-            })
+            Ok(test(alloc, tag, *origin, on, yes, no)?)
         }
         RegionTree::Next { region } => stub(alloc, table, inside, tag, *region, homes),
         RegionTree::Stop => Ok(WindowTree::Stop),
