@@ -13,3 +13,4 @@ pub mod Grown
 pub mod UnwoundWindows
 pub mod Opened
 pub mod StubHomes
+pub mod LesserTags

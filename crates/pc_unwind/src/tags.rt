@@ -1,61 +1,71 @@
 //! Tags of a tree.
 ghost use Rattle.std.specs.Prelude.{◌≡◌};
 ghost use Rattle.pc_table.specs.Table.{table_of};
-ghost use Rattle.pc_window.specs.Unwinding.{lesser_tag, least_inside, least_tag, front_tag};
+ghost use Rattle.pc_window.specs.Unwinding.{lesser_tag, least_inside, least_tag, or_zero};
 ghost use Rattle.pc_window.specs.StoredWindow.{tree_in};
 
 use pc_table::RegionTable;
 use pc_window::{WindowTree, is_inside};
 
-/// The least tag of a tree, and 0 where it has none.
-pub(crate) fn front_tag(tree: &WindowTree) -> u32
-    ensures { result ≡ front_tag (tree_in tree.now) }
-{
-    match least_tag(tree) {
-        Some(tag) => tag,
-        None => 0,
+/// The least tags of a tree, where it has any: of its items, tests and stubs, and of the stubs that
+/// are inside a loop.
+#[derive(Clone, Copy, Debug)]
+pub(crate) struct LeastTags {
+    pub(crate) all: Option<u32>,
+    pub(crate) inside: Option<u32>,
+}
+
+impl LeastTags {
+    /// The least tag of all, and 0 where there is none.
+    pub(crate) fn front(self) -> u32
+        ensures { result ≡ or_zero self.all }
+    {
+        match self.all {
+            Some(tag) => tag,
+            None => 0,
+        }
     }
 }
 
-/// The least tag of items, tests and stubs.
-fn least_tag(tree: &WindowTree) -> Option<u32>
-    ensures { result ≡ least_tag (tree_in tree.now) }
+/// The least tags of a tree.
+#[tactic(auto, using(crate::proofs::LesserTags::tags))]
+pub(crate) fn least_tags(table: &RegionTable, inside: Option<u16>, tree: &WindowTree) -> LeastTags
+    ensures all { result.all ≡ least_tag (tree_in tree.now) }
+    ensures inside { result.inside ≡ least_inside (table_of table.now) inside (tree_in tree.now) }
+{
+    let mut least = LeastTags {
+        all: None,
+        inside: None,
+    };
+    add_tags(table, inside, tree, &mut least);
+    least
+}
+
+/// The least tags, with those of a tree too.
+#[tactic(auto, using(crate::proofs::LesserTags::tags))]
+fn add_tags(table: &RegionTable, inside: Option<u16>, tree: &WindowTree, least: &mut LeastTags)
+    ensures all { least.new.all ≡ lesser_tag least.old.all (least_tag (tree_in tree.now)) }
+    ensures inside { least.new.inside ≡ lesser_tag least.old.inside (least_inside (table_of table.now) inside (tree_in tree.now)) }
 {
     match tree {
-        WindowTree::Step { tag, rest, .. } => lesser_tag(Some(*tag), least_tag(rest)),
+        WindowTree::Step { tag, rest, .. } => {
+            least.all = lesser_tag(least.all, Some(*tag));
+            add_tags(table, inside, rest, least)
+        }
         WindowTree::Test { tag, yes, no, .. } => {
-            lesser_tag(Some(*tag), lesser_tag(least_tag(yes), least_tag(no)))
+            least.all = lesser_tag(least.all, Some(*tag));
+            add_tags(table, inside, yes, least);
+            add_tags(table, inside, no, least)
         }
-        WindowTree::Node { below } => least_tag(below),
-        WindowTree::Exit { tag, .. } => Some(*tag),
-        WindowTree::Stop => None,
-        WindowTree::Trap { .. } => None,
-    }
-}
-
-/// The least tag of the stubs that are inside a loop.
-pub(crate) fn least_inside(
-    table: &RegionTable,
-    inside: Option<u16>,
-    tree: &WindowTree,
-) -> Option<u32>
-    ensures { result ≡ least_inside (table_of table.now) inside (tree_in tree.now) }
-{
-    match tree {
-        WindowTree::Step { rest, .. } => least_inside(table, inside, rest),
-        WindowTree::Test { yes, no, .. } => lesser_tag(
-            least_inside(table, inside, yes),
-            least_inside(table, inside, no),
-        ),
-        WindowTree::Node { below } => least_inside(table, inside, below),
+        WindowTree::Node { below } => add_tags(table, inside, below, least),
         WindowTree::Exit { region, tag, .. } => {
+            least.all = lesser_tag(least.all, Some(*tag));
             if is_inside(table, inside, *region) {
-                return Some(*tag);
+                least.inside = lesser_tag(least.inside, Some(*tag));
             }
-            None
         }
-        WindowTree::Stop => None,
-        WindowTree::Trap { .. } => None,
+        WindowTree::Stop => {}
+        WindowTree::Trap { .. } => {}
     }
 }
 

@@ -15,7 +15,7 @@ ghost use Rattle.pc_unwind.specs.models.Walking.{HasRoom, RootAtMost, RootStaysA
 use crate::growth::Growth;
 use crate::nodes::split;
 use crate::replacing::replacement;
-use crate::tags::{front_tag, least_inside};
+use crate::tags::least_tags;
 use crate::walking::walk;
 use pc_table::RegionTable;
 use pc_window::{Window, WindowError, WindowTree, is_inside};
@@ -160,10 +160,11 @@ fn unwind_tags(
     ensures unwinds { OnOk result (Unwinds (table_of table.now) inside number (with_growth (tree_in tree.old) growth.old) (with_growth (tree_in tree.new) growth.new)) }
     ensures nodes { OnOk result (InNodes true tree.new) }
 {
-    let Some(tag) = least_inside(table, inside, tree) else {
+    let least = least_tags(table, inside, tree);
+    let Some(tag) = least.inside else {
         return Ok(());
     };
-    if tag >= front_tag(tree) + number {
+    if tag >= least.front() + number {
         return Ok(());
     }
     let full = walk(alloc, table, inside, tag, growth, tree, true)?;

@@ -2,7 +2,7 @@ use Rattle.std.proofs.Common.{◌≡◌, ◌∙◌, Some, sym, ap, subst, arith}
 use Rattle.std.specs.Prelude.{◌-◌, ◌^◌, ◌<◌, false}
 use Rattle.std.proofs.lemmas.Result.{IfOk-weaker}
 use Rattle.pc_table.specs.Table.{table_of}
-use Rattle.pc_window.specs.Unwinding.{least_inside, unwinds_no_more}
+use Rattle.pc_window.specs.Unwinding.{least_inside, or_zero, unwinds_no_more}
 use Rattle.pc_window.specs.StoredWindow.{tree_in}
 use Rattle.pc_unwind.specs.models.Walking.{most_tag, with_growth, Walks, tags_from}
 use Rattle.pc_unwind.proofs.Reaching.{done_high}
@@ -11,19 +11,19 @@ use Rattle.pc_unwind.proofs.unwinding.+unwind_tags.Goals as goal
 
 pub returns-in_default-clause-unwinds : goal.returns-in_default-clause-unwinds
 returns-in_default-clause-unwinds t c =
-    unwinds_none (table_of c.args.table.now) c.args.inside c.args.number (tree_in c.args.tree.now) _ (sym c.least_inside.ensures ∙ c.in_default.is)
+    unwinds_none (table_of c.args.table.now) c.args.inside c.args.number (tree_in c.args.tree.now) _ (sym c.least_tags-least.ensures.inside ∙ c.in_default.is)
 
-pub returns-then-tag-front_tag-clause-unwinds : goal.returns-then-tag-front_tag-clause-unwinds
-returns-then-tag-front_tag-clause-unwinds t c =
-    let front = c.front_tag.ensures in
-    let least = least_itself c.in-Some.tag _ (sym c.least_inside.ensures ∙ c.in-Some.is) in
+pub returns-then-tag-front-clause-unwinds : goal.returns-then-tag-front-clause-unwinds
+returns-then-tag-front-clause-unwinds t c =
+    let front = c.front.ensures ∙ ap or_zero c.least_tags-least.ensures.all in
+    let least = least_itself c.in-Some.tag _ (sym c.least_tags-least.ensures.inside ∙ c.in-Some.is) in
     unwinds_no_more (with_growth (tree_in c.args.tree.now) c.args.growth.now)
     (done_high (table_of c.args.table.now) c.args.inside c.args.number c.in-Some.tag (with_growth (tree_in c.args.tree.now) c.args.growth.now) (omega arith) least)
 
 pub returns-then-full-clause-unwinds : goal.returns-then-full-clause-unwinds
 returns-then-full-clause-unwinds t c =
-    let front = c.front_tag.ensures in
-    let least = least_itself c.in-Some.tag _ (sym c.least_inside.ensures ∙ c.in-Some.is) in
+    let front = c.front.ensures ∙ ap or_zero c.least_tags-least.ensures.all in
+    let least = least_itself c.in-Some.tag _ (sym c.least_tags-least.ensures.inside ∙ c.in-Some.is) in
     walked_full (table_of c.args.table.now) c.args.inside c.in-Some.tag (tree_in c.args.tree.now) (tree_in c.walk.new.tree) c.args.growth.now c.walk.new.growth c.requires.size c.args.number
     c.requires.several (omega arith) least
     (subst (Walks (table_of c.args.table.now) c.args.inside c.in-Some.tag (tree_in c.args.tree.now) c.args.growth.now (tree_in c.walk.new.tree) c.walk.new.growth) c.if-full.true
@@ -34,9 +34,9 @@ unwind_tags-requires t c =
     let table = table_of c.args.table.now in
     let before = tree_in c.args.tree.now in
     let after = tree_in c.walk.new.tree in
-    let front = c.front_tag.ensures in
+    let front = c.front.ensures ∙ ap or_zero c.least_tags-least.ensures.all in
     let most = front_most most_tag before c.requires.root in
-    let first : least_inside table c.args.inside before ≡ Some c.in-Some.tag = sym c.least_inside.ensures ∙ c.in-Some.is in
+    let first : least_inside table c.args.inside before ≡ Some c.in-Some.tag = sym c.least_tags-least.ensures.inside ∙ c.in-Some.is in
     let walks =
     subst (Walks table c.args.inside c.in-Some.tag before c.args.growth.now after c.walk.new.growth) c.if-full.false c.in_ok-full.ensures.walks in
     let next = walked_least table c.args.inside c.in-Some.tag before after c.args.growth.now c.walk.new.growth c.requires.size walks (least_itself c.in-Some.tag _ first) in
@@ -74,8 +74,8 @@ unwind_tags-requires t c =
 
 pub returns-clause-unwinds : goal.returns-clause-unwinds
 returns-clause-unwinds t c =
-    let front = c.front_tag.ensures in
-    let least = least_itself c.in-Some.tag _ (sym c.least_inside.ensures ∙ c.in-Some.is) in
+    let front = c.front.ensures ∙ ap or_zero c.least_tags-least.ensures.all in
+    let least = least_itself c.in-Some.tag _ (sym c.least_tags-least.ensures.inside ∙ c.in-Some.is) in
     IfOk-weaker c.unwind_tags.result _ _
     (λ done u.
     walked_on (table_of c.args.table.now) c.args.inside c.in-Some.tag (tree_in c.args.tree.now) (tree_in c.walk.new.tree) c.args.growth.now c.walk.new.growth c.requires.size
