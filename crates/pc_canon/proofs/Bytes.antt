@@ -101,78 +101,107 @@ bytes_of-append : (xs ys : List ℤ) → bytes_of (xs ++ ys) ≡ bytes_of xs ++ 
 bytes_of-append [] ys = refl
 bytes_of-append (x ∷ xs) ys = ap (λ (l : List ℕ). number_bytes x ++ l) (bytes_of-append xs ys) ∙ sym (append_assoc (number_bytes x) (bytes_of xs) (bytes_of ys))
 
+-- bytes with those of numbers behind them
+behind : (before after : List ℕ) (zs : List ℤ) → bytes_of (numbers_in before) ≡ before → after ≡ before ++ bytes_of zs → after ≡ bytes_of (numbers_in before ++ zs)
+behind before after zs kept is = is ∙ (λ i. sym kept i ++ bytes_of zs) ∙ sym (bytes_of-append (numbers_in before) zs)
+
+-- hold these numbers more
+added_in : (before after : List ℕ) (zs : List ℤ) → bytes_of (numbers_in before) ≡ before → after ≡ before ++ bytes_of zs → numbers_in after ≡ numbers_in before ++ zs
+added_in before after zs kept is = ap numbers_in (behind before after zs kept is) ∙ numbers_again (numbers_in before ++ zs)
+
+-- and nothing else
+kept_in : (before after : List ℕ) (zs : List ℤ) → bytes_of (numbers_in before) ≡ before → after ≡ before ++ bytes_of zs → bytes_of (numbers_in after) ≡ after
+kept_in before after zs kept is = ap bytes_of (added_in before after zs kept is) ∙ sym (behind before after zs kept is)
+
+-- the bytes of a number alone
+one_number : (before : List ℕ) (z : ℤ) → before ++ number_bytes z ≡ before ++ bytes_of (z ∷ [])
+one_number before z = ap (λ (l : List ℕ). before ++ l) (sym (append-nil (number_bytes z)))
+
 module _ (before after : List ℕ) (z : ℤ) where
-  behind : bytes_of (numbers_in before) ≡ before → after ≡ before ++ number_bytes z → after ≡ bytes_of (numbers_in before ++ z ∷ [])
-  behind kept is = is ∙ (λ i. sym kept i ++ sym (append-nil (number_bytes z)) i) ∙ sym (bytes_of-append (numbers_in before) (z ∷ []))
+  -- a number of any size
+  pub number_added : bytes_of (numbers_in before) ≡ before → after ≡ before ++ natural_bytes (zigzag z) → numbers_in after ≡ numbers_in before ++ z ∷ []
+  number_added kept is = added_in before after (z ∷ []) kept (is ∙ one_number before z)
 
-  -- bytes with those of a number behind them hold one number more
-  pub number_added : bytes_of (numbers_in before) ≡ before → after ≡ before ++ number_bytes z → numbers_in after ≡ numbers_in before ++ z ∷ []
-  number_added kept is = ap numbers_in (behind kept is) ∙ numbers_again (numbers_in before ++ z ∷ [])
+  pub number_kept : bytes_of (numbers_in before) ≡ before → after ≡ before ++ natural_bytes (zigzag z) → bytes_of (numbers_in after) ≡ after
+  number_kept kept is = kept_in before after (z ∷ []) kept (is ∙ one_number before z)
 
-  -- and nothing else
-  pub number_kept : bytes_of (numbers_in before) ≡ before → after ≡ before ++ number_bytes z → bytes_of (numbers_in after) ≡ after
-  number_kept kept is = ap bytes_of (number_added kept is) ∙ sym (behind kept is)
+  -- a number of one byte
+  pub short_added : bytes_of (numbers_in before) ≡ before → zigzag z < 128 → after ≡ before ++ zigzag z ∷ [] → numbers_in after ≡ numbers_in before ++ z ∷ []
+  short_added kept short is = number_added kept (is ∙ ap (λ (l : List ℕ). before ++ l) (sym (one_byte (zigzag z) short)))
 
-pub ruleset added = (number_added, number_kept)
+  pub short_kept : bytes_of (numbers_in before) ≡ before → zigzag z < 128 → after ≡ before ++ zigzag z ∷ [] → bytes_of (numbers_in after) ≡ after
+  short_kept kept short is = number_kept kept (is ∙ ap (λ (l : List ℕ). before ++ l) (sym (one_byte (zigzag z) short)))
+
+pub ruleset added = (number_added, number_kept, short_added, short_kept)
+
+-- the bytes of numbers of one byte
+one_short : (z : ℤ) (rest : List ℕ) → zigzag z < 128 → zigzag z ∷ rest ≡ number_bytes z ++ rest
+one_short z rest short = ap (λ (l : List ℕ). l ++ rest) (sym (one_byte (zigzag z) short))
+
+module _ (before one two : List ℕ) (y z : ℤ) where
+  two_bytes : zigzag y < 128 → zigzag z < 128 → one ≡ before ++ zigzag y ∷ [] → two ≡ one ++ zigzag z ∷ [] → two ≡ before ++ bytes_of (y ∷ z ∷ [])
+  two_bytes p q first second =
+      second ∙ ap (λ (l : List ℕ). l ++ zigzag z ∷ []) first ∙ append_assoc before (zigzag y ∷ []) (zigzag z ∷ [])
+      ∙ ap (λ (l : List ℕ). before ++ zigzag y ∷ l) (one_short z [] q) ∙ ap (λ (l : List ℕ). before ++ l) (one_short y (bytes_of (z ∷ [])) p)
+
+  -- two numbers of one byte each
+  pub two_added : bytes_of (numbers_in before) ≡ before → zigzag y < 128 → zigzag z < 128 → one ≡ before ++ zigzag y ∷ [] → two ≡ one ++ zigzag z ∷ []
+      → numbers_in two ≡ numbers_in before ++ y ∷ z ∷ []
+  two_added kept p q first second = added_in before two (y ∷ z ∷ []) kept (two_bytes p q first second)
+
+  pub two_kept : bytes_of (numbers_in before) ≡ before → zigzag y < 128 → zigzag z < 128 → one ≡ before ++ zigzag y ∷ [] → two ≡ one ++ zigzag z ∷ []
+      → bytes_of (numbers_in two) ≡ two
+  two_kept kept p q first second = kept_in before two (y ∷ z ∷ []) kept (two_bytes p q first second)
+
+pub ruleset two = (two_added, two_kept)
+
+module _ (before one two three : List ℕ) (x y z : ℤ) where
+  three_bytes : zigzag x < 128 → zigzag y < 128 → zigzag z < 128 → one ≡ before ++ zigzag x ∷ [] → two ≡ one ++ zigzag y ∷ [] → three ≡ two ++ zigzag z ∷ []
+      → three ≡ before ++ bytes_of (x ∷ y ∷ z ∷ [])
+  three_bytes o p q first second third =
+      two_bytes one two three y z p q second third ∙ ap (λ (l : List ℕ). l ++ bytes_of (y ∷ z ∷ [])) first
+      ∙ append_assoc before (zigzag x ∷ []) (bytes_of (y ∷ z ∷ [])) ∙ ap (λ (l : List ℕ). before ++ l) (one_short x (bytes_of (y ∷ z ∷ [])) o)
+
+  -- three numbers of one byte each
+  pub three_added : bytes_of (numbers_in before) ≡ before → zigzag x < 128 → zigzag y < 128 → zigzag z < 128
+      → one ≡ before ++ zigzag x ∷ [] → two ≡ one ++ zigzag y ∷ [] → three ≡ two ++ zigzag z ∷ [] → numbers_in three ≡ numbers_in before ++ x ∷ y ∷ z ∷ []
+  three_added kept o p q first second third = added_in before three (x ∷ y ∷ z ∷ []) kept (three_bytes o p q first second third)
+
+  pub three_kept : bytes_of (numbers_in before) ≡ before → zigzag x < 128 → zigzag y < 128 → zigzag z < 128
+      → one ≡ before ++ zigzag x ∷ [] → two ≡ one ++ zigzag y ∷ [] → three ≡ two ++ zigzag z ∷ [] → bytes_of (numbers_in three) ≡ three
+  three_kept kept o p q first second third = kept_in before three (x ∷ y ∷ z ∷ []) kept (three_bytes o p q first second third)
+
+pub ruleset three = (three_added, three_kept)
 
 -- ---- writing
 
 -- a digit is written, and the others stay to be written
-pub digit_written : (before bytes start whole : List ℕ) (n : ℕ) → bytes ≡ before ++ (128 + n % 128) ∷ [] → 128 ≤ n → before ++ natural_bytes n ≡ start ++ whole
-    → bytes ++ natural_bytes (n / 128) ≡ start ++ whole
-digit_written before bytes start whole n more large is =
+pub digit_written : (before bytes whole : List ℕ) (n : ℕ) → bytes ≡ before ++ (128 + n % 128) ∷ [] → 128 ≤ n → before ++ natural_bytes n ≡ whole
+    → bytes ++ natural_bytes (n / 128) ≡ whole
+digit_written before bytes whole n more large is =
     ap (λ (l : List ℕ). l ++ natural_bytes (n / 128)) more ∙ append_assoc before ((128 + n % 128) ∷ []) (natural_bytes (n / 128))
     ∙ ap (λ (l : List ℕ). before ++ l) (sym (more_bytes n large)) ∙ is
 
 -- the last digit is written
-pub last_written : (before bytes start whole : List ℕ) (n : ℕ) → bytes ≡ before ++ n ∷ [] → n < 128 → before ++ natural_bytes n ≡ start ++ whole → bytes ≡ start ++ whole
-last_written before bytes start whole n more small is = more ∙ ap (λ (l : List ℕ). before ++ l) (sym (one_byte n small)) ∙ is
+pub last_written : (before bytes whole : List ℕ) (n : ℕ) → bytes ≡ before ++ n ∷ [] → n < 128 → before ++ natural_bytes n ≡ whole → bytes ≡ whole
+last_written before bytes whole n more small is = more ∙ ap (λ (l : List ℕ). before ++ l) (sym (one_byte n small)) ∙ is
 
--- what is the same up to a place is so up to each one before it
-pub same_before : (from at : ℕ) (start bytes after : List ℕ) → from ≤ at → take from bytes ≡ take from start → take at after ≡ take at bytes → take from after ≡ take from start
-same_before from at start bytes after le is same = sym (take-take from at after le) ∙ ap (take from) same ∙ take-take from at bytes le ∙ is
+-- a number of one digit is written
+pub one_written : (before bytes : List ℕ) (n : ℕ) → bytes ≡ before ++ n ∷ [] → n < 128 → bytes ≡ before ++ natural_bytes n
+one_written before bytes n more small = last_written before bytes (before ++ natural_bytes n) n more small refl
 
-pub ruleset digits = (digit_written, last_written, same_before)
+-- two digits are written
+pub two_written : (before one two : List ℕ) (n : ℕ) → one ≡ before ++ (128 + n % 128) ∷ [] → two ≡ one ++ (n / 128) ∷ [] → 128 ≤ n → n < 16384
+    → two ≡ before ++ natural_bytes n
+two_written before one two n first second large short =
+    let small : n / 128 < 128 = omega (arith, short) in
+    second ∙ ap (λ (l : List ℕ). one ++ l) (sym (one_byte (n / 128) small)) ∙ digit_written before one (before ++ natural_bytes n) n first large refl
 
--- ---- bytes at their places
+-- what stands before a byte that is put behind stays
+pub before_stays : (start bytes after : List ℕ) (byte : ℕ) → take (length start) bytes ≡ start → length start ≤ length bytes → after ≡ bytes ++ byte ∷ []
+    → take (length start) after ≡ start
+before_stays start bytes after byte is long more = ap (take (length start)) more ∙ take-append-le (length start) bytes (byte ∷ []) long ∙ is
 
-module _ (bytes new : List ℕ) (at byte : ℕ) where
-  -- a byte that is set
-  pub byte_set : at < length bytes → new ≡ slice_set bytes at byte → take (at + 1) new ≡ take at bytes ++ byte ∷ []
-  byte_set h is = ap (take (at + 1)) is ∙ take_more_set bytes at byte h
+pub ruleset short = (one_written, two_written)
 
-  -- a number that takes one byte
-  pub short_set : byte < 128 → at < length bytes → new ≡ slice_set bytes at byte → take (at + 1) new ≡ take at bytes ++ natural_bytes byte
-  short_set small h is = byte_set h is ∙ ap (λ (l : List ℕ). take at bytes ++ l) (sym (one_byte byte small))
-
-  -- what stands before it stays
-  pub others_stay : new ≡ slice_set bytes at byte → take at new ≡ take at bytes
-  others_stay is = ap (take at) is ∙ take-set bytes at byte
-
--- a byte is put behind the others, and then room is opened behind it
-module _ (bytes more new : List ℕ) (at byte : ℕ) where
-  -- all bytes stand before the place behind them
-  seam : at ≡ length bytes → take at bytes ≡ bytes
-  seam is = ap (λ (n : ℕ). take n bytes) is ∙ take-length bytes
-
-  -- and there is one more with it
-  long : at ≡ length bytes → length (bytes ++ byte ∷ []) ≡ at + 1
-  long is = length-append bytes (byte ∷ []) ∙ omega (arith, is)
-
-  -- it stands at its place
-  pub byte_behind : at ≡ length bytes → more ≡ bytes ++ byte ∷ [] → take (length more) new ≡ more → take (at + 1) new ≡ take at bytes ++ byte ∷ []
-  byte_behind is pushed opened =
-      ap (λ (n : ℕ). take n new) (sym (long is) ∙ ap length (sym pushed)) ∙ opened ∙ pushed ∙ ap (λ (l : List ℕ). l ++ byte ∷ []) (sym (seam is))
-
-  -- and the others stay in front of it
-  pub others_in_front : at ≡ length bytes → more ≡ bytes ++ byte ∷ [] → take (length more) new ≡ more → take at new ≡ take at bytes
-  others_in_front is pushed opened =
-      let within : at ≤ length more = omega (arith, long is, ap length pushed) in
-      sym (take-take at (length more) new within) ∙ ap (take at) (opened ∙ pushed) ∙ take-append-le at bytes (byte ∷ []) (omega (arith, is))
-
--- room is opened behind the bytes that there are
-pub room_behind : (bytes new : List ℕ) (n m : ℕ) → length bytes ≤ n → new ≡ take n bytes ++ replicate m 0 → take (length bytes) new ≡ bytes
-room_behind bytes new n m le is =
-    ap (take (length bytes)) (is ∙ ap (λ (l : List ℕ). l ++ replicate m 0) (take_all n bytes le)) ∙ take-append_seam bytes (replicate m 0)
-
-pub ruleset places = (byte_set, short_set, others_stay, byte_behind, others_in_front, room_behind)
+pub ruleset digits = (before_stays)

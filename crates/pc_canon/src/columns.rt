@@ -30,7 +30,7 @@ pub(crate) fn add_form(
 {
     let has_terms = form.term(0).is_some();
     let offset = form.offset();
-    numbers.extend_from_slice(&[1, i64::from(offset), i64::from(has_terms)])?;
+    numbers.push_three(1, i64::from(offset), i64::from(has_terms))?;
     add_terms(form, place, 0, columns)?;
     Ok(())
 }
@@ -101,7 +101,7 @@ fn write_column(column: &[i64], numbers: &mut NumberBytes) -> Result<(), AllocEr
     ensures { OnOk result (numbers.new ≡ numbers.old ++ column_numbers column.now) }
 {
     for number in column {
-        numbers.extend_from_slice(&[1, *number])?;
+        numbers.push_two(1, *number)?;
     }
     numbers.push(0)
 }

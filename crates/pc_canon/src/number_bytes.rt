@@ -1,6 +1,6 @@
 //! Numbers, kept in bytes.
-ghost use Rattle.std.specs.Prelude.{◌≡◌, ◌+◌, ◌<◌, ◌≤◌, ◌∷◌, ◌++◌, [], false, length, take, IsTrue, OnOk, IfOk};
-ghost use Rattle.pc_canon.specs.Bytes.{zigzag, natural_bytes, number_bytes, bytes_of};
+ghost use Rattle.std.specs.Prelude.{◌≡◌, ◌+◌, ◌<◌, ◌≤◌, ◌∷◌, ◌++◌, [], length, take, vec_len, vec_capacity, IsTrue, OnOk, OnErr, IfOk};
+ghost use Rattle.pc_canon.specs.Bytes.{zigzag, natural_bytes, bytes_of};
 
 use std::alloc::{AllocError, Global};
 use std::marker::Model;
@@ -8,14 +8,12 @@ use std::marker::Model;
 /// A list of numbers, kept in bytes: those from -64 to 63 in one each.
 #[derive(Drop)]
 pub(crate) struct NumberBytes {
-    /// The bytes of the numbers, and behind them room for more.
+    /// The bytes of the numbers.
     bytes: Vec<u8>,
-    /// How many bytes the numbers have.
-    len: usize,
 }
 
 impl Model for NumberBytes {
-    ghost use Rattle.std.specs.Prelude.{◌≡◌, ◌≤◌, ℤ, List, length, take};
+    ghost use Rattle.std.specs.Prelude.{◌≡◌, ℤ, List};
     ghost use Rattle.std.specs.Coded.{codes};
     ghost use Rattle.pc_canon.specs.Bytes.{bytes_of};
     ghost use Rattle.pc_canon.specs.models.Kept.{numbers_in};
@@ -24,21 +22,19 @@ impl Model for NumberBytes {
 
     ghost coded = { Prim.hlevel codes };
 
-    ghost view = { λ it. numbers_in (take it.len it.bytes.items) };
+    ghost view = { λ it. numbers_in it.bytes.items };
 
-    ghost invariant = { λ it. (it.len ≤ length it.bytes.items) × (bytes_of (numbers_in (take it.len it.bytes.items)) ≡ take it.len it.bytes.items) };
+    ghost invariant = { λ it. bytes_of (numbers_in it.bytes.items) ≡ it.bytes.items };
 }
 
 impl NumberBytes {
-    /// No numbers.
+    /// No numbers, and room for so many bytes.
     #[tactic(auto, unfolding(crate::specs::models::Kept::numbers_in))]
-    pub(crate) fn new(alloc: Global) -> NumberBytes
-        ensures { result ≡ [] }
+    pub(crate) fn with_room(alloc: Global, room: usize) -> Result<NumberBytes, AllocError>
+        ensures { IfOk result (λ it. it ≡ []) }
     {
-        NumberBytes {
-            bytes: Vec::new(alloc),
-            len: 0,
-        }
+        let bytes = Vec::with_capacity(alloc, room)?;
+        Ok(NumberBytes { bytes })
     }
 
     /// Puts a number behind the others.
@@ -48,11 +44,51 @@ impl NumberBytes {
         ensures { OnOk result (self.new ≡ self.old ++ number ∷ []) }
     {
         let natural = zigzag(number);
-        if put_short(natural, self.len, &mut self.bytes) {
-            self.len += 1;
+        if natural < 128 && self.bytes.len() < self.bytes.capacity() {
+            self.bytes.push_reserved(natural as u8);
             return Ok(());
         }
         self.push_digits(number)
+    }
+
+    /// Puts two numbers behind the others.
+    #[tactic(auto, using(crate::proofs::Bytes::two))]
+    pub(crate) fn push_two(&mut self, first: i64, second: i64) -> Result<(), AllocError>
+        ensures { OnOk result (self.new ≡ self.old ++ first ∷ second ∷ []) }
+    {
+        let one = zigzag(first);
+        let two = zigzag(second);
+        if one < 128 && two < 128 && has_room(&self.bytes, 2) {
+            self.bytes.push_reserved(one as u8);
+            self.bytes.push_reserved(two as u8);
+            return Ok(());
+        }
+        self.push_digits(first)?;
+        self.push_digits(second)
+    }
+
+    /// Puts three numbers behind the others.
+    #[tactic(auto, using(crate::proofs::Bytes::three))]
+    pub(crate) fn push_three(
+        &mut self,
+        first: i64,
+        second: i64,
+        third: i64,
+    ) -> Result<(), AllocError>
+        ensures { OnOk result (self.new ≡ self.old ++ first ∷ second ∷ third ∷ []) }
+    {
+        let one = zigzag(first);
+        let two = zigzag(second);
+        let three = zigzag(third);
+        if one < 128 && two < 128 && three < 128 && has_room(&self.bytes, 3) {
+            self.bytes.push_reserved(one as u8);
+            self.bytes.push_reserved(two as u8);
+            self.bytes.push_reserved(three as u8);
+            return Ok(());
+        }
+        self.push_two(first, second)?;
+        self.push_digits(third)?;
+        Ok(())
     }
 
     /// Puts a number behind the others, in as many bytes as it takes, and makes room where there is none.
@@ -61,18 +97,7 @@ impl NumberBytes {
     fn push_digits(&mut self, number: i64) -> Result<(), AllocError>
         ensures { OnOk result (self.new ≡ self.old ++ number ∷ []) }
     {
-        self.len = write_natural(zigzag(number), self.len, &mut self.bytes)?;
-        Ok(())
-    }
-
-    /// Puts numbers behind the others.
-    pub(crate) fn extend_from_slice(&mut self, numbers: &[i64]) -> Result<(), AllocError>
-        ensures { OnOk result (self.new ≡ self.old ++ numbers.now) }
-    {
-        for number in numbers {
-            self.push(*number)?;
-        }
-        Ok(())
+        write_natural(zigzag(number), &mut self.bytes)
     }
 
     /// The bytes of the numbers, with no spare room where memory allows.
@@ -80,7 +105,6 @@ impl NumberBytes {
         ensures { result.items ≡ bytes_of self }
     {
         let mut bytes = self.bytes;
-        bytes.truncate(self.len);
         bytes.shrink_to_fit();
         bytes
     }
@@ -97,65 +121,57 @@ fn zigzag(number: i64) -> u64
     }
 }
 
-/// Puts a natural number at a place where there is room, if it takes one byte, and gives whether it did.
-#[inline(always)]
-#[tactic(auto, using(crate::proofs::Bytes::places))]
-fn put_short(natural: u64, at: usize, bytes: &mut Vec<u8>) -> bool
-    ensures put { IsTrue result → take (at + 1) bytes.new.items ≡ take at bytes.old.items ++ natural_bytes natural }
-    ensures within { IsTrue result → at + 1 ≤ length bytes.new.items }
-    ensures kept { result ≡ false → bytes.new ≡ bytes.old }
+/// Whether so many bytes more fit into the memory of a list.
+fn has_room(bytes: &Vec<u8>, count: usize) -> bool
+    ensures { IsTrue result → vec_len bytes.now + count ≤ vec_capacity bytes.now }
 {
-    if natural >= 128 || at >= bytes.len() {
-        return false;
-    }
-    bytes[at] = natural as u8;
-    true
+    count <= bytes.capacity() - bytes.len()
 }
 
-/// Writes the bytes of a natural number at a place, and gives the place behind them: seven bits each, the
-/// low ones first, and the top bit set in all but the last. What stands before the place stays, also
-/// where memory runs out.
-#[tactic(auto, using(crate::proofs::Bytes::digits))]
-fn write_natural(natural: u64, from: usize, bytes: &mut Vec<u8>) -> Result<usize, AllocError>
-    requires { from ≤ length bytes.old.items }
-    ensures written { IfOk result (λ behind. take behind bytes.new.items ≡ take from bytes.old.items ++ natural_bytes natural) }
-    ensures within { IfOk result (λ behind. behind ≤ length bytes.new.items) }
-    ensures before { take from bytes.new.items ≡ take from bytes.old.items }
-    ensures longer { length bytes.old.items ≤ length bytes.new.items }
+/// Puts the bytes of a natural number behind others. Where memory runs out, none of them stay.
+fn write_natural(natural: u64, bytes: &mut Vec<u8>) -> Result<(), AllocError>
+    ensures written { OnOk result (bytes.new.items ≡ bytes.old.items ++ natural_bytes natural) }
+    ensures kept { OnErr result (bytes.new.items ≡ bytes.old.items) }
 {
-    let mut rest = natural;
-    let mut at = from;
-    while rest >= 128 {
-        put_byte(128 + (rest % 128) as u8, at, bytes)?;
-        at += 1;
-        rest /= 128;
-    }
-    put_byte(rest as u8, at, bytes)?;
-    Ok(at + 1)
-}
-
-/// Puts a byte at a place among others, or behind them.
-#[tactic(auto, using(crate::proofs::Bytes::places))]
-fn put_byte(byte: u8, at: usize, bytes: &mut Vec<u8>) -> Result<(), AllocError>
-    requires { at ≤ length bytes.old.items }
-    ensures put { OnOk result (take (at + 1) bytes.new.items ≡ take at bytes.old.items ++ byte ∷ []) }
-    ensures within { OnOk result (at < length bytes.new.items) }
-    ensures before { take at bytes.new.items ≡ take at bytes.old.items }
-    ensures longer { length bytes.old.items ≤ length bytes.new.items }
-{
-    if at < bytes.len() {
-        bytes[at] = byte;
+    if natural < 16384 && has_room(bytes, 2) {
+        write_short(natural, bytes);
         return Ok(());
     }
-    bytes.push(byte)?;
-    open_room(bytes)
+    let before = bytes.len();
+    let written = write_digits(natural, bytes);
+    if written.is_err() {
+        bytes.truncate(before);
+    }
+    written
 }
 
-/// Fills the memory that a list of bytes has with zeros, which stand behind its bytes.
-#[tactic(auto, using(crate::proofs::Bytes::places))]
-fn open_room(bytes: &mut Vec<u8>) -> Result<(), AllocError>
-    ensures before { take (length bytes.old.items) bytes.new.items ≡ bytes.old.items }
-    ensures longer { length bytes.old.items ≤ length bytes.new.items }
+/// Puts the bytes of a natural number of at most two bytes behind others, where there is room for them.
+#[tactic(auto, using(crate::proofs::Bytes::short))]
+fn write_short(natural: u64, bytes: &mut Vec<u8>)
+    requires short { natural < 16384 }
+    requires room { vec_len bytes.old + 2 ≤ vec_capacity bytes.old }
+    ensures { bytes.new.items ≡ bytes.old.items ++ natural_bytes natural }
 {
-    bytes.resize(bytes.capacity(), 0)
+    if natural < 128 {
+        bytes.push_reserved(natural as u8);
+    } else {
+        bytes.push_reserved(128 + (natural % 128) as u8);
+        bytes.push_reserved((natural / 128) as u8);
+    }
+}
+
+/// Puts the bytes of a natural number behind others: seven bits each, the low ones first, and the top bit set
+/// in all but the last. Where memory runs out, some of them may stay.
+#[tactic(auto, using(crate::proofs::Bytes::digits))]
+fn write_digits(natural: u64, bytes: &mut Vec<u8>) -> Result<(), AllocError>
+    ensures written { OnOk result (bytes.new.items ≡ bytes.old.items ++ natural_bytes natural) }
+    ensures before { take (length bytes.old.items) bytes.new.items ≡ bytes.old.items }
+{
+    let mut rest = natural;
+    while rest >= 128 {
+        bytes.push(128 + (rest % 128) as u8)?;
+        rest /= 128;
+    }
+    bytes.push(rest as u8)?;
+    Ok(())
 }

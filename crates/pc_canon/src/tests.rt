@@ -110,8 +110,10 @@ const SPREAD_BYTES: &[u8] = &[
 
 /// Whether numbers have these bytes.
 fn have_bytes(alloc: Global, list: &[i64], bytes: &[u8]) -> Result<bool, AllocError> {
-    let mut numbers = NumberBytes::new(alloc);
-    numbers.extend_from_slice(list)?;
+    let mut numbers = NumberBytes::with_room(alloc, 4)?;
+    for number in list {
+        numbers.push(*number)?;
+    }
     Ok(numbers.into_bytes().as_slice() == bytes)
 }
 

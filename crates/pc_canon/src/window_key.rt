@@ -31,6 +31,9 @@ pub struct WindowKey {
     pub tag: u32,
 }
 
+/// The room that is taken at first for what is written, in bytes for each name: mostly it takes some 24.
+const ROOM_OF_NAME: usize = 32;
+
 /// The key of a window. It takes time linear in the window, its names and its form variables, but for
 /// putting the columns of form variables in order, by a sort that moves none of their numbers.
 pub fn key(alloc: Global, window: &Window) -> Result<WindowKey, WindowError>
@@ -47,7 +50,7 @@ pub fn key(alloc: Global, window: &Window) -> Result<WindowKey, WindowError>
     let tag = first_tag(&window.tree);
     let mut levels = levels_of(alloc, names.as_slice(), count)?;
     let depth = names.len() as u32;
-    let mut numbers = NumberBytes::new(alloc);
+    let mut numbers = NumberBytes::with_room(alloc, ROOM_OF_NAME * count)?;
     write_tree(&window.tree, tag, depth, &mut levels, &mut numbers)?;
     write_shape(&window.tree, &mut numbers)?;
     write_forms(alloc, window, names.as_slice(), &mut numbers)?;
@@ -76,11 +79,7 @@ pub fn same_up_to_shift(alloc: Global, one: &Window, other: &Window) -> Result<b
 fn write_limits(limits: Limits, numbers: &mut NumberBytes) -> Result<(), AllocError>
     ensures { OnOk result (numbers.new ≡ numbers.old ++ limit_numbers limits) }
 {
-    numbers.extend_from_slice(&[
-        i64::from(limits.ops),
-        i64::from(limits.tests),
-        i64::from(limits.mem),
-    ])
+    numbers.push_three(i64::from(limits.ops), i64::from(limits.tests), i64::from(limits.mem))
 }
 
 /// Writes the loop of a window.
@@ -89,6 +88,6 @@ fn write_loop(inside: Option<u16>, numbers: &mut NumberBytes) -> Result<(), Allo
 {
     match inside {
         None => numbers.push(0),
-        Some(inside) => numbers.extend_from_slice(&[1, i64::from(inside)]),
+        Some(inside) => numbers.push_two(1, i64::from(inside)),
     }
 }

@@ -34,7 +34,7 @@ pub(crate) fn write_tree(
             item,
             rest,
         } => {
-            numbers.extend_from_slice(&[0, tag_number(*tag, first), i64::from(*origin)])?;
+            numbers.push_three(0, tag_number(*tag, first), i64::from(*origin))?;
             write_item(*item, depth, levels, numbers)?;
             match written_by(*item) {
                 None => write_tree(rest, first, depth, levels, numbers)?,
@@ -54,7 +54,7 @@ pub(crate) fn write_tree(
             yes,
             no,
         } => {
-            numbers.extend_from_slice(&[1, tag_number(*tag, first), i64::from(*origin)])?;
+            numbers.push_three(1, tag_number(*tag, first), i64::from(*origin))?;
             write_operand(*on, depth, levels, numbers)?;
             write_tree(yes, first, depth, levels, numbers)?;
             write_tree(no, first, depth, levels, numbers)?;
@@ -62,12 +62,12 @@ pub(crate) fn write_tree(
         }
         WindowTree::Node { below } => write_tree(below, first, depth, levels, numbers),
         WindowTree::Exit { region, tag, homes } => {
-            numbers.extend_from_slice(&[2, i64::from(*region), tag_number(*tag, first)])?;
+            numbers.push_three(2, i64::from(*region), tag_number(*tag, first))?;
             write_homes(homes.as_slice(), depth, levels, numbers)
         }
         WindowTree::Stop => numbers.push(3),
         WindowTree::Trap { kind, line } => {
-            numbers.extend_from_slice(&[4, trap_number(*kind), i64::from(*line)])
+            numbers.push_three(4, trap_number(*kind), i64::from(*line))
         }
     }
 }
@@ -106,7 +106,7 @@ fn write_item(
             right,
             ..
         } => {
-            numbers.extend_from_slice(&[0, op_number(op)])?;
+            numbers.push_two(0, op_number(op))?;
             write_operand(left, depth, levels, numbers)?;
             write_operand(right, depth, levels, numbers)
         }
@@ -115,7 +115,7 @@ fn write_item(
             write_operand(from, depth, levels, numbers)
         }
         Item::Load { array, index, .. } => {
-            numbers.extend_from_slice(&[2, i64::from(array)])?;
+            numbers.push_two(2, i64::from(array))?;
             write_operand(index, depth, levels, numbers)
         }
         Item::Store {
@@ -123,7 +123,7 @@ fn write_item(
             index,
             value,
         } => {
-            numbers.extend_from_slice(&[3, i64::from(array)])?;
+            numbers.push_two(3, i64::from(array))?;
             write_operand(index, depth, levels, numbers)?;
             write_operand(value, depth, levels, numbers)
         }
@@ -146,7 +146,7 @@ fn write_homes(
     ensures { OnOk result (numbers.new ≡ numbers.old ++ list_numbers home_numbers (placed_homes (place_at levels.now depth) homes.now)) }
 {
     for home in homes {
-        numbers.extend_from_slice(&[1, i64::from(home.variable)])?;
+        numbers.push_two(1, i64::from(home.variable))?;
         write_operand(home.value, depth, levels, numbers)?;
     }
     numbers.push(0)
@@ -163,9 +163,9 @@ fn write_operand(
 {
     match operand {
         Operand::Name(name) => {
-            numbers.extend_from_slice(&[0, i64::from(place_at(levels, depth, name))])
+            numbers.push_two(0, i64::from(place_at(levels, depth, name)))
         }
-        Operand::Lit(value) => numbers.extend_from_slice(&[1, i64::from(value)]),
+        Operand::Lit(value) => numbers.push_two(1, i64::from(value)),
     }
 }
 

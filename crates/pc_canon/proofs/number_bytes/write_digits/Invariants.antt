@@ -1,14 +1,12 @@
 use Rattle.std.proofs.Common.{◌≡◌, ◌++◌, ◌≤◌, length, take}
 use Rattle.pc_canon.specs.Bytes.{natural_bytes}
-use Rattle.pc_canon.proofs.number_bytes.write_natural.Given as goal
+use Rattle.pc_canon.proofs.number_bytes.write_digits.Given as goal
 
 -- what is written so far, and then the digits that are left, is the whole; and what was there before stays
 abbrev pub invariant-loop-rest : goal.invariant-loop-rest
 invariant-loop-rest l = record {
-  written : take l.at l.bytes.items ++ natural_bytes l.rest ≡ take l.from l.fn.bytes.items ++ natural_bytes l.natural;
-  before : take l.from l.bytes.items ≡ take l.from l.fn.bytes.items;
-  behind : l.from ≤ l.at;
-  within : l.at ≤ length l.bytes.items;
+  written : l.bytes.items ++ natural_bytes l.rest ≡ l.fn.bytes.items ++ natural_bytes l.natural;
+  before : take (length l.fn.bytes.items) l.bytes.items ≡ l.fn.bytes.items;
   longer : length l.fn.bytes.items ≤ length l.bytes.items;
 }
 
