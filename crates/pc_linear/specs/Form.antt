@@ -1,5 +1,5 @@
 -- Linear forms modulo 2^32: a constant, and terms, each a factor times a variable.
-use Rattle.std.specs.Prelude.{◌≡◌, ◌≢◌, ◌≤◌, ℕ, suc, ℤ, pos, ◌+ℤ◌, ◌*ℤ◌, if◌then◌else◌, nat_eq, List, [], ◌∷◌, length}
+use Rattle.std.specs.Prelude.{◌≡◌, ◌≢◌, ◌≤◌, ℕ, suc, ℤ, pos, ◌+ℤ◌, ◌*ℤ◌, if◌then◌else◌, nat_eq, List, [], ◌∷◌, length, map}
 use Rattle.std.specs.List.{AllByRecursion}
 use Rattle.std.specs.Int.{w32, int_wrap}
 use Rattle.pc_word.specs.Word.{IsWord}
@@ -36,6 +36,16 @@ pub record IsNormal (f : Form) : Type 0 where
 pub record IsForm (f : Form) : Type 0 where
   pub normal : IsNormal f
   pub few : length f.terms ≤ most_terms
+
+-- ---- other variables
+
+-- terms in other variables
+abbrev pub terms_in_variables : (ℕ → ℕ) → List Term → List Term
+terms_in_variables number terms = map (λ (term : Term). record { variable = number term.variable; factor = term.factor }) terms
+
+-- a form in other variables
+abbrev pub in_variables : (ℕ → ℕ) → Form → Form
+in_variables number form = record { terms = terms_in_variables number form.terms; constant = form.constant }
 
 -- ---- what a form means
 

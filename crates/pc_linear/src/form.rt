@@ -1,13 +1,15 @@
 //! Linear forms.
-ghost use Rattle.std.specs.Prelude.{◌≡◌, ◌≤◌, ◌↔◌, length, slice_get, IfSome, [], true, false};
-ghost use Rattle.pc_linear.specs.Form.{Form, IsForm, most_terms};
+ghost use Rattle.std.specs.Prelude.{◌≡◌, ◌<◌, ◌≤◌, ◌↔◌, length, slice_get, slice_index, IfSome, [], true, false};
+ghost use Rattle.std.specs.List.{AllByRecursion};
+ghost use Rattle.pc_linear.specs.declared.term.Term.{Term};
+ghost use Rattle.pc_linear.specs.Form.{Form, IsForm, most_terms, in_variables};
 ghost use Rattle.pc_linear.specs.Combine.{constant_form, variable_form, combine, difference, constant_of, times_form, fitting, shift_factor};
 ghost use Rattle.pc_linear.specs.Equality.{NeverEqual, SometimesEqual, AlwaysEqual, IsNeverZero, IsAlwaysZero};
 ghost use Rattle.pc_linear.specs.Laws.{HasValueOf, MeansResultOf};
 ghost use Rattle.pc_linear.specs.models.Stored.{places};
 
 use crate::sum::Sum;
-use crate::term::Term;
+use crate::term::{Term, set_variables};
 use pc_word::{OpCode, apply, shl};
 use std::marker::Model;
 
@@ -129,6 +131,21 @@ impl LinForm {
         ensures { result ≡ slice_get self.now.terms place }
     {
         self.terms().get(place as usize).copied()
+    }
+
+    /// The form in other variables: each by the number that a table gives it, so that they still rise.
+    pub fn in_variables(&self, numbers: &[u32]) -> LinForm
+        requires below { AllByRecursion (λ (term : Term). term.variable < length numbers.now) self.now.terms }
+        requires form { IsForm (in_variables (slice_index numbers.now) self.now) }
+        ensures { result ≡ in_variables (slice_index numbers.now) self.now }
+    {
+        let mut terms = self.terms;
+        set_variables(&mut terms[..self.count], numbers);
+        LinForm {
+            terms,
+            count: self.count,
+            constant: self.constant,
+        }
     }
 
     /// The constant.

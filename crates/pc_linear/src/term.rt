@@ -1,8 +1,10 @@
 //! Terms, and lists of them with rising variables.
-ghost use Rattle.std.specs.Prelude.{◌≡◌, ◌+◌, ◌<◌, ◌≤◌, ◌++◌, take, drop, length, ◌+ℤ◌, ◌*ℤ◌};
+ghost use Rattle.std.specs.Prelude.{◌≡◌, ◌+◌, ◌<◌, ◌≤◌, ◌++◌, take, drop, length, slice_index, ◌+ℤ◌, ◌*ℤ◌};
+ghost use Rattle.std.specs.List.{AllByRecursion};
 ghost use Rattle.std.specs.Int.{w32, int_wrap};
 ghost use Rattle.arrayvec.specs.ArrayVec.{array_vec_len};
 ghost use Rattle.pc_linear.specs.Combine.{prepended, add_term, add_times};
+ghost use Rattle.pc_linear.specs.Form.{terms_in_variables};
 ghost use Rattle.pc_linear.specs.models.Places.{rank, factor_at};
 
 use arrayvec::ArrayVec;
@@ -89,6 +91,16 @@ pub(crate) fn add_times(terms: &mut Terms, number: i32, more: &[Term])
 {
     for term in more {
         add_term(terms, term.variable, mul(number, term.factor));
+    }
+}
+
+/// Puts another variable in the place of each: the number that a table gives it.
+pub(crate) fn set_variables(terms: &mut [Term], numbers: &[u32])
+    requires { AllByRecursion (λ (term : Term). term.variable < length numbers.now) terms.old }
+    ensures { terms.new ≡ terms_in_variables (slice_index numbers.now) terms.old }
+{
+    for at in 0..terms.len() {
+        terms[at].variable = numbers[terms[at].variable as usize];
     }
 }
 

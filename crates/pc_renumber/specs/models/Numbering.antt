@@ -1,10 +1,8 @@
 -- Tables of new numbers: of names, and of form variables.
 use Rattle.std.specs.Prelude.{◌≡◌, ℕ, suc, ◌+◌, ◌<◌, ◌≤◌, Bool, true, if◌then◌else◌}
-use Rattle.std.specs.Prelude.{List, [], ◌∷◌, ◌++◌, length, Option, Some, None, slice_index, slice_index_or, slice_set}
+use Rattle.std.specs.Prelude.{List, [], ◌∷◌, length, Option, Some, None, slice_index, slice_index_or, slice_set}
 use Rattle.pc_linear.specs.declared.term.Term.{Term}
 use Rattle.pc_linear.specs.Form.{Form}
-use Rattle.pc_linear.specs.Combine.{combine, constant_form, variable_form}
-use Rattle.pc_word.specs.declared.item.OpCode.TheVariants.{Add, Mul}
 use Rattle.pc_window.specs.Opening.{TermsBelow}
 use Rattle.pc_window.specs.Rebasing.{is_in}
 use Rattle.pc_canon.specs.Canonical.{place_of}
@@ -55,17 +53,3 @@ pub record AreNew (numbers : List ℕ) (forms : List Form) (variables : ℕ) : T
 pub record Rise (numbers : List ℕ) (terms : List Term) : Type 0 where
   pub below : TermsBelow (length numbers) terms
   pub rise : (x y : ℕ) → stands_in terms x ≡ true → x < y → y < length numbers → slice_index numbers x < slice_index numbers y
-
--- ---- forms
-
--- a form plus a term
-abbrev pub plus_factor : Form → Option Form → Option Form
-plus_factor sum None = None
-plus_factor sum (Some term) = combine Add sum term
-
-abbrev pub plus_term : Form → Term → Option Form
-plus_term sum term = plus_factor sum (combine Mul (constant_form term.factor) (variable_form term.variable))
-
--- terms behind those of a form
-abbrev pub with_terms : Form → List Term → Form
-with_terms sum terms = record { terms = sum.terms ++ terms; constant = sum.constant }

@@ -4,12 +4,12 @@ use Rattle.pc_renumber.specs.Renumbering.{renumbered_form}
 use Rattle.pc_renumber.proofs.NewForms.{all_rise, table_is}
 use Rattle.pc_renumber.proofs.forms.table_from.Goals as goal
 
-pub renumbered_forms-requires : goal.renumbered_forms-requires
-renumbered_forms-requires c = all_rise c.args.numbers.now c.args.forms.now c.args.variables c.requires.new c.requires.below
+pub renumbered_forms-forms-requires : goal.renumbered_forms-forms-requires
+renumbered_forms-forms-requires c = all_rise c.args.numbers.now c.args.forms.items c.args.variables c.requires.new c.requires.below
 
 pub returns : goal.returns
 returns c =
     let numbers = c.args.numbers.now in
-    let forms = c.args.forms.now in
-    let made : c.in_ok-forms.forms ≡ map (renumbered_form (slice_index numbers)) forms = search rules in
+    let forms = c.args.forms.items in
+    let made : c.from_vec.result ≡ map (renumbered_form (slice_index numbers)) forms = search rules in
     table_is numbers forms c.args.variables c.requires.new _ c.requires.below made refl
