@@ -27,61 +27,35 @@ pub(crate) fn dest_of(item: Item) -> Option<u32>
     }
 }
 
-/// An operand with one name in place of another.
-fn renamed_operand(operand: Operand, old: u32, new: u32) -> Operand
-    ensures { result ≡ renamed (Some old) (Some new) operand }
+/// Puts one name in the place of another, where an operand reads that.
+fn rename_operand(operand: &mut Operand, old: u32, new: u32)
+    ensures { operand.new ≡ renamed (Some old) (Some new) operand.old }
 {
-    match operand {
-        Operand::Name(name) => {
-            if old == name {
-                Operand::Name(new)
-            } else {
-                Operand::Name(name)
-            }
+    if let Operand::Name(name) = operand {
+        if old == *name {
+            *name = new;
         }
-        Operand::Lit(value) => Operand::Lit(value),
     }
 }
 
-/// An item that reads one name in place of another.
-fn renamed_item(item: Item, old: u32, new: u32) -> Item
-    ensures { result ≡ map_operands (renamed (Some old) (Some new)) item }
+/// The same in what an item reads.
+fn rename_read(item: &mut Item, old: u32, new: u32)
+    ensures { item.new ≡ map_operands (renamed (Some old) (Some new)) item.old }
 {
     match item {
-        Item::Bin {
-            op,
-            dest,
-            left,
-            right,
-        } => Item::Bin {
-            op,
-            dest,
-            left: renamed_operand(left, old, new),
-            right: renamed_operand(right, old, new),
-        },
-        Item::Copy { dest, from } => Item::Copy {
-            dest,
-            from: renamed_operand(from, old, new),
-        },
-        Item::Load { dest, array, index } => Item::Load {
-            dest,
-            array,
-            index: renamed_operand(index, old, new),
-        },
-        Item::Store {
-            array,
-            index,
-            value,
-        } => Item::Store {
-            array,
-            index: renamed_operand(index, old, new),
-            value: renamed_operand(value, old, new),
-        },
-        Item::Print { value } => Item::Print {
-            value: renamed_operand(value, old, new),
-        },
-        Item::Read { dest } => Item::Read { dest },
-        Item::More { dest } => Item::More { dest },
+        Item::Bin { left, right, .. } => {
+            rename_operand(left, old, new);
+            rename_operand(right, old, new);
+        }
+        Item::Copy { from, .. } => rename_operand(from, old, new),
+        Item::Load { index, .. } => rename_operand(index, old, new),
+        Item::Store { index, value, .. } => {
+            rename_operand(index, old, new);
+            rename_operand(value, old, new);
+        }
+        Item::Print { value } => rename_operand(value, old, new),
+        Item::Read { .. } => {}
+        Item::More { .. } => {}
     }
 }
 
@@ -97,10 +71,12 @@ fn home_at(homes: &HomeList, at: usize) -> Home
 fn renamed_home(home: Home, old: u32, new: u32) -> Home
     ensures { result ≡ record { variable = home.variable; value = renamed (Some old) (Some new) home.value } }
 {
-    Home {
-        variable: home.variable,
-        value: renamed_operand(home.value, old, new),
-    }
+    let Home {
+        variable,
+        mut value,
+    } = home;
+    rename_operand(&mut value, old, new);
+    Home { variable, value }
 }
 
 /// Homes that read one name in place of another.
@@ -120,11 +96,11 @@ fn rename(tree: &mut WindowTree, old: u32, new: u32)
 {
     match tree {
         WindowTree::Step { item, rest, .. } => {
-            *item = renamed_item(*item, old, new);
+            rename_read(item, old, new);
             rename(rest, old, new);
         }
         WindowTree::Test { on, yes, no, .. } => {
-            *on = renamed_operand(*on, old, new);
+            rename_operand(on, old, new);
             rename(yes, old, new);
             rename(no, old, new);
         }

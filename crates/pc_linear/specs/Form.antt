@@ -39,9 +39,13 @@ pub record IsForm (f : Form) : Type 0 where
 
 -- ---- other variables
 
+-- a term in another variable
+abbrev pub term_in_variable : (ℕ → ℕ) → Term → Term
+term_in_variable number term = record { variable = number term.variable; factor = term.factor }
+
 -- terms in other variables
 abbrev pub terms_in_variables : (ℕ → ℕ) → List Term → List Term
-terms_in_variables number terms = map (λ (term : Term). record { variable = number term.variable; factor = term.factor }) terms
+terms_in_variables number terms = map (term_in_variable number) terms
 
 -- a form in other variables
 abbrev pub in_variables : (ℕ → ℕ) → Form → Form

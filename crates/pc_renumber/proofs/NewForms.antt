@@ -5,13 +5,13 @@ use Rattle.std.specs.List.{AllByRecursion}
 use Rattle.std.proofs.lemmas.Bool.{eqb-true}
 use Rattle.std.proofs.lemmas.List.{length-map}
 use Rattle.pc_linear.specs.declared.term.Term.{Term}
-use Rattle.pc_linear.specs.Form.{Form, Rising, HasFactor, IsForm}
+use Rattle.pc_linear.specs.Form.{Form, Rising, HasFactor, IsForm, term_in_variable, terms_in_variables, in_variables}
 use Rattle.pc_window.specs.Opening.{TermsBelow, FormBelow}
 use Rattle.pc_window.specs.declared.names.NameTable.{NameTable}
 use Rattle.pc_window.specs.StoredWindow.{forms_in, supply_in}
 use Rattle.pc_window.proofs.Live.{or_first, or_second}
 use Rattle.pc_window.proofs.Grafts.{nat_eq-same}
-use Rattle.pc_renumber.specs.Renumbering.{stands_in, stands_in_any, renumbered_term, renumbered_terms, renumbered_form, new_variable, renumbered_supply}
+use Rattle.pc_renumber.specs.Renumbering.{stands_in, stands_in_any, new_variable, renumbered_supply}
 use Rattle.pc_renumber.specs.models.Numbering.{AreNew, Rise}
 use Rattle.pc_renumber.proofs.NewVariables.{Among, rises, each_stands}
 
@@ -19,7 +19,7 @@ use Rattle.pc_renumber.proofs.NewVariables.{Among, rises, each_stands}
 
 module _ (numbers : List ℕ) where
   -- the numbers of rising variables rise
-  rising_behind : (t : Term) (ts : List Term) → Rising (suc t.variable) ts → Rise numbers (t ∷ ts) → Rising (suc (slice_index numbers t.variable)) (renumbered_terms (slice_index numbers) ts)
+  rising_behind : (t : Term) (ts : List Term) → Rising (suc t.variable) ts → Rise numbers (t ∷ ts) → Rising (suc (slice_index numbers t.variable)) (terms_in_variables (slice_index numbers) ts)
   rising_behind t [] r rise = tt
   rising_behind t (u ∷ ts) r rise = (
     rise.rise t.variable u.variable (or_first (nat_eq t.variable t.variable) (stands_in (u ∷ ts) t.variable) (nat_eq-same t.variable)) r.0 rise.below.1.0,
@@ -29,19 +29,19 @@ module _ (numbers : List ℕ) where
     }),
   )
 
-  rising_new : (ts : List Term) → Rising 0 ts → Rise numbers ts → Rising 0 (renumbered_terms (slice_index numbers) ts)
+  rising_new : (ts : List Term) → Rising 0 ts → Rise numbers ts → Rising 0 (terms_in_variables (slice_index numbers) ts)
   rising_new [] r rise = tt
   rising_new (t ∷ ts) r rise = (omega arith, rising_behind t ts r.1 rise)
 
-  same_factors : (ts : List Term) → AllByRecursion HasFactor ts → AllByRecursion HasFactor (renumbered_terms (slice_index numbers) ts)
+  same_factors : (ts : List Term) → AllByRecursion HasFactor ts → AllByRecursion HasFactor (terms_in_variables (slice_index numbers) ts)
   same_factors [] h = tt
   same_factors (t ∷ ts) h = (record { word = h.0.word; nonzero = h.0.nonzero }, same_factors ts h.1)
 
   -- a form in new variables is a form
-  pub new_form : (f : Form) → IsForm f → Rise numbers f.terms → IsForm (renumbered_form (slice_index numbers) f)
+  pub new_form : (f : Form) → IsForm f → Rise numbers f.terms → IsForm (in_variables (slice_index numbers) f)
   new_form f form rise = record {
     normal = record { rising = rising_new f.terms form.normal.rising rise; factors = same_factors f.terms form.normal.factors; constant = form.normal.constant };
-    few = let many = length-map f.terms (renumbered_term (slice_index numbers)) in let few = form.few in omega (arith, many, few);
+    few = let many = length-map f.terms (term_in_variable (slice_index numbers)) in let few = form.few in omega (arith, many, few);
   }
 
 -- ---- tables of names
@@ -88,18 +88,18 @@ module _ (numbers : List ℕ) (forms : List Form) (variables : ℕ) (new : AreNe
   pub all_rise : AllByRecursion (FormBelow variables) forms → AllByRecursion (λ (f : Form). Rise numbers f.terms) forms
   all_rise below = each_rises forms (each_stands forms) below
 
-  same_terms : (ts : List Term) → TermsBelow variables ts → renumbered_terms (slice_index numbers) ts ≡ renumbered_terms (new_variable forms) ts
+  same_terms : (ts : List Term) → TermsBelow variables ts → terms_in_variables (slice_index numbers) ts ≡ terms_in_variables (new_variable forms) ts
   same_terms [] h = refl
   same_terms (t ∷ ts) h = λ i. record { variable = new.tells t.variable (let lt = h.0 in omega (arith, lt)) i; factor = t.factor } ∷ same_terms ts h.1 i
 
-  same_forms : (fs : List Form) → AllByRecursion (FormBelow variables) fs → map (renumbered_form (slice_index numbers)) fs ≡ map (renumbered_form (new_variable forms)) fs
+  same_forms : (fs : List Form) → AllByRecursion (FormBelow variables) fs → map (in_variables (slice_index numbers)) fs ≡ map (in_variables (new_variable forms)) fs
   same_forms [] h = refl
   same_forms (f ∷ fs) h = λ i. record { terms = same_terms f.terms h.0 i; constant = f.constant } ∷ same_forms fs h.1 i
 
-  pub table_is : (later : NameTable) → AllByRecursion (FormBelow variables) forms → later.forms ≡ map (renumbered_form (slice_index numbers)) forms
+  pub table_is : (later : NameTable) → AllByRecursion (FormBelow variables) forms → later.forms ≡ map (in_variables (slice_index numbers)) forms
       → later.next_variable ≡ slice_index numbers variables → supply_in later ≡ renumbered_supply forms variables
   table_is later below forms_are next = λ i. record {
     forms = forms_in ((forms_are ∙ same_forms forms below) i);
-    next = (ap length forms_are ∙ length-map forms (renumbered_form (slice_index numbers))) i;
+    next = (ap length forms_are ∙ length-map forms (in_variables (slice_index numbers))) i;
     next_variable = (next ∙ new.tells variables (omega arith)) i;
   }

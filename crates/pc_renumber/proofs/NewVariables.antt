@@ -7,7 +7,7 @@ use lib.IntN.{+ℤ_idl}
 use Rattle.pc_word.proofs.Lists.{all_imply}
 use Rattle.pc_word.proofs.Truth.{or_made_false, decide_le}
 use Rattle.pc_linear.specs.declared.term.Term.{Term}
-use Rattle.pc_linear.specs.Form.{Form, factor_of}
+use Rattle.pc_linear.specs.Form.{Form, factor_of, terms_in_variables, in_variables}
 use Rattle.pc_window.specs.Opening.{TermsBelow, FormBelow}
 use Rattle.pc_window.specs.Rebasing.{is_in}
 use Rattle.pc_window.proofs.Live.{or_first, or_second}
@@ -15,7 +15,7 @@ use Rattle.pc_window.proofs.Grafts.{nat_eq-same}
 use Rattle.pc_canon.specs.Pairs.{Pair, ones, others}
 use Rattle.pc_canon.specs.Shift.{OneToOne, EachPair, FormsAlike, has_terms}
 use Rattle.pc_canon.proofs.Membership.{has, has_is, Distinct, distinct_to}
-use Rattle.pc_renumber.specs.Renumbering.{stands_in, stands_in_any, how_many_below, renumbered_terms, renumbered_form}
+use Rattle.pc_renumber.specs.Renumbering.{stands_in, stands_in_any, how_many_below}
 
 -- terms whose variables are among some
 abbrev pub Among : (ℕ → Bool) → List Term → Type 0
@@ -154,18 +154,18 @@ module _ (among : ℕ → Bool) where
   -- ---- factors
 
   factor_same : (x : ℕ) → among x ≡ true → (ts : List Term) → Among among ts
-      → factor_of ts x ≡ factor_of (renumbered_terms (how_many_below among) ts) (how_many_below among x)
+      → factor_of ts x ≡ factor_of (terms_in_variables (how_many_below among) ts) (how_many_below among x)
   factor_same x is [] h = refl
   factor_same x is (t ∷ ts) h = λ i. (if sym (tells_apart x t.variable is h.0) i then t.factor else pos 0) +ℤ factor_same x is ts h.1 i
 
   each_factor : (ts : List Term) → Among among ts → (n : ℕ)
-      → EachPair (variable_pairs n) (λ x y. factor_of ts x ≡ factor_of (renumbered_terms (how_many_below among) ts) y)
+      → EachPair (variable_pairs n) (λ x y. factor_of ts x ≡ factor_of (terms_in_variables (how_many_below among) ts) y)
   each_factor ts h zero = tt
   each_factor ts h (suc n) = by (among n) refl (each_factor ts h n)
     where
-      by : (b : Bool) → among n ≡ b → EachPair (variable_pairs n) (λ x y. factor_of ts x ≡ factor_of (renumbered_terms (how_many_below among) ts) y)
+      by : (b : Bool) → among n ≡ b → EachPair (variable_pairs n) (λ x y. factor_of ts x ≡ factor_of (terms_in_variables (how_many_below among) ts) y)
           → EachPair (pair_if b n (variable_pairs n))
-          (λ x y. factor_of ts x ≡ factor_of (renumbered_terms (how_many_below among) ts) y)
+          (λ x y. factor_of ts x ≡ factor_of (terms_in_variables (how_many_below among) ts) y)
       by true is k = (factor_same n is ts h, k)
       by false is k = k
 
@@ -187,19 +187,19 @@ module _ (among : ℕ → Bool) where
       none_of t ts x (not_same (ones (variable_pairs n)) x t.variable out (both_paired t.variable h.0 n below.0).0) (no_factor n x out ts h.1 below.1)
 
   no_other_factor : (n y : ℕ) → is_in y (others (variable_pairs n)) ≡ false → (ts : List Term) → Among among ts → TermsBelow n ts
-      → factor_of (renumbered_terms (how_many_below among) ts) y ≡ pos 0
+      → factor_of (terms_in_variables (how_many_below among) ts) y ≡ pos 0
   no_other_factor n y out [] h below = refl
   no_other_factor n y out (t ∷ ts) h below =
-      none_of (record { variable = how_many_below among t.variable; factor = t.factor }) (renumbered_terms (how_many_below among) ts) y
+      none_of (record { variable = how_many_below among t.variable; factor = t.factor }) (terms_in_variables (how_many_below among) ts) y
       (not_same (others (variable_pairs n)) y (how_many_below among t.variable) out (both_paired t.variable h.0 n below.0).1)
       (no_other_factor n y out ts h.1 below.1)
 
-  as_many : (ts : List Term) → has_terms ts ≡ has_terms (renumbered_terms (how_many_below among) ts)
+  as_many : (ts : List Term) → has_terms ts ≡ has_terms (terms_in_variables (how_many_below among) ts)
   as_many [] = refl
   as_many (t ∷ ts) = refl
 
   -- a form is alike with its new variables
-  pub form_alike : (n : ℕ) (f : Form) → Among among f.terms → FormBelow n f → FormsAlike (variable_pairs n) f (renumbered_form (how_many_below among) f)
+  pub form_alike : (n : ℕ) (f : Form) → Among among f.terms → FormBelow n f → FormsAlike (variable_pairs n) f (in_variables (how_many_below among) f)
   form_alike n f h below = record {
     constants = refl;
     both_terms = as_many f.terms;
@@ -209,7 +209,7 @@ module _ (among : ℕ → Bool) where
   }
 
   -- and its variables are below their number
-  pub terms_below : (n : ℕ) (ts : List Term) → Among among ts → TermsBelow n ts → TermsBelow (how_many_below among n) (renumbered_terms (how_many_below among) ts)
+  pub terms_below : (n : ℕ) (ts : List Term) → Among among ts → TermsBelow n ts → TermsBelow (how_many_below among n) (terms_in_variables (how_many_below among) ts)
   terms_below n [] h below = tt
   terms_below n (t ∷ ts) h below = (rises t.variable n h.0 below.0, terms_below n ts h.1 below.1)
 

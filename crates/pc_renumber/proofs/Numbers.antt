@@ -3,6 +3,7 @@ use Rattle.std.proofs.Common.{◌≡◌, ◌≢◌, ◌⊎◌, inl, inr, ℕ, ze
 use Rattle.std.specs.Prelude.{Bool, true, false, ◌||◌, if◌then◌else◌, nat_eq, slice_index_or, slice_set}
 use Rattle.std.proofs.lemmas.List.{get_or-set_same, get_or-set_other}
 use Rattle.std.proofs.lemmas.Bool.Decides.{eqb_tells}
+use Rattle.pc_window.specs.Unwinding.{or_zero}
 use Rattle.pc_word.specs.declared.item.Item.{Item}
 use Rattle.pc_word.specs.declared.item.Item.TheVariants.{Bin, Copy, Load, Store, Print, Read, More}
 use Rattle.pc_word.specs.declared.item.Operand.{Operand}
@@ -18,7 +19,7 @@ use Rattle.pc_rebase.proofs.Walked.{dest_below, item_defines, item_defines_none,
 use Rattle.pc_canon.specs.Canonical.{place_of, placed, placed_homes}
 use Rattle.pc_canon.proofs.Membership.{has, has_is}
 use Rattle.pc_renumber.specs.Renumbering.{renumbered_item, renumbered_tree}
-use Rattle.pc_renumber.specs.models.Numbering.{or_zero, number_in, place_if, AreNumbers}
+use Rattle.pc_renumber.specs.models.Numbering.{number_in, place_if, AreNumbers}
 use Rattle.pc_renumber.proofs.NamesOfTrees.{OfOperand, OfItem, OfHomes, OfTree}
 
 -- ---- one name more

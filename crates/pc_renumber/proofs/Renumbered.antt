@@ -9,7 +9,7 @@ use Rattle.std.proofs.lemmas.Option.{get_or_from_slice_get, slice_get-map}
 use Rattle.pc_word.specs.declared.item.Item.{Item}
 use Rattle.pc_word.specs.declared.item.Item.TheVariants.{Bin, Copy, Load, Store, Print, Read, More}
 use Rattle.pc_word.proofs.Lists.{all_at, all_imply, map_of_all}
-use Rattle.pc_linear.specs.Form.{Form}
+use Rattle.pc_linear.specs.Form.{Form, in_variables}
 use Rattle.pc_table.specs.Table.{Table}
 use Rattle.pc_window.specs.declared.home.Home.{Home}
 use Rattle.pc_window.specs.Tree.{Tree, Pending, Undecided, Exit, Stop_exit, Trap_exit, Front, whole, front_of, tree_size}
@@ -29,7 +29,7 @@ use Rattle.pc_canon.specs.Canonical.{place_of, placed_homes, parameter_pairs}
 use Rattle.pc_canon.proofs.Membership.{has_is, Distinct, distinct_to}
 use Rattle.pc_canon.proofs.FormsTell.{forms_tell}
 use Rattle.pc_canon.proofs.FormsKept.{forms_kept}
-use Rattle.pc_renumber.specs.Renumbering.{stands_in_any, how_many_below, new_variable, renumbered_item, renumbered_tree, renumbered_form, forms_of_names}
+use Rattle.pc_renumber.specs.Renumbering.{stands_in_any, how_many_below, new_variable, renumbered_item, renumbered_tree, forms_of_names}
 use Rattle.pc_renumber.specs.Renumbering.{renumbered_supply, renumbered}
 use Rattle.pc_renumber.proofs.NamesOfTrees.{OfTree}
 use Rattle.pc_renumber.proofs.Listing.{all_distinct, names_there}
@@ -130,7 +130,7 @@ forms_listed m (f ∷ fs) h zero = h.0
 forms_listed m (f ∷ fs) h (suc x) = forms_listed m fs h.1 x
 
 forms_fewer : (among : ℕ → Bool) (n : ℕ) (fs : List Form) → AllByRecursion (λ (f : Form). Among among f.terms) fs → AllByRecursion (FormBelow n) fs
-    → AllByRecursion (λ (f : Form). FormBelow (how_many_below among n) (renumbered_form (how_many_below among) f)) fs
+    → AllByRecursion (λ (f : Form). FormBelow (how_many_below among n) (in_variables (how_many_below among) f)) fs
 forms_fewer among n [] h below = tt
 forms_fewer among n (f ∷ fs) h below = (terms_below among n f.terms h.0 below.0, forms_fewer among n fs h.1 below.1)
 
@@ -155,14 +155,14 @@ module _ (w : Window) (proper : IsProper w) where
   there = names_there tree proper.window.scoped
 
   -- the form of a new name is that of the old one with its new variables
-  form_there : (x : ℕ) → IsThere x → forms_in (map (renumbered_form (new_variable (forms_of_names w))) (forms_of_names w)) (place_of all x)
-      ≡ renumbered_form (how_many_below stands) (w.forms x)
+  form_there : (x : ℕ) → IsThere x → forms_in (map (in_variables (new_variable (forms_of_names w))) (forms_of_names w)) (place_of all x)
+      ≡ in_variables (how_many_below stands) (w.forms x)
   form_there x h =
-      let g = renumbered_form (new_variable (forms_of_names w)) in
+      let g = in_variables (new_variable (forms_of_names w)) in
       ap form_or_none (slice_get-map g (forms_of_names w) (place_of all x) ∙ ap (option_map g) (mapped_at_place all w.forms x h))
 
   forms_alike : (x : ℕ) → IsThere x → FormsAlike (variable_pairs stands w.next_variable) (w.forms x)
-      (forms_in (map (renumbered_form (new_variable (forms_of_names w))) (forms_of_names w)) (place_of all x))
+      (forms_in (map (in_variables (new_variable (forms_of_names w))) (forms_of_names w)) (place_of all x))
   forms_alike x h =
       let stand = all_at (λ (f : Form). Among stands f.terms) (forms_of_names w) (place_of all x) (w.forms x)
       (each_stands (forms_of_names w)) (mapped_at_place all w.forms x h) in
@@ -171,8 +171,8 @@ module _ (w : Window) (proper : IsProper w) where
 
   new_forms_below : FormsBelow (renumbered_supply (forms_of_names w) w.next_variable)
   new_forms_below = record {
-    form = forms_listed (how_many_below stands w.next_variable) (map (renumbered_form (how_many_below stands)) (forms_of_names w))
-        (map_of_all (FormBelow (how_many_below stands w.next_variable)) (renumbered_form (how_many_below stands)) (forms_of_names w)
+    form = forms_listed (how_many_below stands w.next_variable) (map (in_variables (how_many_below stands)) (forms_of_names w))
+        (map_of_all (FormBelow (how_many_below stands w.next_variable)) (in_variables (how_many_below stands)) (forms_of_names w)
         (forms_fewer stands w.next_variable (forms_of_names w) (each_stands (forms_of_names w))
         (map_of_all (FormBelow w.next_variable) w.forms all (of_each (λ x. FormBelow w.next_variable (w.forms x)) proper.forms_below.form all))));
   }

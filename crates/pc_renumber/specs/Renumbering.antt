@@ -4,7 +4,7 @@ use Rattle.std.specs.List.{list_any}
 use Rattle.pc_word.specs.declared.item.Item.{Item}
 use Rattle.pc_word.specs.declared.item.Item.TheVariants.{Bin, Copy, Load, Store, Print, Read, More}
 use Rattle.pc_linear.specs.declared.term.Term.{Term}
-use Rattle.pc_linear.specs.Form.{Form}
+use Rattle.pc_linear.specs.Form.{Form, in_variables}
 use Rattle.pc_window.specs.Tree.{Tree, Pending, Undecided, Exit, Stop_exit, Trap_exit, whole}
 use Rattle.pc_window.specs.Opening.{Supply}
 use Rattle.pc_window.specs.Rebasing.{all_names}
@@ -49,18 +49,6 @@ abbrev pub how_many_below : (ℕ → Bool) → ℕ → ℕ
 how_many_below among zero = 0
 how_many_below among (suc x) = (if among x then 1 else 0) + how_many_below among x
 
--- a term with the new variable
-abbrev pub renumbered_term : (ℕ → ℕ) → Term → Term
-renumbered_term number term = record { variable = number term.variable; factor = term.factor }
-
--- terms with the new variables
-abbrev pub renumbered_terms : (ℕ → ℕ) → List Term → List Term
-renumbered_terms number terms = map (renumbered_term number) terms
-
--- a form with the new variables
-abbrev pub renumbered_form : (ℕ → ℕ) → Form → Form
-renumbered_form number form = record { terms = renumbered_terms number form.terms; constant = form.constant }
-
 -- the new number of a variable: how many smaller ones stand in these forms
 abbrev pub new_variable : List Form → ℕ → ℕ
 new_variable forms = how_many_below (stands_in_any forms)
@@ -74,7 +62,7 @@ forms_of_names w = map w.forms (all_names (whole w.front))
 -- the names of a list are the first ones, with these forms, and the variables below a number are renumbered
 abbrev pub renumbered_supply : List Form → ℕ → Supply
 renumbered_supply forms next_variable = record {
-  forms = forms_in (map (renumbered_form (new_variable forms)) forms);
+  forms = forms_in (map (in_variables (new_variable forms)) forms);
   next = length forms;
   next_variable = new_variable forms next_variable;
 }

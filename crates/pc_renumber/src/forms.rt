@@ -1,10 +1,10 @@
 //! Forms with new variables.
 ghost use Rattle.std.specs.Prelude.{◌≡◌, map, slice_index, IfOk};
 ghost use Rattle.std.specs.List.{AllByRecursion};
-ghost use Rattle.pc_linear.specs.Form.{Form};
+ghost use Rattle.pc_linear.specs.Form.{Form, in_variables};
 ghost use Rattle.pc_window.specs.Opening.{FormBelow, FormsBelow};
 ghost use Rattle.pc_window.specs.StoredWindow.{forms_in, supply_in};
-ghost use Rattle.pc_renumber.specs.Renumbering.{renumbered_form, renumbered_supply};
+ghost use Rattle.pc_renumber.specs.Renumbering.{renumbered_supply};
 ghost use Rattle.pc_renumber.specs.models.Numbering.{AreNew, Rise};
 
 use crate::variables::new_variables;
@@ -55,7 +55,7 @@ fn forms_of(alloc: Global, table: &NameTable, names: &[u32]) -> Result<Vec<LinFo
 /// Forms with the new variables.
 fn renumbered_forms(forms: Vec<LinForm>, numbers: &[u32]) -> Vec<LinForm>
     requires { AllByRecursion (λ (form : Form). Rise numbers.now form.terms) forms.items }
-    ensures { result.items ≡ map (renumbered_form (slice_index numbers.now)) forms.items }
+    ensures { result.items ≡ map (in_variables (slice_index numbers.now)) forms.items }
 {
     let mut forms = forms;
     for at in 0..forms.len() {
@@ -67,7 +67,7 @@ fn renumbered_forms(forms: Vec<LinForm>, numbers: &[u32]) -> Vec<LinForm>
 /// A form with the new variables.
 fn renumbered_form(form: &LinForm, numbers: &[u32]) -> LinForm
     requires { Rise numbers.now form.now.terms }
-    ensures { result ≡ renumbered_form (slice_index numbers.now) form.now }
+    ensures { result ≡ in_variables (slice_index numbers.now) form.now }
 {
     // A form's getter tells that it is a form.
     let _offset = form.offset();

@@ -5,15 +5,11 @@ use Rattle.pc_linear.specs.declared.term.Term.{Term}
 use Rattle.pc_linear.specs.Form.{Form}
 use Rattle.pc_window.specs.Opening.{TermsBelow}
 use Rattle.pc_window.specs.Rebasing.{is_in}
+use Rattle.pc_window.specs.Unwinding.{or_zero}
 use Rattle.pc_canon.specs.Canonical.{place_of}
 use Rattle.pc_renumber.specs.Renumbering.{stands_in, new_variable}
 
 -- ---- names
-
--- a number, and 0 where there is none
-abbrev pub or_zero : Option ℕ → ℕ
-or_zero None = 0
-or_zero (Some number) = number
 
 -- the new number of a name in a table by name, and 0 where it has none
 abbrev pub number_in : List (Option ℕ) → ℕ → ℕ
