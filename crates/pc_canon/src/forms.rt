@@ -29,7 +29,7 @@ pub(crate) fn write_forms(
 {
     let mut columns = no_columns(alloc, window.names.next_variable)?;
     write_constants(window, parameters, columns.as_mut_slice(), numbers)?;
-    let sorted = in_order(columns);
+    let sorted = in_order(columns)?;
     write_columns(sorted.as_slice(), numbers)?;
     Ok(())
 }
@@ -58,7 +58,7 @@ fn write_constants(
 fn no_columns(alloc: Global, count: u32) -> Result<Vec<Column>, AllocError>
     ensures { IfOk result (λ columns. columns.items ≡ replicate count []) }
 {
-    let mut columns = Vec::new(alloc);
+    let mut columns = Vec::with_capacity(alloc, count as usize)?;
     for _variable in 0..count {
         columns.push(Column::new(alloc))?;
     }
