@@ -87,15 +87,15 @@ impl Column {
         }
     }
 
-    /// Writes the column.
+    /// Writes the column as an element of a list.
     #[tactic(auto, using(crate::proofs::StoredColumns::stored))]
     fn write(&self, numbers: &mut NumberBytes) -> Result<(), AllocError>
-        ensures { OnOk result (numbers.new ≡ numbers.old ++ column_numbers self.now) }
+        ensures { OnOk result (numbers.new ≡ numbers.old ++ pos 1 ∷ column_numbers self.now) }
     {
         if self.place < 0 {
-            return numbers.push(0);
+            return numbers.push_two(1, 0);
         }
-        numbers.push(1)?;
+        numbers.push_two(1, 1)?;
         numbers.push(self.place)?;
         numbers.push_two(1, self.factor)?;
         write_numbers(self.more.as_slice(), numbers)?;
@@ -163,7 +163,6 @@ pub(crate) fn write_columns(columns: &[Column], numbers: &mut NumberBytes) -> Re
     ensures { OnOk result (numbers.new ≡ numbers.old ++ list_numbers column_numbers columns.now) }
 {
     for column in columns {
-        numbers.push(1)?;
         column.write(numbers)?;
     }
     numbers.push(0)
