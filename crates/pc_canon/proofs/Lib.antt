@@ -8,6 +8,7 @@ pub mod ShiftRuns
 pub mod ShiftForms
 pub mod CanonicalTrees
 pub mod FactorColumns
+pub mod StoredColumns
 pub mod Sorting
 pub mod SortedColumns
 pub mod FormsTell

@@ -1,5 +1,5 @@
 //! The columns of form variables.
-ghost use Rattle.std.specs.Prelude.{◌≡◌, ◌<◌, ◌∷◌, ◌++◌, [], pos, drop, length, OnOk};
+ghost use Rattle.std.specs.Prelude.{◌≡◌, ◌<◌, ◌∷◌, ◌++◌, [], pos, drop, length, OnOk, IfOk};
 ghost use Rattle.std.specs.Ordering.{is_lt};
 ghost use Rattle.pc_linear.specs.Form.{IsForm};
 ghost use Rattle.pc_window.specs.Opening.{FormBelow, TermsBelow};
@@ -10,11 +10,98 @@ ghost use Rattle.pc_canon.specs.models.Gathered.{column_in, and_term, and_terms,
 use crate::number_bytes::NumberBytes;
 use pc_linear::{LinForm, Term};
 use pc_word::Seq;
-use std::alloc::AllocError;
+use std::alloc::{AllocError, Global};
 use std::cmp::Ordering;
+use std::marker::Model;
 
-/// The column of a form variable: the places of the forms in which it stands, each with its factor.
-pub(crate) type Column = Seq<i64>;
+/// The column of a form variable: the places of the forms in which it stands, each with its factor. Most form
+/// variables stand in one form alone, and then their column takes no memory of its own.
+#[derive(Drop)]
+pub(crate) struct Column {
+    /// The first place, or -1 where there is none.
+    place: i64,
+    /// The factor at the first place, or 0 where there is none.
+    factor: i64,
+    /// The other places, each with its factor.
+    more: Seq<i64>,
+}
+
+impl Model for Column {
+    ghost use Rattle.std.specs.Prelude.{ℤ, List};
+    ghost use Rattle.std.specs.Coded.{codes};
+    ghost use Rattle.pc_canon.specs.models.Gathered.{column_from, IsColumnFrom};
+
+    ghost Value = { List ℤ };
+
+    ghost coded = { Prim.hlevel codes };
+
+    ghost view = { λ it. column_from it.place it.factor it.more };
+
+    ghost invariant = { λ it. IsColumnFrom it.place it.factor it.more };
+}
+
+impl Column {
+    /// An empty column.
+    pub(crate) fn new(alloc: Global) -> Column
+        ensures { result ≡ [] }
+    {
+        Column {
+            place: -1,
+            factor: 0,
+            more: Seq::new(alloc),
+        }
+    }
+
+    /// Puts a place and the factor there behind the others.
+    #[tactic(auto, using(crate::proofs::StoredColumns::stored))]
+    fn push(&mut self, place: u32, factor: i32) -> Result<(), AllocError>
+        ensures { OnOk result (self.new ≡ self.old ++ pos place ∷ factor ∷ []) }
+    {
+        if self.place < 0 {
+            self.place = i64::from(place);
+            self.factor = i64::from(factor);
+            return Ok(());
+        }
+        self.more.push(i64::from(place))?;
+        self.more.push(i64::from(factor))?;
+        Ok(())
+    }
+
+    /// Whether the form variable occurs: its column is not empty.
+    fn occurs(&self) -> bool
+        ensures { result ≡ occurs self.now }
+    {
+        self.place >= 0
+    }
+
+    /// How two columns are ordered: the greater one stands first.
+    fn in_turn(&self, other: &Column) -> Ordering
+        ensures { is_lt result ≡ stands_before self.now other.now }
+    {
+        match other.place.cmp(&self.place) {
+            Ordering::Equal => match other.factor.cmp(&self.factor) {
+                Ordering::Equal => other.more.as_slice().cmp(self.more.as_slice()),
+                unequal => unequal,
+            },
+            unequal => unequal,
+        }
+    }
+
+    /// Writes the column as an element of a list.
+    #[tactic(auto, using(crate::proofs::StoredColumns::stored))]
+    fn write(&self, numbers: &mut NumberBytes) -> Result<(), AllocError>
+        ensures { OnOk result (numbers.new ≡ numbers.old ++ pos 1 ∷ column_numbers self.now) }
+    {
+        if self.place < 0 {
+            return numbers.push_two(1, 0);
+        }
+        numbers.push_two(1, 1)?;
+        numbers.push(self.place)?;
+        numbers.push_two(1, self.factor)?;
+        write_numbers(self.more.as_slice(), numbers)?;
+        Ok(())
+    }
+}
 
 /// Writes what shows of the form at a place by itself, and adds its terms to their columns.
 pub(crate) fn add_form(
@@ -57,32 +144,18 @@ fn add_term(term: Term, place: u32, columns: &mut [Column]) -> Result<(), AllocE
     ensures { OnOk result (columns.new ≡ and_term place term columns.old) }
 {
     let column = &mut columns[term.variable as usize];
-    column.push(i64::from(place))?;
-    column.push(i64::from(term.factor))
+    column.push(place, term.factor)
 }
 
-/// The columns that are not empty, in order.
-pub(crate) fn in_order(columns: Vec<Column>) -> Vec<Column>
-    ensures { result.items ≡ columns_below (column_in columns.items) (length columns.items) }
+/// The columns that are not empty, in order. Columns of later variables mostly begin at later places, so that
+/// the sort finds them nearly in order.
+pub(crate) fn in_order(columns: Vec<Column>) -> Result<Vec<Column>, AllocError>
+    ensures { IfOk result (λ sorted. sorted.items ≡ columns_below (column_in columns.items) (length columns.items)) }
 {
     let mut sorted = columns;
-    sorted.retain(|column| occurs(column.as_slice()));
-    sorted.sort_unstable_by(|one, other| in_turn(one.as_slice(), other.as_slice()));
-    sorted
-}
-
-/// Whether a form variable occurs: its column is not empty.
-fn occurs(column: &[i64]) -> bool
-    ensures { result ≡ occurs column.now }
-{
-    !column.is_empty()
-}
-
-/// How two columns are ordered: the greater one stands first.
-fn in_turn(one: &[i64], other: &[i64]) -> Ordering
-    ensures { is_lt result ≡ stands_before one.now other.now }
-{
-    other.cmp(one)
+    sorted.retain(|column| column.occurs());
+    sorted.sort_by(|one, other| one.in_turn(other))?;
+    Ok(sorted)
 }
 
 /// Writes columns.
@@ -90,14 +163,13 @@ pub(crate) fn write_columns(columns: &[Column], numbers: &mut NumberBytes) -> Re
     ensures { OnOk result (numbers.new ≡ numbers.old ++ list_numbers column_numbers columns.now) }
 {
     for column in columns {
-        numbers.push(1)?;
-        write_column(column.as_slice(), numbers)?;
+        column.write(numbers)?;
     }
     numbers.push(0)
 }
 
-/// Writes a column.
-fn write_column(column: &[i64], numbers: &mut NumberBytes) -> Result<(), AllocError>
+/// Writes numbers of a column.
+fn write_numbers(column: &[i64], numbers: &mut NumberBytes) -> Result<(), AllocError>
     ensures { OnOk result (numbers.new ≡ numbers.old ++ column_numbers column.now) }
 {
     for number in column {

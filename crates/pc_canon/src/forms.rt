@@ -1,19 +1,19 @@
 //! The forms of names in numbers.
-ghost use Rattle.std.specs.Prelude.{◌≡◌, ◌+◌, ◌<◌, ◌≤◌, ◌^◌, ◌∷◌, ◌++◌, [], ℕ, length, map, replicate, OnOk, IfOk};
+ghost use Rattle.std.specs.Prelude.{◌≡◌, ◌+◌, ◌<◌, ◌≤◌, ◌^◌, ◌∷◌, ◌++◌, [], ℕ, pos, length, map, replicate, OnOk, IfOk};
 ghost use Rattle.pc_window.specs.Tree.{tree_size};
 ghost use Rattle.pc_window.specs.Names.{definitions_of};
 ghost use Rattle.pc_window.specs.Opening.{FormBelow, FormsBelow};
 ghost use Rattle.pc_window.specs.StoredWindow.{tree_in, forms_in, supply_in};
 ghost use Rattle.pc_canon.specs.Canonical.{constant_in, columns_of};
 ghost use Rattle.pc_canon.specs.Key.{constant_numbers, list_numbers, column_numbers};
-ghost use Rattle.pc_canon.specs.models.Gathered.{and_forms};
+ghost use Rattle.pc_canon.specs.models.Gathered.{with_factors, and_forms};
 ghost use Rattle.pc_canon.specs.models.Written.{elements_numbers, forms_numbers};
 
 use crate::columns::{Column, add_form, in_order, write_columns};
 use crate::number_bytes::NumberBytes;
 use crate::writing::written_by;
+use pc_linear::LinForm;
 use pc_window::{NameTable, Window, WindowTree};
-use pc_word::Operand;
 use std::alloc::{AllocError, Global};
 
 /// Writes what shows of the forms of the parameters and of the names that are defined.
@@ -29,7 +29,7 @@ pub(crate) fn write_forms(
 {
     let mut columns = no_columns(alloc, window.names.next_variable)?;
     write_constants(window, parameters, columns.as_mut_slice(), numbers)?;
-    let sorted = in_order(columns);
+    let sorted = in_order(columns)?;
     write_columns(sorted.as_slice(), numbers)?;
     Ok(())
 }
@@ -58,7 +58,7 @@ fn write_constants(
 fn no_columns(alloc: Global, count: u32) -> Result<Vec<Column>, AllocError>
     ensures { IfOk result (λ columns. columns.items ≡ replicate count []) }
 {
-    let mut columns = Vec::new(alloc);
+    let mut columns = Vec::with_capacity(alloc, count as usize)?;
     for _variable in 0..count {
         columns.push(Column::new(alloc))?;
     }
@@ -78,8 +78,7 @@ fn write_parameters(
     ensures numbers { OnOk result (numbers.new ≡ numbers.old ++ list_numbers constant_numbers (map constant_in (map (forms_in table.now.forms) names.now))) }
 {
     for at in 0..names.len() {
-        let form = table.form(Operand::Name(names[at]));
-        add_form(&form, at as u32, columns, numbers)?;
+        add_form_of(table, names[at], at as u32, columns, numbers)?;
     }
     numbers.push(0)
 }
@@ -103,8 +102,7 @@ fn write_definitions(
         WindowTree::Step { item, rest, .. } => match written_by(*item) {
             None => write_definitions(rest, table, place, columns, numbers),
             Some(dest) => {
-                let form = table.form(Operand::Name(dest));
-                add_form(&form, place, columns, numbers)?;
+                add_form_of(table, dest, place, columns, numbers)?;
                 write_definitions(rest, table, place + 1, columns, numbers)
             }
         },
@@ -117,5 +115,23 @@ fn write_definitions(
         WindowTree::Exit { .. } => Ok(place),
         WindowTree::Stop => Ok(place),
         WindowTree::Trap { .. } => Ok(place),
+    }
+}
+
+/// Writes what shows of the form of the name at a place by itself, and adds its terms to their columns.
+fn add_form_of(
+    table: &NameTable,
+    name: u32,
+    place: u32,
+    columns: &mut [Column],
+    numbers: &mut NumberBytes,
+) -> Result<(), AllocError>
+    requires { FormBelow (length columns.old) (forms_in table.now.forms name) }
+    ensures columns { OnOk result (columns.new ≡ with_factors place (forms_in table.now.forms name).terms 0 columns.old) }
+    ensures numbers { OnOk result (numbers.new ≡ numbers.old ++ pos 1 ∷ constant_numbers (constant_in (forms_in table.now.forms name))) }
+{
+    match table.forms.get(name as usize) {
+        Some(form) => add_form(form, place, columns, numbers),
+        None => add_form(&LinForm::constant(0), place, columns, numbers),
     }
 }

@@ -63,8 +63,8 @@ impl NumberBytes {
             self.bytes.push_reserved(two as u8);
             return Ok(());
         }
-        self.push_digits(first)?;
-        self.push_digits(second)
+        self.push(first)?;
+        self.push(second)
     }
 
     /// Puts three numbers behind the others.
@@ -87,7 +87,7 @@ impl NumberBytes {
             return Ok(());
         }
         self.push_two(first, second)?;
-        self.push_digits(third)?;
+        self.push(third)?;
         Ok(())
     }
 

@@ -22,14 +22,14 @@ returns c =
     let none : List ℤ = [] in
     let old = c.args.numbers.now in
     let one = c.write_constants.new.numbers in
-    let sorted = c.in_order-sorted.result.items in
+    let sorted = c.in_ok-sorted.sorted.items in
     let columns = c.write_constants.new.columns in
     let first : one ≡ old ++ (list_numbers constant_numbers (map constant_in parameters) ++ list_numbers constant_numbers (map constant_in definitions)) = search rules in
     let last : c.write_columns.new.numbers ≡ one ++ list_numbers column_numbers sorted = search rules in
     let gathered : columns ≡ and_forms 0 (parameters ++ definitions) (replicate count none) = search rules in
     let long : length columns ≡ c.in_ok-columns.columns.len = search rules in
     let in_order : sorted ≡ columns_below (column_in columns) (length columns) =
-    c.in_order-sorted.ensures ∙ ap (λ (all : List (List ℤ)). columns_below (column_in all) (length all)) (take_at columns _ c.in_ok-columns.columns.len long) in
+    c.in_ok-sorted.ensures ∙ ap (λ (all : List (List ℤ)). columns_below (column_in all) (length all)) (take_at columns _ c.in_ok-columns.columns.len long) in
     let above = above-append count parameters definitions (forms_above count forms names c.requires.variables.form) (forms_above count forms defined c.requires.variables.form) in
     all_forms_written parameters definitions old one c.write_columns.new.numbers sorted first last
     (in_order ∙ gathered_from_none count (parameters ++ definitions) columns none refl above gathered)

@@ -1,6 +1,6 @@
 use Rattle.std.proofs.Common.{◌≡◌, ◌++◌, drop}
 use Rattle.pc_canon.specs.Key.{column_numbers}
-use Rattle.pc_canon.proofs.columns.write_column.Given as goal
+use Rattle.pc_canon.proofs.columns.write_numbers.Given as goal
 
 -- what is written so far, and then what is left, is the whole
 abbrev pub invariant-loop-number : goal.invariant-loop-number
