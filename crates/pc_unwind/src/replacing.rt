@@ -1,12 +1,15 @@
 //! One stub, unwound.
-ghost use Rattle.std.specs.Prelude.{◌<◌, ◌^◌, IfOk};
+ghost use Rattle.std.specs.Prelude.{◌≡◌, ◌<◌, ◌^◌, true, IfOk};
 ghost use Rattle.pc_table.specs.Table.{table_of};
 ghost use Rattle.pc_table.specs.TableKeeps.{TableKeeps};
 ghost use Rattle.pc_window.specs.There.{StubIsThere};
-ghost use Rattle.pc_unwind.specs.models.Walking.{HasRoom, MayReplace};
+ghost use Rattle.pc_window.specs.StoredWindow.{tree_in};
+ghost use Rattle.pc_unwind.specs.models.Named.{TagsAtMost, StubsAreThere};
+ghost use Rattle.pc_unwind.specs.models.Walking.{HasRoom, MayReplace, MayReplaceStub, highest_tag, is_stub};
 
 use crate::growth::Growth;
 use crate::homes::homes_by_variable;
+use crate::nodes::placed;
 use crate::regions::{brought_size, region_at};
 use pc_table::RegionTable;
 use pc_window::{Home, WindowTree, graft};
@@ -15,10 +18,51 @@ use std::alloc::{AllocError, Global};
 /// The items and tests that a window may have after unwinding.
 const MOST_UNWOUND: u32 = 2048;
 
+/// Puts the tree of its region in place of a stub, which stands at the root of a node or else below an
+/// item or test. Says whether it did: the stub stays where the window would be too large.
+pub(crate) fn replace_stub(
+    alloc: Global,
+    table: &RegionTable,
+    inside: Option<u16>,
+    growth: &mut Growth,
+    tree: &mut WindowTree,
+    at_root: bool,
+) -> Result<bool, AllocError>
+    requires kept { TableKeeps (table_of table.now) }
+    requires stub { is_stub tree.old ≡ true }
+    requires there { StubsAreThere (table_of table.now) (tree_in tree.old) }
+    requires tag { TagsAtMost highest_tag (tree_in tree.old) }
+    requires room { HasRoom growth.old }
+    ensures { IfOk result (λ replaced. MayReplaceStub (table_of table.now) inside at_root tree.old growth.old tree.new growth.new replaced) }
+{
+    match tree {
+        WindowTree::Exit { region, tag, homes } => {
+            match replacement(
+                alloc,
+                table,
+                inside,
+                *tag,
+                growth,
+                *region,
+                homes.as_slice(),
+            )? {
+                Some(new) => {
+                    *tree = placed(alloc, new, at_root)?;
+                    Ok(true)
+                }
+                None => Ok(false),
+            }
+        }
+        WindowTree::Step { .. } | WindowTree::Test { .. } | WindowTree::Node { .. } =>
+            unreachable!(),
+        WindowTree::Stop | WindowTree::Trap { .. } => unreachable!(),
+    }
+}
+
 /// The tree in place of a stub: that of its region, with homes in place of variables. `None` where
 /// the window would be too large with it.
 #[tactic(auto, using(crate::proofs::TableRegions::regions))]
-pub(crate) fn replacement(
+fn replacement(
     alloc: Global,
     table: &RegionTable,
     inside: Option<u16>,

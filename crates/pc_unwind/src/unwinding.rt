@@ -14,7 +14,7 @@ ghost use Rattle.pc_unwind.specs.models.Walking.{HasRoom, RootAtMost, RootStaysA
 
 use crate::growth::Growth;
 use crate::nodes::split;
-use crate::replacing::replacement;
+use crate::replacing::replace_stub;
 use crate::tags::least_tags;
 use crate::walking::walk;
 use pc_table::RegionTable;
@@ -110,25 +110,15 @@ fn unwind_stub(
     ensures nodes { OnOk result (InNodes true tree.new) }
 {
     match tree {
-        WindowTree::Exit { region, tag, homes } => {
+        WindowTree::Exit { region, .. } => {
             if !is_inside(table, inside, *region) {
                 return Ok(());
             }
-            match replacement(
-                alloc,
-                table,
-                inside,
-                *tag,
-                growth,
-                *region,
-                homes.as_slice(),
-            )? {
-                Some(new) => {
-                    *tree = new;
-                    unwind_stub(alloc, table, inside, number, growth, tree)
-                }
-                None => Ok(()),
+            let replaced = replace_stub(alloc, table, inside, growth, tree, true)?;
+            if !replaced {
+                return Ok(());
             }
+            unwind_stub(alloc, table, inside, number, growth, tree)
         }
         WindowTree::Stop => Ok(()),
         WindowTree::Trap { .. } => Ok(()),

@@ -9,8 +9,7 @@ ghost use Rattle.pc_unwind.specs.models.Named.{StubsAreThere};
 ghost use Rattle.pc_unwind.specs.models.Walking.{HasRoom, Walks};
 
 use crate::growth::Growth;
-use crate::nodes::placed;
-use crate::replacing::replacement;
+use crate::replacing::replace_stub;
 use pc_table::RegionTable;
 use pc_window::{WindowTree, is_inside};
 use std::alloc::{AllocError, Global};
@@ -53,7 +52,7 @@ pub(crate) fn walk(
         WindowTree::Exit {
             region,
             tag: at,
-            homes,
+            ..
         } => {
             if *at != tag {
                 return Ok(false);
@@ -61,13 +60,11 @@ pub(crate) fn walk(
             if !is_inside(table, inside, *region) {
                 return Ok(false);
             }
-            match replacement(alloc, table, inside, tag, growth, *region, homes.as_slice())? {
-                Some(new) => {
-                    *tree = placed(alloc, new, at_root)?;
-                    walk(alloc, table, inside, tag, growth, tree, at_root)
-                }
-                None => Ok(true),
+            let replaced = replace_stub(alloc, table, inside, growth, tree, at_root)?;
+            if !replaced {
+                return Ok(true);
             }
+            walk(alloc, table, inside, tag, growth, tree, at_root)
         }
         WindowTree::Stop => Ok(false),
         WindowTree::Trap { .. } => Ok(false),

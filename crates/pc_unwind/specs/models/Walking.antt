@@ -5,6 +5,7 @@ use Rattle.pc_table.specs.Table.{TableTree, Does, Asks, Next, Stops_here, Traps_
 use Rattle.pc_word.specs.declared.item.Item.TheVariants.{Bin, Copy, Load, Store, Print, Read, More}
 use Rattle.pc_window.specs.declared.home.Home.{Home}
 use Rattle.pc_window.specs.declared.tree.WindowTree.{WindowTree}
+use Rattle.pc_window.specs.declared.tree.WindowTree.TheVariants as stored
 use Rattle.pc_window.specs.Tree.{Tree, Pending, Undecided, Exit, Stop_exit, Trap_exit, tree_size, home_of}
 use Rattle.pc_window.specs.Opening.{Supply, Grafted, graft, unwound_at}
 use Rattle.pc_window.specs.Unwinding.{most_unwound}
@@ -53,6 +54,36 @@ pub record Replaces (table : Table) (loop : Option ℕ) (tag region : ℕ) (home
 abbrev pub MayReplace : Table → Option ℕ → ℕ → ℕ → List Home → (old new : Growth) → Option WindowTree → Type 0
 MayReplace table loop tag region homes old new (Some tree) = Replaces table loop tag region homes old new tree
 MayReplace table loop tag region homes old new None = (new ≡ old) × (most_unwound < old.size + tree_size (replacement table loop tag region homes (supply_in old.names)).tree)
+
+-- whether a tree in memory is a stub
+abbrev pub is_stub : WindowTree → Bool
+is_stub (stored.Step' tag origin item p rest) = false
+is_stub (stored.Test' tag origin on p on_yes q on_no) = false
+is_stub (stored.Node' p below) = false
+is_stub (stored.Exit region tag homes) = true
+is_stub stored.Stop = false
+is_stub (stored.Trap kind line) = false
+
+-- the highest tag that a stub may have
+abbrev pub highest_tag : ℕ
+highest_tag = 2 ^ 31 - 1
+
+-- the tree in place of a stub stands at the root of a node, or below an item or test
+pub record ReplacesStub (table : Table) (loop : Option ℕ) (at_root : Bool) (tag region : ℕ) (homes : List Home) (old : Growth) (after : WindowTree) (new : Growth) : Type 0 where
+  pub tree : WindowTree
+  pub replaces : Replaces table loop tag region homes old new tree
+  pub same : tree_in after ≡ tree_in tree
+  pub nodes : InNodes at_root after
+
+-- a stub whose region's tree came in its place, or that stays since the window would be too large
+abbrev pub MayReplaceStub : Table → Option ℕ → (at_root : Bool) → (before : WindowTree) → (old : Growth) → (after : WindowTree) → (new : Growth) → (replaced : Bool) → Type 0
+MayReplaceStub table loop at_root (stored.Exit region tag homes) old after new true = ReplacesStub table loop at_root tag region homes old after new
+MayReplaceStub table loop at_root (stored.Exit region tag homes) old after new false = MayReplace table loop tag region homes old new None × (after ≡ stored.Exit region tag homes)
+MayReplaceStub table loop at_root (stored.Step' tag origin item p rest) old after new replaced = ⊥
+MayReplaceStub table loop at_root (stored.Test' tag origin on p on_yes q on_no) old after new replaced = ⊥
+MayReplaceStub table loop at_root (stored.Node' p below) old after new replaced = ⊥
+MayReplaceStub table loop at_root stored.Stop old after new replaced = ⊥
+MayReplaceStub table loop at_root (stored.Trap kind line) old after new replaced = ⊥
 
 -- ---- all stubs of a tag
 

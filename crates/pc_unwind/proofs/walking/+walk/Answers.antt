@@ -1,10 +1,11 @@
-use Rattle.std.proofs.Common.{rules, ◌≡◌, ◌∙◌, sym, ap, subst, arith}
+use Rattle.std.proofs.Common.{rules, ℕ, ◌≡◌, ◌∙◌, sym, ap, subst, arith}
 use Rattle.std.proofs.lemmas.Result.{IfOk-weaker}
 use Rattle.pc_table.specs.Table.{table_of}
 use Rattle.pc_window.specs.Tree.{Tree, Pending, Undecided, Exit, tree_size}
 use Rattle.pc_window.specs.StoredWindow.{tree_in}
 use Rattle.pc_unwind.specs.models.Ranks.{walk_steps}
-use Rattle.pc_unwind.specs.models.Walking.{MayReplace, Replaces, Walks}
+use Rattle.pc_window.specs.declared.tree.WindowTree.TheVariants as stored
+use Rattle.pc_unwind.specs.models.Walking.{MayReplaceStub, ReplacesStub, Walks}
 use Rattle.pc_unwind.specs.models.Named.{StubsAreThere}
 use Rattle.pc_window.specs.There.{StubIsThere}
 use Rattle.pc_unwind.proofs.WalkSteps.{part_falls, other_fits, replaced_there, replaced_room, replaced_falls}
@@ -46,45 +47,6 @@ walk-requires-in-Test-2 t c =
       ),
     )
 
-pub walk-requires-in-Some : goal.walk-requires-in-Some
-walk-requires-in-Some t c =
-    let table = table_of c.args.table.now in
-    let homes = c.as_slice.result.now in
-    let whole : Exit c.in-Exit.region c.args.tag homes ≡ tree_in c.args.tree.now =
-    (λ i. Exit c.in-Exit.region (sym c.if-at-tag.false i) (c.as_slice.ensures i)) ∙ sym (ap tree_in c.in-Exit.is) in
-    let stub : StubIsThere table c.in-Exit.region homes = subst (StubsAreThere table) (sym whole) c.requires.stubs in
-    let replaces : Replaces table c.args.inside c.args.tag c.in-Exit.region homes c.args.growth.now c.replacement.new.growth c.in-Some.new =
-    subst (MayReplace table c.args.inside c.args.tag c.in-Exit.region homes c.args.growth.now c.replacement.new.growth) c.in-Some.is c.in_ok-new-in-Exit.ensures in
-    let steps = ap (walk_steps table) c.in-Exit.is in
-    let same = c.in_ok-tree-in-Some.ensures.tree in
-    let size = ap tree_size same in
-    let grown = replaces.size in (
-      replaced_falls c.args.table.now c.requires.kept c.requires.few c.args.inside c.args.tag c.in-Exit.region homes stub c.args.growth.now c.replacement.new.growth c.in-Some.new replaces
-          t c.args.tree.now c.in_ok-tree-in-Some.field-0 c.decreases (omega arith) same,
-      (
-        c.requires.kept,
-        (
-          c.requires.few,
-          (
-            c.requires.tag,
-            (
-              c.in_ok-tree-in-Some.ensures.nodes,
-              (
-                subst (StubsAreThere table) (sym same)
-                    (replaced_there c.args.table.now c.requires.kept c.requires.few c.args.inside c.args.tag c.in-Exit.region homes stub c.args.growth.now c.replacement.new.growth
-                    c.in-Some.new replaces),
-                (
-                  replaced_room c.args.table.now c.requires.kept c.requires.few c.args.inside c.args.tag c.in-Exit.region homes stub c.args.growth.now c.replacement.new.growth
-                      c.in-Some.new replaces c.requires.room,
-                  omega arith,
-                ),
-              ),
-            ),
-          ),
-        ),
-      ),
-    )
-
 pub returns-in-Step-clause-walks : goal.returns-in-Step-clause-walks
 returns-in-Step-clause-walks t c =
     let part = sym (ap tree_in c.deref_mut.ensures.value) in
@@ -116,16 +78,58 @@ returns-else-full-clause-walks t c =
     c.walk-in-Test-2.new.growth full whole first walks)
     c.walk-in-Test-2.ensures.walks
 
-pub returns-in_ok-tree-in-Some-clause-walks : goal.returns-in_ok-tree-in-Some-clause-walks
-returns-in_ok-tree-in-Some-clause-walks t c =
+pub walk-requires-in-Exit : goal.walk-requires-in-Exit
+walk-requires-in-Exit t c =
     let table = table_of c.args.table.now in
-    let homes = c.as_slice.result.now in
+    let homes = c.in-Exit.homes in
     let whole : Exit c.in-Exit.region c.args.tag homes ≡ tree_in c.args.tree.now =
-    (λ i. Exit c.in-Exit.region (sym c.if-at-tag.false i) (c.as_slice.ensures i)) ∙ sym (ap tree_in c.in-Exit.is) in
-    let replaces : Replaces table c.args.inside c.args.tag c.in-Exit.region homes c.args.growth.now c.replacement.new.growth c.in-Some.new =
-    subst (MayReplace table c.args.inside c.args.tag c.in-Exit.region homes c.args.growth.now c.replacement.new.growth) c.in-Some.is c.in_ok-new-in-Exit.ensures in
-    IfOk-weaker c.walk-in-Some.result _ _
+    ap (λ (tag : ℕ). Exit c.in-Exit.region tag homes) (sym c.if-at-tag.false) ∙ sym (ap tree_in c.in-Exit.is) in
+    let done : ReplacesStub table c.args.inside c.args.at_root c.args.tag c.in-Exit.region homes c.args.growth.now c.replace_stub.new.tree c.replace_stub.new.growth =
+    subst (λ (tag : ℕ). ReplacesStub table c.args.inside c.args.at_root tag c.in-Exit.region homes c.args.growth.now c.replace_stub.new.tree c.replace_stub.new.growth) c.if-at-tag.false
+    (subst (MayReplaceStub table c.args.inside c.args.at_root (stored.Exit c.in-Exit.region c.in-Exit.at homes) c.args.growth.now c.replace_stub.new.tree c.replace_stub.new.growth)
+    c.if-not-replaced.false c.in_ok-replaced-in-Exit.ensures) in
+    let stub : StubIsThere table c.in-Exit.region homes = subst (StubsAreThere table) (sym whole) c.requires.stubs in
+    let steps = ap (walk_steps table) c.in-Exit.is in
+    let size = ap tree_size done.same in
+    let grown = done.replaces.size in (
+      replaced_falls c.args.table.now c.requires.kept c.requires.few c.args.inside c.args.tag c.in-Exit.region homes stub c.args.growth.now c.replace_stub.new.growth done.tree done.replaces
+          t c.args.tree.now c.replace_stub.new.tree c.decreases (omega arith) done.same,
+      (
+        c.requires.kept,
+        (
+          c.requires.few,
+          (
+            c.requires.tag,
+            (
+              done.nodes,
+              (
+                subst (StubsAreThere table) (sym done.same)
+                    (replaced_there c.args.table.now c.requires.kept c.requires.few c.args.inside c.args.tag c.in-Exit.region homes stub c.args.growth.now c.replace_stub.new.growth
+                    done.tree done.replaces),
+                (
+                  replaced_room c.args.table.now c.requires.kept c.requires.few c.args.inside c.args.tag c.in-Exit.region homes stub c.args.growth.now c.replace_stub.new.growth
+                      done.tree done.replaces c.requires.room,
+                  omega arith,
+                ),
+              ),
+            ),
+          ),
+        ),
+      ),
+    )
+
+pub returns-else-not-replaced-clause-walks : goal.returns-else-not-replaced-clause-walks
+returns-else-not-replaced-clause-walks t c =
+    let table = table_of c.args.table.now in
+    let homes = c.in-Exit.homes in
+    let whole : Exit c.in-Exit.region c.args.tag homes ≡ tree_in c.args.tree.now =
+    ap (λ (tag : ℕ). Exit c.in-Exit.region tag homes) (sym c.if-at-tag.false) ∙ sym (ap tree_in c.in-Exit.is) in
+    let done : ReplacesStub table c.args.inside c.args.at_root c.args.tag c.in-Exit.region homes c.args.growth.now c.replace_stub.new.tree c.replace_stub.new.growth =
+    subst (λ (tag : ℕ). ReplacesStub table c.args.inside c.args.at_root tag c.in-Exit.region homes c.args.growth.now c.replace_stub.new.tree c.replace_stub.new.growth) c.if-at-tag.false
+    (subst (MayReplaceStub table c.args.inside c.args.at_root (stored.Exit c.in-Exit.region c.in-Exit.at homes) c.args.growth.now c.replace_stub.new.tree c.replace_stub.new.growth)
+    c.if-not-replaced.false c.in_ok-replaced-in-Exit.ensures) in
+    IfOk-weaker c.walk-in-Exit.result _ _
     (λ full walks.
-    walks_on table c.args.inside c.args.tag c.in-Exit.region homes c.args.growth.now c.replacement.new.growth c.walk-in-Some.new.growth c.in-Some.new (tree_in c.args.tree.now)
-    (tree_in c.in_ok-tree-in-Some.field-0) (tree_in c.walk-in-Some.new.tree) full whole (sym c.if-not-is_inside.ensures) replaces c.in_ok-tree-in-Some.ensures.tree walks)
-    c.walk-in-Some.ensures.walks
+    walks_on table c.args.inside c.args.tag c.in-Exit.region homes c.args.growth.now c.replace_stub.new.growth c.walk-in-Exit.new.growth done.tree (tree_in c.args.tree.now)
+    (tree_in c.replace_stub.new.tree) (tree_in c.walk-in-Exit.new.tree) full whole (sym c.if-not-is_inside.ensures) done.replaces done.same walks)
+    c.walk-in-Exit.ensures.walks
