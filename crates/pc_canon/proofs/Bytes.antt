@@ -1,9 +1,8 @@
 -- Numbers in bytes: how they are written, and that they are told by their bytes.
 use Rattle.std.proofs.Common.{◌≡◌, ℕ, zero, suc, ◌+◌, ◌-◌, ◌*◌, ◌<◌, ◌≤◌, List, [], ◌∷◌, ◌++◌, refl, sym, ◌∙◌, ap, length, take, arith}
 use Rattle.std.proofs.lemmas.Bool.Decides.{nat_tests}
-use Rattle.std.proofs.lemmas.List.{append_assoc, append-nil, take-append-le, take-take, take_all, take_more_set, take-set, length-append}
-use Rattle.std.proofs.Math.Seq.{take-length, take-append_seam}
-use Rattle.std.specs.Prelude.{◌/◌, ◌%◌, ℤ, pos, negsuc, Bool, true, false, if◌then◌else◌, nat_eq, nat_lt, slice_set, replicate}
+use Rattle.std.proofs.lemmas.List.{append_assoc, append-nil, take-append-le}
+use Rattle.std.specs.Prelude.{◌/◌, ◌%◌, ℤ, pos, negsuc, Bool, true, false, if◌then◌else◌, nat_eq, nat_lt}
 use Rattle.std.proofs.Math.Nat.{mod-add-div, mul-add, mul_assoc}
 use Rattle.pc_word.proofs.Truth.{most_of, of_most}
 use Rattle.pc_canon.specs.Bytes.{zigzag, digits_within, natural_bytes, number_bytes, bytes_of}

@@ -79,7 +79,11 @@ pub fn same_up_to_shift(alloc: Global, one: &Window, other: &Window) -> Result<b
 fn write_limits(limits: Limits, numbers: &mut NumberBytes) -> Result<(), AllocError>
     ensures { OnOk result (numbers.new ≡ numbers.old ++ limit_numbers limits) }
 {
-    numbers.push_three(i64::from(limits.ops), i64::from(limits.tests), i64::from(limits.mem))
+    numbers.push_three(
+        i64::from(limits.ops),
+        i64::from(limits.tests),
+        i64::from(limits.mem),
+    )
 }
 
 /// Writes the loop of a window.

@@ -1,6 +1,5 @@
 use Rattle.std.proofs.Common.{rules, ◌≡◌, ◌<◌, ◌∷◌, ◌++◌, ◌∙◌, [], List, ap}
 use Rattle.std.specs.Prelude.{ℤ}
-use Rattle.std.proofs.lemmas.List.{append_assoc}
 use Rattle.pc_canon.specs.Bytes.{zigzag}
 use Rattle.pc_canon.proofs.Bytes.{three_added}
 use Rattle.pc_canon.proofs.number_bytes.NumberBytes.push_three.Goals as goal
