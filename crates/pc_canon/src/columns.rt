@@ -18,12 +18,17 @@ use std::marker::Model;
 /// variables stand in one form alone, and then their column takes no memory of its own.
 #[derive(Drop)]
 pub(crate) struct Column {
-    /// The first place, or -1 where there is none.
-    place: i64,
-    /// The factor at the first place, or 0 where there is none.
-    factor: i64,
+    /// The first place, with the factor there, unless the column is empty.
+    first: Option<PlacedFactor>,
     /// The other places, each with its factor.
     more: Seq<i64>,
+}
+
+/// The place of a form, and the factor there.
+#[derive(Clone, Copy)]
+pub(crate) struct PlacedFactor {
+    pub(crate) place: u32,
+    pub(crate) factor: i32,
 }
 
 impl Model for Column {
@@ -35,9 +40,9 @@ impl Model for Column {
 
     ghost coded = { Prim.hlevel codes };
 
-    ghost view = { λ it. column_from it.place it.factor it.more };
+    ghost view = { λ it. column_from it.first it.more };
 
-    ghost invariant = { λ it. IsColumnFrom it.place it.factor it.more };
+    ghost invariant = { λ it. IsColumnFrom it.first it.more };
 }
 
 impl Column {
@@ -46,8 +51,7 @@ impl Column {
         ensures { result ≡ [] }
     {
         Column {
-            place: -1,
-            factor: 0,
+            first: None,
             more: Seq::new(alloc),
         }
     }
@@ -57,9 +61,8 @@ impl Column {
     fn push(&mut self, place: u32, factor: i32) -> Result<(), AllocError>
         ensures { OnOk result (self.new ≡ self.old ++ pos place ∷ factor ∷ []) }
     {
-        if self.place < 0 {
-            self.place = i64::from(place);
-            self.factor = i64::from(factor);
+        if self.first.is_none() {
+            self.first = Some(PlacedFactor { place, factor });
             return Ok(());
         }
         self.more.push(i64::from(place))?;
@@ -71,19 +74,21 @@ impl Column {
     fn occurs(&self) -> bool
         ensures { result ≡ occurs self.now }
     {
-        self.place >= 0
+        self.first.is_some()
     }
 
     /// How two columns are ordered: the greater one stands first.
     fn in_turn(&self, other: &Column) -> Ordering
         ensures { is_lt result ≡ stands_before self.now other.now }
     {
-        match other.place.cmp(&self.place) {
-            Ordering::Equal => match other.factor.cmp(&self.factor) {
+        match (self.first, other.first) {
+            (None, None) => Ordering::Equal,
+            (Some(_), None) => Ordering::Less,
+            (None, Some(_)) => Ordering::Greater,
+            (Some(one), Some(two)) => match first_in_turn(one, two) {
                 Ordering::Equal => other.more.as_slice().cmp(self.more.as_slice()),
                 unequal => unequal,
             },
-            unequal => unequal,
         }
     }
 
@@ -92,14 +97,24 @@ impl Column {
     fn write(&self, numbers: &mut NumberBytes) -> Result<(), AllocError>
         ensures { OnOk result (numbers.new ≡ numbers.old ++ pos 1 ∷ column_numbers self.now) }
     {
-        if self.place < 0 {
+        let Some(PlacedFactor { place, factor }) = self.first else {
             return numbers.push_two(1, 0);
-        }
+        };
         numbers.push_two(1, 1)?;
-        numbers.push(self.place)?;
-        numbers.push_two(1, self.factor)?;
+        numbers.push(i64::from(place))?;
+        numbers.push_two(1, i64::from(factor))?;
         write_numbers(self.more.as_slice(), numbers)?;
         Ok(())
+    }
+}
+
+/// How two places with their factors are ordered: the greater one stands first.
+fn first_in_turn(one: PlacedFactor, other: PlacedFactor) -> Ordering
+    ensures { is_lt result ≡ stands_before (pos one.place ∷ one.factor ∷ []) (pos other.place ∷ other.factor ∷ []) }
+{
+    match other.place.cmp(&one.place) {
+        Ordering::Equal => other.factor.cmp(&one.factor),
+        unequal => unequal,
     }
 }
 

@@ -1,19 +1,20 @@
 -- Columns of form variables in a list by variable.
 use Rattle.std.specs.List.{AllByRecursion}
-use Rattle.std.specs.Prelude.{◌≡◌, Bool, false, true, ℕ, suc, ◌+◌, ℤ, pos, negsuc, List, [], ◌∷◌, ◌++◌, slice_index_or, slice_set}
+use Rattle.std.specs.Prelude.{◌≡◌, Bool, false, true, ℕ, suc, ◌+◌, ℤ, pos, List, [], ◌∷◌, ◌++◌, slice_index_or, slice_set, Option, Some, None}
 use Rattle.pc_linear.specs.declared.term.Term.{Term}
 use Rattle.pc_linear.specs.Form.{Form, factor_of}
+use Rattle.pc_canon.specs.declared.columns.PlacedFactor.{PlacedFactor}
 use Rattle.pc_canon.specs.Canonical.{with_factor, stands_before}
 
--- a column by its first place and the factor there, and what stands behind them; a number below 0 says that it is empty
-abbrev pub column_from : ℤ → ℤ → List ℤ → List ℤ
-column_from (pos place) factor more = pos place ∷ factor ∷ more
-column_from (negsuc n) factor more = []
+-- a column by its first place, with the factor there, and what stands behind them
+abbrev pub column_from : Option PlacedFactor → List ℤ → List ℤ
+column_from None more = []
+column_from (Some first) more = pos first.place ∷ first.factor ∷ more
 
 -- an empty column is kept in one way
-abbrev pub IsColumnFrom : ℤ → ℤ → List ℤ → Type 0
-IsColumnFrom (pos place) factor more = Unit {0}
-IsColumnFrom (negsuc n) factor more = (n ≡ 0) × (factor ≡ pos 0) × (more ≡ [])
+abbrev pub IsColumnFrom : Option PlacedFactor → List ℤ → Type 0
+IsColumnFrom None more = more ≡ []
+IsColumnFrom (Some first) more = Unit {0}
 
 -- the column of a variable
 abbrev pub column_in : List (List ℤ) → ℕ → List ℤ
