@@ -106,14 +106,13 @@ fn write_item(
             right,
             ..
         } => {
-            let (left_kind, left) = operand_parts(left, depth, levels);
-            let (right_kind, right) = operand_parts(right, depth, levels);
-            numbers.push_three(0, op_number(op), left_kind)?;
-            numbers.push_three(left, right_kind, right)
+            numbers.push_two(0, op_number(op))?;
+            write_operand(left, depth, levels, numbers)?;
+            write_operand(right, depth, levels, numbers)
         }
         Item::Copy { from, .. } => {
-            let (kind, from) = operand_parts(from, depth, levels);
-            numbers.push_three(1, kind, from)
+            numbers.push(1)?;
+            write_operand(from, depth, levels, numbers)
         }
         Item::Load { array, index, .. } => {
             numbers.push_two(2, i64::from(array))?;
@@ -129,8 +128,8 @@ fn write_item(
             write_operand(value, depth, levels, numbers)
         }
         Item::Print { value } => {
-            let (kind, value) = operand_parts(value, depth, levels);
-            numbers.push_three(4, kind, value)
+            numbers.push(4)?;
+            write_operand(value, depth, levels, numbers)
         }
         Item::Read { .. } => numbers.push(5),
         Item::More { .. } => numbers.push(6),
@@ -153,7 +152,7 @@ fn write_homes(
     numbers.push(0)
 }
 
-/// Writes an operand.
+/// Writes an operand: a name as its place among the names.
 fn write_operand(
     operand: Operand,
     depth: u32,
@@ -162,17 +161,11 @@ fn write_operand(
 ) -> Result<(), AllocError>
     ensures { OnOk result (numbers.new ≡ numbers.old ++ operand_numbers (placed (place_at levels.now depth) operand)) }
 {
-    let (kind, number) = operand_parts(operand, depth, levels);
-    numbers.push_two(kind, number)
-}
-
-/// The kind of an operand, and its value, or the place of its name among the names.
-fn operand_parts(operand: Operand, depth: u32, levels: &[u32]) -> (i64, i64)
-    ensures { operand_numbers (placed (place_at levels.now depth) operand) ≡ result.0 ∷ result.1 ∷ [] }
-{
     match operand {
-        Operand::Name(name) => (0, i64::from(place_at(levels, depth, name))),
-        Operand::Lit(value) => (1, i64::from(value)),
+        Operand::Name(name) => {
+            numbers.push_two(0, i64::from(place_at(levels, depth, name)))
+        }
+        Operand::Lit(value) => numbers.push_two(1, i64::from(value)),
     }
 }
 
