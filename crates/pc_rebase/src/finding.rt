@@ -65,13 +65,11 @@ fn known_forms(alloc: Global, forms: &[LinForm]) -> Result<FormList, AllocError>
     ensures same { IfOk result (λ known. known ≡ forms.now) }
     ensures kept { IfOk result (λ known. AllByRecursion IsForm forms.now) }
 {
-    let mut known = FormList::new(alloc);
     for form in forms {
         // A form's getter tells that it is a form.
         let _offset = form.offset();
-        known.push(*form)?;
     }
-    Ok(known)
+    FormList::from_slice(alloc, forms)
 }
 
 /// Nothing is found yet, and each variable below a number stands for itself.

@@ -23,14 +23,14 @@ pub(crate) type StandingList = Seq<Standing>;
 pub(crate) fn each_itself(alloc: Global, count: u32) -> Result<StandingList, AllocError>
     ensures { IfOk result (λ stands. stands ≡ each_itself count) }
 {
-    let mut stands = StandingList::new(alloc);
+    let mut stands = Vec::with_capacity(alloc, count as usize)?;
     for variable in 0..count {
         stands.push(Standing {
             variable,
             offset: 0,
         })?;
     }
-    Ok(stands)
+    Ok(StandingList::from_vec(stands))
 }
 
 /// A form with what each of its variables stands for in the variable's place.

@@ -86,8 +86,7 @@ fn add_definitions(
             if let Some(dest) = written_by(*item) {
                 add_name(dest, names, numbers)?;
             }
-            add_definitions(rest, names, numbers)?;
-            Ok(())
+            add_definitions(rest, names, numbers)
         }
         WindowTree::Test { yes, no, .. } => {
             add_definitions(yes, names, numbers)?;

@@ -4,4 +4,4 @@ use Rattle.pc_rebase.proofs.standing.each_itself.Given as goal
 
 -- the variables so far, and then those that are to come, are all
 abbrev pub invariant-loop-variable : goal.invariant-loop-variable
-invariant-loop-variable l = l.stands ++ itself_from l.variable (l.count - l.variable) ≡ each_itself l.count
+invariant-loop-variable l = l.stands.items ++ itself_from l.variable (l.count - l.variable) ≡ each_itself l.count
