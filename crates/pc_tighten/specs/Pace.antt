@@ -1,8 +1,6 @@
 -- When one run is no slower than another.
-use Rattle.std.specs.Prelude.{◌≢◌, ℕ, Some}
-use Rattle.pc_word.specs.declared.item.End.TheVariants.{Fault}
-use Rattle.pc_word.specs.declared.item.MachineFault.{MachineFault}
-use Rattle.pc_word.specs.Run.{Run, Answers, Agree, NeverFaults}
+use Rattle.std.specs.Prelude.{ℕ}
+use Rattle.pc_word.specs.Run.{Run, Answers, Agree}
 
 -- the second run agrees with the first, and after as many cycles shows at least what the first shows
 pub record IsNoSlower (X Y : Run) : Type 0 where

@@ -84,7 +84,7 @@ module _ (forms : ℕ → Form) where
   child_goes : (leaf : ℕ) (f : NodeTree → NodeTree) (next : NodeTree → Option NodeTree) (n : NodeTree) → ((c : NodeTree) (known : ℕ → Bool) → next c ≡ Some n → Goes known c (f c))
       → (t : NodeTree) (known : ℕ → Bool) → led_on (child_at leaf t) next ≡ Some n → Goes known t (child_closed leaf f t)
   child_goes leaf f next n goes (Item_node t o x rest) known at =
-    Below known t o x (whole_tree rest) (whole_tree (child_closed leaf f rest)) tt (child_goes leaf f next n goes rest (and_dest known x) at)
+      Below known t o x (whole_tree rest) (whole_tree (child_closed leaf f rest)) tt (child_goes leaf f next n goes rest (and_dest known x) at)
   child_goes leaf f next n goes (Test_node t o on p q) known at =
       elim (nat_lt leaf (leaf_count p)) as (λ b. led_on (if b then child_at leaf p else child_at (leaf - leaf_count p) q) next ≡ Some n
       → Goes known (Test_node t o on p q) (if b then Test_node t o on (child_closed leaf f p) q else Test_node t o on p (child_closed (leaf - leaf_count p) f q))) [

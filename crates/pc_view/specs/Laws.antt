@@ -1,5 +1,5 @@
 -- Laws of the texts, of every object. Each is the contract of a function of laws.rt, which does nothing.
-use Rattle.std.specs.Prelude.{◌≡◌, ℕ, ◌+◌, ◌<◌, ◌↔◌, Bool, true, false, nat_eq, List, [], ◌∷◌, ◌++◌, length}
+use Rattle.std.specs.Prelude.{◌≡◌, ℕ, ◌+◌, ◌<◌, ◌↔◌, Bool, true, false, List, [], ◌∷◌, ◌++◌, length}
 use Rattle.std.specs.Prelude.{Contains, Some, slice_get}
 use Rattle.std.specs.List.{AllByRecursion, count_by, sum_by}
 use Rattle.pc_word.specs.Line.{is_line_feed}

@@ -1,8 +1,8 @@
 -- Which rows lead to a row.
-use Rattle.std.specs.Prelude.{ℕ, suc, Bool, false, nat_eq, if◌then◌else◌, List, [], ◌∷◌}
+use Rattle.std.specs.Prelude.{ℕ, suc, Bool, if◌then◌else◌, List, [], ◌∷◌}
 use Rattle.std.specs.List.{list_any}
 use Rattle.pc_word.specs.Row.{leaves_of}
-use Rattle.pc_machine.specs.MachineCode.{Leaf, Leads_to, Ends, Traps, CodeRow, is_goto}
+use Rattle.pc_machine.specs.MachineCode.{CodeRow, is_goto}
 
 -- whether a leaf of a row leads to the row with this number
 abbrev pub leads_to : ℕ → CodeRow → Bool

@@ -1,8 +1,7 @@
 -- What each change of a window keeps: its run, its forms, and its pace.
-use Rattle.std.specs.Prelude.{◌≡◌, ◌≢◌, ℕ, suc, ℤ, List, [], Some}
+use Rattle.std.specs.Prelude.{◌≡◌, ℕ, suc, ℤ, List, []}
 use Rattle.pc_word.specs.declared.item.TrapKind.{TrapKind}
-use Rattle.pc_word.specs.declared.item.MachineFault.{MachineFault}
-use Rattle.pc_word.specs.declared.item.End.TheVariants.{Ended, Trapped, Fault}
+use Rattle.pc_word.specs.declared.item.End.TheVariants.{Ended, Trapped}
 use Rattle.pc_word.specs.Run.{Run, Answers, Follows, Agree, after_printing, ended_run, NeverFaults}
 use Rattle.pc_word.specs.State.{State}
 use Rattle.pc_table.specs.Table.{Table, Next}

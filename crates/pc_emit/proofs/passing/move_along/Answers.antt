@@ -25,8 +25,8 @@ loop-at-preserved c =
     let made = c.in_ok-push_copies.ensures in
     let is : row_of c.in_ok-row.row ≡ copy_row copies (target_leaf c.loop-at.from) = search rules in
     let before = subst
-      (λ at. LeadsThrough c.args.plan.now c.args.output.now c.loop-at.output (target_leaf c.loop-at.from) (drop at rows) (target_leaf c.args.target))
-      next c.loop-at.invariant.through in
+    (λ at. LeadsThrough c.args.plan.now c.args.output.now c.loop-at.output (target_leaf c.loop-at.from) (drop at rows) (target_leaf c.args.target))
+    next c.loop-at.invariant.through in
     record {
       within = omega (arith, within);
       through = through_from c.args.plan.now c.args.output.now new rows (c.loop-at.at - 1) copies _ (target_leaf c.args.target) below (search rules)
@@ -41,7 +41,7 @@ returns-clause-short c =
     let rows = c.as_slice-rows.result.now in
     let none : c.loop-at.at ≡ 0 = omega (arith, c.loop-at-test.false) in
     let through = subst
-      (λ at. LeadsThrough c.args.plan.now c.args.output.now c.loop-at.output (target_leaf c.loop-at.from) (drop at rows) (target_leaf c.args.target))
-      none c.loop-at.invariant.through in
+    (λ at. LeadsThrough c.args.plan.now c.args.output.now c.loop-at.output (target_leaf c.loop-at.from) (drop at rows) (target_leaf c.args.target))
+    none c.loop-at.invariant.through in
     let arranged = subst (IsArranged c.args.moves.now c.args.plan.now.limits.ops allowed) (sym c.as_slice-rows.ensures) c.in_ok-rows.ensures in
     along_short c.args.plan.now c.args.output.now c.loop-at.output (target_leaf c.loop-at.from) (target_leaf c.args.target) c.args.moves.now rows through arranged
