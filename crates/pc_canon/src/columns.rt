@@ -85,8 +85,11 @@ impl Column {
             (None, None) => Ordering::Equal,
             (Some(_), None) => Ordering::Less,
             (None, Some(_)) => Ordering::Greater,
-            (Some(one), Some(two)) => match first_in_turn(one, two) {
-                Ordering::Equal => other.more.as_slice().cmp(self.more.as_slice()),
+            (Some(one), Some(two)) => match two.place.cmp(&one.place) {
+                Ordering::Equal => match two.factor.cmp(&one.factor) {
+                    Ordering::Equal => other.more.as_slice().cmp(self.more.as_slice()),
+                    unequal => unequal,
+                },
                 unequal => unequal,
             },
         }
@@ -105,16 +108,6 @@ impl Column {
         numbers.push_two(1, i64::from(factor))?;
         write_numbers(self.more.as_slice(), numbers)?;
         Ok(())
-    }
-}
-
-/// How two places with their factors are ordered: the greater one stands first.
-fn first_in_turn(one: PlacedFactor, other: PlacedFactor) -> Ordering
-    ensures { is_lt result ≡ stands_before (pos one.place ∷ one.factor ∷ []) (pos other.place ∷ other.factor ∷ []) }
-{
-    match other.place.cmp(&one.place) {
-        Ordering::Equal => other.factor.cmp(&one.factor),
-        unequal => unequal,
     }
 }
 
