@@ -162,9 +162,7 @@ fn write_operand(
     ensures { OnOk result (numbers.new ≡ numbers.old ++ operand_numbers (placed (place_at levels.now depth) operand)) }
 {
     match operand {
-        Operand::Name(name) => {
-            numbers.push_two(0, i64::from(place_at(levels, depth, name)))
-        }
+        Operand::Name(name) => { numbers.push_two(0, i64::from(place_at(levels, depth, name))) }
         Operand::Lit(value) => numbers.push_two(1, i64::from(value)),
     }
 }
