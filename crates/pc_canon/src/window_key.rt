@@ -31,11 +31,12 @@ pub struct WindowKey {
     pub tag: u32,
 }
 
-/// The room that is taken at first for what is written, in bytes for each name: mostly it takes some 24.
+/// The room that is taken at first for what is written, in bytes for each name. Where it is too little, more is
+/// taken.
 const ROOM_OF_NAME: usize = 32;
 
 /// The key of a window. It takes time linear in the window, its names and its form variables, but for
-/// putting the columns of form variables in order, by a sort that moves none of their numbers.
+/// putting the columns of form variables in order.
 pub fn key(alloc: Global, window: &Window) -> Result<WindowKey, WindowError>
     requires below { TreeBelow (length window.now.names.forms) (tree_in window.now.tree) }
     requires few_names { length window.now.names.forms < 2 ^ 31 }
