@@ -95,7 +95,7 @@ impl Column {
         }
     }
 
-    /// Writes the column as an element of a list.
+    /// Writes the column as an element of a list: a 1 stands before each element, also of the column itself.
     #[tactic(auto, using(crate::proofs::StoredColumns::stored))]
     fn write(&self, numbers: &mut NumberBytes) -> Result<(), AllocError>
         ensures { OnOk result (numbers.new ≡ numbers.old ++ pos 1 ∷ column_numbers self.now) }
@@ -155,8 +155,8 @@ fn add_term(term: Term, place: u32, columns: &mut [Column]) -> Result<(), AllocE
     column.push(place, term.factor)
 }
 
-/// The columns that are not empty, in order. Columns of later variables mostly begin at later places, so that
-/// the sort finds them nearly in order.
+/// The columns that are not empty, in order. Columns of later variables mostly begin at later places, and
+/// those stand first: so the sort finds them nearly in reverse order.
 pub(crate) fn in_order(columns: Vec<Column>) -> Result<Vec<Column>, AllocError>
     ensures { IfOk result (λ sorted. sorted.items ≡ columns_below (column_in columns.items) (length columns.items)) }
 {
@@ -176,7 +176,7 @@ pub(crate) fn write_columns(columns: &[Column], numbers: &mut NumberBytes) -> Re
     numbers.push(0)
 }
 
-/// Writes numbers of a column.
+/// Writes what stands in a column behind its first place and factor, and the mark at its end.
 fn write_numbers(column: &[i64], numbers: &mut NumberBytes) -> Result<(), AllocError>
     ensures { OnOk result (numbers.new ≡ numbers.old ++ column_numbers column.now) }
 {

@@ -118,7 +118,7 @@ fn write_definitions(
     }
 }
 
-/// Writes what shows of the form of the name at a place by itself, and adds its terms to their columns.
+/// The same of a name's form, read where it stands; a name that has no form has the constant 0.
 fn add_form_of(
     table: &NameTable,
     name: u32,

@@ -21,7 +21,7 @@ none_from [] (suc at) h = refl
 none_from (t ∷ ts) zero h = absurd (cc)
 none_from (t ∷ ts) (suc at) h = none_from ts at h
 
-pub one_from : (ts : List Term) (at : ℕ) (t : Term) → slice_get ts at ≡ Some t → drop at ts ≡ t ∷ drop (at + 1) ts
+one_from : (ts : List Term) (at : ℕ) (t : Term) → slice_get ts at ≡ Some t → drop at ts ≡ t ∷ drop (at + 1) ts
 one_from [] at t h = absurd (cc)
 one_from (u ∷ ts) zero t h = let same : u ≡ t = (cc) in ap (λ (x : Term). x ∷ ts) same
 one_from (u ∷ ts) (suc at) t h =
@@ -29,9 +29,6 @@ one_from (u ∷ ts) (suc at) t h =
     one_from ts at t h ∙ ap (λ (n : ℕ). t ∷ drop n (u ∷ ts)) (sym next)
 
 module _ (ts : List Term) (at : ℕ) where
-  pub none_left : slice_get ts at ≡ None → drop at ts ≡ []
-  none_left = none_from ts at
-
   pub no_marks : (marks : List Bool) → slice_get ts at ≡ None → marks ≡ and_terms (drop at ts) marks
   no_marks marks none = ap (λ (us : List Term). and_terms us marks) (sym (none_from ts at none))
 

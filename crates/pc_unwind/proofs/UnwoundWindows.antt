@@ -16,7 +16,7 @@ use Rattle.pc_window.proofs.WindowsStored.{single_window, whole_in}
 use Rattle.pc_unwind.specs.declared.growth.Growth.{Growth}
 use Rattle.pc_unwind.specs.models.Named.{TagsAtMost, StubsAreThere}
 use Rattle.pc_unwind.specs.Unwindable.{CanUnwind}
-use Rattle.pc_unwind.specs.models.Walking.{with_growth, HasRoom, RootStaysAtMost, most_tag}
+use Rattle.pc_unwind.specs.models.Walking.{with_growth, HasRoom, RootStaysAtMost, most_root_tag}
 use Rattle.pc_unwind.proofs.TableRegions.{as_many}
 use Rattle.pc_unwind.proofs.PartsThere.{tags_of, stubs_of}
 use Rattle.pc_unwind.proofs.TagWalks.{tags_stay, root_stays}
@@ -34,10 +34,10 @@ module _ (table : RegionTable) (w : StoredWindow) (single : WindowTree) (same : 
   pub single_room : (size : ℕ) → size ≡ tree_size (whole (front_in w.tree)) → CanUnwind (table_of table) (window_in w) → HasRoom (record { names = w.names; size = size })
   single_room size is able = let few = able.size in let names = able.names in let variables = able.variables in record { size = omega arith; names = omega arith; variables = omega arith }
 
-  pub single_root : TableKeeps (table_of table) → length table.regions ≤ most_nodes → CanUnwind (table_of table) (window_in w) → RootStaysAtMost (table_of table) most_tag (tree_in single)
+  pub single_root : TableKeeps (table_of table) → length table.regions ≤ most_nodes → CanUnwind (table_of table) (window_in w) → RootStaysAtMost (table_of table) most_root_tag (tree_in single)
   single_root keeps few able =
       let e = as_many table.regions in
-      root_stays (table_of table) (2 ^ 30 + length (table_of table).regions) most_tag (tree_in single) (omega arith)
+      root_stays (table_of table) (2 ^ 30 + length (table_of table).regions) most_root_tag (tree_in single) (omega arith)
       (tags_stay (table_of table) keeps (2 ^ 30) (tree_in single) (subst (TagsAtMost (2 ^ 30)) is_whole (tags_of (table_of table) (2 ^ 30) (whole (front_in w.tree)) able.parts)))
 
   pub unwinds_to : (number size : ℕ) (later : WindowTree) (growth : Growth) → InNodes true later

@@ -5,7 +5,7 @@ ghost use Rattle.pc_table.specs.TableKeeps.{TableKeeps};
 ghost use Rattle.pc_window.specs.There.{StubIsThere};
 ghost use Rattle.pc_window.specs.StoredWindow.{tree_in};
 ghost use Rattle.pc_unwind.specs.models.Named.{TagsAtMost, StubsAreThere};
-ghost use Rattle.pc_unwind.specs.models.Walking.{HasRoom, MayReplace, MayReplaceStub, highest_tag, is_stub};
+ghost use Rattle.pc_unwind.specs.models.Walking.{HasRoom, MayReplace, MayReplaceStub, most_stub_tag, is_stub};
 
 use crate::growth::Growth;
 use crate::homes::homes_by_variable;
@@ -31,7 +31,7 @@ pub(crate) fn replace_stub(
     requires kept { TableKeeps (table_of table.now) }
     requires stub { is_stub tree.old ≡ true }
     requires there { StubsAreThere (table_of table.now) (tree_in tree.old) }
-    requires tag { TagsAtMost highest_tag (tree_in tree.old) }
+    requires tag { TagsAtMost most_stub_tag (tree_in tree.old) }
     requires room { HasRoom growth.old }
     ensures { IfOk result (λ replaced. MayReplaceStub (table_of table.now) inside at_root tree.old growth.old tree.new growth.new replaced) }
 {

@@ -7,11 +7,12 @@ ghost use Rattle.pc_window.specs.StoredWindow.{tree_in};
 use pc_table::RegionTable;
 use pc_window::{WindowTree, is_inside};
 
-/// The least tags of a tree, where it has any: of its items, tests and stubs, and of the stubs that
-/// are inside a loop.
+/// The least tags of a tree, where it has any.
 #[derive(Clone, Copy, Debug)]
 pub(crate) struct LeastTags {
+    /// Of items, tests and stubs.
     pub(crate) all: Option<u32>,
+    /// Of the stubs that are inside the loop.
     pub(crate) inside: Option<u32>,
 }
 
@@ -41,7 +42,7 @@ pub(crate) fn least_tags(table: &RegionTable, inside: Option<u16>, tree: &Window
     least
 }
 
-/// The least tags, with those of a tree too.
+/// Takes the tags of a tree into the least ones.
 #[tactic(auto, using(crate::proofs::LesserTags::tags))]
 fn add_tags(table: &RegionTable, inside: Option<u16>, tree: &WindowTree, least: &mut LeastTags)
     ensures all { least.new.all ≡ lesser_tag least.old.all (least_tag (tree_in tree.now)) }

@@ -10,7 +10,7 @@ ghost use Rattle.pc_window.specs.Steps.{UnwindsTo, IsProper};
 ghost use Rattle.pc_window.specs.StoredWindow.{tree_in, window_in, InNodes};
 ghost use Rattle.pc_unwind.specs.models.Named.{StubsAreThere};
 ghost use Rattle.pc_unwind.specs.Unwindable.{CanUnwind, HasGrown};
-ghost use Rattle.pc_unwind.specs.models.Walking.{HasRoom, RootAtMost, RootStaysAtMost, most_tag, with_growth};
+ghost use Rattle.pc_unwind.specs.models.Walking.{HasRoom, RootAtMost, RootStaysAtMost, most_root_tag, with_growth};
 
 use crate::growth::Growth;
 use crate::nodes::split;
@@ -78,7 +78,7 @@ fn unwind_tree(
     requires stubs { StubsAreThere (table_of table.now) (tree_in tree.old) }
     requires room { HasRoom growth.old }
     requires size { growth.old.size ≡ tree_size (tree_in tree.old) }
-    requires root { RootStaysAtMost (table_of table.now) most_tag (tree_in tree.old) }
+    requires root { RootStaysAtMost (table_of table.now) most_root_tag (tree_in tree.old) }
     ensures unwinds { OnOk result (Unwinds (table_of table.now) inside number (with_growth (tree_in tree.old) growth.old) (with_growth (tree_in tree.new) growth.new)) }
     ensures nodes { OnOk result (InNodes true tree.new) }
 {
@@ -105,7 +105,7 @@ fn unwind_stub(
     requires stubs { StubsAreThere (table_of table.now) (tree_in tree.old) }
     requires room { HasRoom growth.old }
     requires size { growth.old.size ≡ tree_size (tree_in tree.old) }
-    requires root { RootStaysAtMost (table_of table.now) most_tag (tree_in tree.old) }
+    requires root { RootStaysAtMost (table_of table.now) most_root_tag (tree_in tree.old) }
     ensures unwinds { OnOk result (Unwinds (table_of table.now) inside number (with_growth (tree_in tree.old) growth.old) (with_growth (tree_in tree.new) growth.new)) }
     ensures nodes { OnOk result (InNodes true tree.new) }
 {
@@ -146,7 +146,7 @@ fn unwind_tags(
     requires stubs { StubsAreThere (table_of table.now) (tree_in tree.old) }
     requires room { HasRoom growth.old }
     requires size { growth.old.size ≡ tree_size (tree_in tree.old) }
-    requires root { RootAtMost most_tag (tree_in tree.old) }
+    requires root { RootAtMost most_root_tag (tree_in tree.old) }
     ensures unwinds { OnOk result (Unwinds (table_of table.now) inside number (with_growth (tree_in tree.old) growth.old) (with_growth (tree_in tree.new) growth.new)) }
     ensures nodes { OnOk result (InNodes true tree.new) }
 {

@@ -11,7 +11,7 @@ abbrev pub column_from : Option PlacedFactor → List ℤ → List ℤ
 column_from None more = []
 column_from (Some first) more = pos first.place ∷ first.factor ∷ more
 
--- an empty column is kept in one way
+-- where there is no first place, nothing stands behind it
 abbrev pub IsColumnFrom : Option PlacedFactor → List ℤ → Type 0
 IsColumnFrom None more = more ≡ []
 IsColumnFrom (Some first) more = Unit {0}

@@ -64,11 +64,11 @@ is_stub (stored.Exit region tag homes) = true
 is_stub stored.Stop = false
 is_stub (stored.Trap kind line) = false
 
--- the highest tag that a stub may have
-abbrev pub highest_tag : ℕ
-highest_tag = 2 ^ 31 - 1
+-- the highest tag with which a stub may be replaced
+abbrev pub most_stub_tag : ℕ
+most_stub_tag = 2 ^ 31 - 1
 
--- the tree in place of a stub stands at the root of a node, or below an item or test
+-- a stub was replaced by its region's tree, which stands at the root of a node, or else below an item or test
 pub record ReplacesStub (table : Table) (loop : Option ℕ) (at_root : Bool) (tag region : ℕ) (homes : List Home) (old : Growth) (after : WindowTree) (new : Growth) : Type 0 where
   pub tree : WindowTree
   pub replaces : Replaces table loop tag region homes old new tree
@@ -119,8 +119,8 @@ Walks table loop tag before old after new full =
 -- ---- tags that may come
 
 -- the highest tag that the first item or test of a window may come to have
-abbrev pub most_tag : ℕ
-most_tag = 2 ^ 30 + most_nodes
+abbrev pub most_root_tag : ℕ
+most_root_tag = 2 ^ 30 + most_nodes
 
 -- the first item or test has at most this tag
 abbrev pub RootAtMost : ℕ → Tree → Type 0

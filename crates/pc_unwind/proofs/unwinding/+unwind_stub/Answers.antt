@@ -9,7 +9,7 @@ use Rattle.pc_window.specs.StoredWindow.{tree_in}
 use Rattle.pc_unwind.specs.models.Named.{StubsAreThere}
 use Rattle.pc_window.specs.There.{StubIsThere}
 use Rattle.pc_unwind.specs.models.Ranks.{stub_steps}
-use Rattle.pc_unwind.specs.models.Walking.{most_tag, with_growth, MayReplace, ReplacesStub, MayReplaceStub, RootStaysAtMost}
+use Rattle.pc_unwind.specs.models.Walking.{most_root_tag, with_growth, MayReplace, ReplacesStub, MayReplaceStub, RootStaysAtMost}
 use Rattle.pc_window.specs.declared.tree.WindowTree.TheVariants as stored
 use Rattle.pc_unwind.proofs.WalkSteps.{replaced_there, replaced_room, replaced_steps, replaced_root}
 use Rattle.pc_unwind.proofs.TagWalks.{unwinds_out, unwinds_large, unwinds_stub, unwinds_none}
@@ -43,7 +43,7 @@ unwind_stub-requires t c =
     let none = ap tree_size whole in
     let size = c.requires.size in
     let stub : StubIsThere table c.in-Exit.region homes = subst (StubsAreThere table) (sym whole) c.requires.stubs in
-    let root : RootStaysAtMost table most_tag (Exit c.in-Exit.region c.in-Exit.tag homes) = subst (RootStaysAtMost table most_tag) (sym whole) c.requires.root in
+    let root : RootStaysAtMost table most_root_tag (Exit c.in-Exit.region c.in-Exit.tag homes) = subst (RootStaysAtMost table most_root_tag) (sym whole) c.requires.root in
     let steps = ap (stub_steps table) whole in
     let fewer = replaced_steps c.args.table.now c.requires.kept c.requires.few c.args.inside c.in-Exit.tag c.in-Exit.region homes stub c.args.growth.now c.replace_stub.new.growth
     done.tree done.replaces in
@@ -72,9 +72,9 @@ unwind_stub-requires t c =
                         done.tree done.replaces c.requires.room,
                     (
                       omega arith,
-                      subst (RootStaysAtMost table most_tag) (sym done.same)
+                      subst (RootStaysAtMost table most_root_tag) (sym done.same)
                           (replaced_root c.args.table.now c.requires.kept c.requires.few c.args.inside c.in-Exit.tag c.in-Exit.region homes stub c.args.growth.now
-                          c.replace_stub.new.growth done.tree done.replaces most_tag root),
+                          c.replace_stub.new.growth done.tree done.replaces most_root_tag root),
                     ),
                   ),
                 ),

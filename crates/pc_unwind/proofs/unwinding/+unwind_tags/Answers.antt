@@ -4,7 +4,7 @@ use Rattle.std.proofs.lemmas.Result.{IfOk-weaker}
 use Rattle.pc_table.specs.Table.{table_of}
 use Rattle.pc_window.specs.Unwinding.{least_inside, or_zero, unwinds_no_more}
 use Rattle.pc_window.specs.StoredWindow.{tree_in}
-use Rattle.pc_unwind.specs.models.Walking.{most_tag, with_growth, Walks, tags_from}
+use Rattle.pc_unwind.specs.models.Walking.{most_root_tag, with_growth, Walks, tags_from}
 use Rattle.pc_unwind.proofs.Reaching.{done_high}
 use Rattle.pc_unwind.proofs.TagWalks.{front_most, least_itself, fewer_tags, walked_size, walked_root, walked_least, walked_full, walked_on, unwinds_none}
 use Rattle.pc_unwind.proofs.unwinding.+unwind_tags.Goals as goal
@@ -35,7 +35,7 @@ unwind_tags-requires t c =
     let before = tree_in c.args.tree.now in
     let after = tree_in c.walk.new.tree in
     let front = c.front.ensures ∙ ap or_zero c.least_tags-least.ensures.all in
-    let most = front_most most_tag before c.requires.root in
+    let most = front_most most_root_tag before c.requires.root in
     let first : least_inside table c.args.inside before ≡ Some c.in-Some.tag = sym c.least_tags-least.ensures.inside ∙ c.in-Some.is in
     let walks =
     subst (Walks table c.args.inside c.in-Some.tag before c.args.growth.now after c.walk.new.growth) c.if-full.false c.in_ok-full.ensures.walks in
@@ -61,7 +61,7 @@ unwind_tags-requires t c =
                     c.in_ok-full.ensures.room,
                     (
                       walked_size table c.args.inside c.in-Some.tag before after c.args.growth.now c.walk.new.growth c.requires.size false walks,
-                      walked_root table c.args.inside c.in-Some.tag before after c.args.growth.now c.walk.new.growth c.requires.size most_tag false walks c.requires.root,
+                      walked_root table c.args.inside c.in-Some.tag before after c.args.growth.now c.walk.new.growth c.requires.size most_root_tag false walks c.requires.root,
                     ),
                   ),
                 ),
