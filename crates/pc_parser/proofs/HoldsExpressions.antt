@@ -175,7 +175,7 @@ module _ (tokens : List Token) where
       size = is.size;
     }
 
-    -- two operands that were infixed, higher than the first
+    -- two operands that an operator joined, higher than the first
     record Joined (level p height : ℕ) (t : SourceExpression) (h q : ℕ) : Type 0 where
       pub left : Left level p t h q
       pub rises : height + 1 ≤ h

@@ -112,7 +112,7 @@ module _ (tokens : List Token) (inner : Inner) (budget : ℕ) where
   last_turn left height at None = Parsed left height at
   last_turn left height at (Some found) = TooHigh at
 
-  -- an operand infixed by an operator to the operand behind it
+  -- an operand joined by an operator to the operand behind it
   unfoldable pub joined_at : SourceExpression → (height at : ℕ) → Operator × ℕ → ParseOutcome SourceExpression
   joined_at left height at found = allowed (height + 1) budget at (after (inner (found.1 + 1) (at + 1)) (λ right other to.
       Parsed (infixed found.0 (line_at tokens at) left right) (max height other + 1) to))
