@@ -94,7 +94,7 @@ numbers_again (z ∷ zs) =
 pub same_numbers : (xs ys : List ℤ) → bytes_of xs ≡ bytes_of ys → xs ≡ ys
 same_numbers xs ys e = sym (numbers_again xs) ∙ ap numbers_in e ∙ numbers_again ys
 
--- ---- one number more
+-- ---- more numbers
 
 bytes_of-append : (xs ys : List ℤ) → bytes_of (xs ++ ys) ≡ bytes_of xs ++ bytes_of ys
 bytes_of-append [] ys = refl

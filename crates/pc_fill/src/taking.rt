@@ -38,7 +38,7 @@ fn rename_operand(operand: &mut Operand, old: u32, new: u32)
     }
 }
 
-/// The same in what an item reads.
+/// Puts one name in the place of another in what an item reads.
 fn rename_read(item: &mut Item, old: u32, new: u32)
     ensures { item.new ≡ map_operands (renamed (Some old) (Some new)) item.old }
 {

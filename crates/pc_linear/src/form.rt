@@ -133,7 +133,7 @@ impl LinForm {
         self.terms().get(place as usize).copied()
     }
 
-    /// The form in other variables: each by the number that a table gives it, so that they still rise.
+    /// The form in other variables: `numbers` gives each variable another one, and has to let them rise as before.
     pub fn in_variables(&self, numbers: &[u32]) -> LinForm
         requires below { AllByRecursion (λ (term : Term). term.variable < length numbers.now) self.now.terms }
         requires form { IsForm (in_variables (slice_index numbers.now) self.now) }

@@ -60,7 +60,7 @@ pub(crate) fn first_turns(
     Ok((Turning { names, bases }, left))
 }
 
-/// A copy of forms, which tells that each of them is one.
+/// A copy of forms. Going over them tells that each is one, which the caller's proof rests on.
 fn known_forms(alloc: Global, forms: &[LinForm]) -> Result<FormList, AllocError>
     ensures same { IfOk result (λ known. known ≡ forms.now) }
     ensures kept { IfOk result (λ known. AllByRecursion IsForm forms.now) }

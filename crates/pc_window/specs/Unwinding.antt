@@ -26,7 +26,7 @@ least_tag (Exit region tag homes) = Some tag
 least_tag Stop_exit = None
 least_tag (Trap_exit kind line) = None
 
--- a tag, and 0 where there is none
+-- a number, and 0 where there is none
 abbrev pub or_zero : Option ℕ → ℕ
 or_zero None = 0
 or_zero (Some n) = n

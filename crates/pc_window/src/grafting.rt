@@ -123,7 +123,7 @@ fn test(
     })
 }
 
-/// A region's tree with homes in place of its variables. Homes that move on the path come back with it.
+/// A region's tree with homes in place of its variables. The homes that its paths move are put back, unless memory runs out.
 #[tactic(auto, using(crate::proofs::GraftsStored::grafts))]
 pub fn graft(
     alloc: Global,
