@@ -1,5 +1,5 @@
 # make        proves and builds the programs into build/
-# make demo   compiles the examples with them, runs their objects, compares bytes and output, and shows the rows of one
+# make demo   compiles the examples with them, runs their objects, compares bytes and output, and shows the rows of two
 # make test   runs the gate
 # make try    compiles one example and runs another, without proving anything
 
