@@ -90,6 +90,7 @@ fn row_above(parents: &Parents, rows: &[Draft], row: usize) -> Option<usize>
     ensures value { result ≡ parent_of parents.now row }
     ensures within { IfSome result (λ above. above < length rows.now) }
 {
+    // The length is asked for by the clauses alone.
     let _count = rows.len();
     parents.parent(row)
 }
@@ -121,13 +122,9 @@ fn first_rise(limits: Limits, parents: &Parents, rows: &[Draft], row: usize) -> 
     requires there { row < length rows.now }
     ensures { MatchOption result (IsSettled limits parents.now rows.now row) (λ rise. MayRise limits parents.now rows.now rise.above row rise.at) }
 {
-    let Some(above) = row_above(parents, rows, row) else {
-        return None;
-    };
-    match first_free(limits, &rows[above], row, &rows[row]) {
-        Some(at) => Some(Rise { above, at }),
-        None => None,
-    }
+    let above = row_above(parents, rows, row)?;
+    let at = first_free(limits, &rows[above], row, &rows[row])?;
+    Some(Rise { above, at })
 }
 
 /// Brings up what may go up from a row; whether there was something.

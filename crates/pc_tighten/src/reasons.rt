@@ -27,30 +27,14 @@ fn dest_of(item: Item) -> Option<u32>
 pub(crate) fn is_memory(item: Item) -> bool
     ensures { result ≡ is_memory item }
 {
-    match item {
-        Item::Bin { .. } => false,
-        Item::Copy { .. } => false,
-        Item::Load { .. } => true,
-        Item::Store { .. } => true,
-        Item::Print { .. } => false,
-        Item::Read { .. } => false,
-        Item::More { .. } => false,
-    }
+    matches!(item, Item::Load { .. } | Item::Store { .. })
 }
 
 /// Whether an item is a print, read or more.
 fn is_effect(item: Item) -> bool
     ensures { result ≡ is_effect item }
 {
-    match item {
-        Item::Bin { .. } => false,
-        Item::Copy { .. } => false,
-        Item::Load { .. } => false,
-        Item::Store { .. } => false,
-        Item::Print { .. } => true,
-        Item::Read { .. } => true,
-        Item::More { .. } => true,
-    }
+    matches!(item, Item::Print { .. } | Item::Read { .. } | Item::More { .. })
 }
 
 /// Whether an operand is the register that is written, if any.
@@ -103,13 +87,8 @@ fn loads(array: u8, item: Item) -> bool
     ensures { result ≡ loads array item }
 {
     match item {
-        Item::Bin { .. } => false,
-        Item::Copy { .. } => false,
         Item::Load { array: other, .. } => array == other,
-        Item::Store { .. } => false,
-        Item::Print { .. } => false,
-        Item::Read { .. } => false,
-        Item::More { .. } => false,
+        _ => false,
     }
 }
 
