@@ -9,7 +9,8 @@ pub fn laws_of_listings()
     ensures line_feeds { ListingsHaveALineFeedEach }
 {}
 
-/// A graph has a node for each row, an edge for each leaf that leads to a row, and a box for each note.
+/// A graph has a line for each row, for each leaf that leads to a row and for each note, two lines before
+/// them and one behind.
 pub fn laws_of_graphs()
     ensures { GraphsHaveALineEach }
 {}
