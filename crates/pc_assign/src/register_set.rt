@@ -1,5 +1,5 @@
 //! Sets of registers, or of places of parameters.
-ghost use Rattle.std.specs.Prelude.{◌≡◌, ◌<◌, ◌≤◌, ◌^◌, ℕ, false, true, ◌||◌, nat_eq};
+ghost use Rattle.std.specs.Prelude.{◌≡◌, ◌<◌, ◌≤◌, ◌^◌, ℕ, false, ◌||◌, nat_eq};
 ghost use Rattle.std.specs.Int.RustNames.{count_ones};
 ghost use Rattle.pc_assign.specs.models.Choosing.{member, IsLeastAbsent};
 

@@ -132,7 +132,7 @@ struct Long {
 }
 
 const LONG: [Long; 12] = [
-    // Two declarations of one node each, four nodes a round, and the end.
+    // Declarations of one node each, four nodes a round, and the end: 16,384 nodes, and then three more.
     Long {
         before: "int main(void){int x;int y;int z;",
         piece: "print(x/y);",

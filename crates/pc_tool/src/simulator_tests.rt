@@ -65,7 +65,8 @@ const RUN: Call = Call {
     err: "",
 };
 
-/// A run of `print(7)` that prints nothing.
+/// What calls that come to no run have in common: nothing is printed, and the status is 4 where no other
+/// is said.
 const REFUSED: Call = Call {
     code: 4,
     out: b"",
