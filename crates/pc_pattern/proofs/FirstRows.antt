@@ -72,7 +72,7 @@ module _ (rules : Rules) (members : List Window) (region : ℕ) (w : Window) (fi
       trap_leads rules members rules.table region kind line
       (subst Matches (cut_is (Trap_exit kind line) is (subst (λ (front : Front). IsBare (whole front)) (sym is) tt)) f.matches)
 
-same_state : (a b : AutomatonState) → Some a ≡ Some b → a ≡ b
+pub same_state : (a b : AutomatonState) → Some a ≡ Some b → a ≡ b
 same_state a b e = cc
 
 pub first_untested : (rules : Rules) → TableKeeps rules.table → Positive rules.limits → (region : ℕ) (members : List Window) (states : List AutomatonState)

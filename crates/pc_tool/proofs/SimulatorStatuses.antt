@@ -1,6 +1,6 @@
 -- What follows from the simulator's promise.
 use Rattle.std.proofs.Common.{◌≡◌, ℕ, ◌≤◌, ◌⊎◌, inl, inr, List, length, Option, Some, None, refl, sym, ◌∙◌, ap, subst, arith}
-use Rattle.std.specs.Prelude.{ℤ, Result, Ok, Err, IfSome}
+use Rattle.std.specs.Prelude.{ℤ, Ok, Err, IfSome}
 use Rattle.std.specs.FinMap.{get}
 use Rattle.std.specs.Option.{IsSomeAnd}
 use Rattle.pc_word.specs.declared.item.End.{End}
@@ -28,6 +28,7 @@ use Rattle.pc_tool.specs.Simulation.{IsInputOf, IsNoInput, SpellsInput, Loaded, 
 use Rattle.pc_tool.specs.Simulator.{SimulatorEnds, Ran, Misused, Unread, Refused, Untaken, Misspelt, Broke, Lacking, SimulatorLacks, SimulatorPromise}
 use Rattle.pc_tool.specs.SimulatorLaws.{end_status, IsEndStatus, SendsRun, BreaksOff, HasRun, HasBroken, FailsToTake, RefusesBytes, IsToldObject, SimulatorStatuses}
 use Rattle.pc_tool.proofs.Files.{held_map, told, told_text}
+use Rattle.pc_tool.proofs.Sources.{ok_same}
 use Rattle.pc_tool.proofs.Statuses.{due_status, status_of, either_first, third_first, last_first}
 
 -- ---- bytes that are refused
@@ -77,9 +78,6 @@ given_input : (o : Option (List ℕ)) (left : List ℕ) (numbers : List ℤ) →
 given_input o left numbers e g =
     let same : left ≡ g.bytes = told_input o left (λ all. all ≡ g.bytes) e g.given in
     subst (λ bytes. IsInputOf bytes numbers) (sym same) g.input
-
-ok_same : {X E : Type 0} (x y : X) (r : Result X E) → r ≡ Ok x → r ≡ Ok y → x ≡ y
-ok_same x y r d e = let both : Ok x ≡ Ok y = sym d ∙ e in cc
 
 same_numbers : (left : List ℕ) (a b : List ℤ) → IsInputOf left a → IsInputOf left b → a ≡ b
 same_numbers left a b p q = ok_same a b (numbers_in left) p.read q.read
