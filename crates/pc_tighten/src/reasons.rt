@@ -13,13 +13,9 @@ fn dest_of(item: Item) -> Option<u32>
     ensures { result ≡ dest_of item }
 {
     match item {
-        Item::Bin { dest, .. } => Some(dest),
-        Item::Copy { dest, .. } => Some(dest),
-        Item::Load { dest, .. } => Some(dest),
-        Item::Store { .. } => None,
-        Item::Print { .. } => None,
-        Item::Read { dest } => Some(dest),
-        Item::More { dest } => Some(dest),
+        Item::Bin { dest, .. } | Item::Copy { dest, .. } | Item::Load { dest, .. } => Some(dest),
+        Item::Read { dest } | Item::More { dest } => Some(dest),
+        Item::Store { .. } | Item::Print { .. } => None,
     }
 }
 
@@ -97,13 +93,8 @@ fn stores(array: u8, item: Item) -> bool
     ensures { result ≡ stores array item }
 {
     match item {
-        Item::Bin { .. } => false,
-        Item::Copy { .. } => false,
-        Item::Load { .. } => false,
         Item::Store { array: other, .. } => other == array,
-        Item::Print { .. } => false,
-        Item::Read { .. } => false,
-        Item::More { .. } => false,
+        _ => false,
     }
 }
 
@@ -112,13 +103,8 @@ fn stores_under(y: Item, x: Item) -> bool
     ensures { result ≡ stores_under y x }
 {
     match x {
-        Item::Bin { .. } => false,
-        Item::Copy { .. } => false,
-        Item::Load { array, .. } => stores(array, y),
-        Item::Store { array, .. } => stores(array, y),
-        Item::Print { .. } => false,
-        Item::Read { .. } => false,
-        Item::More { .. } => false,
+        Item::Load { array, .. } | Item::Store { array, .. } => stores(array, y),
+        _ => false,
     }
 }
 
@@ -127,13 +113,8 @@ fn is_loaded_by(x: Item, y: Item) -> bool
     ensures { result ≡ is_loaded_by x y }
 {
     match x {
-        Item::Bin { .. } => false,
-        Item::Copy { .. } => false,
-        Item::Load { .. } => false,
         Item::Store { array, .. } => loads(array, y),
-        Item::Print { .. } => false,
-        Item::Read { .. } => false,
-        Item::More { .. } => false,
+        _ => false,
     }
 }
 
