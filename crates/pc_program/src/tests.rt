@@ -38,7 +38,10 @@ fn reads(
 #[test]
 fn reads_files_whole(rt: HostRuntime) -> Result<(), Fail> {
     for (name, most, failing, wanted) in READS.iter() {
-        assert!(rt; reads(rt.alloc(), name, *most, *failing, *wanted)?, "{most}");
+        assert!(rt;
+            reads(rt.alloc(), name, *most, *failing, *wanted)?,
+            "{most}"
+        );
     }
     Ok(())
 }

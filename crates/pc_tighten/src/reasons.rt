@@ -30,7 +30,10 @@ pub(crate) fn is_memory(item: Item) -> bool
 fn is_effect(item: Item) -> bool
     ensures { result ≡ is_effect item }
 {
-    matches!(item, Item::Print { .. } | Item::Read { .. } | Item::More { .. })
+    matches!(
+        item,
+        Item::Print { .. } | Item::Read { .. } | Item::More { .. }
+    )
 }
 
 /// Whether an operand is the register that is written, if any.
