@@ -121,9 +121,13 @@ fn first_rise(limits: Limits, parents: &Parents, rows: &[Draft], row: usize) -> 
     requires there { row < length rows.now }
     ensures { MatchOption result (IsSettled limits parents.now rows.now row) (λ rise. MayRise limits parents.now rows.now rise.above row rise.at) }
 {
-    let above = row_above(parents, rows, row)?;
-    let at = first_free(limits, &rows[above], row, &rows[row])?;
-    Some(Rise { above, at })
+    let Some(above) = row_above(parents, rows, row) else {
+        return None;
+    };
+    match first_free(limits, &rows[above], row, &rows[row]) {
+        Some(at) => Some(Rise { above, at }),
+        None => None,
+    }
 }
 
 /// Brings up what may go up from a row; whether there was something.
