@@ -1,5 +1,5 @@
 //! Registers for the names of an automaton.
-ghost use Rattle.std.specs.Prelude.{◌≡◌, ◌<◌, ◌^◌, length};
+ghost use Rattle.std.specs.Prelude.{◌≡◌, ◌<◌, ◌^◌};
 ghost use Rattle.pc_assign.specs.Assigned.{operand_register};
 ghost use Rattle.pc_assign.specs.Stored.{registers_in, beside};
 

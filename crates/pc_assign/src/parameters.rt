@@ -1,6 +1,5 @@
 //! Registers of the parameters of a state.
-ghost use Rattle.std.specs.Prelude.{◌≡◌, ◌<◌, ◌≤◌, ℕ, suc, length, slice_get, Some, IfOk};
-ghost use Rattle.std.specs.List.{AllByRecursion};
+ghost use Rattle.std.specs.Prelude.{◌≡◌, ◌<◌, ◌≤◌, ℕ, length, slice_get, Some, IfOk};
 ghost use Rattle.pc_window.specs.Rebasing.{is_in};
 ghost use Rattle.pc_assign.specs.Pressure.{allowed};
 ghost use Rattle.pc_assign.specs.Assigned.{passed_at};

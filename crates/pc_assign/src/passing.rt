@@ -1,5 +1,5 @@
 //! What the leaves of states pass to later states.
-ghost use Rattle.std.specs.Prelude.{◌≡◌, ◌+◌, ◌<◌, ℕ, length, map, take, IfOk, OnOk};
+ghost use Rattle.std.specs.Prelude.{◌≡◌, ◌+◌, ◌<◌, ℕ, map, IfOk, OnOk};
 ghost use Rattle.pc_automaton.specs.StoredRow.{row_in};
 ghost use Rattle.pc_assign.specs.Assigned.{operand_register};
 ghost use Rattle.pc_assign.specs.Stored.{beside};

@@ -1,10 +1,11 @@
 //! Sets of registers, or of places of parameters.
-ghost use Rattle.std.specs.Prelude.{◌≡◌, ◌<◌, ◌≤◌, ◌^◌, ℕ, false, true, ◌||◌, nat_eq};
+ghost use Rattle.std.specs.Prelude.{◌≡◌, ◌<◌, ◌≤◌, ◌^◌, ℕ, false, ◌||◌, nat_eq};
 ghost use Rattle.std.specs.Int.RustNames.{count_ones};
 ghost use Rattle.pc_assign.specs.models.Choosing.{member, IsLeastAbsent};
 
-/// The register that no name has.
-pub(crate) const SCRATCH: u32 = 127;
+/// The register that no name has, so that copies may go through it. As many registers stand below it,
+/// which is how many names may be live together.
+pub const SCRATCH: u32 = 127;
 
 /// A set of the 128 registers, or of places of as many parameters: one bit each.
 #[derive(Clone, Copy)]

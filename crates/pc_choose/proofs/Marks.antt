@@ -94,15 +94,7 @@ mark_read marks region mark lt e = slice_get-get_or marks region false lt ∙ ap
 
 -- ---- what is found
 
--- a region that is marked is found again
-pub found_again : (it : Marked) (region : ℕ) → IsMarked it → slice_get it.marks region ≡ Some true → Finds (region ∷ []) it it
-found_again it region is marked = record {
-  order = let found : list_any (nat_eq region) it.order ≡ true = is.says region true marked in
-      sym (ap (λ (b : Bool). cond b it.order (it.order ++ region ∷ [])) found);
-  as_many = refl;
-}
-
--- one that is not is found
+-- a region that is not marked is found
 pub found_next : (it new : Marked) (region : ℕ) → IsMarked it → slice_get it.marks region ≡ Some false
     → new.marks ≡ slice_set it.marks region true → new.order ≡ it.order ++ region ∷ [] → Finds (region ∷ []) it new
 found_next it new region is free marks order = record {

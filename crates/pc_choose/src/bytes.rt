@@ -1,5 +1,5 @@
 //! The bytes that are counted for regions in their forms.
-ghost use Rattle.std.specs.Prelude.{◌≡◌, ◌+◌, ◌*◌, ◌<◌, ◌≤◌, ◌^◌, None, length};
+ghost use Rattle.std.specs.Prelude.{◌≡◌, ◌<◌, ◌≤◌, ◌^◌, None, length};
 ghost use Rattle.pc_word.specs.MachineLimits.{most_object};
 ghost use Rattle.pc_table.specs.Table.{table_tree, table_regions, table_of};
 ghost use Rattle.pc_automaton.specs.StoredRow.{row_in};
@@ -21,7 +21,8 @@ const TRAP_BYTES: u32 = 6;
 /// The bytes of the two rows of one copy that are counted for each argument or home that is passed.
 const PASSED_BYTES: u32 = 24;
 
-/// The bytes of a table's object while all its regions are plain.
+/// The bytes of a table's object while all its regions are plain: 12 are the header's, 4 each array's, 2 the
+/// count of notes, and 13 each note's.
 pub(crate) fn object_bytes(table: &RegionTable) -> u32
     requires { object_bytes (table_of table.now) (λ region. None) ≤ most_object }
     ensures { result ≡ object_bytes (table_of table.now) (λ region. None) }

@@ -1,3 +1,4 @@
+//! What is chosen for regions, and why.
 use crate::{CauseList, ChoiceList, FormList};
 
 /// A kind of form, in the order in which they are tried.

@@ -19,7 +19,6 @@ use crate::found::Found;
 use crate::giving::{Given, form_for, region_tree};
 use crate::leading::find_behind;
 use crate::{ChoiceList, FormList};
-use pc_emit::RegionForm;
 use pc_table::RegionTable;
 use pc_word::{Extent, Limits};
 use std::alloc::{AllocError, Global};
@@ -36,8 +35,9 @@ pub(crate) struct Progress {
 /// Chooses a form for each region that is led to from region 0, in the order in which they are found:
 /// the first that is not refused.
 ///
-/// It takes a search for each of them, and one more for the header of an innermost loop. The object of
-/// the table with all its regions plain is short enough, so that a region may always be plain.
+/// It takes at most two searches for the header of an innermost loop, and one for each other region. It
+/// fails where memory runs out. The object of the table with all its regions plain is short enough, so
+/// that a region may always be plain.
 pub fn choose(
     alloc: Global,
     table: &RegionTable,

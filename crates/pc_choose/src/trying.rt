@@ -1,5 +1,5 @@
 //! What comes of trying the form of a search.
-ghost use Rattle.std.specs.Prelude.{◌≡◌, ◌+◌, ◌<◌, ◌≤◌, suc, length, IfOk};
+ghost use Rattle.std.specs.Prelude.{◌≡◌, ◌<◌, ◌≤◌, suc, length, IfOk};
 ghost use Rattle.pc_word.specs.Ranges.{AreLimits, IsExtent};
 ghost use Rattle.pc_word.specs.MachineLimits.{most_object};
 ghost use Rattle.pc_word.specs.SourceLimits.{most_nodes};
@@ -14,15 +14,12 @@ ghost use Rattle.pc_choose.specs.models.Giving.{bytes_of, IsAttempt};
 use crate::Cause;
 use crate::bytes::states_bytes;
 use crate::error::ChooseError;
-use pc_assign::{AssignError, Assigned, assign};
+use pc_assign::{AssignError, Assigned, SCRATCH, assign};
 use pc_automaton::Automaton;
 use pc_pattern::{SearchError, search};
 use pc_table::RegionTable;
 use pc_word::{Extent, Limits, MOST_OBJECT};
 use std::alloc::Global;
-
-/// The registers that names may have.
-const MOST_LIVE: u32 = 127;
 
 /// What comes of trying a form: an automaton with its registers, and the bytes of the object then, or
 /// why it is refused.
@@ -96,7 +93,7 @@ fn high_pressure(live: u64) -> Result<Attempt, ChooseError>
     let Ok(number) = u32::try_from(live) else {
         return Err(ChooseError::Memory);
     };
-    let limit = MOST_LIVE;
+    let limit = SCRATCH;
     Ok(Attempt::Refused {
         cause: Cause::Live { number, limit },
     })

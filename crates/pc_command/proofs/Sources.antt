@@ -31,20 +31,6 @@ behind_at-is_none word rest e at =
     let bad : Some rest ≡ None = rw at at e in
     cc
 
--- digits with a sign are not digits alone
-pub sample_number_of-signed : (digits : List ℕ) → (slice_index digits 0 == 43) ≡ true → sample_number_of digits ≡ None
-sample_number_of-signed [] e = refl
-sample_number_of-signed (first ∷ rest) e = by (is_numeral (43 ∷ rest)) refl
-  where
-    plus : first ≡ 43
-    plus = eqb-true first 43 e
-
-    by : (b : Bool) → is_numeral (43 ∷ rest) ≡ b → sample_number_of (first ∷ rest) ≡ None
-    by true h =
-        let bad : false ≡ true = (and_true _ _ h).1 in
-        cc
-    by false h = rw (plus, h) refl
-
 -- the number of digits alone is what std reads of a text without a sign
 pub sample_number_of-parses : {E : Type 0} (digits : List ℕ) (read : Result ℕ E) → (slice_index digits 0 == 43) ≡ false → ParsesUnsigned 32 10 digits read
     → sample_number_of digits ≡ result_ok read

@@ -32,11 +32,6 @@ begins : {X : Type 0} (xs : List X) → 0 < length xs → IsSome (slice_get xs 0
 begins [] some = absurd (omega arith)
 begins (x ∷ xs) some = refl
 
--- what is there is there after a change
-some_mapped : {X Y : Type 0} (f : X → Y) (o : Option X) → IsSome o → IsSome (option_map f o)
-some_mapped f None some = absurd (cc)
-some_mapped f (Some x) some = refl
-
 -- the word of an argument that has a row
 word_there : (a : Rule) (rows : Matches) → HasRow a rows → IsSome (first_of a.id rows)
 word_there a rows has = rw has.found (begins has.row.values has.holds.valued)

@@ -57,9 +57,11 @@ pub record AreViewMatches (matches : Matches) : Type 0 where
 abbrev pub CompileMatchesAreWhole : Type 0
 CompileMatchesAreWhole = (words : List (List ℕ)) (matches : Matches) → matches_taken compile_app words ≡ Some matches → AreCompileMatches matches
 
+-- so do those of the simulator
 abbrev pub SimulateMatchesAreWhole : Type 0
 SimulateMatchesAreWhole = (words : List (List ℕ)) (matches : Matches) → matches_taken simulate_app words ≡ Some matches → AreSimulateMatches matches
 
+-- and those of the viewer
 abbrev pub ViewMatchesAreWhole : Type 0
 ViewMatchesAreWhole = (words : List (List ℕ)) (matches : Matches) → matches_taken view_app words ≡ Some matches → AreViewMatches matches
 

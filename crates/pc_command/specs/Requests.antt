@@ -109,9 +109,11 @@ compile_request command = record {
   report = command.report;
 }
 
+-- so for the simulator
 abbrev pub simulate_request : SimulateCommand → SimulateRequest
 simulate_request command = record { object = command.object.now; cycles = command.cycles }
 
+-- and for the viewer
 abbrev pub view_request : ViewCommand → ViewRequest
 view_request command = record { object = command.object.now; dot = command.dot }
 

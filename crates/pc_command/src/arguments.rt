@@ -1,5 +1,5 @@
 //! The arguments of the programs, as `clap` takes them.
-ghost use Rattle.std.specs.Prelude.{◌≡◌, true, false, codes, IfOk, IfErr, ok_or};
+ghost use Rattle.std.specs.Prelude.{◌≡◌, true, false, IfOk, IfErr, ok_or};
 ghost use Rattle.std.specs.Option.{IsSome};
 ghost use Rattle.clap.specs.Walk.{first_of, rule_of};
 ghost use Rattle.clap.specs.Simple.{app_of};

@@ -1,5 +1,5 @@
 //! The options that take a number, as a table.
-ghost use Rattle.std.specs.Prelude.{◌≡◌, ◌≤◌, decimal, false};
+ghost use Rattle.std.specs.Prelude.{◌≡◌, decimal, false};
 ghost use Rattle.std.specs.Option.{IsSome};
 ghost use Rattle.clap.specs.Walk.{rule_of};
 ghost use Rattle.pc_command.specs.Matching.{matches_in};

@@ -46,7 +46,7 @@ use Rattle.pc_choose.specs.Choosing.{AreChosen}
 use Rattle.pc_choose.proofs.Emittable.{are_forms, form_is}
 use Rattle.pc_compile.specs.Notes.{notes_of}
 use Rattle.pc_compile.specs.Compiled.{loose_code, IsCompiled}
-use Rattle.pc_compile.specs.models.Counts.{all_units}
+use Rattle.pc_compile.proofs.Counts.{all_units}
 use Rattle.pc_compile.specs.models.Made.{IsObjectOf}
 use Rattle.pc_compile.proofs.Origins.{few_units, few_regions}
 use Rattle.pc_compile.proofs.FewLoops.{list-counted}

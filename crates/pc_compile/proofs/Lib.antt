@@ -5,3 +5,4 @@ pub mod LoopNotes
 pub mod Origins
 pub mod Short
 pub mod Sums
+pub mod Counts

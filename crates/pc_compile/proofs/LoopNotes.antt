@@ -12,6 +12,7 @@ use Rattle.pc_window.specs.Opening.{same_loop, headed_loop}
 use Rattle.pc_choose.specs.declared.choice.Choice.{Choice}
 use Rattle.pc_object.specs.declared.object.Note.{Note}
 use Rattle.pc_compile.specs.Notes.{form_notes, choice_heading, choice_notes, loop_notes, notes_from, notes_of}
+use Rattle.pc_choose.proofs.Places.{set_there as set_same, set_elsewhere as set_other}
 use Rattle.pc_compile.specs.models.Heading.{heading_set, headings, without_outer, ArePlaces, choice_in, noted, note_list}
 
 -- ---- lists in which a place is set
@@ -20,18 +21,6 @@ set_outside : {X : Type 0} (xs : List X) (i : ℕ) (x : X) → length xs ≤ i �
 set_outside [] i x le = refl
 set_outside (y ∷ xs) zero x le = absurd (omega (arith, le))
 set_outside (y ∷ xs) (suc i) x le = ap (λ (l : _). y ∷ l) (set_outside xs i x (omega (arith, le)))
-
-set_same : {X : Type 0} (xs : List X) (i : ℕ) (x : X) → i < length xs → slice_get (slice_set xs i x) i ≡ Some x
-set_same [] i x lt = absurd (omega (arith, lt))
-set_same (y ∷ xs) zero x lt = refl
-set_same (y ∷ xs) (suc i) x lt = set_same xs i x (omega (arith, lt))
-
-set_other : {X : Type 0} (xs : List X) (i j : ℕ) (x : X) → i ≢ j → slice_get (slice_set xs i x) j ≡ slice_get xs j
-set_other [] i j x h = refl
-set_other (y ∷ xs) zero zero x h = absurd (h refl)
-set_other (y ∷ xs) zero (suc j) x h = refl
-set_other (y ∷ xs) (suc i) zero x h = refl
-set_other (y ∷ xs) (suc i) (suc j) x h = set_other xs i j x (λ e. h (ap suc e))
 
 -- numbers that a test tells apart
 told_apart : (i j : ℕ) → nat_eq i j ≡ false → i ≢ j

@@ -28,7 +28,7 @@ use Rattle.pc_object.specs.ObjectText.{CodeWithNotes, u16_text, u32_text, operan
 use Rattle.pc_object.specs.ObjectText.{header_text, object_text, IsChoice}
 use Rattle.pc_tighten.specs.Sizes.{Room, row_room, rows_room}
 use Rattle.pc_compile.specs.Notes.{caused_note, packed_note, plain_notes, form_notes, choice_notes, choice_heading, loop_notes, notes_from, notes_of}
-use Rattle.pc_compile.specs.models.Counts.{all_units}
+use Rattle.pc_compile.proofs.Counts.{all_units}
 
 -- ---- all regions plain
 

@@ -1,4 +1,3 @@
-pub mod Counts
 pub mod Errors
 pub mod Heading
 pub mod Made

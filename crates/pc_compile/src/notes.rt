@@ -24,7 +24,7 @@ pub(crate) fn notes(
     noted(alloc, table.loops.as_slice(), heading.as_slice(), choices)
 }
 
-/// For each loop in which no other stands the first choice of a region that heads it.
+/// For each loop in which no other stands the place of the first choice of a region that heads it.
 #[tactic(auto, using(crate::proofs::LoopNotes::heading))]
 fn heading(
     alloc: Global,
@@ -53,7 +53,7 @@ fn leave_out_outer(loops: &[LoopMark], heading: &mut Vec<Option<usize>>)
     }
 }
 
-/// Says which choice is of a loop, if there is such a loop.
+/// Sets which choice is of a loop, or that none is, if there is such a loop.
 #[tactic(auto, using(crate::proofs::LoopNotes::heading))]
 fn set_heading(heading: &mut Vec<Option<usize>>, number: Option<u16>, choice: Option<usize>)
     ensures { heading.new.items ≡ heading_set heading.old.items number choice }
@@ -134,6 +134,7 @@ fn note(line: u32, choice: &Choice) -> Option<Note>
         }),
         Form::Packed => Some(packed_note(line, causes.first().copied())),
         Form::Plain => match causes.last() {
+            // A plain form has a cause, that for which it is not packed.
             None => None,
             Some(cause) => Some(caused_note(line, 5, *cause)),
         },

@@ -42,10 +42,10 @@ pub struct Compiled {
 
 /// The object of a checked program, under limits of rows that the machine has, behind passes over its flow
 /// graph, each of which is applied once. The graph is cut into regions then. Each of them that is led to gets the
-/// first form that is not refused: an innermost loop is pipelined over as many turns as the extent's window and
-/// within its rows; a region is packed; or it has a row for each item and test. The rows are tightened at last. It
-/// fails where the graph would have more than 16,384 nodes, and where memory runs out; then some of the passes
-/// may have been applied.
+/// first form that is not refused: pipelined, for an innermost loop, with at most as many turns in a window as the
+/// extent's window and at most as many rows as its rows; packed; or a row for each item and test. The rows are
+/// tightened at last. It fails where the graph would have more than 16,384 nodes, and where memory runs out; then
+/// some of the passes may have been applied.
 pub fn compile(
     alloc: Global,
     checked: &Checked,

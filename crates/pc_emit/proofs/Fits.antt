@@ -21,7 +21,7 @@ use Rattle.pc_machine.specs.WellFormed.{IsOperand, IsItem, IsLeaf, IsPath, IsRow
 use Rattle.pc_pattern.specs.Pattern.{RowFits}
 use Rattle.pc_emit.specs.Registers.{in_register, in_registers}
 use Rattle.pc_emit.specs.Emitted.{RowStands, item_stands, test_stands, leaf_stands}
-use Rattle.pc_emit.specs.models.Undisturbed.{IsUndisturbed, StaysUndisturbed}
+use Rattle.pc_emit.proofs.Undisturbed.{IsUndisturbed, StaysUndisturbed}
 
 module _ (of : ℕ → ℕ) where
   -- ---- items in registers are of their kinds

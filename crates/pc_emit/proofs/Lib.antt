@@ -24,3 +24,4 @@ pub mod Fits
 pub mod RegionFits
 pub mod AllRows
 pub mod Emits
+pub mod Undisturbed

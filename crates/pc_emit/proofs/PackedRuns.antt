@@ -6,11 +6,11 @@ use Rattle.pc_word.specs.declared.item.Operand.{Operand}
 use Rattle.pc_word.specs.declared.item.Limits.{Limits}
 use Rattle.pc_word.specs.State.{State}
 use Rattle.pc_word.specs.Row.{Row, leaves_of, RowOutcome, Faults, Commits, row_step}
-use Rattle.pc_word.specs.Run.{Seen, Run, Step, Goes, Stops, Answers, after_printing, seen_of, run_from, NeverFaults}
+use Rattle.pc_word.specs.Run.{Seen, Run, Answers, after_printing, seen_of, run_from, NeverFaults}
 use Rattle.pc_word.proofs.Lists.{all_front, all_back, all_at}
-use Rattle.pc_word.proofs.Runs.{Answers-refl, Answers-after}
+use Rattle.pc_word.proofs.Runs.{Answers-equal, Answers-after}
 use Rattle.pc_table.specs.Table.{Table, Next}
-use Rattle.pc_table.specs.RegionRun.{Place, place_at, region_step, region_run}
+use Rattle.pc_table.specs.RegionRun.{place_at, region_run}
 use Rattle.pc_table.specs.TableKeeps.{TableKeeps}
 use Rattle.pc_window.specs.declared.home.Home.{Home}
 use Rattle.pc_window.specs.Tree.{home_state}
@@ -18,12 +18,13 @@ use Rattle.pc_window.proofs.Paces.{answer_of_answer}
 use Rattle.pc_automaton.specs.declared.automaton.AutomatonLeaf.{AutomatonLeaf}
 use Rattle.pc_automaton.specs.declared.automaton.AutomatonLeaf.TheVariants.{To, Out, Stop, Trap}
 use Rattle.pc_automaton.specs.Automaton.{AutomatonState, IsStateAmong, IsAutomaton, Takes, LeafLeads}
-use Rattle.pc_automaton.specs.AutomatonRun.{At_state, In_region, passed_state, state_parameters, leaf_step, outcome_step, state_step, left_step, automaton_step}
+use Rattle.pc_automaton.specs.AutomatonRun.{At_state, passed_state, state_parameters, leaf_step, outcome_step, state_step, automaton_step}
 use Rattle.pc_machine.specs.MachineCode.{Leaf, Leads_to, Ends, Traps, CodeRow, RowCode}
 use Rattle.pc_machine.specs.MachineRun.{after_row, machine_step}
 use Rattle.pc_copies.specs.Moves.{after_rows, AreDone}
 use Rattle.pc_emit.specs.Registers.{register_of, argument_moves, home_moves}
 use Rattle.pc_assign.specs.Apart.{IsApart}
+use Rattle.pc_pattern.proofs.Places.{left_is_region}
 use Rattle.pc_emit.proofs.Undisturbing.{stays_undisturbed}
 use Rattle.pc_emit.specs.Laws.{code_with}
 use Rattle.pc_emit.specs.Emitted.{Emission, RegionForm, form_leaf, LeadsThroughMoves, LeafStands, leads_to_state, leads_to_region, ends_here, traps_here}
@@ -45,17 +46,6 @@ with_leaves P all (leaf_stands h) = leaf_stands (all.0, h)
 both : (P Q : AutomatonLeaf → Type 0) (leaves : List AutomatonLeaf) → AllByRecursion P leaves → AllByRecursion Q leaves → AllByRecursion (λ leaf. P leaf × Q leaf) leaves
 both P Q [] h k = tt
 both P Q (leaf ∷ leaves) h k = ((h.0, k.0), both P Q leaves h.1 k.1)
-
--- an automaton that was left goes on as the region
-region_goes : (table : Table) (states : List AutomatonState) (n : ℕ) (place : Place)
-    → run_from (automaton_step table states) n (In_region place) ≡ run_from (region_step table) n place
-region_goes table states zero place = refl
-region_goes table states (suc n) place = goes_on (region_step table place) (λ next. region_goes table states n next)
-  where
-    goes_on : (step : Step Place) → ((next : Place) → run_from (automaton_step table states) n (In_region next) ≡ run_from (region_step table) n next)
-        → seen_of (left_step step) (run_from (automaton_step table states) n) ≡ seen_of step (run_from (region_step table) n)
-    goes_on (Goes out next) h = ap (λ (x : Seen). after_printing out x) (h next)
-    goes_on (Stops out end) h = refl
 
 module _ (e : Emission) (keeps : TableKeeps e.table) (limits : Limits) (rows : List CodeRow) where
   abbrev pub code : RowCode
@@ -144,7 +134,7 @@ module _ (e : Emission) (keeps : TableKeeps e.table) (limits : Limits) (rows : L
     -- what an automaton shows that leads out
     out_seen : (out : List ℤ) (s : State) (to : ℕ) (homes : List Home) (n : ℕ)
         → seen_after out s (Out to homes) n ≡ after_printing out (region_run table (Next to) (home_state s homes) n)
-    out_seen out s to homes n = ap (λ (x : Seen). after_printing out x) (region_goes table states n (place_at table (Next to) (home_state s homes)))
+    out_seen out s to homes n = ap (λ (x : Seen). after_printing out x) (left_is_region table states n (place_at table (Next to) (home_state s homes)))
 
     -- a run that never faults, after something was printed
     never_after : (out : List ℤ) (X Y : Run) → ((n : ℕ) → X n ≡ after_printing out (Y n)) → NeverFaults X → NeverFaults Y
@@ -180,15 +170,9 @@ module _ (e : Emission) (keeps : TableKeeps e.table) (limits : Limits) (rows : L
               (answer_of_answer (leaf_run code below m n) (leaf_run code (form_leaf e to there.form) u n) (region_run table (Next to) u k.0)
               (subst (λ (l : Leaf). Answers (leaf_run code below m n) (leaf_run code l u n) (leaf_run code below m n).end) there.is (passes_forth code moves.passes m n)) k.1)),
         )
-    leaf_forth n of out s m Stop below (leads, ends_here) holds never next regions = (0, end_answers out (leaf_run code Ends m n) (seen_after out s Stop 0) (leaf_seen code out m Ends n))
-      where
-        end_answers : (out : List ℤ) (x y : Seen) → y ≡ after_printing out x → Answers (after_printing out x) y (after_printing out x).end
-        end_answers out x y is = subst (λ (z : Seen). Answers (after_printing out x) z (after_printing out x).end) (sym is) (Answers-refl (after_printing out x))
+    leaf_forth n of out s m Stop below (leads, ends_here) holds never next regions = (0, Answers-equal (after_printing out (leaf_run code Ends m n)) (seen_after out s Stop 0) (sym (leaf_seen code out m Ends n)))
     leaf_forth n of out s m (Trap kind line) below (leads, traps_here) holds never next regions =
-        (0, end_answers out (leaf_run code (Traps kind line) m n) (seen_after out s (Trap kind line) 0) (leaf_seen code out m (Traps kind line) n))
-      where
-        end_answers : (out : List ℤ) (x y : Seen) → y ≡ after_printing out x → Answers (after_printing out x) y (after_printing out x).end
-        end_answers out x y is = subst (λ (z : Seen). Answers (after_printing out x) z (after_printing out x).end) (sym is) (Answers-refl (after_printing out x))
+        (0, Answers-equal (after_printing out (leaf_run code (Traps kind line) m n)) (seen_after out s (Trap kind line) 0) (sym (leaf_seen code out m (Traps kind line) n)))
 
     -- a row of each
     outcome_forth : (n : ℕ) (of : ℕ → ℕ) (a : RowOutcome AutomatonLeaf) (b : RowOutcome Leaf) → OutcomeStands (Leads of) of a b
@@ -250,15 +234,9 @@ module _ (e : Emission) (keeps : TableKeeps e.table) (limits : Limits) (rows : L
               (Answers-after out x (leaf_run code below m (length moves.copies + k.0)) x.end
               (subst (λ (y : Seen). Answers x y x.end) (sym (passes_back code moves.passes m k.0 ∙ ap (λ (l : Leaf). leaf_run code l u k.0) there.is)) k.1)),
         )
-    leaf_back n of out s m Stop below (leads, ends_here) holds never next regions = (0, ended_answers out Ends m (seen_after out s Stop n) (leaf_seen code out m Ends 0))
-      where
-        ended_answers : (out : List ℤ) (leaf : Leaf) (m : State) (x : Seen) → x ≡ after_printing out (leaf_run code leaf m 0) → Answers x (after_printing out (leaf_run code leaf m 0)) x.end
-        ended_answers out leaf m x is = subst (λ (y : Seen). Answers x y x.end) is (Answers-refl x)
+    leaf_back n of out s m Stop below (leads, ends_here) holds never next regions = (0, Answers-equal (seen_after out s Stop n) (after_printing out (leaf_run code Ends m 0)) (leaf_seen code out m Ends 0))
     leaf_back n of out s m (Trap kind line) below (leads, traps_here) holds never next regions =
-        (0, ended_answers out (Traps kind line) m (seen_after out s (Trap kind line) n) (leaf_seen code out m (Traps kind line) 0))
-      where
-        ended_answers : (out : List ℤ) (leaf : Leaf) (m : State) (x : Seen) → x ≡ after_printing out (leaf_run code leaf m 0) → Answers x (after_printing out (leaf_run code leaf m 0)) x.end
-        ended_answers out leaf m x is = subst (λ (y : Seen). Answers x y x.end) is (Answers-refl x)
+        (0, Answers-equal (seen_after out s (Trap kind line) n) (after_printing out (leaf_run code (Traps kind line) m 0)) (leaf_seen code out m (Traps kind line) 0))
 
     -- the leaf at which a row commits
     abbrev pub CommitsAt : RowOutcome AutomatonLeaf → AutomatonLeaf → Type 0

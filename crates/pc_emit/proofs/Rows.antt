@@ -27,7 +27,7 @@ use Rattle.pc_automaton.specs.Automaton.{LeafIsKnown, LeavesAreKnown}
 use Rattle.pc_machine.specs.MachineCode.{Leaf, CodeRow}
 use Rattle.pc_assign.specs.Uses.{leaf_uses, row_uses}
 use Rattle.pc_emit.specs.Registers.{in_register, in_registers}
-use Rattle.pc_emit.specs.models.Undisturbed.{IsUndisturbed, StaysUndisturbed}
+use Rattle.pc_emit.proofs.Undisturbed.{IsUndisturbed, StaysUndisturbed}
 use Rattle.pc_emit.specs.Emitted.{RowStands, item_stands, test_stands, leaf_stands}
 
 -- a name that an operand reads

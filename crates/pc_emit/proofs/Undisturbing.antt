@@ -15,7 +15,7 @@ use Rattle.pc_automaton.specs.Automaton.{AutomatonState, names_written}
 use Rattle.pc_assign.specs.Uses.{row_uses}
 use Rattle.pc_assign.specs.Apart.{Differ, HasAllowed, DestApart, KeepsApart, IsApart}
 use Rattle.pc_emit.specs.Registers.{register_of}
-use Rattle.pc_emit.specs.models.Undisturbed.{IsUndisturbed, StaysUndisturbed}
+use Rattle.pc_emit.proofs.Undisturbed.{IsUndisturbed, StaysUndisturbed}
 
 module _ (of : ℕ → Option ℕ) where
   -- names that share no register have different ones, if each has one

@@ -1,8 +1,7 @@
 -- The law of emitted rows. It is the contract of a function of laws.rt, which does nothing.
-use Rattle.std.specs.Prelude.{◌≡◌, ℕ, List, All, Some}
+use Rattle.std.specs.Prelude.{◌≡◌, ℕ, ℤ, List, All, Some}
 use Rattle.pc_word.specs.declared.item.Limits.{Limits}
 use Rattle.pc_word.specs.Word.{IsWord}
-use Rattle.std.specs.Prelude.{ℤ}
 use Rattle.pc_word.specs.Run.{AgreeOnInputs, NeverFaults}
 use Rattle.pc_table.specs.RegionRun.{table_run}
 use Rattle.pc_table.specs.TableKeeps.{TableKeeps}

@@ -1,4 +1,4 @@
--- Items and leaves with registers in place of names.
+-- Operands and items with registers in place of names, and the moves that pass values.
 use Rattle.std.specs.Prelude.{ℕ, List, [], ◌∷◌, map, Option}
 use Rattle.pc_word.specs.declared.item.Item.{Item}
 use Rattle.pc_word.specs.declared.item.Item.TheVariants.{Bin, Copy, Load, Store, Print, Read, More}

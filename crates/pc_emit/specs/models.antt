@@ -2,4 +2,3 @@ pub mod Output
 pub mod Layout
 pub mod Packing
 pub mod Making
-pub mod Undisturbed

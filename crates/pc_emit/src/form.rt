@@ -1,3 +1,4 @@
+//! The forms of a region's code.
 use pc_assign::Assigned;
 use pc_automaton::Automaton;
 
@@ -6,7 +7,8 @@ use pc_automaton::Automaton;
 pub enum RegionForm {
     /// A row for each item and test, with variable v in register v.
     Plain,
-    /// A row for each state of an automaton, with these registers for its names.
+    /// A row for each state of an automaton, with these registers for its names: the form of a region that
+    /// is pipelined, and of one that is packed.
     Packed {
         automaton: Automaton,
         registers: Assigned,

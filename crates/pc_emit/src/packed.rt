@@ -1,6 +1,6 @@
 //! The rows of packed regions: one for each state, on registers.
-ghost use Rattle.std.specs.Prelude.{◌≡◌, ◌+◌, ◌*◌, ◌<◌, ◌≤◌, [], ◌∷◌, Some, length, slice_get, IfOk, OnOk};
-ghost use Rattle.pc_word.specs.Row.{At_leaf, leaves_of};
+ghost use Rattle.std.specs.Prelude.{◌≡◌, ◌+◌, ◌*◌, ◌<◌, ◌≤◌, [], ◌∷◌, length, slice_get, IfOk, OnOk};
+ghost use Rattle.pc_word.specs.Row.{leaves_of};
 ghost use Rattle.pc_automaton.specs.StoredRow.{row_in};
 ghost use Rattle.pc_automaton.specs.AutomatonRun.{state_parameters};
 ghost use Rattle.pc_assign.specs.Pressure.{allowed};

@@ -16,13 +16,11 @@ use crate::output::Output;
 use crate::plan::Plan;
 use crate::target::Target;
 use crate::trees::with_item;
+use pc_assign::SCRATCH;
 use pc_copies::{Move, arrange};
 use pc_machine::Tree;
 use pc_word::Item;
 use std::alloc::{AllocError, Global};
-
-/// The register that copies go through.
-const SCRATCH: u32 = 127;
 
 /// Puts the rows of copies that do moves behind others, the last one first, and returns what leads
 /// through them all to a target.

@@ -1,5 +1,5 @@
 //! The rows of plain regions: one for each item and test.
-ghost use Rattle.std.specs.Prelude.{◌≡◌, ◌+◌, ◌≤◌, length, IfOk, OnOk};
+ghost use Rattle.std.specs.Prelude.{◌≡◌, ◌+◌, ◌≤◌, length, OnOk};
 ghost use Rattle.pc_table.specs.Table.{table_tree};
 ghost use Rattle.pc_table.specs.TableKeeps.{units};
 ghost use Rattle.pc_machine.specs.MachineCode.{rows_of};

@@ -1,3 +1,4 @@
+//! What rows are made from, and where each region's begin.
 ghost use Rattle.std.specs.Prelude.{◌≡◌, ◌+◌, ◌<◌, ◌^◌, IsSome, IfOk, Some, length};
 ghost use Rattle.pc_table.specs.Table.{region_tree, table_tree};
 ghost use Rattle.pc_table.specs.TableKeeps.{units};
@@ -70,6 +71,7 @@ fn beginning(form: &Option<RegionForm>, tree: &RegionTree, row: u32) -> Target
     match form {
         Some(RegionForm::Plain) => root(tree, row),
         Some(RegionForm::Packed { .. }) => Target::Row { row },
+        // Only a region that has a form is led to.
         None => unreachable!(),
     }
 }

@@ -1,3 +1,4 @@
+//! Where paths of rows lead.
 ghost use Rattle.std.specs.Prelude.{◌≡◌};
 ghost use Rattle.pc_word.specs.Row.{At_leaf};
 ghost use Rattle.pc_machine.specs.MachineCode.{row_of};

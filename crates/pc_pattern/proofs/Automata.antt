@@ -111,7 +111,7 @@ named_reads known more f (named_leaf h) k = record { items = tt; tests = tt }
 -- ---- what leaves use
 
 -- names that correspond to themselves are their own other side
-others_themselves : (xs : List ℕ) → others (themselves xs) ≡ xs
+pub others_themselves : (xs : List ℕ) → others (themselves xs) ≡ xs
 others_themselves [] = refl
 others_themselves (x ∷ xs) = ap (λ (l : List ℕ). x ∷ l) (others_themselves xs)
 

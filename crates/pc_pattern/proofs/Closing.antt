@@ -43,7 +43,7 @@ use Rattle.pc_pattern.proofs.Shifts.{shifted_items, parameter_sides}
 
 -- ---- rows and their leaves
 
-same_leaf : (a b : AutomatonLeaf) → Some a ≡ Some b → a ≡ b
+pub same_leaf : (a b : AutomatonLeaf) → Some a ≡ Some b → a ≡ b
 same_leaf a b e = cc
 
 -- what holds of each leaf of a row holds beside what relates the leaves of two

@@ -7,7 +7,7 @@ use Rattle.pc_table.specs.Table.{Table}
 use Rattle.pc_table.specs.TableKeeps.{TableKeeps, ComesUntested}
 use Rattle.pc_window.specs.declared.home.Home.{Home}
 use Rattle.pc_window.specs.Tree.{Tree, Pending, Undecided, Exit, Stop_exit, Trap_exit, Front, whole, front_of}
-use Rattle.pc_window.specs.Names.{uses}
+use Rattle.pc_window.specs.Names.{uses, parameters_of}
 use Rattle.pc_window.specs.WindowRun.{Window}
 use Rattle.pc_window.specs.Tidying.{tidied}
 use Rattle.pc_window.specs.Kept.{Left, Gone, Finished, Trapped_at, IsBare, HasFront, HasItems}
@@ -17,7 +17,6 @@ use Rattle.pc_automaton.specs.declared.automaton.AutomatonLeaf.{AutomatonLeaf}
 use Rattle.pc_automaton.specs.Automaton.{AutomatonState}
 use Rattle.pc_automaton.specs.RunsAsRegion.{LeadsUntested}
 use Rattle.pc_canon.specs.Pairs.{Pair, themselves}
-use Rattle.pc_window.specs.Names.{parameters_of}
 use Rattle.pc_pattern.specs.NamedRow.{RowsNamed, named_leaf}
 use Rattle.pc_pattern.specs.Searches.{Rules, IsClosed, LeafFor, to_region, to_end, to_trap, StateFor, Automates}
 use Rattle.pc_pattern.proofs.Ends.{ends_in, tidied_ends, unwound_untested}
@@ -73,7 +72,7 @@ module _ (rules : Rules) (members : List Window) (region : ℕ) (w : Window) (fi
       trap_leads rules members rules.table region kind line
       (subst Matches (cut_is (Trap_exit kind line) is (subst (λ (front : Front). IsBare (whole front)) (sym is) tt)) f.matches)
 
-same_state : (a b : AutomatonState) → Some a ≡ Some b → a ≡ b
+pub same_state : (a b : AutomatonState) → Some a ≡ Some b → a ≡ b
 same_state a b e = cc
 
 pub first_untested : (rules : Rules) → TableKeeps rules.table → Positive rules.limits → (region : ℕ) (members : List Window) (states : List AutomatonState)

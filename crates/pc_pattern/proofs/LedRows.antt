@@ -41,7 +41,8 @@ use Rattle.pc_pattern.specs.models.Renaming.{renamed_name, renamed_operand, rena
 use Rattle.pc_pattern.specs.models.Pools.{Pool}
 use Rattle.pc_pattern.specs.models.Leading.{WindowLeads, leads_member, leads_bare, LeftLeads, leads_rest, leads_region, leads_end, leads_trap}
 use Rattle.pc_pattern.specs.models.Leading.{RowLeads, leads_plain, leads_written, leads_test, leads_leaf}
-use Rattle.pc_pattern.proofs.Automata.{other_there}
+use Rattle.pc_pattern.proofs.Automata.{other_there, others_themselves}
+use Rattle.pc_pattern.proofs.Closing.{same_leaf}
 use Rattle.pc_canon.proofs.ParameterLists.{parameters_used}
 use Rattle.pc_pattern.proofs.Ends.{unwinds_fewer}
 use Rattle.pc_pattern.proofs.Keeping.{brings_on_keeps}
@@ -179,22 +180,15 @@ itself_there (y ∷ xs) x h = by (nat_eq y x) (nat_eq x y) refl refl h (itself_t
     by false true e e' k step = absurd (clash (nat_eq y x) (eq-eqb y x (sym (eqb-true x y e'))) e)
     by false false e e' k step = step k
 
-others_of_themselves : (xs : List ℕ) → others (themselves xs) ≡ xs
-others_of_themselves [] = refl
-others_of_themselves (x ∷ xs) = ap (λ (l : List ℕ). x ∷ l) (others_of_themselves xs)
-
 pub renames_parameters : (known : ℕ → Bool) (ps : List ℕ) (next : ℕ) → ((x : ℕ) → known x ≡ true → is_in x ps ≡ true)
     → AllByRecursion (λ y. y < next) ps
     → Renames known (themselves ps) [] next
 renames_parameters known ps next listed below = record {
   told = λ x h. itself_there ps x (listed x h);
-  below = subst (λ (l : List ℕ). AllByRecursion (λ y. y < next) l) (sym (others_of_themselves ps)) below;
+  below = subst (λ (l : List ℕ). AllByRecursion (λ y. y < next) l) (sym (others_themselves ps)) below;
 }
 
 -- ---- leaves
-
-same_leaf : (a b : AutomatonLeaf) → Some a ≡ Some b → a ≡ b
-same_leaf a b p = cc
 
 -- a leaf that a window is, renamed
 pub none_bare : (written : List Pair) (o : Option AutomatonLeaf) → renamed_bare written o ≡ None → o ≡ None

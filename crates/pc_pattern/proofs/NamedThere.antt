@@ -33,6 +33,7 @@ use Rattle.pc_pattern.specs.Laws.{PatternsNameWhatIsThere, PatternsBeginWithLive
 use Rattle.pc_pattern.proofs.Members.{begins_with, state_of}
 use Rattle.pc_pattern.proofs.Automata.{all_from_places}
 use Rattle.pc_pattern.proofs.Ends.{unwinds_fewer}
+use Rattle.pc_pattern.proofs.FirstRows.{same_state}
 use Rattle.pc_canon.proofs.ParameterLists.{parameters_used}
 
 module _ (rules : Rules) (keeps : TableKeeps rules.table) (room : Positive rules.limits) where
@@ -158,9 +159,6 @@ patterns_there rules keeps room region rows states p =
     (λ i state at.
     let m = state_of rules keeps room region p.members states p.automates i state at in
     state_there rules keeps room m.0 state (all_at (Named rules keeps room) p.members i m.0 (members_named rules keeps room p.closed.1).0 m.1) m.2)
-
-same_state : (a b : AutomatonState) → Some a ≡ Some b → a ≡ b
-same_state a b e = cc
 
 -- the first window's parameters are among those of the opened one
 pub patterns_live : PatternsBeginWithLiveVariables

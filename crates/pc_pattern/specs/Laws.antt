@@ -1,9 +1,9 @@
 -- The laws of searches. Each is the contract of a function of laws.rt, which does nothing.
-use Rattle.std.specs.Prelude.{◌≡◌, ℕ, ◌≤◌, true, nat_eq, List, [], ◌∷◌, Some, slice_get}
-use Rattle.std.specs.List.{AllByRecursion, list_any}
+use Rattle.std.specs.Prelude.{◌≡◌, ℕ, ◌≤◌, List, [], ◌∷◌}
+use Rattle.std.specs.List.{AllByRecursion}
 use Rattle.pc_word.specs.declared.item.TrapKind.{TrapKind}
 use Rattle.pc_word.specs.Row.{At_leaf}
-use Rattle.pc_table.specs.Table.{Traps_here, region_tree, region_live}
+use Rattle.pc_table.specs.Table.{Traps_here, region_tree}
 use Rattle.pc_table.specs.TableKeeps.{TableKeeps}
 use Rattle.pc_window.specs.WindowRun.{Window}
 use Rattle.pc_window.specs.Kept.{Left}
@@ -12,7 +12,7 @@ use Rattle.pc_automaton.specs.declared.automaton.AutomatonLeaf.TheVariants.{Trap
 use Rattle.pc_automaton.specs.Automaton.{AutomatonState, IsAutomaton}
 use Rattle.pc_automaton.specs.There.{StateIsThere}
 use Rattle.pc_pattern.specs.Searches.{Rules, Search, IsPattern, HasNoPattern}
-use Rattle.pc_pattern.specs.Pattern.{RowFits, NoneIsEmpty, RunsAsTheRegion}
+use Rattle.pc_pattern.specs.Pattern.{RowFits, NoneIsEmpty, RunsAsTheRegion, BeginsLive}
 
 -- the states of a closed search do what the region does
 abbrev pub PatternsRunAsTheRegion : Type 0
@@ -42,8 +42,7 @@ PatternsNameWhatIsThere = (rules : Rules) → TableKeeps rules.table → Positiv
 -- the first is passed variables that are live at the region's head
 abbrev pub PatternsBeginWithLiveVariables : Type 0
 PatternsBeginWithLiveVariables = (rules : Rules) → TableKeeps rules.table → Positive rules.limits → (region rows : ℕ) (states : List AutomatonState)
-    → IsPattern rules region rows states → (first : AutomatonState) → slice_get states 0 ≡ Some first
-    → AllByRecursion (λ variable. list_any (nat_eq variable) (region_live rules.table region) ≡ true) first.parameters
+    → IsPattern rules region rows states → BeginsLive rules.table region states
 
 -- a search has one answer: where it is closed within so many members, it comes to have no more
 abbrev pub SearchesHaveOneAnswer : Type 0

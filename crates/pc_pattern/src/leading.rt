@@ -76,6 +76,7 @@ fn bare_leaf(
     match tree {
         WindowTree::Step { .. } => Ok(None),
         WindowTree::Test { .. } => Ok(None),
+        // At the root of a window that is kept in nodes stands no further node.
         WindowTree::Node { .. } => unreachable!(),
         WindowTree::Exit { region, homes, .. } => {
             let homes = renamed_homes(alloc, names, homes.as_slice())?;

@@ -1,5 +1,5 @@
 //! The search for the automaton of a region.
-ghost use Rattle.std.specs.Prelude.{◌≡◌, ◌+◌, ◌<◌, ◌≤◌, ◌^◌, ◌++◌, ◌∷◌, [], length, IfOk, IfErr, OnOk};
+ghost use Rattle.std.specs.Prelude.{◌≡◌, ◌<◌, ◌≤◌, ◌^◌, ◌++◌, ◌∷◌, [], length, IfOk, IfErr, OnOk};
 ghost use Rattle.std.specs.List.{AllByRecursion};
 ghost use Rattle.pc_word.specs.MachineLimits.{most_rows};
 ghost use Rattle.pc_word.specs.SourceLimits.{most_nodes};
@@ -31,13 +31,15 @@ use pc_word::{Extent, Limits};
 use std::alloc::{AllocError, Global};
 
 /// Searches for the automaton of a region, within these limits for each row. With window number 1 it is
-/// packed code, of one turn of a loop at a time; with a greater one the turns of a loop overlap.
+/// packed code, of one turn of a loop at a time; with a greater one turns of a loop may overlap.
 ///
 /// The region's window, unwound, is the first member. Each member is filled and its front is cut off
 /// as the row of a state; what is left at each leaf is rebased, unwound and tidied. Where something is
 /// left to do in it, the leaf leads to the member that is equal up to its names, its form variables
 /// and a shift of all tags; where there is none, it is renumbered and becomes the next member. So the
 /// members are closed once each has its row, or there are more of them than `extent.rows`.
+///
+/// It fails with the keys of all members where there are more of them than rows, and where memory runs out.
 pub fn search(
     alloc: Global,
     table: &RegionTable,
@@ -56,6 +58,7 @@ pub fn search(
     let states = closed(alloc, table, region, Bounds { limits, extent })?;
     match Automaton::new(states) {
         Ok(automaton) => Ok(automaton),
+        // The states of closed members are those of an automaton.
         Err(_) => unreachable!(),
     }
 }

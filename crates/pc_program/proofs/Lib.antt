@@ -1,0 +1,4 @@
+pub mod Choices
+pub mod Files
+pub mod Objects
+pub mod Streams

@@ -1,7 +1,9 @@
 -- What is said of a file where the shelf tells what it holds, and where it does not, nothing.
-use Rattle.std.specs.Prelude.{◌≡◌, ℕ, List, Option, Some, IfSome}
+use Rattle.std.specs.Prelude.{◌≡◌, ℕ, ◌<◌, List, length, Option, Some, IfSome}
 use Rattle.std.specs.FinMap.{get}
-use Rattle.pc_outside.specs.Shelf.{Files}
+use Rattle.pc_outside.specs.Shelf.{Files, Shelved, ReadFaultOf}
+use Rattle.pc_program.specs.declared.file.FileError.{FileError}
+use Rattle.pc_program.specs.declared.file.FileError.TheVariants as file
 
 -- the named file has this text
 abbrev pub HasText : Option Files → List ℕ → List ℕ → Type 0
@@ -10,3 +12,15 @@ HasText held name text = IfSome held (λ files. get files name ≡ Some text)
 -- the named file is held, with a text of which P holds
 abbrev pub HoldsText : Option Files → List ℕ → (List ℕ → Type 0) → Type 0
 HoldsText held name P = IfSome held (λ files. (text : List ℕ) × (get files name ≡ Some text) × P text)
+
+-- the shelf tells its files, and the named one has this text
+pub record IsToldFile (told : Option Files) (name text : List ℕ) : Type 0 where
+  pub files : Files
+  pub held : told ≡ Some files
+  pub here : get files name ≡ Some text
+
+-- why a file of at most so many bytes was not read
+abbrev pub RefusesFile : FileError → List ℕ → ℕ → Shelved → Shelved → Type 0
+RefusesFile file.Memory name most old new = Unit {0}
+RefusesFile file.Failed name most old new = ReadFaultOf old new name
+RefusesFile file.TooLong name most old new = HoldsText old.held name (λ text. most < length text)

@@ -16,8 +16,3 @@ pub one_more : (before after : List StoredWindow) (w : StoredWindow) → after �
     → IsProper (window_in w) → IsFillable w → AllByRecursion CanBeFilled after
 one_more before after w is all proper fillable =
     subst (AllByRecursion CanBeFilled) (sym is) (behind before w all (record { proper = proper; fillable = fillable }))
-
--- the first is taken
-pub first_of : (before after : List StoredWindow) (w : StoredWindow) → before ≡ w ∷ after → AllByRecursion CanBeFilled before
-    → CanBeFilled w × AllByRecursion CanBeFilled after
-first_of before after w is all = subst (AllByRecursion CanBeFilled) is all

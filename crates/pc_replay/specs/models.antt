@@ -1,3 +1,4 @@
 pub mod JumpingTrees
+pub mod Refusal
 pub mod Waiting
 pub mod WorkedLoop

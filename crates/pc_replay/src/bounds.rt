@@ -29,17 +29,8 @@ pub(crate) fn size(tree: &WindowTree) -> Option<u32>
     ensures many { (result ≡ None) → 2 ^ 30 ≤ tree_size (tree_in tree.now) }
 {
     match tree {
-        WindowTree::Step { rest, .. } => match size(rest) {
-            None => None,
-            Some(below) => few(1 + below),
-        },
-        WindowTree::Test { yes, no, .. } => match size(yes) {
-            None => None,
-            Some(on_yes) => match size(no) {
-                None => None,
-                Some(on_no) => few(1 + on_yes + on_no),
-            },
-        },
+        WindowTree::Step { rest, .. } => few(1 + size(rest)?),
+        WindowTree::Test { yes, no, .. } => few(1 + size(yes)? + size(no)?),
         WindowTree::Node { below } => size(below),
         WindowTree::Exit { .. } => Some(0),
         WindowTree::Stop => Some(0),

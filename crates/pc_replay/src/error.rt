@@ -1,6 +1,7 @@
 //! Why filling was not replayed.
 ghost use Rattle.std.specs.Prelude.{◌≡◌};
-ghost use Rattle.pc_replay.specs.declared.error.ReplayError.TheVariants.{Memory, Refused};
+ghost use Rattle.pc_replay.specs.declared.error.ReplayError.TheVariants.{Memory};
+ghost use Rattle.pc_replay.specs.models.Refusal.{refusal_for};
 
 use pc_moveop::MoveError;
 use pc_window::WindowError;
@@ -42,9 +43,12 @@ impl From<WindowError> for ReplayError {
 }
 
 impl From<MoveError> for ReplayError {
-    ghost from_gives = { λ why e. e ≡ Refused why };
+    ghost from_gives = { λ why e. e ≡ refusal_for why };
 
     fn from(why: MoveError) -> ReplayError {
-        ReplayError::Refused { why }
+        match why {
+            MoveError::Memory => ReplayError::Memory,
+            _ => ReplayError::Refused { why },
+        }
     }
 }

@@ -46,7 +46,7 @@ pub(crate) fn unwound(
 }
 
 /// Whether a window is small enough to be unwound and filled.
-pub(crate) fn is_little(window: &Window) -> bool
+pub(crate) fn may_be_filled(window: &Window) -> bool
     ensures size { (result ≡ true) → tree_size (tree_in window.now.tree) ≤ 2048 }
     ensures names { (result ≡ true) → length window.now.names.forms ≤ 2 ^ 30 }
     ensures variables { (result ≡ true) → window.now.names.next_variable ≤ 2 ^ 30 }
@@ -65,7 +65,7 @@ pub(crate) fn is_little(window: &Window) -> bool
 fn may_be_unwound(alloc: Global, table: &RegionTable, window: &Window) -> Result<bool, AllocError>
     ensures { IfOk result (λ may. may ≡ true → CanUnwind (table_of table.now) (window_in window.now)) }
 {
-    if !is_little(window) {
+    if !may_be_filled(window) {
         return Ok(false);
     }
     parts_are_there(alloc, table, &window.tree)

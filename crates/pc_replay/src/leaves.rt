@@ -10,7 +10,7 @@ ghost use Rattle.pc_automaton.specs.StoredRow.{row_in, left_in, LeftInNodes, Eac
 ghost use Rattle.pc_replay.specs.models.Waiting.{CanBeFilled};
 
 use crate::ReplayError;
-use crate::following::{brought_on, is_little};
+use crate::following::{brought_on, may_be_filled};
 use crate::tests::{Compared, compare, key_of};
 use pc_automaton::{Left, RowTree, cut_front};
 use pc_canon::WindowKey;
@@ -57,7 +57,7 @@ fn put(alloc: Global, window: Window, met: &mut Met) -> Result<(), ReplayError>
     requires all { AllByRecursion CanBeFilled met.old.waiting.items }
     ensures { OnOk result (AllByRecursion CanBeFilled met.new.waiting.items) }
 {
-    if !is_little(&window) {
+    if !may_be_filled(&window) {
         return Err(ReplayError::TooLarge);
     }
     let WindowKey { bytes, .. } = key_of(alloc, &window)?;

@@ -5,7 +5,7 @@ ghost use Rattle.pc_window.specs.StoredWindow.{tree_in};
 
 use crate::bounds::size;
 use crate::error::ReplayError;
-use crate::raising::numbered;
+use crate::raising::place_number;
 use pc_moveop::{leaf_count, node_size};
 use pc_window::WindowTree;
 use std::alloc::{AllocError, Global};
@@ -25,7 +25,7 @@ struct Passed {
 }
 
 /// Nothing was passed.
-const NOTHING: Passed = Passed {
+const NOTHING_PASSED: Passed = Passed {
     places: 0,
     leaves: 0,
 };
@@ -65,7 +65,7 @@ fn go_on(path: &mut Vec<u16>, leaf: u16) -> Result<(), AllocError> {
 
 /// The place in its node of the item or test at a preorder place of a tree. Behind a leaf the path
 /// is longer.
-fn find(
+fn place_in_node(
     tree: &WindowTree,
     place: u32,
     passed: Passed,
@@ -78,26 +78,27 @@ fn find(
     match tree {
         WindowTree::Step { rest, .. } => {
             if place == 0 {
-                return numbered(passed.places);
+                return place_number(passed.places);
             }
-            find(rest, place - 1, passed.and_one(), path)
+            place_in_node(rest, place - 1, passed.and_one(), path)
         }
         WindowTree::Test { yes, no, .. } => {
             if place == 0 {
-                return numbered(passed.places);
+                return place_number(passed.places);
             }
+            // Not reached: the tree is small.
             let Some(on_yes) = size(yes) else {
                 return Err(ReplayError::TooLarge);
             };
             let behind = passed.and_one();
             if place - 1 < on_yes {
-                return find(yes, place - 1, behind, path);
+                return place_in_node(yes, place - 1, behind, path);
             }
-            find(no, place - 1 - on_yes, behind.and_node(yes), path)
+            place_in_node(no, place - 1 - on_yes, behind.and_node(yes), path)
         }
         WindowTree::Node { below } => {
-            go_on(path, numbered(passed.leaves)?)?;
-            find(below, place, NOTHING, path)
+            go_on(path, place_number(passed.leaves)?)?;
+            place_in_node(below, place, NOTHING_PASSED, path)
         }
         WindowTree::Exit { .. } => Err(ReplayError::NotFound),
         WindowTree::Stop => Err(ReplayError::NotFound),
@@ -120,6 +121,6 @@ pub(crate) fn locate(
     for leaf in from {
         go_on(&mut path, *leaf)?;
     }
-    let place = find(tree, place, NOTHING, &mut path)?;
+    let place = place_in_node(tree, place, NOTHING_PASSED, &mut path)?;
     Ok(Location { path, place })
 }

@@ -1,5 +1,5 @@
 //! Filling the windows of programs, replayed by single moves.
-ghost use Rattle.std.specs.Prelude.{◌≡◌, ◌<◌, ◌≤◌, length, IfOk};
+ghost use Rattle.std.specs.Prelude.{◌<◌, ◌≤◌, length, IfOk};
 ghost use Rattle.pc_word.specs.SourceLimits.{most_nodes};
 ghost use Rattle.pc_word.specs.Ranges.{AreLimits};
 ghost use Rattle.pc_table.specs.Table.{table_of};
@@ -9,7 +9,7 @@ use crate::ReplayError;
 use crate::following::{TURNS, unwound};
 use crate::leaves::compare_leaves;
 use crate::sources::{EXAMPLES, PROGRAMS};
-use crate::tests::{Compared, NOTHING};
+use crate::tests::{Compared, NONE_COMPARED};
 use pc_check::check;
 use pc_lexer::tokens;
 use pc_live::live;
@@ -28,7 +28,7 @@ const MOST_WINDOWS: u32 = 256;
 /// So many windows of sources, at least, are changed by filling.
 const LEAST_CHANGED: u32 = 100;
 
-/// How many samples there are.
+/// So many samples are filled: the first ones.
 const SAMPLES: u32 = 21;
 
 /// What fits into a row, if nothing else is asked for.
@@ -112,7 +112,7 @@ fn compare_source(
 fn are_replayed(alloc: Global, sources: &[&[u8]], limits: Limits) -> Result<bool, Fail>
     requires { AreLimits limits }
 {
-    let mut all = NOTHING;
+    let mut all = NONE_COMPARED;
     for text in sources {
         compare_source(alloc, text, limits, &mut all)?;
     }
@@ -123,7 +123,7 @@ fn are_replayed(alloc: Global, sources: &[&[u8]], limits: Limits) -> Result<bool
 fn samples_are_replayed(alloc: Global, limits: Limits) -> Result<bool, Fail>
     requires { AreLimits limits }
 {
-    let mut all = NOTHING;
+    let mut all = NONE_COMPARED;
     for number in 0..SAMPLES {
         let text = sample(alloc, number)?;
         compare_source(alloc, text.as_slice(), limits, &mut all)?;

@@ -1,5 +1,5 @@
 //! Items and tests that rise node by node.
-ghost use Rattle.std.specs.Prelude.{◌≡◌, ◌<◌, ◌≤◌, ◌^◌, OnOk, length};
+ghost use Rattle.std.specs.Prelude.{◌<◌, ◌≤◌, ◌^◌, OnOk, IfOk};
 ghost use Rattle.pc_window.specs.Tree.{tree_size};
 ghost use Rattle.pc_window.specs.Steps.{IsProper};
 ghost use Rattle.pc_window.specs.StoredWindow.{tree_in, window_in};
@@ -13,8 +13,8 @@ use pc_unify::unify;
 use pc_window::{Window, WindowTree};
 use std::alloc::Global;
 
-/// A number of a leaf or place, where it is one.
-pub(crate) fn numbered(number: u32) -> Result<u16, ReplayError> {
+/// The number of a leaf or place, as a move takes it; `TooLarge` above 65,535.
+pub(crate) fn place_number(number: u32) -> Result<u16, ReplayError> {
     if number > u16::MAX as u32 {
         return Err(ReplayError::TooLarge);
     }
@@ -43,13 +43,15 @@ fn place_above(node: &WindowTree, leaf: u32) -> u32
 }
 
 /// The same in the node that a path leads to.
-fn landing(window: &Window, parent: &[u16], leaf: u16) -> Result<u16, ReplayError> {
+fn landing(window: &Window, parent: &[u16], leaf: u16) -> Result<u16, ReplayError>
+    ensures { IfOk result (λ place. IsSmall window.now) }
+{
     if !is_small(window) {
         return Err(ReplayError::TooLarge);
     }
     match node_at(&window.tree, parent) {
         None => Err(ReplayError::NotFound),
-        Some(node) => numbered(place_above(node, leaf as u32)),
+        Some(node) => place_number(place_above(node, leaf as u32)),
     }
 }
 
@@ -66,9 +68,6 @@ pub(crate) fn raise_once(
     ensures { OnOk result (ComesTo window.old window.new) }
 {
     let landing = landing(window, parent, leaf)?;
-    if !is_small(window) {
-        return Err(ReplayError::TooLarge);
-    }
     move_op(alloc, window, parent, leaf, place)?;
     Ok(landing)
 }

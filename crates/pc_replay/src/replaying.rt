@@ -7,7 +7,7 @@ ghost use Rattle.pc_replay.specs.declared.error.ReplayError.TheVariants.{Memory}
 
 use crate::bounds::is_small;
 use crate::error::ReplayError;
-use crate::locating::{Location, locate};
+use crate::locating::locate;
 use crate::raising::{raise, raise_once, raise_test, unify_once};
 use crate::twins::twin_of;
 use pc_fill::{ReadyNode, first_ready};
@@ -15,7 +15,7 @@ use pc_window::Window;
 use pc_word::Item;
 use std::alloc::Global;
 
-/// More than the items and tests that a front may have.
+/// One more than the items and tests that a front may have: its limits are bytes, so at most 255 of each.
 const MOST_STEPS: u32 = 511;
 
 /// An item comes into the front: alone, or as one with its twin.
@@ -92,15 +92,16 @@ fn bring_all(alloc: Global, window: Window, ready: ReadyNode) -> Result<Window, 
             Some(next) => ready = next,
         }
     }
+    // Not reached: each thing that comes takes room of the front, which has less than this. No clause says so.
     Err(ReplayError::TooLarge)
 }
 
 /// Fills a window's front by single moves: each item and test that filling would bring into it comes
 /// up node by node, and two that filling would make one become one, until nothing is ready.
 ///
-/// It fails where a single move is refused. So it does where an item that comes has an equal one on
-/// the other side of a test, which may not come up to that test as it does; then filling leaves that
-/// one where it stands. A small window in which nothing is ready takes memory alone.
+/// It fails where a single move is refused: so where an item has an equal one on the other side of a
+/// test that cannot be brought up to that test, which filling leaves where it stands. Where nothing is
+/// ready in a small window, `Memory` is the only error.
 #[tactic(auto, using(crate::proofs::Moved::moves))]
 pub fn replay(alloc: Global, window: Window) -> Result<Window, ReplayError>
     requires { IsProper (window_in window) }

@@ -1,4 +1,5 @@
-ghost use Rattle.std.specs.Prelude.{◌≡◌, ◌<◌, pos, true, IfOk};
+//! Windows of small regions, filled at once and by single moves.
+ghost use Rattle.std.specs.Prelude.{◌≡◌, ◌<◌, true, IfOk};
 ghost use Rattle.pc_word.specs.declared.item.Item.TheVariants.{Print};
 ghost use Rattle.pc_word.specs.declared.item.Operand.TheVariants.{Lit};
 ghost use Rattle.pc_table.specs.Table.{table_of, table_tree, table_region, Does, Asks};
@@ -216,7 +217,7 @@ pub(crate) struct Compared {
 }
 
 /// No windows so far.
-pub(crate) const NOTHING: Compared = Compared {
+pub(crate) const NONE_COMPARED: Compared = Compared {
     changed: 0,
     alike: true,
 };
@@ -266,7 +267,7 @@ fn compare_region(
 /// Whether each of the regions is changed by filling, and so by single moves.
 fn are_replayed(alloc: Global) -> Result<bool, ReplayError> {
     let table = four_regions(alloc)?;
-    let mut all = NOTHING;
+    let mut all = NONE_COMPARED;
     for region in 0..4 {
         compare_region(alloc, &table, region, &mut all)?;
     }
@@ -275,10 +276,6 @@ fn are_replayed(alloc: Global) -> Result<bool, ReplayError> {
 
 #[test]
 fn filling_comes_about_by_single_moves(rt: HostRuntime) -> Result<(), Fail> {
-    let is_so = match are_replayed(rt.alloc()) {
-        Ok(is_so) => is_so,
-        Err(_) => false,
-    };
-    assert!(&rt; is_so);
+    assert!(rt; are_replayed(rt.alloc())?);
     Ok(())
 }

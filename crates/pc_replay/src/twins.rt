@@ -1,12 +1,12 @@
 //! Equal items on the two sides of a test of the front.
-ghost use Rattle.std.specs.Prelude.{◌≡◌, ◌<◌, ◌^◌};
+ghost use Rattle.std.specs.Prelude.{◌<◌, ◌^◌};
 ghost use Rattle.pc_window.specs.Tree.{tree_size};
 ghost use Rattle.pc_window.specs.StoredWindow.{tree_in};
 
 use crate::bounds::{is_small, size};
 use crate::error::ReplayError;
 use crate::locating::{Location, locate};
-use crate::raising::numbered;
+use crate::raising::place_number;
 use pc_fill::ReadyNode;
 use pc_moveop::{leaf_count, node_at};
 use pc_window::{Window, WindowTree};
@@ -42,7 +42,7 @@ fn unnamed(item: Item) -> Item {
 
 /// The place of the first item of a tree that is equal to one that is ready but for its name, and has
 /// the same tag and origin.
-fn find(tree: &WindowTree, ready: ReadyNode, item: Item) -> Option<u32>
+fn twin_place(tree: &WindowTree, ready: ReadyNode, item: Item) -> Option<u32>
     requires { tree_size (tree_in tree.now) < 2 ^ 30 }
 {
     match tree {
@@ -55,16 +55,13 @@ fn find(tree: &WindowTree, ready: ReadyNode, item: Item) -> Option<u32>
             if *tag == ready.tag && *origin == ready.origin && unnamed(*other) == unnamed(item) {
                 return Some(0);
             }
-            after(1, find(rest, ready, item))
+            after(1, twin_place(rest, ready, item))
         }
-        WindowTree::Test { yes, no, .. } => match find(yes, ready, item) {
-            Some(place) => after(1, Some(place)),
-            None => match size(yes) {
-                Some(on_yes) => after(1 + on_yes, find(no, ready, item)),
-                None => None,
-            },
+        WindowTree::Test { yes, no, .. } => match twin_place(yes, ready, item) {
+            Some(place) => place.checked_add(1),
+            None => after(1 + size(yes)?, twin_place(no, ready, item)),
         },
-        WindowTree::Node { below } => find(below, ready, item),
+        WindowTree::Node { below } => twin_place(below, ready, item),
         WindowTree::Exit { .. } => None,
         WindowTree::Stop => None,
         WindowTree::Trap { .. } => None,
@@ -73,10 +70,7 @@ fn find(tree: &WindowTree, ready: ReadyNode, item: Item) -> Option<u32>
 
 /// A place behind others.
 fn after(others: u32, place: Option<u32>) -> Option<u32> {
-    match place {
-        Some(place) => place.checked_add(others),
-        None => None,
-    }
+    place?.checked_add(others)
 }
 
 /// Whether a tree is a leaf that leads to a node.
@@ -125,14 +119,14 @@ pub(crate) fn twin_of(
     if !are_sides(&window.tree, leaf as u32) {
         return Ok(None);
     }
-    let from: [u16; 1] = [numbered(leaf as u32 + 1)?];
+    let from: [u16; 1] = [place_number(leaf as u32 + 1)?];
     let Some(node) = node_at(&window.tree, &from) else {
         return Ok(None);
     };
     if size(node).is_none() {
         return Err(ReplayError::TooLarge);
     }
-    match find(node, ready, item) {
+    match twin_place(node, ready, item) {
         None => Ok(None),
         Some(place) => {
             let at = locate(alloc, node, place, &from)?;

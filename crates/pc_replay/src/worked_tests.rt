@@ -1,6 +1,5 @@
 //! A loop's windows, opened, unwound and rebased, against windows that were worked out by hand.
-ghost use Rattle.std.specs.Prelude.{◌≡◌, ◌<◌, true, IfSome, IfOk};
-ghost use Rattle.pc_word.specs.Ranges.{AreLimits};
+ghost use Rattle.std.specs.Prelude.{◌≡◌, true, IfSome, IfOk};
 ghost use Rattle.pc_table.specs.Table.{table_of, table_tree};
 ghost use Rattle.pc_window.specs.Steps.{IsProper, EachLeft};
 ghost use Rattle.pc_window.specs.StoredWindow.{window_in, InNodes};

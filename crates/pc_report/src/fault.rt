@@ -60,19 +60,33 @@ pub enum SourceFault {
 /// The faults of a source that have a line.
 #[derive(Clone, Copy, Debug, PartialEq, Eq)]
 pub enum LineFault {
+    /// A number is no literal.
     BadLiteral,
+    /// A comment does not end.
     OpenComment,
+    /// No program reads so.
     Syntax,
+    /// Statements or expressions are nested too deep.
     NestedTooDeep,
+    /// A name is not declared.
     Undeclared,
+    /// A name is declared twice in one scope.
     DeclaredTwice,
+    /// What is no array is used as one.
     NotArray,
+    /// What is no scalar is used as one.
     NotScalar,
+    /// The length of an array is none.
     BadSize,
+    /// A `break` or `continue` stands outside a loop.
     OutsideLoop,
+    /// There are more than 64 scalars.
     TooManyScalars,
+    /// There are more than 32 arrays.
     TooManyArrays,
+    /// There are more than 1,048,576 elements in all.
     TooManyElements,
+    /// An expression needs more than 32 temporaries.
     ExpressionTooDeep,
 }
 

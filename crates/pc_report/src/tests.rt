@@ -405,63 +405,65 @@ const PASSES: [PassFact<'static>; 2] = [
     },
 ];
 
+/// A note of each choice.
+static NOTES: [Note; 8] = [
+    Note {
+        choice: 0,
+        line: 2,
+        number: 4,
+        limit: 256,
+    },
+    Note {
+        choice: 1,
+        line: 2,
+        number: 2,
+        limit: 1,
+    },
+    Note {
+        choice: 2,
+        line: 3,
+        number: 128,
+        limit: 127,
+    },
+    Note {
+        choice: 3,
+        line: 4,
+        number: 16_777_217,
+        limit: 16_777_216,
+    },
+    Note {
+        choice: 4,
+        line: 2,
+        number: 1,
+        limit: 1,
+    },
+    Note {
+        choice: 5,
+        line: 5,
+        number: 257,
+        limit: 256,
+    },
+    Note {
+        choice: 6,
+        line: 6,
+        number: 129,
+        limit: 127,
+    },
+    Note {
+        choice: 7,
+        line: 70,
+        number: 4_294_967_295,
+        limit: 16_777_216,
+    },
+];
+
 #[test]
 fn reports_passes_and_each_choice(rt: HostRuntime) -> Result<(), Fail> {
-    let notes = [
-        Note {
-            choice: 0,
-            line: 2,
-            number: 4,
-            limit: 256,
-        },
-        Note {
-            choice: 1,
-            line: 2,
-            number: 2,
-            limit: 1,
-        },
-        Note {
-            choice: 2,
-            line: 3,
-            number: 128,
-            limit: 127,
-        },
-        Note {
-            choice: 3,
-            line: 4,
-            number: 16_777_217,
-            limit: 16_777_216,
-        },
-        Note {
-            choice: 4,
-            line: 2,
-            number: 1,
-            limit: 1,
-        },
-        Note {
-            choice: 5,
-            line: 5,
-            number: 257,
-            limit: 256,
-        },
-        Note {
-            choice: 6,
-            line: 6,
-            number: 129,
-            limit: 127,
-        },
-        Note {
-            choice: 7,
-            line: 70,
-            number: 4_294_967_295,
-            limit: 16_777_216,
-        },
-    ];
     let facts = ReportFacts {
         nodes: 18,
         rows: 7,
         passes: &PASSES,
-        notes: &notes,
+        notes: &NOTES,
     };
     let text = report_text(rt.alloc(), &facts)?;
     assert!(rt; text.as_slice() == REPORT.as_bytes());

@@ -1,5 +1,5 @@
 //! The source that belongs to a number.
-ghost use Rattle.std.specs.Prelude.{◌≡◌, ◌≤◌, ◌+◌, ◌%◌, ◌<◌, ◌++◌, IfOk, OnOk, string_bytes, length};
+ghost use Rattle.std.specs.Prelude.{◌≡◌, ◌≤◌, ◌++◌, IfOk, OnOk, string_bytes, length};
 ghost use Rattle.pc_sample.specs.SampleText.{block_count, block_line, blocks_text, difference_line, gather_line, head_text, sample_text};
 
 use std::alloc::{AllocError, Global};

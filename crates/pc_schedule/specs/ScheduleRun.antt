@@ -78,7 +78,8 @@ schedule_run table forms input n = run_from (schedule_step table forms) n (begin
 
 -- ---- cost
 
--- the cycles of a row whose leaf passes so many values, where so many copies may stand in a row
+-- the cycles of a row whose leaf passes so many values, where so many copies may stand in a row: its own; one more where all are
+-- copied in one row; else at most two rows of copies more for each value
 abbrev pub passing_cost : (ops passed : ℕ) → ℕ
 passing_cost ops zero = 1
 passing_cost ops (suc more) = if nat_le (suc more) ops then 2 else 1 + 2 * suc more

@@ -16,7 +16,7 @@ use Rattle.pc_word.proofs.Lists.{count_more, count_both, all_imply}
 use Rattle.pc_tighten.specs.Compact.{stays, paths_to, IsPair, EachStays, Compact}
 use Rattle.pc_machine.specs.Reachable.{IsReachable, Entry, Behind}
 use Rattle.pc_tighten.specs.Tightened.{EachIsReachable}
-use Rattle.pc_tighten.specs.Removals.{shifted, sent, sent_leaf, sent_row, without_row, removed, MayGo}
+use Rattle.pc_tighten.specs.Removals.{shifted, sent, sent_leaf, sent_row, without_row, removed, IsGotoAlone}
 use Rattle.pc_tighten.proofs.Lists.{nat_eq-refl, nat_eq-apart}
 use Rattle.pc_tighten.proofs.Moves.{same_or_apart}
 use Rattle.pc_tighten.proofs.Removals.{without-at}
@@ -139,7 +139,7 @@ counted-any p (leaf ∷ leaves) e =
       | false ↦ λ d f. (let h = counted-any p leaves f in omega arith)
     ]) (count_more p leaf leaves) e
 
-module _ (code : RowCode) (t u : ℕ) (may : MayGo code t u) (all : EachIsReachable code.rows) (compact : Compact code) where
+module _ (code : RowCode) (t u : ℕ) (may : IsGotoAlone code.rows t u) (all : EachIsReachable code.rows) (compact : Compact code) where
   now-at : (i : ℕ) (row : CodeRow) → i ≢ t → slice_get code.rows i ≡ Some row → slice_get (removed code t u).rows (shifted t i) ≡ Some (sent_row t u row)
   now-at i row apart at = slice_get-map (sent_row t u) (without_row t code.rows) (shifted t i) ∙ ap (option_map (sent_row t u)) (without-at t i code.rows apart ∙ at)
 

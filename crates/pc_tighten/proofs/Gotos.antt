@@ -196,15 +196,6 @@ ranked_more gotos places now gone left n place goes_now are is at marked count =
         let both = are.together in
         omega (arith, l, r, f, both)
 
-pub all_ranked : (gotos : List (Option ℕ)) (it : Places) (count : ℕ) → count ≡ length gotos → AreRanked gotos it.places.items it.gone count → AreRanks gotos it
-all_ranked gotos it count is are = record {
-  counted = record {
-    size = are.size ∙ is;
-    gone = subst (λ (k : ℕ). rank (goes gotos) k + it.gone ≡ k) is are.together;
-  };
-  ranks = λ t low. are.ranks t (omega arith);
-}
-
 -- ranks are places of the rows that stay
 pub ranks_are_places : (gotos : List (Option ℕ)) (it : Places) → AreRanks gotos it → ArePlacesFrom gotos it (length it.places.items)
 ranks_are_places gotos it are = record {

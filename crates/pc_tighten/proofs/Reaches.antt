@@ -12,7 +12,7 @@ use Rattle.pc_machine.specs.MachineCode.{Leaf, Leads_to, Ends, Traps, CodeRow, R
 use Rattle.pc_word.specs.Row.{Then, Either, At_leaf, leaves_of}
 use Rattle.pc_tighten.specs.Tightened.{EachIsReachable}
 use Rattle.pc_tighten.specs.Moves.{below, with_item, moved, MayMove}
-use Rattle.pc_tighten.specs.Removals.{shifted, sent, sent_row, without_row, removed, MayGo}
+use Rattle.pc_tighten.specs.Removals.{shifted, sent, sent_row, without_row, removed, IsGotoAlone}
 use Rattle.pc_tighten.proofs.Lists.{nat_eq-refl, nat_eq-sound, nat_eq-apart}
 use Rattle.pc_tighten.proofs.Rows.{below-leaves, set_here, set_elsewhere}
 use Rattle.pc_tighten.proofs.WellMoved.{with_item-leaves}
@@ -119,7 +119,7 @@ module _ (t u : ℕ) where
   sent-leads i (At_leaf Ends) h = absurd (cc)
   sent-leads i (At_leaf (Traps kind line)) h = absurd (cc)
 
-module _ (code : RowCode) (t u : ℕ) (may : MayGo code t u) where
+module _ (code : RowCode) (t u : ℕ) (may : IsGotoAlone code.rows t u) where
   sent-at : (i : ℕ) (row : CodeRow) → i ≢ t → slice_get code.rows i ≡ Some row → slice_get (removed code t u).rows (sent t u i) ≡ Some (sent_row t u row)
   sent-at i row apart at =
       let e : sent t u i ≡ shifted t i = ap (λ (b : Bool). if b then shifted t u else shifted t i) (nat_eq-apart i t apart) in
@@ -197,7 +197,7 @@ move_keeps_all_reached code m t above xs x rest may all i row at =
     let was = stood code.rows m i (with_item t x above) above later.0 may.pair.at_m later.1 in
     move_keeps_reached code m t above xs x rest may (all i was.0 was.1)
 
-pub removal_keeps_all_reached : (code : RowCode) (t u : ℕ) → MayGo code t u → EachIsReachable code.rows → EachIsReachable (removed code t u).rows
+pub removal_keeps_all_reached : (code : RowCode) (t u : ℕ) → IsGotoAlone code.rows t u → EachIsReachable code.rows → EachIsReachable (removed code t u).rows
 removal_keeps_all_reached code t u may all j now at =
     let h = was_row code t u j now at in
     let e : sent t u h.was ≡ j = ap (λ (b : Bool). if b then shifted t u else shifted t h.was) (nat_eq-apart h.was t h.apart) ∙ h.is in

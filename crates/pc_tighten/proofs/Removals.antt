@@ -15,7 +15,7 @@ use Rattle.pc_word.specs.State.{State}
 use Rattle.pc_word.specs.Items.{operand_value}
 use Rattle.pc_word.specs.Commit.{prints_of, fault_of, state_after}
 use Rattle.pc_machine.specs.MachineRun.{Cycle, follow_leaf, after_row, run_row, machine_step, machine_start, machine_run}
-use Rattle.pc_tighten.specs.Removals.{shifted, sent, sent_leaf, sent_row, without_row, removed, MayGo}
+use Rattle.pc_tighten.specs.Removals.{shifted, sent, sent_leaf, sent_row, without_row, removed, IsGotoAlone}
 use Rattle.pc_tighten.proofs.Lists.{nat_eq-refl, nat_eq-apart}
 
 -- ---- machines of which one leaves out steps that print nothing
@@ -109,7 +109,7 @@ pub entry_stays : (t u : ℕ) → t ≢ 0 → sent t u 0 ≡ 0
 entry_stays zero u apart = absurd (apart refl)
 entry_stays (suc t) u apart = ap (λ (b : Bool). if b then shifted (suc t) u else 0) (nat_eq-apart 0 (suc t) (λ e. apart (sym e)))
 
-module _ (code : RowCode) (t u : ℕ) (may : MayGo code t u) where
+module _ (code : RowCode) (t u : ℕ) (may : IsGotoAlone code.rows t u) where
   abbrev pub placed : Cycle → Cycle
   placed here = record { row = sent t u here.row; state = here.state }
 

@@ -7,7 +7,7 @@ use Rattle.std.proofs.lemmas.Option.{slice_get-map}
 use Rattle.std.proofs.lemmas.List.{length-map}
 use Rattle.pc_machine.specs.MachineCode.{Leads_to, Ends, Traps, CodeRow, RowCode}
 use Rattle.pc_word.specs.Row.{Then, Either, At_leaf}
-use Rattle.pc_tighten.specs.Removals.{shifted, sent, sent_row, without_row, removed, MayGo, IsGotoAlone}
+use Rattle.pc_tighten.specs.Removals.{shifted, sent, sent_row, without_row, removed, IsGotoAlone}
 use Rattle.pc_tighten.specs.Tightened.{Done, Removes}
 use Rattle.pc_tighten.specs.Removing.{unmarked_rows, rank, placed_row, without_marked, Shrinks, IsMarked, AreMarks}
 use Rattle.pc_tighten.proofs.Compacted.{shifted-injective, removal_keeps_compact}
@@ -210,7 +210,7 @@ shrinks_by (suc n) (t ∷ rest) code place marks size going others ranks =
     let h = going.0 in
     let u = h.target in
     let next = removed code t u in
-    let may : MayGo code t u = record { at = h.at; not_entry = h.not_entry; not_itself = h.not_itself } in
+    let may : IsGotoAlone code.rows t u = record { at = h.at; not_entry = h.not_entry; not_itself = h.not_itself } in
     let later = λ (y : ℕ). place (unshift t y) in
     let left = λ (y : ℕ). marks (unshift t y) in
     let more = shrinks_by n (map (shifted t) rest) next later left (let a = length-map rest (shifted t) in omega arith)

@@ -10,7 +10,7 @@ use Rattle.pc_word.specs.Row.{Then, Either, At_leaf, items_of, tests_of, leaves_
 use Rattle.pc_word.specs.Items.{is_memory}
 use Rattle.pc_machine.specs.WellFormed.{IsOperand, IsItem, IsLeaf, IsPath, IsRow, WellFormed}
 use Rattle.pc_word.proofs.Lists.{all_front, all_back, all_both, all_imply, map_of_all, all_at}
-use Rattle.pc_tighten.specs.Removals.{shifted, sent, sent_row, without_row, removed, MayGo}
+use Rattle.pc_tighten.specs.Removals.{shifted, sent, sent_row, without_row, removed, IsGotoAlone}
 
 shifted-below : (t row n : ℕ) → row ≢ t → row < suc n → t < suc n → shifted t row < n
 shifted-below zero zero n apart a b = absurd (apart refl)
@@ -70,7 +70,7 @@ without-all P t [] h = tt
 without-all P zero (r ∷ rows) h = h.1
 without-all P (suc t) (r ∷ rows) h = (h.0, without-all P t rows h.1)
 
-module _ (code : RowCode) (well : WellFormed code) (t u : ℕ) (may : MayGo code t u) where
+module _ (code : RowCode) (well : WellFormed code) (t u : ℕ) (may : IsGotoAlone code.rows t u) where
   abbrev left : ℕ
   left = length (without_row t code.rows)
 

@@ -8,7 +8,7 @@ use Rattle.pc_machine.specs.Reachable.{IsReachable}
 use Rattle.pc_machine.specs.WellFormed.{WellFormed}
 use Rattle.pc_tighten.specs.Compact.{Compact}
 use Rattle.pc_tighten.specs.Moves.{MayMove}
-use Rattle.pc_tighten.specs.Removals.{MayGo, removed, IsGotoAlone, HasNoGotoAlone}
+use Rattle.pc_tighten.specs.Removals.{IsGotoAlone, removed, HasNoGotoAlone}
 use Rattle.pc_tighten.specs.Removing.{without_marked, Shrinks, AreMarks}
 use Rattle.pc_tighten.specs.Pace.{IsNoSlower}
 use Rattle.pc_tighten.specs.Sizes.{Room, rows_room}
@@ -39,7 +39,7 @@ CompactWhereNoneMayMove = (code : RowCode)
 
 -- where all rows are reachable, a removal leaves a compact code compact: so moves come first, and removals after them
 abbrev pub RemovalsKeepCompact : Type 0
-RemovalsKeepCompact = (code : RowCode) (t u : ℕ) → MayGo code t u → EachIsReachable code.rows → Compact code → Compact (removed code t u)
+RemovalsKeepCompact = (code : RowCode) (t u : ℕ) → IsGotoAlone code.rows t u → EachIsReachable code.rows → Compact code → Compact (removed code t u)
 
 -- marked rows go at once, as by removals one after another
 abbrev pub MarkedRowsGo : Type 0

@@ -13,10 +13,6 @@ pub record IsGotoAlone (rows : List CodeRow) (t u : ℕ) : Type 0 where
 abbrev pub HasNoGotoAlone : List CodeRow → Type 0
 HasNoGotoAlone rows = (t u : ℕ) → IsGotoAlone rows t u → ⊥
 
--- such a row may go
-abbrev pub MayGo : RowCode → ℕ → ℕ → Type 0
-MayGo code t u = IsGotoAlone code.rows t u
-
 -- the number of another row once the row t is out
 abbrev pub shifted : ℕ → ℕ → ℕ
 shifted zero row = pred row

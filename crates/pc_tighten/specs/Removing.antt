@@ -15,12 +15,13 @@ abbrev pub rank : (ℕ → Bool) → ℕ → ℕ
 rank marks zero = 0
 rank marks (suc i) = if marks 0 then rank (λ k. marks (suc k)) i else suc (rank (λ k. marks (suc k)) i)
 
--- a row whose leaves lead to the places of rows
+-- a leaf that leads to the place of its row
 abbrev pub placed_leaf : (ℕ → ℕ) → Leaf → Leaf
 placed_leaf place (Leads_to row) = Leads_to (place row)
 placed_leaf place Ends = Ends
 placed_leaf place (Traps kind line) = Traps kind line
 
+-- a row whose leaves lead to the places of rows
 abbrev pub placed_row : (ℕ → ℕ) → CodeRow → CodeRow
 placed_row place (Then item rest) = Then item (placed_row place rest)
 placed_row place (Either on on_yes on_no) = Either on (placed_row place on_yes) (placed_row place on_no)

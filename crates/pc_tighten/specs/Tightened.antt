@@ -8,7 +8,7 @@ use Rattle.pc_machine.specs.Reachable.{IsReachable}
 use Rattle.pc_machine.specs.WellFormed.{WellFormed}
 use Rattle.pc_tighten.specs.Compact.{Compact}
 use Rattle.pc_tighten.specs.Moves.{MayMove, moved}
-use Rattle.pc_tighten.specs.Removals.{MayGo, removed, HasNoGotoAlone}
+use Rattle.pc_tighten.specs.Removals.{IsGotoAlone, removed, HasNoGotoAlone}
 use Rattle.pc_tighten.specs.Pace.{IsNoSlower}
 use Rattle.pc_tighten.specs.Sizes.{Room, rows_room}
 
@@ -17,7 +17,7 @@ pub data Tightens : RowCode → RowCode → Type 0 where
   Done : {code : RowCode} → Tightens code code
   Moves : {code after : RowCode} (m t : ℕ) (above : CodeRow) (xs : List Item) (x : Item) (rest : CodeRow)
       → MayMove code m t above xs x rest → Tightens (moved code m t above xs x rest) after → Tightens code after
-  Removes : {code after : RowCode} (t u : ℕ) → MayGo code t u → Tightens (removed code t u) after → Tightens code after
+  Removes : {code after : RowCode} (t u : ℕ) → IsGotoAlone code.rows t u → Tightens (removed code t u) after → Tightens code after
 
 -- each row is row 0, or leaves lead to it from row 0
 abbrev pub EachIsReachable : List CodeRow → Type 0

@@ -1,5 +1,5 @@
 //! Rows that items are taken from and put into.
-ghost use Rattle.std.specs.Prelude.{◌≡◌, ◌++◌, ◌-◌, ◌<◌, ◌||◌, ◌&&◌, nat_le, length, IfOk, OnOk, MatchOption};
+ghost use Rattle.std.specs.Prelude.{◌≡◌, ◌-◌, ◌<◌, ◌||◌, nat_le, length, IfOk, OnOk, MatchOption};
 ghost use Rattle.std.specs.List.{list_any, count_by};
 ghost use Rattle.pc_word.specs.Items.{dest_of, is_memory};
 ghost use Rattle.pc_word.specs.Row.{items_of, tests_of};

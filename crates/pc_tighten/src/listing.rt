@@ -1,8 +1,8 @@
 //! The rows that are reachable, in the order in which they are first led to.
-ghost use Rattle.std.specs.Prelude.{◌≡◌, [], None, length, replicate, IfOk, OnOk};
+ghost use Rattle.std.specs.Prelude.{◌≡◌, [], None, replicate, IfOk, OnOk};
 ghost use Rattle.pc_word.specs.Row.{leaves_of};
 ghost use Rattle.pc_machine.specs.MachineCode.{row_of};
-ghost use Rattle.pc_tighten.specs.models.Drafts.{below_row, draft_row, draft_rows};
+ghost use Rattle.pc_tighten.specs.models.Drafts.{draft_row, draft_rows};
 ghost use Rattle.pc_tighten.specs.models.Listing.{listed_of, with_listed, with_targets, AreListed};
 
 use crate::draft::{Below, Draft};

@@ -3,8 +3,7 @@ ghost use Rattle.std.specs.Prelude.{◌≡◌, ◌∷◌, [], Some, length, repl
 ghost use Rattle.pc_word.specs.Row.{leaves_of};
 ghost use Rattle.pc_machine.specs.MachineCode.{Leads_to, row_of};
 ghost use Rattle.pc_tighten.specs.declared.parents.Naming.TheVariants.{Never, Once};
-ghost use Rattle.pc_tighten.specs.models.Drafts.{below_row, draft_row, draft_rows};
-ghost use Rattle.pc_tighten.specs.models.Listing.{listed_of, AreListed};
+ghost use Rattle.pc_tighten.specs.models.Drafts.{draft_row, draft_rows};
 ghost use Rattle.pc_tighten.specs.models.Parents.{named_again, with_names, with_all_names, if_before};
 
 use crate::draft::{Below, Draft};

@@ -1,10 +1,9 @@
 //! Items go up, as many rows as they can.
-ghost use Rattle.std.specs.Prelude.{◌≡◌, ◌≢◌, ◌<◌, ℕ, List, Option, Some, length, slice_get, IfOk, OnOk, IfSome, MatchOption};
-ghost use Rattle.pc_word.specs.declared.item.Limits.{Limits as LimitsOf};
+ghost use Rattle.std.specs.Prelude.{◌≡◌, ◌≢◌, ◌<◌, ℕ, Option, Some, length, slice_get, IfOk, OnOk, IfSome, MatchOption};
 ghost use Rattle.pc_tighten.specs.declared.draft.Draft.{Draft as DraftOf};
 ghost use Rattle.pc_tighten.specs.models.Drafts.{draft_rows};
-ghost use Rattle.pc_tighten.specs.models.Parents.{HasParent, StandAbove, parent_of};
-ghost use Rattle.pc_tighten.specs.models.Raising.{Raises, CanRise, MayRise, MovesUp, IsSettled, HasRaised};
+ghost use Rattle.pc_tighten.specs.models.Parents.{StandAbove, parent_of};
+ghost use Rattle.pc_tighten.specs.models.Raising.{Raises, MayRise, MovesUp, IsSettled, HasRaised};
 ghost use Rattle.pc_tighten.specs.models.Raising.{AreSettledIf, IsAmongFirst, AreWithin, IsRaised};
 
 use crate::draft::{Draft, either, first_free, is_held, put};
@@ -90,6 +89,7 @@ fn row_above(parents: &Parents, rows: &[Draft], row: usize) -> Option<usize>
     ensures value { result ≡ parent_of parents.now row }
     ensures within { IfSome result (λ above. above < length rows.now) }
 {
+    // The length is asked for by the clauses alone.
     let _count = rows.len();
     parents.parent(row)
 }

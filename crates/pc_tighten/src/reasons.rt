@@ -13,13 +13,9 @@ fn dest_of(item: Item) -> Option<u32>
     ensures { result ≡ dest_of item }
 {
     match item {
-        Item::Bin { dest, .. } => Some(dest),
-        Item::Copy { dest, .. } => Some(dest),
-        Item::Load { dest, .. } => Some(dest),
-        Item::Store { .. } => None,
-        Item::Print { .. } => None,
-        Item::Read { dest } => Some(dest),
-        Item::More { dest } => Some(dest),
+        Item::Bin { dest, .. } | Item::Copy { dest, .. } | Item::Load { dest, .. } => Some(dest),
+        Item::Read { dest } | Item::More { dest } => Some(dest),
+        Item::Store { .. } | Item::Print { .. } => None,
     }
 }
 
@@ -27,30 +23,17 @@ fn dest_of(item: Item) -> Option<u32>
 pub(crate) fn is_memory(item: Item) -> bool
     ensures { result ≡ is_memory item }
 {
-    match item {
-        Item::Bin { .. } => false,
-        Item::Copy { .. } => false,
-        Item::Load { .. } => true,
-        Item::Store { .. } => true,
-        Item::Print { .. } => false,
-        Item::Read { .. } => false,
-        Item::More { .. } => false,
-    }
+    matches!(item, Item::Load { .. } | Item::Store { .. })
 }
 
 /// Whether an item is a print, read or more.
 fn is_effect(item: Item) -> bool
     ensures { result ≡ is_effect item }
 {
-    match item {
-        Item::Bin { .. } => false,
-        Item::Copy { .. } => false,
-        Item::Load { .. } => false,
-        Item::Store { .. } => false,
-        Item::Print { .. } => true,
-        Item::Read { .. } => true,
-        Item::More { .. } => true,
-    }
+    matches!(
+        item,
+        Item::Print { .. } | Item::Read { .. } | Item::More { .. }
+    )
 }
 
 /// Whether an operand is the register that is written, if any.
@@ -103,13 +86,8 @@ fn loads(array: u8, item: Item) -> bool
     ensures { result ≡ loads array item }
 {
     match item {
-        Item::Bin { .. } => false,
-        Item::Copy { .. } => false,
         Item::Load { array: other, .. } => array == other,
-        Item::Store { .. } => false,
-        Item::Print { .. } => false,
-        Item::Read { .. } => false,
-        Item::More { .. } => false,
+        _ => false,
     }
 }
 
@@ -118,13 +96,8 @@ fn stores(array: u8, item: Item) -> bool
     ensures { result ≡ stores array item }
 {
     match item {
-        Item::Bin { .. } => false,
-        Item::Copy { .. } => false,
-        Item::Load { .. } => false,
         Item::Store { array: other, .. } => other == array,
-        Item::Print { .. } => false,
-        Item::Read { .. } => false,
-        Item::More { .. } => false,
+        _ => false,
     }
 }
 
@@ -133,13 +106,8 @@ fn stores_under(y: Item, x: Item) -> bool
     ensures { result ≡ stores_under y x }
 {
     match x {
-        Item::Bin { .. } => false,
-        Item::Copy { .. } => false,
-        Item::Load { array, .. } => stores(array, y),
-        Item::Store { array, .. } => stores(array, y),
-        Item::Print { .. } => false,
-        Item::Read { .. } => false,
-        Item::More { .. } => false,
+        Item::Load { array, .. } | Item::Store { array, .. } => stores(array, y),
+        _ => false,
     }
 }
 
@@ -148,13 +116,8 @@ fn is_loaded_by(x: Item, y: Item) -> bool
     ensures { result ≡ is_loaded_by x y }
 {
     match x {
-        Item::Bin { .. } => false,
-        Item::Copy { .. } => false,
-        Item::Load { .. } => false,
         Item::Store { array, .. } => loads(array, y),
-        Item::Print { .. } => false,
-        Item::Read { .. } => false,
-        Item::More { .. } => false,
+        _ => false,
     }
 }
 

@@ -1,5 +1,5 @@
 //! Rows that are a goto alone go, and what led to them is sent on.
-ghost use Rattle.std.specs.Prelude.{◌≡◌, length, IfOk, OnOk};
+ghost use Rattle.std.specs.Prelude.{◌≡◌, IfOk, OnOk};
 ghost use Rattle.pc_machine.specs.MachineCode.{row_of, rows_of};
 ghost use Rattle.pc_tighten.specs.Removing.{placed_row};
 ghost use Rattle.pc_tighten.specs.models.Gotos.{goto_of, gotos_of, goto_target, sent_on, new_place, AreRanks, ArePlacesFrom, rows_left, HasRemoved, AreRemoved};

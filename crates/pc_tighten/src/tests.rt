@@ -124,7 +124,7 @@ const READ: Item = Item::Read { dest: 15 };
 
 /// Codes, and the rows that are due.
 static CODES: [(&[(&[Item], End)], &[(&[Item], End)]); 13] = [
-    // two rows become one, and items climb
+    // items climb, one of them two rows, and the row that is left as a goto alone goes
     (
         &[(&[], End::Goto(1)), (&[A], End::Goto(2)), (&[B], End::Stop)],
         &[(&[A, B], End::Goto(1)), (&[], End::Stop)],

@@ -27,8 +27,10 @@ use Rattle.pc_tool.specs.Source.{IsSomeSource}
 use Rattle.pc_tool.specs.SourceFaults.{HasFault, Long}
 use Rattle.pc_tool.specs.declared.translation.Translation.{Translation}
 use Rattle.pc_tool.specs.models.Compiling.{FailsToRead, Not_read, Too_long, No_memory, HasTranslation, reported, ReportEnds, Unasked, Sent, Broken_off, Unmade}
-use Rattle.pc_tool.proofs.Files.{has_holds, held_map, same_keeps}
-use Rattle.pc_tool.proofs.Streams.{sends_none, sends_part}
+use Rattle.pc_program.proofs.Files.{held_map}
+use Rattle.pc_program.proofs.Streams.{sends_part}
+use Rattle.pc_tool.proofs.Files.{has_holds, same_keeps}
+use Rattle.pc_tool.proofs.Streams.{sends_none}
 
 -- ---- behind a read
 

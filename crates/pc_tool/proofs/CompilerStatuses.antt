@@ -17,7 +17,8 @@ use Rattle.pc_tool.specs.Source.{IsSomeSource, IsNoSource}
 use Rattle.pc_tool.specs.SourceFaults.{HasFault}
 use Rattle.pc_tool.proofs.Files.{source_map, source_told, text_told, kept_differs, written_differs, same_keeps}
 use Rattle.pc_tool.proofs.Sources.{fault_is_none}
-use Rattle.pc_tool.proofs.Statuses.{due_status, status_of, either_first, third_first, last_first}
+use Rattle.pc_program.proofs.Choices.{either_first, third_first, last_first}
+use Rattle.pc_tool.proofs.Statuses.{due_status, status_of}
 
 -- ---- what is due, by how it ended
 

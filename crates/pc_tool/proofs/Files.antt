@@ -11,7 +11,7 @@ use Rattle.pc_outside.specs.Shelf.{Files, Shelved, ReadKeeps, OnlyFileDiffers, H
 use Rattle.pc_command.specs.Requests.{SourcePlace, OfFile, OfSample}
 use Rattle.pc_sample.specs.SampleText.{sample_text}
 use Rattle.pc_tool.specs.CompilerLaws.{IsTold}
-use Rattle.pc_program.specs.Files.{HasText, HoldsText}
+use Rattle.pc_program.proofs.Files.{holds, held_map, told_holds, told_text}
 use Rattle.pc_tool.specs.Files.{HasSource, HoldsSource}
 
 -- ---- the text that a read gives
@@ -28,15 +28,7 @@ longer_of most text bytes cut big =
     let same : length (take (most + 1) text) ≡ length bytes = ap length cut in
     omega arith
 
-some_same : {X : Type 0} (x y : X) → Some x ≡ Some y → x ≡ y
-some_same x y e = cc
-
 -- ---- what is told
-
--- of the text that a file has, P holds
-pub holds : (held : Option Files) (name text : List ℕ) (P : List ℕ → Type 0) → HasText held name text → P text → HoldsText held name P
-holds None name text P h p = tt
-holds (Some files) name text P h p = (text, h, p)
 
 -- of the text that a source has, P holds
 pub has_holds : (held : Option Files) (source : SourcePlace) (text : List ℕ) (P : List ℕ → Type 0) → HasSource held source text → P text → HoldsSource held source P
@@ -46,24 +38,6 @@ has_holds held (OfSample number) text P h p = subst P h p
 -- a shelf that is not touched is as after a read
 pub same_keeps : (shelf : Shelved) → ReadKeeps shelf shelf
 same_keeps shelf = record { held = refl; counted = omega arith; write_faults = refl; write_name = refl }
-
--- P holds of a text, and so does Q
-pub held_map : (held : Option Files) (name : List ℕ) (P Q : List ℕ → Type 0) → ((text : List ℕ) → P text → Q text) → HoldsText held name P → HoldsText held name Q
-held_map None name P Q f h = tt
-held_map (Some files) name P Q f (text, here, p) = (text, here, f text p)
-
-told_here : (files : Files) (name text : List ℕ) (P : List ℕ → Type 0) → get files name ≡ Some text → HoldsText (Some files) name P → P text
-told_here files name text P g (other, held, p) = subst P (some_same other text (sym held ∙ g)) p
-
--- what is held of a file that is told
-pub told : (held : Option Files) (files : Files) (name text : List ℕ) (P : List ℕ → Type 0) → held ≡ Some files → get files name ≡ Some text → HoldsText held name P → P text
-told held files name text P e g h = told_here files name text P g (subst (λ (o : Option Files). HoldsText o name P) e h)
-
--- the text of a file that is told is that which it has
-pub told_text : (held : Option Files) (files : Files) (name text other : List ℕ) → held ≡ Some files → get files name ≡ Some text → HasText held name other → other ≡ text
-told_text held files name text other e g h =
-    let here : get files name ≡ Some other = subst (λ (o : Option Files). HasText o name other) e h in
-    some_same other text (sym here ∙ g)
 
 -- a shelf that is as before differs in no file
 pub kept_differs : (old new : Option Files) (name : List ℕ) → new ≡ old → OnlyFileDiffers old new name
@@ -94,7 +68,7 @@ source_map held (OfSample number) P Q f h = f (sample_text number) h
 
 -- what is held of a source whose text is told
 pub source_told : (held : Option Files) (source : SourcePlace) (text : List ℕ) (P : List ℕ → Type 0) → IsTold held source text → HoldsSource held source P → P text
-source_told held (OfFile name) text P (files, is, here) h = told held files name text P is here h
+source_told held (OfFile name) text P (files, is, here) h = told_holds held files name text P is here h
 source_told held (OfSample number) text P is h = subst P (sym is) h
 
 -- the text of a source that is told is that which it has

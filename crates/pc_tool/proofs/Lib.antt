@@ -9,4 +9,3 @@ pub mod Sources
 pub mod Statuses
 pub mod Streams
 pub mod Translations
-pub mod NoCommands

@@ -22,12 +22,13 @@ use Rattle.pc_program.specs.Files.{HasText}
 use Rattle.pc_program.specs.Streams.{Streamed}
 use Rattle.pc_program.specs.Objects.{HasObjectFault, Long_object, Unread_object, told_of_object}
 use Rattle.pc_tool.specs.Simulation.{HasInputFault, Long_input, Misspelt_input, SpellsInput}
-use Rattle.pc_tool.specs.declared.file.FileError.{FileError}
-use Rattle.pc_tool.specs.declared.file.FileError.TheVariants as file
-use Rattle.pc_tool.specs.models.Reading.{RefusesFile}
+use Rattle.pc_program.specs.declared.file.FileError.{FileError}
+use Rattle.pc_program.specs.declared.file.FileError.TheVariants as file
+use Rattle.pc_program.specs.Files.{RefusesFile}
 use Rattle.pc_tool.specs.models.Refusals.{stop_of_file, stop_of_numbers, stop_of_object}
 use Rattle.pc_tool.specs.models.Simulating.{StopsAtInput, StopsAtObject}
-use Rattle.pc_tool.proofs.Files.{held_map, holds, whole_of, longer_of}
+use Rattle.pc_program.proofs.Files.{held_map, holds}
+use Rattle.pc_tool.proofs.Files.{whole_of, longer_of}
 
 -- ---- the object
 

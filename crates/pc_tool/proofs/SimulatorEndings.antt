@@ -31,7 +31,7 @@ use Rattle.pc_tool.specs.declared.stop.Stop.{Stop}
 use Rattle.pc_tool.specs.declared.stop.Stop.TheVariants as stop
 use Rattle.pc_tool.specs.models.Simulating.{StopsAtObject, StopsAtInput}
 use Rattle.pc_tool.specs.models.Simulating.{StopsEarly, StopEnds, Due_memory, Due_object_read, Due_object, Due_input_read, Due_input, Ready, RunEnds, Told_whole, Told_part}
-use Rattle.pc_tool.proofs.Streams.{sends_all, sends_part}
+use Rattle.pc_program.proofs.Streams.{sends_all, sends_part}
 
 -- ---- each step
 

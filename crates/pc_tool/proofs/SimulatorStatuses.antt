@@ -1,6 +1,6 @@
 -- What follows from the simulator's promise.
 use Rattle.std.proofs.Common.{◌≡◌, ℕ, ◌≤◌, ◌⊎◌, inl, inr, List, length, Option, Some, None, refl, sym, ◌∙◌, ap, subst, arith}
-use Rattle.std.specs.Prelude.{ℤ, Result, Ok, Err, IfSome}
+use Rattle.std.specs.Prelude.{ℤ, Ok, Err, IfSome}
 use Rattle.std.specs.FinMap.{get}
 use Rattle.std.specs.Option.{IsSomeAnd}
 use Rattle.pc_word.specs.declared.item.End.{End}
@@ -20,28 +20,19 @@ use Rattle.pc_report.specs.declared.fault.ToolFault.{ToolFault}
 use Rattle.pc_tool.specs.CompilerLaws.{HasErrorFault}
 use Rattle.pc_tool.specs.Due.{Told, trap_status}
 use Rattle.pc_program.specs.Files.{HoldsText}
-use Rattle.pc_program.specs.Objects.{IsTextOf, IsNoObject, Holds, HoldsObject}
+use Rattle.pc_program.specs.Objects.{IsTextOf, IsNoObject, Holds, HoldsObject, HasObjectFault}
 use Rattle.pc_tool.specs.Outside.{Outside}
-use Rattle.pc_program.specs.Objects.{HasObjectFault, Long_object, Unread_object}
 use Rattle.pc_tool.specs.Simulation.{HasInputFault, Long_input, Misspelt_input}
 use Rattle.pc_tool.specs.Simulation.{IsInputOf, IsNoInput, SpellsInput, Loaded, due_of, run_seen}
 use Rattle.pc_tool.specs.Simulator.{SimulatorEnds, Ran, Misused, Unread, Refused, Untaken, Misspelt, Broke, Lacking, SimulatorLacks, SimulatorPromise}
 use Rattle.pc_tool.specs.SimulatorLaws.{end_status, IsEndStatus, SendsRun, BreaksOff, HasRun, HasBroken, FailsToTake, RefusesBytes, IsToldObject, SimulatorStatuses}
-use Rattle.pc_tool.proofs.Files.{held_map, told, told_text}
-use Rattle.pc_tool.proofs.Statuses.{due_status, status_of, either_first, third_first, last_first}
+use Rattle.pc_program.proofs.Choices.{either_first, third_first, last_first}
+use Rattle.pc_program.proofs.Files.{held_map, told_holds, told_text}
+use Rattle.pc_program.proofs.Objects.{faulty_object}
+use Rattle.pc_tool.proofs.Sources.{ok_same}
+use Rattle.pc_tool.proofs.Statuses.{due_status, status_of}
 
 -- ---- bytes that are refused
-
--- bytes with a fault are no object
-faulty_object : (bytes : List ℕ) (what : ObjectFault) → HasObjectFault bytes what → IsNoObject bytes
-faulty_object bytes what (Long_object big) object is =
-    let few : length (object_text object) ≤ most_object = is.loads.is_object.few_bytes in
-    let same : length bytes ≡ length (object_text object) = ap length is.text in
-    omega arith
-faulty_object bytes what (Unread_object {error} few first told) object is =
-    let ok : object_reading bytes ≡ Ok object = ap object_reading is.text ∙ reads_text object is.loads.is_object is.loads.has_words in
-    let err : object_reading bytes ≡ Err error = first in
-    cc
 
 -- bytes with a fault are no input
 faulty_input : (bytes : List ℕ) (what : InputFault) → HasInputFault bytes what → IsNoInput bytes
@@ -77,9 +68,6 @@ given_input : (o : Option (List ℕ)) (left : List ℕ) (numbers : List ℤ) →
 given_input o left numbers e g =
     let same : left ≡ g.bytes = told_input o left (λ all. all ≡ g.bytes) e g.given in
     subst (λ bytes. IsInputOf bytes numbers) (sym same) g.input
-
-ok_same : {X E : Type 0} (x y : X) (r : Result X E) → r ≡ Ok x → r ≡ Ok y → x ≡ y
-ok_same x y r d e = let both : Ok x ≡ Ok y = sym d ∙ e in cc
 
 same_numbers : (left : List ℕ) (a b : List ℤ) → IsInputOf left a → IsInputOf left b → a ≡ b
 same_numbers left a b p q = ok_same a b (numbers_in left) p.read q.read
@@ -212,7 +200,7 @@ module _ (old new : Outside) where
 
   file_told : (request : SimulateRequest) (text : List ℕ) (P : List ℕ → Type 0) → IsToldObject old request text
       → HoldsText old.shelf.held request.object P → P text
-  file_told request text P file h = told old.shelf.held file.files request.object text P file.held file.here h
+  file_told request text P file h = told_holds old.shelf.held file.files request.object text P file.held file.here h
 
   -- the file has the text of this object, and the input, which is told too, is one of these numbers
   record ToldRun (request : SimulateRequest) (object : CodeWithNotes) (numbers : List ℤ) : Type 0 where

@@ -23,7 +23,7 @@ use Rattle.pc_tool.specs.SourceFaults.{HasFault, Long, Uncut, Unread, Nested, Fa
 
 -- ---- one program
 
-ok_same : {X E : Type 0} (x y : X) (r : Result X E) → r ≡ Ok x → r ≡ Ok y → x ≡ y
+pub ok_same : {X E : Type 0} (x y : X) (r : Result X E) → r ≡ Ok x → r ≡ Ok y → x ≡ y
 ok_same x y r d e = let both : Ok x ≡ Ok y = sym d ∙ e in cc
 
 -- a text is read as one program

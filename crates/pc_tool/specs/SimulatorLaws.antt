@@ -1,6 +1,5 @@
 -- What follows from the simulator's promise for each status, for each command, object and input.
 use Rattle.std.specs.Prelude.{◌≡◌, ℕ, ◌≤◌, ◌⊎◌, ℤ, List, Option, Some, None, IfSome}
-use Rattle.std.specs.FinMap.{get}
 use Rattle.std.specs.Io.KnownBytes.{Appends}
 use Rattle.std.specs.Option.{IsSomeAnd}
 use Rattle.pc_word.specs.declared.item.End.{End}
@@ -8,11 +7,11 @@ use Rattle.pc_word.specs.declared.item.End.TheVariants.{Ended, Fault, Trapped}
 use Rattle.pc_word.specs.Count.{Rose}
 use Rattle.pc_word.specs.NumberText.{text_of}
 use Rattle.pc_object.specs.ObjectText.{CodeWithNotes}
-use Rattle.pc_outside.specs.Shelf.{Files, ReadFaultOf}
+use Rattle.pc_outside.specs.Shelf.{ReadFaultOf}
 use Rattle.pc_outside.specs.Stream.{AppendsPart}
 use Rattle.pc_command.specs.Requests.{SimulateRequest}
 use Rattle.pc_tool.specs.Due.{trap_status}
-use Rattle.pc_program.specs.Files.{HoldsText}
+use Rattle.pc_program.specs.Files.{HoldsText, IsToldFile}
 use Rattle.pc_program.specs.Objects.{IsTextOf, IsNoObject, HoldsObject}
 use Rattle.pc_tool.specs.Outside.{Outside}
 use Rattle.pc_tool.specs.CompilerLaws.{HasErrorFault}
@@ -67,10 +66,8 @@ RefusesBytes old new request =
     ⊎ (HoldsObject old.shelf.held request.object × IfSome old.input.told IsNoInput)
 
 -- the shelf tells its files, and OBJ has this text
-pub record IsToldObject (old : Outside) (request : SimulateRequest) (text : List ℕ) : Type 0 where
-  pub files : Files
-  pub held : old.shelf.held ≡ Some files
-  pub here : get files request.object ≡ Some text
+abbrev pub IsToldObject : Outside → SimulateRequest → (text : List ℕ) → Type 0
+IsToldObject old request text = IsToldFile old.shelf.held request.object text
 
 -- what follows
 pub record SimulatorStatuses (given : Option SimulateRequest) (old new : Outside) (code : ℕ) : Type 0 where

@@ -6,6 +6,22 @@ use pc_pass::Pass;
 use std::alloc::{AllocError, Global};
 use std::test::Fail;
 
+/// The object of a program that prints 7.
+pub(crate) const SEVEN_OBJECT: &[u8] =
+    b"PTV1\x08\x03\x02\x00\x00\x00\x00\x01\x24\x01\x00\x00\x00\x07\x02\x00\x00";
+
+/// Two names that change places in each turn.
+pub(crate) const EXCHANGE: &[u8] =
+    b"int main(void){int i;int t;int x=1;int y=2;\nfor(i=0;i<5;i++){t=x;x=y;y=t;print(x);}}";
+
+/// The same in all turns but one.
+pub(crate) const EXCHANGE_MOSTLY: &[u8] =
+    b"int main(void){int i;int x=1;int y=2;int t;for(i=0;i<5;i++){if(i!=2){t=x;x=y;y=t;}print(x);}}";
+
+/// Two loops over arrays.
+pub(crate) const DOT_PRODUCT: &[u8] = b"int main(void){int a[100];int b[100];int i;int s=0;\n\
+    for(i=0;i<100;i++){a[i]=i;b[i]=i+1;}\nfor(i=0;i<100;i++)s=s+a[i]*b[i];\nprint(s);return 0;}";
+
 /// The bytes that each output of a program may take here.
 const ROOM: usize = 512;
 
@@ -51,7 +67,7 @@ fn words_of(alloc: Global, line: &str) -> Result<Vec<String>, AllocError> {
     Ok(words)
 }
 
-/// The one call of a list of calls that fail.
+/// The calls that fail: this one alone, and none where it is 0.
 fn only(alloc: Global, call: u64) -> Result<CallList, AllocError> {
     CallList::from_slice(alloc, &[call])
 }

@@ -1,15 +1,14 @@
 //! The compiler: each status with its line, its options and its report.
 
 use crate::Who;
-use crate::bench::{Failing, NONE_FAILS, SILENCE, Wanted, answers, holds, shelf_with};
+use crate::bench::{
+    Failing, NONE_FAILS, SEVEN_OBJECT, SILENCE, Wanted, answers, holds, shelf_with,
+};
 use pc_outside::MemoryShelf;
 use std::alloc::Global;
 use std::test::Fail;
 
 const SEVEN: &[u8] = b"int main(void){print(7);}";
-
-const SEVEN_OBJECT: &[u8] =
-    b"PTV1\x08\x03\x02\x00\x00\x00\x00\x01\x24\x01\x00\x00\x00\x07\x02\x00\x00";
 
 const USAGE: &str =
     "usage: pcc SRC -o OBJ [--ops N] [--tests N] [--mem N] [--window N] [--rows N] [--report]\n";
@@ -132,7 +131,7 @@ struct Long {
 }
 
 const LONG: [Long; 12] = [
-    // Two declarations of one node each, four nodes a round, and the end.
+    // Declarations of one node each, four nodes a round, and the end: 16,384 nodes, and then three more.
     Long {
         before: "int main(void){int x;int y;int z;",
         piece: "print(x/y);",

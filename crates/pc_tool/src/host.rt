@@ -3,9 +3,9 @@
 
 use crate::program::{Status, Who, tool};
 use crate::telling::tell;
-use crate::words::read_words;
 use pc_outside::{DirShelf, StdSink, StdSource};
 use pc_pass::Pass;
+use pc_program::read_words;
 use pc_report::{Speaker, ToolFault};
 use std::process::ExitCode;
 

@@ -6,7 +6,6 @@ mod bench;
 mod compile;
 #[cfg(test)]
 mod compiler_tests;
-mod file;
 mod host;
 mod laws;
 #[cfg(test)]
@@ -26,7 +25,6 @@ mod source;
 mod stop;
 mod telling;
 mod translation;
-mod words;
 
 pub use host::{run, run_out};
 pub use laws::{laws_of_the_compiler, laws_of_the_simulator};

@@ -68,7 +68,8 @@ pub struct Status {
 /// - 7: the machine faulted,
 /// - 10, 11, 12: the run was trapped by a division by zero, an index out of bounds, the end of input.
 ///
-/// Each status but 0 sends one line to the error output, which tells what was due.
+/// With each status but 0 one line is sent to the error output, which tells what was due, or a proper
+/// prefix of it where that output fails.
 pub fn tool<H: Shelf, I: Source, O: Sink, E: Sink>(
     alloc: Global,
     who: Who,

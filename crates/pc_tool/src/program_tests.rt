@@ -1,7 +1,9 @@
 //! Sources that are compiled, and whose objects are run.
 
 use crate::Who;
-use crate::bench::{NONE_FAILS, SILENCE, Wanted, answers, shelf_with};
+use crate::bench::{
+    DOT_PRODUCT, EXCHANGE, EXCHANGE_MOSTLY, NONE_FAILS, SILENCE, Wanted, answers, shelf_with,
+};
 use pc_outside::MemoryShelf;
 use std::alloc::Global;
 use std::test::Fail;
@@ -50,8 +52,7 @@ const PROGRAMS: [Program; 17] = [
     },
     // A dot product.
     Program {
-        source: b"int main(void){int a[100];int b[100];int i;int s=0;\n\
-            for(i=0;i<100;i++){a[i]=i;b[i]=i+1;}\nfor(i=0;i<100;i++)s=s+a[i]*b[i];\nprint(s);return 0;}",
+        source: DOT_PRODUCT,
         input: b"",
         code: 0,
         output: b"333300\n",
@@ -82,15 +83,14 @@ const PROGRAMS: [Program; 17] = [
         told: "",
     },
     Program {
-        source: b"int main(void){int i;int t;int x=1;int y=2;\nfor(i=0;i<5;i++){t=x;x=y;y=t;print(x);}}",
+        source: EXCHANGE,
         input: b"",
         code: 0,
         output: b"2\n1\n2\n1\n2\n",
         told: "",
     },
     Program {
-        source: b"int main(void){int i;int x=1;int y=2;int t;\
-            for(i=0;i<5;i++){if(i!=2){t=x;x=y;y=t;}print(x);}}",
+        source: EXCHANGE_MOSTLY,
         input: b"",
         code: 0,
         output: b"2\n1\n1\n2\n1\n",

@@ -1,7 +1,9 @@
 //! What is reported of code that is pipelined or packed.
 
 use crate::Who;
-use crate::bench::{NONE_FAILS, SILENCE, Wanted, answers, shelf_with};
+use crate::bench::{
+    DOT_PRODUCT, EXCHANGE, EXCHANGE_MOSTLY, NONE_FAILS, SILENCE, Wanted, answers, shelf_with,
+};
 use std::alloc::Global;
 use std::test::Fail;
 
@@ -14,18 +16,6 @@ struct Scheduled {
     input: &'static [u8],
     output: &'static [u8],
 }
-
-/// Two names that change places in each turn.
-const EXCHANGE: &[u8] =
-    b"int main(void){int i;int t;int x=1;int y=2;\nfor(i=0;i<5;i++){t=x;x=y;y=t;print(x);}}";
-
-/// The same in all turns but one.
-const EXCHANGE_MOSTLY: &[u8] =
-    b"int main(void){int i;int x=1;int y=2;int t;for(i=0;i<5;i++){if(i!=2){t=x;x=y;y=t;}print(x);}}";
-
-/// Two loops over arrays.
-const DOT_PRODUCT: &[u8] = b"int main(void){int a[100];int b[100];int i;int s=0;\n\
-    for(i=0;i<100;i++){a[i]=i;b[i]=i+1;}\nfor(i=0;i<100;i++)s=s+a[i]*b[i];\nprint(s);return 0;}";
 
 /// Operators that all may be done at once, but for those that put them together.
 const WIDE: &[u8] = b"int main(void){int x=read();print(x+1^x+2^x+3^x+4^x+5^x+6^x+7^x+8);}";

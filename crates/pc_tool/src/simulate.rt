@@ -17,12 +17,12 @@ ghost use Rattle.pc_vm.specs.Standing.{end_of, here_of};
 ghost use Rattle.pc_word.specs.MachineLimits.{most_input};
 ghost use Rattle.pc_word.specs.Run.{run_from};
 
-use crate::file::read_whole;
 use crate::stop::Stop;
 use pc_command::{CommandError, SimulateCommand, simulate_command};
 use pc_machine::Code;
 use pc_object::{Object, decode};
 use pc_outside::{Shelf, Sink, Source, take_all};
+use pc_program::read_whole;
 use pc_report::{InputFault, Speaker, ToolFault};
 use pc_vm::{Machine, Outcome};
 use pc_word::{End, MOST_INPUT, MOST_OBJECT, WordList, read_numbers};

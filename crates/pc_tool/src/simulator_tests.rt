@@ -1,11 +1,9 @@
 //! The simulator: each status with its line.
 
 use crate::Who;
-use crate::bench::{Failing, NONE_FAILS, Wanted, answers, shelf_with};
+use crate::bench::{Failing, NONE_FAILS, SEVEN_OBJECT, Wanted, answers, shelf_with};
 use std::alloc::Global;
 use std::test::Fail;
-
-const SEVEN: &[u8] = b"PTV1\x08\x03\x02\x00\x00\x00\x00\x01\x24\x01\x00\x00\x00\x07\x02\x00\x00";
 
 /// Reads three numbers and prints each.
 const THREE_NUMBERS: &[u8] = b"PTV1\x08\x03\x02\x00\x00\x00\x00\x06\
@@ -57,7 +55,7 @@ struct Call {
 /// A run of `print(7)`.
 const RUN: Call = Call {
     line: "o.tv",
-    object: SEVEN,
+    object: SEVEN_OBJECT,
     input: b"",
     failing: NONE_FAILS,
     code: 0,
@@ -65,7 +63,8 @@ const RUN: Call = Call {
     err: "",
 };
 
-/// A run of `print(7)` that prints nothing.
+/// What calls that come to no run have in common: nothing is printed, and the status is 4 where no other
+/// is said.
 const REFUSED: Call = Call {
     code: 4,
     out: b"",
@@ -73,7 +72,7 @@ const REFUSED: Call = Call {
 };
 
 /// Runs to each end.
-const RUNS: [Call; 9] = [
+const RUNS: [Call; 10] = [
     RUN,
     Call {
         line: "--cycles=3 o.tv",
@@ -129,6 +128,11 @@ const RUNS: [Call; 9] = [
         input: b"-2147483648",
         ..RUN
     },
+    Call {
+        object: PRINTS_LEAST,
+        out: b"-2147483648\n-2147483648\n",
+        ..RUN
+    },
 ];
 
 /// Refusals of the object and the input.
@@ -172,7 +176,7 @@ const REFUSALS: [Call; 7] = [
 ];
 
 /// Failures of what is outside, and words that are no command.
-const FAILURES: [Call; 10] = [
+const FAILURES: [Call; 9] = [
     Call {
         line: "p.tv",
         code: 3,
@@ -196,11 +200,6 @@ const FAILURES: [Call; 10] = [
         code: 3,
         err: "pvm: read failed: input\n",
         ..REFUSED
-    },
-    Call {
-        object: PRINTS_LEAST,
-        out: b"-2147483648\n-2147483648\n",
-        ..RUN
     },
     Call {
         object: PRINTS_LEAST,

@@ -3,9 +3,9 @@ ghost use Rattle.std.specs.Prelude.{◌≡◌};
 ghost use Rattle.pc_tool.specs.models.Refusals.{stop_of_file, stop_of_object, stop_of_take, stop_of_numbers};
 ghost use Rattle.pc_tool.specs.declared.stop.Stop.TheVariants.{Memory};
 
-use crate::file::FileError;
 use pc_object::ObjectError;
 use pc_outside::TakeError;
+use pc_program::FileError;
 use pc_report::{InputFault, ObjectFault};
 use pc_vm::MachineError;
 use pc_word::NumbersError;

@@ -1,11 +1,11 @@
 //! The end of a program: its line on the error output, and its status.
 ghost use Rattle.std.specs.Prelude.{◌≡◌, ◌⊎◌, IsSome, Some};
 ghost use Rattle.pc_report.specs.declared.fault.ToolFault.TheVariants.{NoMemory};
-ghost use Rattle.pc_program.specs.Telling.{TellsLine};
 ghost use Rattle.pc_tool.specs.Due.{Told, fault_status, trap_status};
 ghost use Rattle.pc_program.specs.Streams.{streamed};
 
-use pc_outside::{Sink, send};
+use pc_outside::Sink;
+use pc_program::send_line;
 use pc_report::{ReportError, Speaker, ToolFault, fault_text, out_of_memory_line};
 use pc_word::TrapKind;
 use std::alloc::Global;
@@ -30,16 +30,6 @@ fn tell_fault<E: Sink>(alloc: Global, who: Speaker, fault: ToolFault, err: &mut 
     match fault_text(alloc, &fault) {
         Ok(line) => send_line(line.as_slice(), status_of(fault), err),
         Err(ReportError::Memory) => send_line(out_of_memory_line(who), 1, err),
-    }
-}
-
-/// Sends a line, and gives the status that goes with it, or 5 where the error output fails.
-fn send_line<E: Sink>(line: &[u8], status: u8, err: &mut E) -> u8
-    ensures { TellsLine line.now status (streamed (E.taken err.old) (E.faults err.old)) (streamed (E.taken err.new) (E.faults err.new)) result }
-{
-    match send(err, line) {
-        Ok(()) => status,
-        Err(_) => 5,
     }
 }
 

@@ -42,12 +42,12 @@ abbrev pub line_count : CodeWithNotes → ℕ
 line_count object = 1 + (sum_by (λ row. 1 + part_count row) object.code.rows + length object.notes)
 
 -- the listing of an object has so many lines
-abbrev pub ListingsHaveALineEach : Type 0
-ListingsHaveALineEach = (object : CodeWithNotes) → length (listing_lines object) ≡ line_count object
+abbrev pub ListingsHaveALineForEachPart : Type 0
+ListingsHaveALineForEachPart = (object : CodeWithNotes) → length (listing_lines object) ≡ line_count object
 
 -- and as many line feeds, so that no line has one in it
-abbrev pub ListingsHaveALineFeedEach : Type 0
-ListingsHaveALineFeedEach = (object : CodeWithNotes) → count_by is_line_feed (listing_text object) ≡ line_count object
+abbrev pub ListingsHaveALineFeedForEachLine : Type 0
+ListingsHaveALineFeedForEachLine = (object : CodeWithNotes) → count_by is_line_feed (listing_text object) ≡ line_count object
 
 -- ---- the lines of a graph
 
@@ -62,8 +62,9 @@ is_edge (Traps kind line) = false
 abbrev pub graph_line_count : CodeWithNotes → ℕ
 graph_line_count object = 3 + (sum_by (λ row. 1 + count_by is_edge (leaves_of row)) object.code.rows + length object.notes)
 
-abbrev pub GraphsHaveALineEach : Type 0
-GraphsHaveALineEach = (object : CodeWithNotes) → length (graph_lines object) ≡ graph_line_count object
+-- the graph of an object has so many lines
+abbrev pub GraphsHaveALineForEachPart : Type 0
+GraphsHaveALineForEachPart = (object : CodeWithNotes) → length (graph_lines object) ≡ graph_line_count object
 
 -- ---- the rows that lead to a row
 
@@ -77,5 +78,6 @@ pub record LeadTo (rows : List CodeRow) (target : ℕ) (numbers : List ℕ) : Ty
   pub each : (number : ℕ) → Contains numbers number ↔ ((row : CodeRow) × (slice_get rows number ≡ Some row) × HasLeafTo row target)
   pub rise : Rise numbers
 
+-- so it is of each list of rows that lead to a row
 abbrev pub LeadingRowsLead : Type 0
 LeadingRowsLead = (rows : List CodeRow) (target : ℕ) → LeadTo rows target (rows_leading_to target 0 rows)

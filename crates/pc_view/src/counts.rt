@@ -1,8 +1,6 @@
 //! How many items, tests, and loads and stores a row has.
-ghost use Rattle.std.specs.Prelude.{◌≡◌, ◌≤◌, length};
-ghost use Rattle.std.specs.List.{count_by};
+ghost use Rattle.std.specs.Prelude.{◌≡◌, ◌≤◌};
 ghost use Rattle.pc_word.specs.Items.{is_memory};
-ghost use Rattle.pc_word.specs.Row.{items_of, tests_of};
 ghost use Rattle.pc_machine.specs.MachineCode.{row_of};
 ghost use Rattle.pc_view.specs.models.Counted.{counted, HasFew};
 

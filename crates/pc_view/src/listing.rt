@@ -1,11 +1,9 @@
 //! An object as a text to be read.
-ghost use Rattle.std.specs.Prelude.{◌≡◌, ◌++◌, ◌∷◌, [], ◌<◌, ◌≤◌, ◌^◌, length, map, All, IfOk, OnOk, string_bytes, slice_get, Some};
+ghost use Rattle.std.specs.Prelude.{◌≡◌, ◌++◌, ◌∷◌, [], ◌<◌, ◌≤◌, ◌^◌, length, map, IfOk, OnOk, string_bytes};
 ghost use Rattle.std.specs.List.{AllByRecursion};
 ghost use Rattle.pc_machine.specs.MachineCode.{row_of, rows_of, code_of};
 ghost use Rattle.pc_object.specs.ObjectText.{object_of, IsObject, IsChoice};
 ghost use Rattle.pc_report.specs.Report.{note_words};
-ghost use Rattle.pc_word.specs.Line.{line};
-ghost use Rattle.pc_view.specs.Leading.{rows_leading_to};
 ghost use Rattle.pc_view.specs.Listing.{separator, array_words, arrays_from, leading_words, row_numbers_from};
 ghost use Rattle.pc_view.specs.Listing.{limit_words, limits_line, count_words, heading, row_lines, rows_lines, lines_text, listing_text};
 ghost use Rattle.pc_view.specs.models.Counted.{HasFew};

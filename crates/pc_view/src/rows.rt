@@ -1,8 +1,7 @@
 //! A row drawn as the tree that it is.
-ghost use Rattle.std.specs.Prelude.{◌≡◌, ◌++◌, ◌∷◌, [], OnOk, string_bytes, codes};
+ghost use Rattle.std.specs.Prelude.{◌≡◌, ◌++◌, ◌∷◌, [], OnOk, string_bytes};
 ghost use Rattle.pc_word.specs.Line.{line};
 ghost use Rattle.pc_machine.specs.MachineCode.{row_of};
-ghost use Rattle.pc_view.specs.Words.{test_words};
 ghost use Rattle.pc_view.specs.Tree.{tree_lines};
 ghost use Rattle.pc_view.specs.Listing.{lines_text};
 

@@ -189,22 +189,18 @@ fn shows(alloc: Global, bytes: &[u8], listing: &str, graph: &str) -> Result<bool
     Ok(listed.as_slice() == listing.as_bytes() && drawn.as_slice() == graph.as_bytes())
 }
 
-#[test]
-fn shows_small_objects(rt: HostRuntime) -> Result<(), Fail> {
-    let alloc = rt.alloc();
-    assert!(rt; shows(alloc, &SEVEN, SEVEN_LISTING, SEVEN_GRAPH)?);
-    assert!(rt; shows(alloc, &SUM, SUM_LISTING, SUM_GRAPH)?);
-    Ok(())
-}
+/// Objects, each with its listing and its graph.
+static OBJECTS: [(&[u8], &str, &str); 4] = [
+    (&SEVEN, SEVEN_LISTING, SEVEN_GRAPH),
+    (&SUM, SUM_LISTING, SUM_GRAPH),
+    (&TREE, TREE_LISTING, TREE_GRAPH),
+    (&KINDS, KINDS_LISTING, KINDS_GRAPH),
+];
 
 #[test]
-fn shows_trees(rt: HostRuntime) -> Result<(), Fail> {
-    assert!(rt; shows(rt.alloc(), &TREE, TREE_LISTING, TREE_GRAPH)?);
-    Ok(())
-}
-
-#[test]
-fn shows_each_kind(rt: HostRuntime) -> Result<(), Fail> {
-    assert!(rt; shows(rt.alloc(), &KINDS, KINDS_LISTING, KINDS_GRAPH)?);
+fn shows_objects(rt: HostRuntime) -> Result<(), Fail> {
+    for (bytes, listing, graph) in OBJECTS.iter() {
+        assert!(rt; shows(rt.alloc(), bytes, listing, graph)?, "{listing}");
+    }
     Ok(())
 }

@@ -1,12 +1,8 @@
 -- How the viewer ends, put together from what its steps leave.
-use Rattle.std.proofs.Common.{◌≡◌, ℕ, ◌+◌, ◌<◌, ◌≤◌, ◌⊎◌, inl, inr, List, [], length, take, Option, Some, None, refl}
-use Rattle.std.proofs.Common.{sym, ◌∙◌, ap, subst, arith, length-take}
-use Rattle.std.specs.Prelude.{IsSome, Err, min}
+use Rattle.std.proofs.Common.{◌≡◌, ℕ, ◌<◌, ◌≤◌, ◌⊎◌, inl, inr, List, length, Option, Some, None, refl, sym, subst}
+use Rattle.std.specs.Prelude.{IsSome, Err}
 use Rattle.std.specs.Borrow.{Bor}
-use Rattle.std.specs.FinMap.{get}
-use Rattle.std.specs.Option.{option_map}
 use Rattle.std.specs.Io.KnownBytes.{Appends}
-use Rattle.std.proofs.lemmas.List.{take_all}
 use Rattle.pc_word.specs.Count.{Rose}
 use Rattle.pc_word.specs.Exact.{IsRefusal}
 use Rattle.pc_word.specs.MachineLimits.{most_object}
@@ -14,15 +10,16 @@ use Rattle.pc_object.specs.Cause.{object_cause}
 use Rattle.pc_object.specs.Reading.{object_reading}
 use Rattle.pc_object.specs.declared.refusal.ObjectError.{ObjectError}
 use Rattle.pc_object.specs.declared.refusal.ObjectError.TheVariants as error
-use Rattle.pc_outside.specs.Shelf.{Files, Shelved, GivesFile, ReadFaultOf, ReadKeeps}
+use Rattle.pc_outside.specs.Shelf.{Shelved, ReadFaultOf, ReadKeeps}
 use Rattle.pc_outside.specs.Stream.{AppendsPart}
-use Rattle.pc_command.specs.Requests.{ViewRequest, view_command_of}
-use Rattle.pc_command.proofs.PlainWords.{no_words-command}
+use Rattle.pc_command.specs.Requests.{ViewRequest}
 use Rattle.pc_report.specs.declared.fault.ObjectFault.{ObjectFault}
 use Rattle.pc_report.specs.declared.fault.ObjectFault.TheVariants as object
 use Rattle.pc_program.specs.Files.{HasText, HoldsText}
 use Rattle.pc_program.specs.Objects.{HasObjectFault, Long_object, Unread_object, told_of_object}
-use Rattle.pc_program.specs.Streams.{SendsFront, Streamed}
+use Rattle.pc_program.specs.Streams.{Streamed}
+use Rattle.pc_program.proofs.Files.{holds, held_map}
+use Rattle.pc_program.proofs.Streams.{sends_all, sends_part}
 use Rattle.pc_viewer.specs.Outside.{Surroundings}
 use Rattle.pc_viewer.specs.Told.{Told}
 use Rattle.pc_viewer.specs.Viewer.{ViewerEnds, Viewed, Misused, Unread, Refused, Broke, Lacking, ViewerLacks, Early, Sending, ViewerPromise}
@@ -34,59 +31,20 @@ use Rattle.pc_viewer.specs.models.Steps.{Sent_part}
 
 -- ---- the file
 
-module _ (most : ℕ) (text bytes : List ℕ) (cut : take (most + 1) text ≡ bytes) where
-  same_length : length bytes ≡ min (most + 1) (length text)
-  same_length = sym (ap length cut) ∙ length-take (most + 1) text
-
-  -- a text of which no more bytes were taken than there may be is all that was taken
-  whole_of : length bytes ≤ most → text ≡ bytes
-  whole_of few = sym (take_all (most + 1) text (omega (arith, same_length))) ∙ cut
-
-  -- and one of which more were taken is longer
-  longer_of : most < length bytes → most < length text
-  longer_of many = omega (arith, same_length)
-
-some_same : {X : Type 0} (x y : X) → Some x ≡ Some y → x ≡ y
-some_same x y e = cc
-
--- the bytes that a read gave are the text of the file
-read_text : (most : ℕ) (found : Option (List ℕ)) (bytes : List ℕ) → option_map (take (most + 1)) found ≡ Some bytes → length bytes ≤ most
-    → found ≡ Some bytes
-read_text most None bytes e few = absurd (cc)
-read_text most (Some text) bytes e few = ap (λ (t : List ℕ). Some t) (whole_of most text bytes (some_same (take (most + 1) text) bytes e) few)
-
-pub has_text : (held : Option Files) (name bytes : List ℕ) → GivesFile held name (most_object + 1) bytes → length bytes ≤ most_object
-    → HasText held name bytes
-has_text None name bytes given few = tt
-has_text (Some files) name bytes given few = read_text most_object (get files name) bytes given.first few
-
--- or the file is too long
-read_longer : (files : Files) (name : List ℕ) (found : Option (List ℕ)) (bytes : List ℕ) → get files name ≡ found
-    → option_map (take (most_object + 1)) found ≡ Some bytes → most_object < length bytes
-    → HoldsText (Some files) name (λ text. HasObjectFault text object.TooLong)
-read_longer files name None bytes is e many = absurd (cc)
-read_longer files name (Some text) bytes is e many =
-    (text, is, Long_object (longer_of most_object text bytes (some_same (take (most_object + 1) text) bytes e) many))
-
-pub long_stops : (name : List ℕ) (old new : Shelved) (bytes : List ℕ) → GivesFile old.held name (most_object + 1) bytes → most_object < length bytes
-    → StopsAt name old new (Object object.TooLong)
-long_stops name old new bytes given many = Without_object (by old.held given)
-  where
-    by : (held : Option Files) → GivesFile held name (most_object + 1) bytes → HoldsText held name (λ text. HasObjectFault text object.TooLong)
-    by None given = tt
-    by (Some files) given = read_longer files name (get files name) bytes refl given.first many
-
--- of the text that a file has, P holds
-pub holds : (held : Option Files) (name text : List ℕ) (P : List ℕ → Type 0) → HasText held name text → P text → HoldsText held name P
-holds None name text P h p = tt
-holds (Some files) name text P h p = (text, h, p)
-
 -- a file was not read
 pub no_memory_stops : (name : List ℕ) (old new : Shelved) → StopsAt name old new NoMemory
 no_memory_stops name old new = Without_memory
 
 pub no_file_stops : (name : Bor (List ℕ)) (old new : Shelved) → ReadFaultOf old new name.now → StopsAt name.now old new (ReadObject name)
 no_file_stops name old new failed = Without_file refl failed
+
+-- a file has too many bytes
+pub long_stops : (name : List ℕ) (old new : Shelved) → HoldsText old.held name (λ text. most_object < length text)
+    → StopsAt name old new (Object object.TooLong)
+long_stops name old new big = Without_object
+    (held_map old.held name (λ text. most_object < length text) (λ text. HasObjectFault text object.TooLong) (λ text long. Long_object long) big)
+
+pub ruleset reads_due = (no_memory_stops, no_file_stops, long_stops)
 
 -- a file was read, and is no object
 module _ (name : List ℕ) (old new : Shelved) (bytes : List ℕ) (has : HasText old.held name bytes) (few : length bytes ≤ most_object) where
@@ -111,18 +69,6 @@ pub sent_part : (text : List ℕ) (old new : Streamed) → Rose old.faults new.f
 sent_part text old new rose part = Sent_part rose part
 
 pub ruleset sends_due = (sent_whole, sent_part)
-
--- a proper prefix was sent
-sends_part : (old new : Streamed) (text : List ℕ) → AppendsPart old.told new.told text → SendsFront old new text
-sends_part old new text part = record { sent = part.sent; bound = omega (arith, part.short); grew = part.grew }
-
--- a whole text was sent
-sends_all : (old new : Streamed) (text : List ℕ) → Appends old.told new.told text → SendsFront old new text
-sends_all old new text all = record {
-  sent = length text;
-  bound = omega arith;
-  grew = subst (λ sent. Appends old.told new.told sent) (sym (take_all (length text) text (omega arith))) all;
-}
 
 -- ---- each step
 
@@ -179,9 +125,3 @@ viewer_promise given old new due code ends shelf (inr told) = record {
 }
 
 pub ruleset viewer_endings = (no_memory_ends, no_command_ends, stop_ends, text_ends)
-
--- ---- no words
-
--- no words are no command of the viewer
-pub no_words_view : view_command_of [] ≡ None
-no_words_view = no_words-command.2

@@ -1,64 +1,36 @@
 -- What follows from the viewer's promise.
 use Rattle.std.proofs.Common.{◌≡◌, ℕ, ◌≤◌, ◌⊎◌, inl, inr, List, length, Option, Some, None, refl, sym, ◌∙◌, ap, subst}
 use Rattle.std.proofs.Common.{arith}
-use Rattle.std.specs.Prelude.{Ok, Err}
-use Rattle.std.specs.FinMap.{get}
 use Rattle.std.specs.Option.{IsSomeAnd}
 use Rattle.pc_word.specs.Count.{Rose}
-use Rattle.pc_word.specs.MachineLimits.{most_object}
 use Rattle.pc_object.specs.ObjectText.{CodeWithNotes, object_text}
-use Rattle.pc_object.specs.Reading.{object_reading}
-use Rattle.pc_object.proofs.ReadingLaws.{one_object, reads_text}
-use Rattle.pc_outside.specs.Shelf.{Files, ReadFaultOf}
+use Rattle.pc_object.proofs.ReadingLaws.{one_object}
+use Rattle.pc_outside.specs.Shelf.{ReadFaultOf}
 use Rattle.pc_command.specs.Requests.{ViewRequest}
 use Rattle.pc_report.specs.declared.fault.ObjectFault.{ObjectFault}
 use Rattle.pc_viewer.specs.Laws.{SendsText, BreaksOff, HasViewed, HasBroken, HasReadFault, HasErrorFault, IsToldObject, ViewerStatuses}
-use Rattle.pc_program.specs.Files.{HasText, HoldsText}
-use Rattle.pc_program.specs.Objects.{HasObjectFault, Long_object, Unread_object, Holds, IsNoObject, IsTextOf}
+use Rattle.pc_program.specs.Files.{HoldsText}
+use Rattle.pc_program.specs.Objects.{HasObjectFault, Holds, IsNoObject, IsTextOf}
 use Rattle.pc_program.specs.Streams.{Streamed}
+use Rattle.pc_program.proofs.Choices.{either_first, third_first, last_first}
+use Rattle.pc_program.proofs.Files.{held_map, told_holds, told_text}
+use Rattle.pc_program.proofs.Objects.{faulty_object}
 use Rattle.pc_viewer.specs.Outside.{Surroundings}
 use Rattle.pc_viewer.specs.Told.{Told, view_status}
 use Rattle.pc_viewer.specs.Viewer.{ViewerEnds, Viewed, Misused, Unread, Refused, Broke, Lacking, ViewerLacks, ViewerPromise}
 use Rattle.pc_viewer.specs.declared.fault.ViewFault.{ViewFault}
 
--- ---- bytes that are refused
-
--- bytes with a fault are no object
-faulty_object : (bytes : List ℕ) (what : ObjectFault) → HasObjectFault bytes what → IsNoObject bytes
-faulty_object bytes what (Long_object big) object is =
-    let few : length (object_text object) ≤ most_object = is.loads.is_object.few_bytes in
-    let same : length bytes ≡ length (object_text object) = ap length is.text in
-    omega arith
-faulty_object bytes what (Unread_object {error} few first told) object is =
-    let ok : object_reading bytes ≡ Ok object = ap object_reading is.text ∙ reads_text object is.loads.is_object is.loads.has_words in
-    let err : object_reading bytes ≡ Err error = first in
-    cc
-
--- P holds of a text, and so does Q
-held_map : (held : Option Files) (name : List ℕ) (P Q : List ℕ → Type 0) → ((text : List ℕ) → P text → Q text) → HoldsText held name P
-    → HoldsText held name Q
-held_map None name P Q f h = tt
-held_map (Some files) name P Q f (text, here, p) = (text, here, f text p)
-
 -- ---- a file that is told
-
-some_same : {X : Type 0} (x y : X) → Some x ≡ Some y → x ≡ y
-some_same x y e = cc
-
-told_here : (files : Files) (name text : List ℕ) (P : List ℕ → Type 0) → get files name ≡ Some text → HoldsText (Some files) name P → P text
-told_here files name text P g (other, held, p) = subst P (some_same other text (sym held ∙ g)) p
 
 module _ (old new : Surroundings) (request : ViewRequest) (text : List ℕ) (file : IsToldObject old request text) where
   -- what is held of a file that is told
   file_told : (P : List ℕ → Type 0) → HoldsText old.shelf.held request.object P → P text
-  file_told P h = told_here file.files request.object text P file.here (subst (λ (o : Option Files). HoldsText o request.object P) file.held h)
+  file_told P h = told_holds old.shelf.held file.files request.object text P file.held file.here h
 
   -- the object that was loaded from it has its text
   loaded_text : (object : CodeWithNotes) → Holds old.shelf.held request.object object → IsTextOf text object
   loaded_text object h =
-      let here : get file.files request.object ≡ Some (object_text object) = subst
-      (λ (o : Option Files). HasText o request.object (object_text object)) file.held h.text in
-      record { loads = h.loads; text = some_same text (object_text object) (sym file.here ∙ here) }
+      record { loads = h.loads; text = sym (told_text old.shelf.held file.files request.object text (object_text object) file.held file.here h.text) }
 
   -- so it is the object of that text
   same_object : (a b : CodeWithNotes) → Holds old.shelf.held request.object a → IsTextOf text b → a ≡ b
@@ -79,22 +51,6 @@ status_of : (due : Option ViewFault) (old new : Streamed) (code : ℕ) → Told 
 status_of None old new code told = inl told.0
 status_of (Some fault) old new code (inl whole) = inl whole.ended
 status_of (Some fault) old new code (inr part) = inr (part.ended, part.failed)
-
--- one more choice behind others
-either_first : {A B C : Type 0} → A ⊎ B → A ⊎ B ⊎ C
-either_first (inl a) = inl a
-either_first (inr b) = inr (inl b)
-
-third_first : {A B C D : Type 0} → A ⊎ B ⊎ C → A ⊎ B ⊎ C ⊎ D
-third_first (inl a) = inl a
-third_first (inr (inl b)) = inr (inl b)
-third_first (inr (inr c)) = inr (inr (inl c))
-
-last_first : {A B C D E F : Type 0} → A ⊎ B ⊎ C ⊎ (D × E) → A ⊎ B ⊎ C ⊎ (D × (E ⊎ F))
-last_first (inl a) = inl a
-last_first (inr (inl b)) = inr (inl b)
-last_first (inr (inr (inl c))) = inr (inr (inl c))
-last_first (inr (inr (inr d))) = inr (inr (inr (d.0, inl d.1)))
 
 -- ---- what is due, by how it ended
 

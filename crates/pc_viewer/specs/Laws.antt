@@ -1,14 +1,13 @@
 -- What follows from the viewer's promise for each status, for each command and object.
 use Rattle.std.specs.Prelude.{◌≡◌, ℕ, ◌≤◌, ◌⊎◌, List, Option, Some, None}
-use Rattle.std.specs.FinMap.{get}
 use Rattle.std.specs.Io.KnownBytes.{Appends}
 use Rattle.std.specs.Option.{IsSomeAnd}
 use Rattle.pc_word.specs.Count.{Rose}
 use Rattle.pc_object.specs.ObjectText.{CodeWithNotes}
-use Rattle.pc_outside.specs.Shelf.{Files, ReadFaultOf}
+use Rattle.pc_outside.specs.Shelf.{ReadFaultOf}
 use Rattle.pc_outside.specs.Stream.{AppendsPart}
 use Rattle.pc_command.specs.Requests.{ViewRequest}
-use Rattle.pc_program.specs.Files.{HoldsText}
+use Rattle.pc_program.specs.Files.{HoldsText, IsToldFile}
 use Rattle.pc_program.specs.Objects.{Holds, IsNoObject, IsTextOf}
 use Rattle.pc_viewer.specs.Outside.{Surroundings}
 use Rattle.pc_viewer.specs.Viewer.{ViewerLacks, ViewerPromise, view_text}
@@ -43,10 +42,8 @@ abbrev pub HasErrorFault : Surroundings → Surroundings → Type 0
 HasErrorFault old new = Rose old.err.faults new.err.faults
 
 -- the shelf tells its files, and OBJ has this text
-pub record IsToldObject (old : Surroundings) (request : ViewRequest) (text : List ℕ) : Type 0 where
-  pub files : Files
-  pub held : old.shelf.held ≡ Some files
-  pub here : get files request.object ≡ Some text
+abbrev pub IsToldObject : Surroundings → ViewRequest → (text : List ℕ) → Type 0
+IsToldObject old request text = IsToldFile old.shelf.held request.object text
 
 -- what follows
 pub record ViewerStatuses (given : Option ViewRequest) (old new : Surroundings) (code : ℕ) : Type 0 where

@@ -9,7 +9,6 @@ mod telling;
 #[cfg(test)]
 mod tests;
 mod viewer;
-mod words;
 
 pub use fault::ViewFault;
 pub use host::run;

@@ -12,13 +12,14 @@ ghost use Rattle.pc_word.specs.MachineLimits.{most_object};
 use crate::fault::{ViewFault, fault_of_object};
 use pc_command::ViewCommand;
 use pc_object::{Object, decode};
-use pc_outside::{Shelf, ShelfError};
+use pc_outside::Shelf;
+use pc_program::{FileError, read_whole};
 use pc_report::ObjectFault;
 use pc_view::{graph_text, listing_text};
 use pc_word::MOST_OBJECT;
 use std::alloc::{AllocError, Global};
 
-/// The text that is asked for.
+/// The text that is asked for. An error says why there is none.
 pub(crate) fn text_asked<'a, H: Shelf>(
     alloc: Global,
     command: ViewCommand<'a>,
@@ -61,6 +62,7 @@ fn load<'a, H: Shelf>(alloc: Global, name: &'a str, shelf: &mut H) -> Result<Obj
 }
 
 /// The bytes of a file that may be an object: they are not too many.
+#[tactic(auto, using(crate::proofs::Endings::reads_due))]
 fn read_object<'a, H: Shelf>(
     alloc: Global,
     name: &'a str,
@@ -71,12 +73,12 @@ fn read_object<'a, H: Shelf>(
     ensures text { MatchResult result (λ bytes. HasText (H.state shelf.old).held name.entry.now bytes.items)
         (λ fault. StopsAt name.entry.now (H.state shelf.old) (H.state shelf.new) fault) }
 {
-    match shelf.read_file(alloc, name, MOST_OBJECT + 1) {
-        Ok(bytes) if bytes.len() > MOST_OBJECT => Err(ViewFault::Object {
+    match read_whole(alloc, name, MOST_OBJECT, shelf) {
+        Ok(bytes) => Ok(bytes),
+        Err(FileError::TooLong) => Err(ViewFault::Object {
             fault: ObjectFault::TooLong,
         }),
-        Ok(bytes) => Ok(bytes),
-        Err(ShelfError::Failed) => Err(ViewFault::ReadObject { name }),
-        Err(ShelfError::Memory) => Err(ViewFault::NoMemory),
+        Err(FileError::Failed) => Err(ViewFault::ReadObject { name }),
+        Err(FileError::Memory) => Err(ViewFault::NoMemory),
     }
 }

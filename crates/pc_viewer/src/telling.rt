@@ -2,11 +2,11 @@
 ghost use Rattle.std.specs.Prelude.{◌≡◌, ◌⊎◌, IsSome, Some};
 ghost use Rattle.pc_viewer.specs.declared.fault.ViewFault.TheVariants.{NoMemory};
 ghost use Rattle.pc_program.specs.Streams.{streamed};
-ghost use Rattle.pc_program.specs.Telling.{TellsLine};
 ghost use Rattle.pc_viewer.specs.Told.{Told};
 
 use crate::fault::{ViewFault, fault_told, view_status};
-use pc_outside::{Sink, send};
+use pc_outside::Sink;
+use pc_program::send_line;
 use pc_report::{Speaker, fault_text, out_of_memory_line};
 use std::alloc::Global;
 
@@ -30,15 +30,5 @@ fn tell_fault<E: Sink>(alloc: Global, fault: ViewFault, err: &mut E) -> u8
     match fault_text(alloc, &fault_told(fault)) {
         Ok(line) => send_line(line.as_slice(), view_status(fault), err),
         Err(_) => send_line(out_of_memory_line(Speaker::Pview), 1, err),
-    }
-}
-
-/// Sends a line, and gives the status that goes with it, or 5 where the error output fails.
-fn send_line<E: Sink>(line: &[u8], status: u8, err: &mut E) -> u8
-    ensures { TellsLine line.now status (streamed (E.taken err.old) (E.faults err.old)) (streamed (E.taken err.new) (E.faults err.new)) result }
-{
-    match send(err, line) {
-        Ok(()) => status,
-        Err(_) => 5,
     }
 }

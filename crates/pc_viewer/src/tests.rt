@@ -54,7 +54,7 @@ fn words_of(alloc: Global, line: &str) -> Result<Vec<String>, AllocError> {
     Ok(words)
 }
 
-/// The one call of a list of calls that fail.
+/// The calls that fail: this one alone, and none where it is 0.
 fn only(alloc: Global, call: u64) -> Result<CallList, AllocError> {
     CallList::from_slice(alloc, &[call])
 }

@@ -27,7 +27,8 @@ use std::alloc::Global;
 /// - 5: the output failed, and a proper prefix of the text was sent; or the error output failed on the line
 ///   of another status.
 ///
-/// Each status but 0 sends one line to the error output, which tells what was due.
+/// With each status but 0 one line is sent to the error output, which tells what was due, or a proper
+/// prefix of it where that output fails.
 pub fn view<H: Shelf, O: Sink, E: Sink>(
     alloc: Global,
     words: &[String],

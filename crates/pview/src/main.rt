@@ -1,4 +1,4 @@
-//! The viewer: `pview OBJ`.
+//! The viewer: `pview OBJ [--dot]`.
 #![tactic(auto)]
 
 use pc_viewer::run;

@@ -57,6 +57,7 @@ abbrev pub new_place_by : ℕ → ℕ → Option ℕ → ℕ
 new_place_by gone row (Some place) = place
 new_place_by gone row None = row - gone
 
+-- the number that a row gets
 abbrev pub new_place : Places → ℕ → ℕ
 new_place it row = new_place_by it.gone row (slice_get it.places.items row)
 

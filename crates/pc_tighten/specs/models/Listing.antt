@@ -21,6 +21,7 @@ put_row (Some None) row it = record { places = slice_set it.places row (Some (le
 put_row (Some (Some place)) row it = it
 put_row None row it = it
 
+-- with a row behind the others, if it was not there
 abbrev pub with_listed : ℕ → Listed → Listed
 with_listed row it = put_row (slice_get it.places row) row it
 

@@ -59,6 +59,7 @@ parent_by places t (Some Never) = None
 parent_by places t (Some Often) = None
 parent_by places t None = None
 
+-- the row above t, by the table of names and the places in the list
 abbrev pub parent_in : List Naming → List (Option ℕ) → ℕ → Option ℕ
 parent_in names places t = parent_by places t (slice_get names t)
 

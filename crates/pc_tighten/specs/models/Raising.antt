@@ -19,6 +19,7 @@ place_by (Some (Some place)) = place
 place_by (Some None) = 0
 place_by None = 0
 
+-- so by the table of places
 abbrev pub place_of : List (Option ℕ) → ℕ → ℕ
 place_of places row = place_by (slice_get places row)
 

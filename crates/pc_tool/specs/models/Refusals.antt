@@ -17,8 +17,8 @@ use Rattle.pc_report.specs.declared.fault.LineFault.TheVariants as at_line
 use Rattle.pc_report.specs.declared.fault.ObjectFault.{ObjectFault}
 use Rattle.pc_report.specs.declared.fault.ObjectFault.TheVariants as object
 use Rattle.pc_report.specs.declared.fault.InputFault.TheVariants as input
-use Rattle.pc_tool.specs.declared.file.FileError.{FileError}
-use Rattle.pc_tool.specs.declared.file.FileError.TheVariants as file
+use Rattle.pc_program.specs.declared.file.FileError.{FileError}
+use Rattle.pc_program.specs.declared.file.FileError.TheVariants as file
 use Rattle.pc_tool.specs.declared.refusal.Refusal.{Refusal}
 use Rattle.pc_tool.specs.declared.refusal.Refusal.TheVariants as refusal
 use Rattle.pc_tool.specs.declared.stop.Stop.{Stop}

@@ -17,9 +17,8 @@ use Rattle.pc_report.specs.declared.fault.ToolFault.{ToolFault}
 use Rattle.pc_report.specs.declared.fault.ToolFault.TheVariants as fault
 use Rattle.pc_vm.specs.Standing.{Standing, here_of}
 use Rattle.pc_program.specs.Files.{HoldsText}
-use Rattle.pc_program.specs.Objects.{Holds, HoldsObject}
+use Rattle.pc_program.specs.Objects.{Holds, HoldsObject, HasObjectFault}
 use Rattle.pc_program.specs.Streams.{Streamed}
-use Rattle.pc_program.specs.Objects.{HasObjectFault}
 use Rattle.pc_tool.specs.Simulation.{HasInputFault, SpellsInput, due_of}
 use Rattle.pc_tool.specs.declared.stop.Stop.{Stop}
 use Rattle.pc_tool.specs.declared.stop.Stop.TheVariants as stop

@@ -4,7 +4,7 @@ use Rattle.pc_replay.proofs.leaves.put.Goals as goal
 
 pub returns-in_ok-put_behind : goal.returns-in_ok-put_behind
 returns-in_ok-put_behind c =
-    let little = c.is_little.ensures in
-    let is = c.if-not-is_little.false in
+    let little = c.may_be_filled.ensures in
+    let is = c.if-not-may_be_filled.false in
     one_more c.args.met.now.waiting.items c.put_behind.new.waiting.items c.args.window c.in_ok-put_behind.ensures c.requires.all c.requires.proper
     (small_fills c.args.window c.requires.nodes (little.size is) (little.names is) (little.variables is))

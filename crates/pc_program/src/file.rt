@@ -1,8 +1,7 @@
 //! Whole files of the shelf.
 ghost use Rattle.std.specs.Prelude.{◌≤◌, length, MatchResult, IfOk};
 ghost use Rattle.pc_outside.specs.Shelf.{ReadKeeps};
-ghost use Rattle.pc_program.specs.Files.{HasText};
-ghost use Rattle.pc_tool.specs.models.Reading.{RefusesFile};
+ghost use Rattle.pc_program.specs.Files.{HasText, RefusesFile};
 ghost use Rattle.pc_word.specs.MachineLimits.{most_object};
 
 use pc_outside::{Shelf, ShelfError};
@@ -11,17 +10,20 @@ use thiserror::Error;
 
 /// Why a file was not read whole.
 #[derive(Clone, Copy, Debug, PartialEq, Eq, Error)]
-pub(crate) enum FileError {
+pub enum FileError {
+    /// The shelf failed.
     #[error("the shelf failed")]
     Failed,
+    /// It has more bytes than it may.
     #[error("the file has more bytes than it may")]
     TooLong,
+    /// Memory ran out.
     #[error("out of memory")]
     Memory,
 }
 
 /// The text of a file that may have at most `most` bytes.
-pub(crate) fn read_whole<H: Shelf>(
+pub fn read_whole<H: Shelf>(
     alloc: Global,
     name: &str,
     most: usize,
