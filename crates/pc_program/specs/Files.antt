@@ -13,12 +13,6 @@ HasText held name text = IfSome held (λ files. get files name ≡ Some text)
 abbrev pub HoldsText : Option Files → List ℕ → (List ℕ → Type 0) → Type 0
 HoldsText held name P = IfSome held (λ files. (text : List ℕ) × (get files name ≡ Some text) × P text)
 
--- the shelf tells its files, and the named one has this text
-pub record IsToldFile (told : Option Files) (name text : List ℕ) : Type 0 where
-  pub files : Files
-  pub held : told ≡ Some files
-  pub here : get files name ≡ Some text
-
 -- why a file of at most so many bytes was not read
 abbrev pub RefusesFile : FileError → List ℕ → ℕ → Shelved → Shelved → Type 0
 RefusesFile file.Memory name most old new = Unit {0}

@@ -2,3 +2,4 @@ pub mod Streams
 pub mod Files
 pub mod Objects
 pub mod Telling
+pub mod ToldFile

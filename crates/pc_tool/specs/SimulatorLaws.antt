@@ -11,7 +11,8 @@ use Rattle.pc_outside.specs.Shelf.{ReadFaultOf}
 use Rattle.pc_outside.specs.Stream.{AppendsPart}
 use Rattle.pc_command.specs.Requests.{SimulateRequest}
 use Rattle.pc_tool.specs.Due.{trap_status}
-use Rattle.pc_program.specs.Files.{HoldsText, IsToldFile}
+use Rattle.pc_program.specs.Files.{HoldsText}
+use Rattle.pc_program.specs.ToldFile.{IsToldFile}
 use Rattle.pc_program.specs.Objects.{IsTextOf, IsNoObject, HoldsObject}
 use Rattle.pc_tool.specs.Outside.{Outside}
 use Rattle.pc_tool.specs.CompilerLaws.{HasErrorFault}

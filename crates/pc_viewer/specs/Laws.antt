@@ -7,7 +7,8 @@ use Rattle.pc_object.specs.ObjectText.{CodeWithNotes}
 use Rattle.pc_outside.specs.Shelf.{ReadFaultOf}
 use Rattle.pc_outside.specs.Stream.{AppendsPart}
 use Rattle.pc_command.specs.Requests.{ViewRequest}
-use Rattle.pc_program.specs.Files.{HoldsText, IsToldFile}
+use Rattle.pc_program.specs.Files.{HoldsText}
+use Rattle.pc_program.specs.ToldFile.{IsToldFile}
 use Rattle.pc_program.specs.Objects.{Holds, IsNoObject, IsTextOf}
 use Rattle.pc_viewer.specs.Outside.{Surroundings}
 use Rattle.pc_viewer.specs.Viewer.{ViewerLacks, ViewerPromise, view_text}
