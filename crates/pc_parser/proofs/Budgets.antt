@@ -11,7 +11,7 @@ use Rattle.pc_parser.specs.Places.{kind_at}
 use Rattle.pc_parser.specs.models.Outcome.{ParseOutcome, Parsed, TooHigh, after}
 use Rattle.pc_parser.specs.models.Parsing.{FailsParsing}
 use Rattle.pc_parser.proofs.Finds.{climb-ends}
-use Rattle.pc_parser.specs.models.ExpressionParser.{Inner, operator_from, joined_at, last_turn, turn, climb, expression_at, below, part, operand}
+use Rattle.pc_parser.specs.models.ExpressionParser.{Inner, operator_from, infixed_at, last_turn, turn, climb, expression_at, below, part, operand}
 use Rattle.pc_parser.specs.models.StatementParser.{statement_at, statement_from, statement_below}
 
 -- the parser of expressions below a budget
@@ -57,27 +57,27 @@ fails-after (failures.TooNested at) x f fails = ap (λ o. after o f) fails
 module _ (tokens : List Token) (inner : Inner) (budget level : ℕ) where
   -- where an operator follows, and a turn is left, the next operand is joined
   pub climb-turned : (turns : ℕ) (tree : SourceExpression) (height at : ℕ) (found : Operator × ℕ) → 1 ≤ turns → operator_from level (kind_at tokens at) ≡ Some found →
-      climb tokens inner budget level turns tree height at ≡ after (joined_at tokens inner budget tree height at found) (climb tokens inner budget level (turns - 1))
+      climb tokens inner budget level turns tree height at ≡ after (infixed_at tokens inner budget tree height at found) (climb tokens inner budget level (turns - 1))
   unfolding climb turn
   climb-turned zero tree height at found some is = absurd (omega arith)
   climb-turned (suc turns) tree height at found some is = let same : turns ≡ suc turns - 1 = omega arith in
       ap (turn tokens inner budget (climb tokens inner budget level turns) tree height at) is
-      ∙ ap (λ n. after (joined_at tokens inner budget tree height at found) (climb tokens inner budget level n)) same
+      ∙ ap (λ n. after (infixed_at tokens inner budget tree height at found) (climb tokens inner budget level n)) same
 
   -- what a loop over the operators has so far, one operator later
   pub climb-goes-on : (turns : ℕ) (tree : SourceExpression) (height at : ℕ) (found : Operator × ℕ) (more : SourceExpression) (raised to : ℕ) (whole : ParseOutcome SourceExpression) → 1 ≤ turns →
-      operator_from level (kind_at tokens at) ≡ Some found → joined_at tokens inner budget tree height at found ≡ Parsed more raised to → whole ≡ climb tokens inner budget level turns tree height at →
-      whole ≡ climb tokens inner budget level (turns - 1) more raised to
+      operator_from level (kind_at tokens at) ≡ Some found → infixed_at tokens inner budget tree height at found ≡ Parsed more raised to
+      → whole ≡ climb tokens inner budget level turns tree height at → whole ≡ climb tokens inner budget level (turns - 1) more raised to
   climb-goes-on turns tree height at found more raised to whole some is joined_is same =
       same ∙ climb-turned turns tree height at found some is ∙ ap (λ o. after o (climb tokens inner budget level (turns - 1))) joined_is
 
   -- and where the next operand fails
   pub climb-fails : (turns : ℕ) (tree : SourceExpression) (height at : ℕ) (found : Operator × ℕ) (failure : Failure) (whole : ParseOutcome SourceExpression) → 1 ≤ turns →
-      operator_from level (kind_at tokens at) ≡ Some found → FailsParsing failure (joined_at tokens inner budget tree height at found) →
+      operator_from level (kind_at tokens at) ≡ Some found → FailsParsing failure (infixed_at tokens inner budget tree height at found) →
       whole ≡ climb tokens inner budget level turns tree height at → FailsParsing failure whole
   climb-fails turns tree height at found failure whole some is fails same =
       subst (λ o. FailsParsing failure o) (sym (same ∙ climb-turned turns tree height at found some is))
-      (fails-after failure (joined_at tokens inner budget tree height at found) (climb tokens inner budget level (turns - 1)) fails)
+      (fails-after failure (infixed_at tokens inner budget tree height at found) (climb tokens inner budget level (turns - 1)) fails)
 
   -- where an operator follows, and no turn is left, it is too high
   pub climb-spent : (tree : SourceExpression) (height at : ℕ) (found : Operator × ℕ) → operator_from level (kind_at tokens at) ≡ Some found →

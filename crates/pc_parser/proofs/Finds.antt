@@ -13,7 +13,7 @@ use Rattle.pc_parser.specs.declared.operator.Operator.{Operator}
 use Rattle.pc_parser.specs.Places.{kind_at}
 use Rattle.pc_parser.specs.Operators.{operator_of}
 use Rattle.pc_parser.specs.models.Outcome.{ParseOutcome, Parsed, Unreadable, TooHigh, after, allowed, expect, expect_key}
-use Rattle.pc_parser.specs.models.ExpressionParser.{Inner, operator_from, tight, joined_at, last_turn, turn, climb}
+use Rattle.pc_parser.specs.models.ExpressionParser.{Inner, operator_from, tight, infixed_at, last_turn, turn, climb}
 use Rattle.pc_parser.proofs.Tokens.{is_mark-of, is_key-of}
 
 pub allowed-yes : {A : Type 0} (least budget at : ℕ) (rest : ParseOutcome A) → least ≤ budget → allowed least budget at rest ≡ rest
@@ -93,7 +93,7 @@ module _ (tokens : List Token) (inner : Inner) (budget level : ℕ) where
 
   -- where an operator follows, and a turn is left, the next operand is read
   pub climb-turns : (turns : ℕ) (tree : SourceExpression) (height at : ℕ) (found : Operator × ℕ) → 1 ≤ turns → operator_from level (kind_at tokens at) ≡ Some found →
-      (fewer : ℕ) × (turns ≡ suc fewer) × (climb tokens inner budget level turns tree height at ≡ after (joined_at tokens inner budget tree height at found) (climb tokens inner budget level fewer))
+      (fewer : ℕ) × (turns ≡ suc fewer) × (climb tokens inner budget level turns tree height at ≡ after (infixed_at tokens inner budget tree height at found) (climb tokens inner budget level fewer))
   unfolding climb last_turn turn
   climb-turns zero tree height at found some is = absurd (omega arith)
   climb-turns (suc turns) tree height at found some is = (turns, refl, ap (turn tokens inner budget (climb tokens inner budget level turns) tree height at) is)

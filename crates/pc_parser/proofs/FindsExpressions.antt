@@ -15,8 +15,8 @@ use Rattle.pc_parser.specs.models.Tests.{is_mark}
 use Rattle.pc_parser.specs.Operators.{operator_of, prefix_of, infixed, prefixed}
 use Rattle.pc_parser.specs.Expressions.{ReadsExpression, ReadsLevel, ReadsUnary, ReadsPrimary}
 use Rattle.pc_parser.specs.models.Outcome.{Parsed, after}
-use Rattle.pc_parser.specs.models.ExpressionParser.{operator_from, sign_of, target_tree, target_height, target_named, number_at, name_at, grouped, input, primary_on, signed, unary_on}
-use Rattle.pc_parser.specs.models.ExpressionParser.{unary_at, joined_at, climb, choice, operand, part, expression_at, below}
+use Rattle.pc_parser.specs.models.ExpressionParser.{operator_from, sign_of, target_tree, target_height, target_named, literal_at, name_at, grouped, input, primary_on, signed, unary_on}
+use Rattle.pc_parser.specs.models.ExpressionParser.{unary_at, infixed_at, climb, choice, operand, part, expression_at, below}
 use Rattle.pc_parser.proofs.Budgets.{below-expression, expression_at-part, part-operand}
 use Rattle.pc_parser.proofs.Tokens.{is_mark-of, is_mark-true}
 use Rattle.pc_parser.proofs.Finds.{allowed-yes, expect-yes, after-parsed, cond-yes, cond-no, false_from, operator_from-higher, operator_from-found, operator_from-passed, operator_from-unary}
@@ -111,7 +111,7 @@ module _ (tokens : List Token) where
         ap (λ sign. unary_on tokens (below tokens b) b sign p) (ap sign_of is ∙ unsigned) ∙ ap (λ k. primary_on tokens (below tokens b) b k p) is
 
     finds-number : (p : ℕ) (value : ℤ) → kind_at tokens p ≡ Some (kinds.Number value) → 1 ≤ b → unary_at tokens (below tokens b) b p ≡ Parsed (Literal value) 1 (p + 1)
-    unfolding primary_on number_at sign_of
+    unfolding primary_on literal_at sign_of
     finds-number p value is low = by_token p (Some (kinds.Number value)) is refl ∙ allowed-yes 1 b p _ low
 
     named_as : (p symbol : ℕ) → kind_at tokens p ≡ Some (kinds.Name symbol) → 1 ≤ b →
@@ -167,7 +167,7 @@ module _ (tokens : List Token) where
         kind_at tokens q ≡ Some (kinds.Mark mark) → operator_of mark ≡ Some (operator, level) → below tokens b (level + 1) (q + 1) ≡ Parsed right j to →
         (fewer : ℕ) × (b ≤ fewer + (max i j + 1))
         × (climb tokens (below tokens b) b m turns left i q ≡ climb tokens (below tokens b) b m fewer (infixed operator (line_at tokens q) left right) (max i j + 1) to)
-    unfolding joined_at
+    unfolding infixed_at
     joins m level left right turns i q j to mark operator low enough fits is found deep =
         let turned = climb-turns tokens (below tokens b) b m turns left i q (operator, level) (omega arith) (operator_from-found level m (kind_at tokens q) mark operator is found low) in
         let some = turned.1 in (

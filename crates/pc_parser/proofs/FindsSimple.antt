@@ -18,7 +18,7 @@ use Rattle.pc_parser.specs.Statements.{Target, assigned, ReadsTarget, ReadsTest,
 use Rattle.pc_parser.specs.models.Outcome.{ParseOutcome, Parsed, Unreadable, TooHigh, after}
 use Rattle.pc_parser.specs.models.ExpressionParser.{operator_from, tight, sign_of, target_named, target_tree, target_height, primary_on, name_at, unary_on, unary_at, climb, choice, operand}
 use Rattle.pc_parser.specs.models.ExpressionParser.{part, expression_at, below}
-use Rattle.pc_parser.specs.models.StatementParser.{assignment_from, step_from, symbol_of, length_of, name_budget, test_at, closed_behind, closed, target_on, target_at, evaluation}
+use Rattle.pc_parser.specs.models.StatementParser.{assignment_from, step_from, symbol_of, length_of, name_budget, parenthesized_at, closed_behind, closed, target_on, target_at, evaluation}
 use Rattle.pc_parser.specs.models.StatementParser.{evaluation_from, print_at, step_before, assignment, behind_target, on_target, named, marked, simple_on, simple_at, ended_at, array}
 use Rattle.pc_parser.specs.models.StatementParser.{initialised, declarator_on, declarator_at, last_declarator, declarators_at, declaration_at, first_at, condition_at, step_at}
 use Rattle.pc_parser.proofs.Budgets.{expression_at-part}
@@ -93,8 +93,8 @@ gave (Unreadable at) f tree height to is = cc
 gave (TooHigh at) f tree height to is = cc
 
 module _ (tokens : List Token) where
-  pub finds-test : (b p : ℕ) (t : SourceExpression) (h q : ℕ) → ReadsTest tokens p t h q → h ≤ b → test_at tokens b p ≡ Parsed t h q
-  unfolding test_at
+  pub finds-test : (b p : ℕ) (t : SourceExpression) (h q : ℕ) → ReadsTest tokens p t h q → h ≤ b → parenthesized_at tokens b p ≡ Parsed t h q
+  unfolding parenthesized_at
   finds-test b p t h q (ReadsTest.tested {q = r} is d close') fits =
       expect-yes tokens marks.LeftParen p _ is
       ∙ after-parsed (expression_at tokens b 0 (p + 1)) _ t h r (finds-expression tokens b (p + 1) t h r d (follows-paren (kind_at tokens r) close') fits)
@@ -178,7 +178,8 @@ module _ (tokens : List Token) where
     unfolding simple_at simple_on print_at
     finds-print p value h q is d fits =
         let some = test-positive (p + 1) value h q d in
-        ap (λ k. simple_on tokens b k p) is ∙ allowed-yes 2 b p _ (omega arith) ∙ after-parsed (test_at tokens (b - 1) (p + 1)) _ value h q (finds-test (b - 1) (p + 1) value h q d (omega arith))
+        ap (λ k. simple_on tokens b k p) is ∙ allowed-yes 2 b p _ (omega arith)
+        ∙ after-parsed (parenthesized_at tokens (b - 1) (p + 1)) _ value h q (finds-test (b - 1) (p + 1) value h q d (omega arith))
 
     -- an expression that begins with a name, by its target
     split-name : (e p symbol : ℕ) → kind_at tokens p ≡ Some (kinds.Name symbol) → 1 ≤ e →

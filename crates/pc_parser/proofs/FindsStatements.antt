@@ -13,7 +13,7 @@ use Rattle.pc_parser.specs.models.Tests.{is_mark, is_key}
 use Rattle.pc_parser.specs.Statements.{ends_open, ReadsTest, ReadsSimple, ReadsDeclaration, ReadsFirst, ReadsCondition, ReadsStep, ReadsStatement, ReadsItems, ReadsProgram}
 use Rattle.pc_parser.specs.models.Outcome.{Parsed, after}
 use Rattle.pc_parser.specs.models.ExpressionParser.{expression_at}
-use Rattle.pc_parser.specs.models.StatementParser.{test_at, first_at, condition_at, step_at, item_at, items_at, block_at, otherwise_at, branch_at, while_at, do_at, for_body, for_at, lone}
+use Rattle.pc_parser.specs.models.StatementParser.{parenthesized_at, first_at, condition_at, step_at, item_at, items_at, block_at, otherwise_at, branch_at, while_at, do_at, for_body, for_at, lone}
 use Rattle.pc_parser.specs.models.StatementParser.{return_at, keyed, started, statement_on, statement_from, statement_at, statement_below, nothing_behind, main_block, program_at}
 use Rattle.pc_parser.proofs.Budgets.{below-statement, statement_at-from}
 use Rattle.pc_parser.proofs.Tokens.{is_mark-of, is_key-of}
@@ -89,7 +89,7 @@ module _ (tokens : List Token) where
     unfolding statement_on keyed branch_at
     finds-branch p test i q body j to is d found fits =
         let some = test-positive tokens (p + 1) test i q d in
-        by_token p _ is ∙ allowed-yes 2 b p _ (omega arith) ∙ after-parsed (test_at tokens (b - 1) (p + 1)) _ test i q (finds-test tokens (b - 1) (p + 1) test i q d (omega arith)) ∙
+        by_token p _ is ∙ allowed-yes 2 b p _ (omega arith) ∙ after-parsed (parenthesized_at tokens (b - 1) (p + 1)) _ test i q (finds-test tokens (b - 1) (p + 1) test i q d (omega arith)) ∙
         after-parsed (statement_below tokens b q) _ body j to (inner q body j to (omega arith) found)
 
     without-else : (line : ℕ) (test : SourceExpression) (body : SourceStatement) (i j at : ℕ) → is_key keys.Else (kind_at tokens at) ≡ false →
@@ -109,7 +109,7 @@ module _ (tokens : List Token) where
     unfolding statement_on keyed while_at
     finds-while p test i q body j to is d found fits =
         let some = test-positive tokens (p + 1) test i q d in
-        by_token p _ is ∙ allowed-yes 2 b p _ (omega arith) ∙ after-parsed (test_at tokens (b - 1) (p + 1)) _ test i q (finds-test tokens (b - 1) (p + 1) test i q d (omega arith)) ∙
+        by_token p _ is ∙ allowed-yes 2 b p _ (omega arith) ∙ after-parsed (parenthesized_at tokens (b - 1) (p + 1)) _ test i q (finds-test tokens (b - 1) (p + 1) test i q d (omega arith)) ∙
         after-parsed (statement_below tokens b q) _ body j to (inner q body j to (omega arith) found)
 
     finds-do : (p : ℕ) (body : SourceStatement) (i q : ℕ) (test : SourceExpression) (j r : ℕ) → kind_at tokens p ≡ Some (kinds.Key keys.Do) → statement_at tokens (b - 1) (p + 1) ≡ Parsed body i q →
@@ -119,7 +119,7 @@ module _ (tokens : List Token) where
     finds-do p body i q test j r is found is' d close' fits =
         let some = test-positive tokens (q + 1) test j r d in
         by_token p _ is ∙ allowed-yes 2 b p _ (omega arith) ∙ after-parsed (statement_below tokens b (p + 1)) _ body i q (inner (p + 1) body i q (omega arith) found) ∙
-        expect_key-yes tokens keys.While q _ is' ∙ after-parsed (test_at tokens (b - 1) (q + 1)) _ test j r (finds-test tokens (b - 1) (q + 1) test j r d (omega arith))
+        expect_key-yes tokens keys.While q _ is' ∙ after-parsed (parenthesized_at tokens (b - 1) (q + 1)) _ test j r (finds-test tokens (b - 1) (q + 1) test j r d (omega arith))
         ∙ expect-yes tokens marks.Semicolon r _ close'
 
     finds-for : (p : ℕ) (first : SourceList) (i q : ℕ) (test : SourceExpression) (j r : ℕ) (step : OptionalStatement) (k' s : ℕ) (body : SourceStatement) (l to : ℕ) →

@@ -16,8 +16,8 @@ use Rattle.pc_parser.specs.Operators.{prefix_of, infixed}
 use Rattle.pc_parser.specs.Expressions.{ReadsExpression, ReadsLevel, ReadsUnary, ReadsPrimary}
 use Rattle.pc_parser.specs.Statements.{Target, ReadsTarget}
 use Rattle.pc_parser.specs.models.Outcome.{ParseOutcome, Parsed, Unreadable, TooHigh}
-use Rattle.pc_parser.specs.models.ExpressionParser.{Inner, operator_from, sign_of, target_tree, target_height, target_named, number_at, name_at, grouped, input, primary_on, signed, unary_on}
-use Rattle.pc_parser.specs.models.ExpressionParser.{unary_at, joined_at, last_turn, turn, climb, choice, operand, part, expression_at, below}
+use Rattle.pc_parser.specs.models.ExpressionParser.{Inner, operator_from, sign_of, target_tree, target_height, target_named, literal_at, name_at, grouped, input, primary_on, signed, unary_on}
+use Rattle.pc_parser.specs.models.ExpressionParser.{unary_at, infixed_at, last_turn, turn, climb, choice, operand, part, expression_at, below}
 use Rattle.pc_parser.proofs.Tokens.{mark_is-true, key_is-true}
 use Rattle.pc_parser.proofs.Onward.{inside}
 use Rattle.pc_parser.proofs.Holds.{Good, after-good, cond-good, allowed-good, expect-good, on_mark-good, rank-most, found-is, found-below, looser-to}
@@ -103,9 +103,9 @@ module _ (tokens : List Token) where
         expect-good tokens (b + p) marks.RightParen (p + 2) (IsPrimary b p) _ (omega arith) (λ close' last.
         record { reads = ReadsPrimary.input is open' close'; size = record { low = omega arith; long = omega arith; within = omega arith } })))
 
-    number_at-holds : (value : ℤ) (p : ℕ) → kind_at tokens p ≡ Some (kinds.Number value) → Good (length tokens) (b + p) (IsPrimary b p) (number_at tokens inner b value p)
-    unfolding number_at
-    number_at-holds value p is =
+    literal_at-holds : (value : ℤ) (p : ℕ) → kind_at tokens p ≡ Some (kinds.Number value) → Good (length tokens) (b + p) (IsPrimary b p) (literal_at tokens inner b value p)
+    unfolding literal_at
+    literal_at-holds value p is =
         let within = inside tokens p _ is in
         allowed-good (length tokens) (b + p) 1 b p (IsPrimary b p) _ (λ high. omega arith) (omega arith) (λ low.
         record { reads = ReadsPrimary.number is; size = record { low = omega arith; long = omega arith; within = omega arith } })
@@ -120,7 +120,7 @@ module _ (tokens : List Token) where
 
     primary_on-holds : (kind : Option TokenKind) (p : ℕ) → kind_at tokens p ≡ kind → p ≤ length tokens → Good (length tokens) (b + p) (IsPrimary b p) (primary_on tokens inner b kind p)
     unfolding primary_on
-    primary_on-holds (Some (kinds.Number value)) p is within = number_at-holds value p is
+    primary_on-holds (Some (kinds.Number value)) p is within = literal_at-holds value p is
     primary_on-holds (Some (kinds.Name symbol)) p is within = name_at-holds symbol p is
     primary_on-holds (Some (kinds.Key key)) p is within = cond-good (length tokens) (b + p) (IsPrimary b p) (key_is key keys.Read) _ _
         (λ yes'. input-holds p (is ∙ ap (λ k. Some (kinds.Key k)) (key_is-true key keys.Read yes'))) (λ no'. within)
@@ -176,19 +176,19 @@ module _ (tokens : List Token) where
     }
 
     -- two operands that an operator joined, higher than the first
-    record Joined (level p height : ℕ) (t : SourceExpression) (h q : ℕ) : Type 0 where
+    record Infixed (level p height : ℕ) (t : SourceExpression) (h q : ℕ) : Type 0 where
       pub left : Left level p t h q
       pub rises : height + 1 ≤ h
 
-    joined_at-holds : (level p : ℕ) (left : SourceExpression) (h at : ℕ) (found : Operator × ℕ) → Left level p left h at → operator_from level (kind_at tokens at) ≡ Some found →
-        Good (length tokens) (b + p) (Joined level p h) (joined_at tokens inner b left h at found)
-    unfolding joined_at
-    joined_at-holds level p left h at found first is =
+    infixed_at-holds : (level p : ℕ) (left : SourceExpression) (h at : ℕ) (found : Operator × ℕ) → Left level p left h at → operator_from level (kind_at tokens at) ≡ Some found →
+        Good (length tokens) (b + p) (Infixed level p h) (infixed_at tokens inner b left h at found)
+    unfolding infixed_at
+    infixed_at-holds level p left h at found first is =
         let f = found-is level (kind_at tokens at) found is in
         let within = inside tokens at _ f.is in
         let most = f.low in let above = f.above in let first_size = first.size in let first_low = first_size.low in let first_long = first_size.long in
-        allowed-good (length tokens) (b + p) (h + 1) b at (Joined level p h) _ (λ high. omega arith) (omega arith) (λ low.
-        after-good (length tokens) (b + p) (b - 1 + (at + 1)) (Sound (b - 1) (found.1 + 1) (at + 1)) (Joined level p h) (inner (found.1 + 1) (at + 1)) _ (omega arith)
+        allowed-good (length tokens) (b + p) (h + 1) b at (Infixed level p h) _ (λ high. omega arith) (omega arith) (λ low.
+        after-good (length tokens) (b + p) (b - 1 + (at + 1)) (Sound (b - 1) (found.1 + 1) (at + 1)) (Infixed level p h) (inner (found.1 + 1) (at + 1)) _ (omega arith)
         (holds (found.1 + 1) (at + 1) (omega arith) (omega arith)) (λ right j q sound.
         let size = sound.size in let a = size.low in let l = size.long in let w = size.within in
         let both : ReadsLevel tokens found.1 p (infixed found.0 (line_at tokens at) left right) (max h j + 1) q = ReadsLevel.binary (first.ready found is) f.is f.operator (sound.part (omega arith)) in
@@ -221,8 +221,8 @@ module _ (tokens : List Token) where
             (found : Option (Operator × ℕ)) → operator_from level (kind_at tokens at) ≡ found → Good (length tokens) (b + p) (Sound b level p) (turn tokens inner b f left h at found)
         by f next None is = done level p left h at above first is
         by f next (Some found) is =
-            after-good (length tokens) (b + p) (b + p) (Joined level p h) (Sound b level p) (joined_at tokens inner b left h at found) f (omega arith)
-            (joined_at-holds level p left h at found first is)
+            after-good (length tokens) (b + p) (b + p) (Infixed level p h) (Sound b level p) (infixed_at tokens inner b left h at found) f (omega arith)
+            (infixed_at-holds level p left h at found first is)
             (λ left' h' at' good. let rises = good.rises in next left' h' at' good.left (omega arith))
 
     pub choice-holds : (p : ℕ) (test : SourceExpression) (h at : ℕ) → Sound b 1 p test h at → Good (length tokens) (b + p) (Sound b 0 p) (choice tokens inner b test h at)

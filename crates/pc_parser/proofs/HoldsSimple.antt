@@ -16,7 +16,7 @@ use Rattle.pc_parser.specs.Expressions.{ReadsUnary}
 use Rattle.pc_parser.specs.Statements.{Target, ReadsTest, ReadsSimple, ReadsDeclarator, ReadsDeclarators, ReadsDeclaration, ReadsFirst, ReadsCondition, ReadsStep}
 use Rattle.pc_parser.specs.models.Outcome.{ParseOutcome, Parsed, Unreadable, TooHigh}
 use Rattle.pc_parser.specs.models.ExpressionParser.{target_tree, target_height, climb, choice, expression_at, below}
-use Rattle.pc_parser.specs.models.StatementParser.{assignment_from, step_from, symbol_of, length_of, natural, name_budget, test_at, closed_behind, closed, target_on, target_at, evaluation}
+use Rattle.pc_parser.specs.models.StatementParser.{assignment_from, step_from, symbol_of, length_of, natural, name_budget, parenthesized_at, closed_behind, closed, target_on, target_at, evaluation}
 use Rattle.pc_parser.specs.models.StatementParser.{evaluation_from, print_at, step_before, assignment, behind_target, on_target, named, marked, simple_on, simple_at, ended_at, array}
 use Rattle.pc_parser.specs.models.StatementParser.{initialised, declarator_on, declarator_at, last_declarator, declarators_at, declaration_at, first_at, condition_at, step_at}
 use Rattle.pc_parser.proofs.Tokens.{key_is-true}
@@ -83,9 +83,9 @@ module _ (tokens : List Token) where
     pub low : h ≤ b
     pub within : q ≤ length tokens
 
-  pub test_at-holds : (b p : ℕ) → p ≤ length tokens → Good (length tokens) (b + p) (IsTest b p) (test_at tokens b p)
-  unfolding test_at
-  test_at-holds b p within =
+  pub parenthesized_at-holds : (b p : ℕ) → p ≤ length tokens → Good (length tokens) (b + p) (IsTest b p) (parenthesized_at tokens b p)
+  unfolding parenthesized_at
+  parenthesized_at-holds b p within =
       expect-good tokens (b + p) marks.LeftParen p (IsTest b p) _ within (λ open' below'.
       after-good (length tokens) (b + p) (b + (p + 1)) (Sound tokens b 0 (p + 1)) (IsTest b p) (expression_at tokens b 0 (p + 1)) _ (omega arith)
       (expression_at-holds tokens b 0 (p + 1) (omega arith) (omega arith)) (λ t h q sound.
@@ -144,8 +144,8 @@ module _ (tokens : List Token) where
     print_at-holds p is =
         let within = inside tokens p _ is in
         allowed-good (length tokens) (b - 1 + p) 2 b p (IsSimple b p) _ (λ high. omega arith) (omega arith) (λ low.
-        after-good (length tokens) (b - 1 + p) (b - 1 + (p + 1)) (IsTest (b - 1) (p + 1)) (IsSimple b p) (test_at tokens (b - 1) (p + 1)) _ (omega arith)
-        (test_at-holds (b - 1) (p + 1) (omega arith)) (λ t h q test.
+        after-good (length tokens) (b - 1 + p) (b - 1 + (p + 1)) (IsTest (b - 1) (p + 1)) (IsSimple b p) (parenthesized_at tokens (b - 1) (p + 1)) _ (omega arith)
+        (parenthesized_at-holds (b - 1) (p + 1) (omega arith)) (λ t h q test.
         let a = test.low in let l = test.long in record { reads = ReadsSimple.print is test.reads; low = omega arith; long = omega arith; within = test.within }))
 
     step_before-holds : (mark : Mark) (op : BinaryOp) (p : ℕ) → kind_at tokens p ≡ Some (kinds.Mark mark) → step_of mark ≡ Some op →

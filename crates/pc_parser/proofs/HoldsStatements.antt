@@ -14,7 +14,7 @@ use Rattle.pc_parser.specs.models.Tests.{is_key, mark_is, key_is}
 use Rattle.pc_parser.specs.Statements.{ends_open, ReadsSimple, ReadsStatement, ReadsItems, ReadsProgram}
 use Rattle.pc_parser.specs.models.Outcome.{ParseOutcome, Parsed, Unreadable, TooHigh, after}
 use Rattle.pc_parser.specs.models.ExpressionParser.{expression_at}
-use Rattle.pc_parser.specs.models.StatementParser.{test_at, ended_at, declaration_at, first_at, condition_at, step_at, item_at, items_at, block_at, otherwise_at, branch_at, while_at, do_at}
+use Rattle.pc_parser.specs.models.StatementParser.{parenthesized_at, ended_at, declaration_at, first_at, condition_at, step_at, item_at, items_at, block_at, otherwise_at, branch_at, while_at, do_at}
 use Rattle.pc_parser.specs.models.StatementParser.{for_body, for_at, lone, return_at, keyed, started, statement_on, statement_from, statement_at, statement_below, nothing_behind, main_block}
 use Rattle.pc_parser.specs.models.StatementParser.{program_at}
 use Rattle.pc_parser.proofs.Tokens.{is_key-of, mark_is-true, key_is-true}
@@ -22,7 +22,7 @@ use Rattle.pc_parser.proofs.Finds.{false_from}
 use Rattle.pc_parser.proofs.Onward.{inside, test-onward, simple-onward, items-onward}
 use Rattle.pc_parser.proofs.Holds.{Good, after-good, cond-good, allowed-good, expect-good, expect_key-good, on_mark-good, on_key-good}
 use Rattle.pc_parser.proofs.HoldsExpressions.{Sound, expression_at-holds}
-use Rattle.pc_parser.proofs.HoldsSimple.{IsTest, IsClosed, IsDeclaration, FirstPart, IsCondition, IsStep, test_at-holds, ended_at-holds, declaration_at-holds, first_at-holds}
+use Rattle.pc_parser.proofs.HoldsSimple.{IsTest, IsClosed, IsDeclaration, FirstPart, IsCondition, IsStep, parenthesized_at-holds, ended_at-holds, declaration_at-holds, first_at-holds}
 use Rattle.pc_parser.proofs.HoldsSimple.{condition_at-holds, step_at-holds}
 
 module _ (tokens : List Token) where
@@ -129,8 +129,8 @@ module _ (tokens : List Token) where
     branch_at-holds p is =
         let within = inside tokens p _ is in
         allowed-good (length tokens) (b - 1 + p) 2 b p (IsStatement b p) _ (λ high. omega arith) (omega arith) (λ low.
-        after-good (length tokens) (b - 1 + p) (b - 1 + (p + 1)) (IsTest tokens (b - 1) (p + 1)) (IsStatement b p) (test_at tokens (b - 1) (p + 1)) _ (omega arith)
-        (test_at-holds tokens (b - 1) (p + 1) (omega arith)) (λ test i q first.
+        after-good (length tokens) (b - 1 + p) (b - 1 + (p + 1)) (IsTest tokens (b - 1) (p + 1)) (IsStatement b p) (parenthesized_at tokens (b - 1) (p + 1)) _ (omega arith)
+        (parenthesized_at-holds tokens (b - 1) (p + 1) (omega arith)) (λ test i q first.
         let onward = test-onward tokens (p + 1) test i q first.reads in
         after-good (length tokens) (b - 1 + p) (b - 1 - 1 + q) (IsStatement (b - 1) q) (IsStatement b p) (inner q) _ (omega arith) (holds q first.within) (λ body j at good.
         otherwise_at-holds p test body i q j at low is first good)))
@@ -140,8 +140,8 @@ module _ (tokens : List Token) where
     while_at-holds p is =
         let within = inside tokens p _ is in
         allowed-good (length tokens) (b - 1 + p) 2 b p (IsStatement b p) _ (λ high. omega arith) (omega arith) (λ low.
-        after-good (length tokens) (b - 1 + p) (b - 1 + (p + 1)) (IsTest tokens (b - 1) (p + 1)) (IsStatement b p) (test_at tokens (b - 1) (p + 1)) _ (omega arith)
-        (test_at-holds tokens (b - 1) (p + 1) (omega arith)) (λ test i q first.
+        after-good (length tokens) (b - 1 + p) (b - 1 + (p + 1)) (IsTest tokens (b - 1) (p + 1)) (IsStatement b p) (parenthesized_at tokens (b - 1) (p + 1)) _ (omega arith)
+        (parenthesized_at-holds tokens (b - 1) (p + 1) (omega arith)) (λ test i q first.
         let a = first.low in let onward = test-onward tokens (p + 1) test i q first.reads in
         after-good (length tokens) (b - 1 + p) (b - 1 - 1 + q) (IsStatement (b - 1) q) (IsStatement b p) (inner q) _ (omega arith) (holds q first.within) (λ body j to good.
         let c = good.low in let onward' = good.onward in
@@ -155,8 +155,8 @@ module _ (tokens : List Token) where
         after-good (length tokens) (b - 1 + p) (b - 1 - 1 + (p + 1)) (IsStatement (b - 1) (p + 1)) (IsStatement b p) (inner (p + 1)) _ (omega arith) (holds (p + 1) (omega arith)) (λ body i q good.
         let c = good.low in let onward' = good.onward in
         expect_key-good tokens (b - 1 + p) keys.While q (IsStatement b p) _ good.within (λ while' below'.
-        after-good (length tokens) (b - 1 + p) (b - 1 + (q + 1)) (IsTest tokens (b - 1) (q + 1)) (IsStatement b p) (test_at tokens (b - 1) (q + 1)) _ (omega arith)
-        (test_at-holds tokens (b - 1) (q + 1) (omega arith)) (λ test j r last.
+        after-good (length tokens) (b - 1 + p) (b - 1 + (q + 1)) (IsTest tokens (b - 1) (q + 1)) (IsStatement b p) (parenthesized_at tokens (b - 1) (q + 1)) _ (omega arith)
+        (parenthesized_at-holds tokens (b - 1) (q + 1) (omega arith)) (λ test j r last.
         let a = last.low in let onward = test-onward tokens (q + 1) test j r last.reads in
         expect-good tokens (b - 1 + p) marks.Semicolon r (IsStatement b p) _ last.within (λ close' below''.
         record { reads = ReadsStatement.do_loop is good.reads while' last.reads close'; low = omega arith; within = omega arith; onward = omega arith; shut = λ t. cc })))))

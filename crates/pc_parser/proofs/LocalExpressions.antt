@@ -14,7 +14,7 @@ use Rattle.pc_parser.specs.models.Tests.{is_mark, mark_is, key_is}
 use Rattle.pc_parser.specs.Operators.{infixed}
 use Rattle.pc_parser.specs.Statements.{Target}
 use Rattle.pc_parser.specs.models.Outcome.{ParseOutcome, Parsed, Unreadable, TooHigh, after, allowed, expect}
-use Rattle.pc_parser.specs.models.ExpressionParser.{Inner, operator_from, sign_of, target_named, number_at, name_at, grouped, input, primary_on, signed, unary_on, unary_at, joined_at}
+use Rattle.pc_parser.specs.models.ExpressionParser.{Inner, operator_from, sign_of, target_named, literal_at, name_at, grouped, input, primary_on, signed, unary_on, unary_at, infixed_at}
 use Rattle.pc_parser.specs.models.ExpressionParser.{last_turn, turn, climb, choice, operand, part, expression_at, below}
 use Rattle.pc_parser.proofs.Local.{Budgets, Local, parsed, unreadable, too_high, earlier, after-local, allowed-local, look, look_line, if-local, expect-local}
 
@@ -32,8 +32,8 @@ input_with tokens inner budget from line = allowed 1 budget from
     (expect tokens marks.RightParen (from + 2)
     (Parsed (Input line) 1 (from + 3))))
 
-abbrev joined_with : List Token → Inner → ℕ → SourceExpression → (height at : ℕ) → Operator × ℕ → (line : ℕ) → ParseOutcome SourceExpression
-joined_with tokens inner budget left height at found line = allowed (height + 1) budget at (after (inner (found.1 + 1) (at + 1)) (λ right other to.
+abbrev infixed_with : List Token → Inner → ℕ → SourceExpression → (height at : ℕ) → Operator × ℕ → (line : ℕ) → ParseOutcome SourceExpression
+infixed_with tokens inner budget left height at found line = allowed (height + 1) budget at (after (inner (found.1 + 1) (at + 1)) (λ right other to.
     Parsed (infixed found.0 line left right) (max height other + 1) to))
 
 module _ (k : ℕ) (E : Type 0) (ts ws : List Token) (kinds_agree : (i : ℕ) → i ≤ k → kind_at ws i ≡ kind_at ts i)
@@ -71,9 +71,9 @@ module _ (k : ℕ) (E : Type 0) (ts ws : List Token) (kinds_agree : (i : ℕ) �
       (earlier k E 1 (from + 2) 0 (from + 1 + 1) _ _ (omega arith) (omega arith)
       (expect-local k E ts ws kinds_agree lines_agree marks.RightParen (from + 2) _ _ (parsed k E 0 (from + 2 + 1) (Input line) 1 (from + 3) (omega arith)))))))
 
-  pub number_at-local : (value : ℤ) (from : ℕ) → Local k E 1 from (number_at ts inner b value from) (number_at ws other c value from)
-  unfolding number_at
-  number_at-local value from = allowed-local k E 1 b c from 1 from _ _ budgets (omega arith) (parsed k E 1 from _ 1 (from + 1) (omega arith))
+  pub literal_at-local : (value : ℤ) (from : ℕ) → Local k E 1 from (literal_at ts inner b value from) (literal_at ws other c value from)
+  unfolding literal_at
+  literal_at-local value from = allowed-local k E 1 b c from 1 from _ _ budgets (omega arith) (parsed k E 1 from _ 1 (from + 1) (omega arith))
 
   pub name_at-local : (symbol from : ℕ) → Local k E 1 from (name_at ts inner b symbol from) (name_at ws other c symbol from)
   unfolding name_at
@@ -83,7 +83,7 @@ module _ (k : ℕ) (E : Type 0) (ts ws : List Token) (kinds_agree : (i : ℕ) �
 
   pub primary_on-local : (kind : Option TokenKind) (from : ℕ) → Local k E 1 from (primary_on ts inner b kind from) (primary_on ws other c kind from)
   unfolding primary_on
-  primary_on-local (Some (kinds.Number value)) from = number_at-local value from
+  primary_on-local (Some (kinds.Number value)) from = literal_at-local value from
   primary_on-local (Some (kinds.Name symbol)) from = name_at-local symbol from
   primary_on-local (Some (kinds.Key key)) from = chosen (key_is key keys.Read)
     where
@@ -111,10 +111,10 @@ module _ (k : ℕ) (E : Type 0) (ts ws : List Token) (kinds_agree : (i : ℕ) �
       on (Some sign) = signed-local sign from
       on None = look k E ts ws kinds_agree lines_agree 1 from (λ kind. primary_on ts inner b kind from) (λ kind. primary_on ws other c kind from) (λ kind. primary_on-local kind from)
 
-  pub joined_at-local : (left : SourceExpression) (height at : ℕ) (found : Operator × ℕ) → Local k E 0 at (joined_at ts inner b left height at found) (joined_at ws other c left height at found)
-  unfolding joined_at
-  joined_at-local left height at found =
-      look_line k E ts ws kinds_agree lines_agree 0 at (joined_with ts inner b left height at found) (joined_with ws other c left height at found) (λ line.
+  pub infixed_at-local : (left : SourceExpression) (height at : ℕ) (found : Operator × ℕ) → Local k E 0 at (infixed_at ts inner b left height at found) (infixed_at ws other c left height at found)
+  unfolding infixed_at
+  infixed_at-local left height at found =
+      look_line k E ts ws kinds_agree lines_agree 0 at (infixed_with ts inner b left height at found) (infixed_with ws other c left height at found) (λ line.
       allowed-local k E (height + 1) b c at 0 at _ _ budgets (omega arith)
       (earlier k E 1 (at + 1) 0 at _ _ (omega arith) (omega arith)
       (after-local k E 1 0 (at + 1) (inner (found.1 + 1) (at + 1)) (other (found.1 + 1) (at + 1)) _ _ (inners (found.1 + 1) (at + 1))
@@ -169,7 +169,7 @@ module _ (k : ℕ) (E : Type 0) (ts ws : List Token) (kinds_agree : (i : ℕ) �
           (found : Option (Operator × ℕ)) → Local k E 0 at (turn ts inner b f left height at found) (turn ws other c g left height at found)
       turned left height at f g next None = parsed k E 0 at left height at (omega arith)
       turned left height at f g next (Some found) =
-          after-local k E 0 0 at (joined_at ts inner b left height at found) (joined_at ws other c left height at found) f g (joined_at-local left height at found)
+          after-local k E 0 0 at (infixed_at ts inner b left height at found) (infixed_at ws other c left height at found) f g (infixed_at-local left height at found)
           (λ left' height' at' onward. next left' height' at')
 
   pub operand-local : (level from : ℕ) → Local k E 1 from (operand ts inner b level from) (operand ws other c level from)

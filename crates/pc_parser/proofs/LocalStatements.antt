@@ -17,7 +17,7 @@ use Rattle.pc_parser.specs.Operators.{step_of}
 use Rattle.pc_parser.specs.Statements.{Target, assigned}
 use Rattle.pc_parser.specs.models.Outcome.{ParseOutcome, Parsed, Unreadable, TooHigh, after, allowed, expect, expect_key}
 use Rattle.pc_parser.specs.models.ExpressionParser.{target_tree, target_height, climb, choice, expression_at, below}
-use Rattle.pc_parser.specs.models.StatementParser.{assignment_from, step_from, symbol_of, length_of, name_budget, test_at, closed_behind, closed, target_on, target_at, evaluation}
+use Rattle.pc_parser.specs.models.StatementParser.{assignment_from, step_from, symbol_of, length_of, name_budget, parenthesized_at, closed_behind, closed, target_on, target_at, evaluation}
 use Rattle.pc_parser.specs.models.StatementParser.{evaluation_from, print_at, step_before, assignment, behind_target, on_target, named, marked, simple_on, simple_at, ended_at, array}
 use Rattle.pc_parser.specs.models.StatementParser.{initialised, declarator_on, declarator_at, last_declarator, declarators_at, declaration_at, first_at, condition_at, step_at, item_at}
 use Rattle.pc_parser.specs.models.StatementParser.{items_at, block_at, otherwise_at, branch_at, while_at, do_at, for_body, for_at, lone, return_at, keyed, started, statement_on}
@@ -68,9 +68,9 @@ module _ (k : ℕ) (E : Type 0) (ts ws : List Token) (kinds_agree : (i : ℕ) �
   Budgets-name : (b c : ℕ) → Budgets E b c → Budgets E (name_budget b) (name_budget c)
   Budgets-name b c h = let low = h.low in record { low = omega arith; same = λ e. ap name_budget (h.same e) }
 
-  pub test_at-local : (b c : ℕ) → Budgets E b c → (from : ℕ) → Local k E 1 from (test_at ts b from) (test_at ws c from)
-  unfolding test_at
-  test_at-local b c budgets from =
+  pub parenthesized_at-local : (b c : ℕ) → Budgets E b c → (from : ℕ) → Local k E 1 from (parenthesized_at ts b from) (parenthesized_at ws c from)
+  unfolding parenthesized_at
+  parenthesized_at-local b c budgets from =
       mark_then marks.LeftParen from (up 1 (from + 1) 0 (from + 1) (omega arith) (omega arith)
       (next _ _ (whole b c budgets (from + 1)) (λ tree height to onward. mark_then marks.RightParen to (done 0 (to + 1) (omega arith)))))
 
@@ -131,10 +131,10 @@ module _ (k : ℕ) (E : Type 0) (ts ws : List Token) (kinds_agree : (i : ℕ) �
     pub print_at-local : (from : ℕ) → Local k E 1 from (print_at ts b from) (print_at ws c from)
     unfolding print_at
     print_at-local from =
-        by_line 1 from (λ line. allowed 2 b from (after (test_at ts (b - 1) (from + 1)) (printed line)))
-        (λ line. allowed 2 c from (after (test_at ws (c - 1) (from + 1)) (printed line))) (λ line.
+        by_line 1 from (λ line. allowed 2 b from (after (parenthesized_at ts (b - 1) (from + 1)) (printed line)))
+        (λ line. allowed 2 c from (after (parenthesized_at ws (c - 1) (from + 1)) (printed line))) (λ line.
         within 2 b c from 1 from budgets (omega arith) (up 1 (from + 1) 1 from (omega arith) (omega arith)
-        (next _ _ (test_at-local (b - 1) (c - 1) (Budgets-less budgets) (from + 1)) (λ value height to onward. done 0 to (omega arith)))))
+        (next _ _ (parenthesized_at-local (b - 1) (c - 1) (Budgets-less budgets) (from + 1)) (λ value height to onward. done 0 to (omega arith)))))
 
     abbrev stepped : BinaryOp → ℕ → Target → (height to : ℕ) → ParseOutcome SourceStatement
     stepped op line target height to = Parsed (assigned target (Some op) line (Literal (pos 1))) (height + 1) to
@@ -337,30 +337,30 @@ module _ (k : ℕ) (E : Type 0) (ts ws : List Token) (kinds_agree : (i : ℕ) �
         on_key keys.Else 0 at (up 1 (at + 1) 0 at (omega arith) (omega arith) (next _ _ (inners (at + 1)) (λ last l to onward. done 0 to (omega arith)))) (done 0 at (omega arith))
 
     abbrev branch_with : List Token → ((from : ℕ) → ParseOutcome SourceStatement) → ℕ → (from line : ℕ) → ParseOutcome SourceStatement
-    branch_with tokens deep budget from line = allowed 2 budget from (after (test_at tokens (budget - 1) (from + 1)) (λ test i q.
+    branch_with tokens deep budget from line = allowed 2 budget from (after (parenthesized_at tokens (budget - 1) (from + 1)) (λ test i q.
         after (deep q) (λ body j at. otherwise_at tokens deep budget line test body i j at)))
 
     pub branch_at-local : (from : ℕ) → Local k E 1 from (branch_at ts inner b from) (branch_at ws other c from)
     unfolding branch_at
     branch_at-local from = by_line 1 from (branch_with ts inner b from) (branch_with ws other c from) (λ line.
         within 2 b c from 1 from budgets (omega arith) (up 1 (from + 1) 1 from (omega arith) (omega arith)
-        (next _ _ (test_at-local (b - 1) (c - 1) (Budgets-less budgets) (from + 1)) (λ test i q onward.
+        (next _ _ (parenthesized_at-local (b - 1) (c - 1) (Budgets-less budgets) (from + 1)) (λ test i q onward.
         up 1 q 0 q (omega arith) (omega arith) (next _ _ (inners q) (λ body j at behind. otherwise_at-local line test body i j at))))))
 
     abbrev while_with : List Token → ((from : ℕ) → ParseOutcome SourceStatement) → ℕ → (from line : ℕ) → ParseOutcome SourceStatement
-    while_with tokens deep budget from line = allowed 2 budget from (after (test_at tokens (budget - 1) (from + 1)) (λ test i q.
+    while_with tokens deep budget from line = allowed 2 budget from (after (parenthesized_at tokens (budget - 1) (from + 1)) (λ test i q.
         after (deep q) (λ body j to. Parsed (WhileLoop line test body) (max i j + 1) to)))
 
     pub while_at-local : (from : ℕ) → Local k E 1 from (while_at ts inner b from) (while_at ws other c from)
     unfolding while_at
     while_at-local from = by_line 1 from (while_with ts inner b from) (while_with ws other c from) (λ line.
         within 2 b c from 1 from budgets (omega arith) (up 1 (from + 1) 1 from (omega arith) (omega arith)
-        (next _ _ (test_at-local (b - 1) (c - 1) (Budgets-less budgets) (from + 1)) (λ test i q onward.
+        (next _ _ (parenthesized_at-local (b - 1) (c - 1) (Budgets-less budgets) (from + 1)) (λ test i q onward.
         up 1 q 0 q (omega arith) (omega arith) (next _ _ (inners q) (λ body j to behind. done 0 to (omega arith)))))))
 
     abbrev do_with : List Token → ((from : ℕ) → ParseOutcome SourceStatement) → ℕ → (from line : ℕ) → ParseOutcome SourceStatement
     do_with tokens deep budget from line = allowed 2 budget from (after (deep (from + 1)) (λ body i q.
-        expect_key tokens keys.While q (after (test_at tokens (budget - 1) (q + 1)) (λ test j r.
+        expect_key tokens keys.While q (after (parenthesized_at tokens (budget - 1) (q + 1)) (λ test j r.
         expect tokens marks.Semicolon r (Parsed (DoLoop line body test) (max i j + 1) (r + 1))))))
 
     pub do_at-local : (from : ℕ) → Local k E 1 from (do_at ts inner b from) (do_at ws other c from)
@@ -369,7 +369,7 @@ module _ (k : ℕ) (E : Type 0) (ts ws : List Token) (kinds_agree : (i : ℕ) �
         within 2 b c from 1 from budgets (omega arith) (up 1 (from + 1) 1 from (omega arith) (omega arith)
         (next _ _ (inners (from + 1)) (λ body i q onward.
         up 1 q 0 q (omega arith) (omega arith) (key_then keys.While q
-        (up 1 (q + 1) 0 (q + 1) (omega arith) (omega arith) (next _ _ (test_at-local (b - 1) (c - 1) (Budgets-less budgets) (q + 1)) (λ test j r behind.
+        (up 1 (q + 1) 0 (q + 1) (omega arith) (omega arith) (next _ _ (parenthesized_at-local (b - 1) (c - 1) (Budgets-less budgets) (q + 1)) (λ test j r behind.
         up 1 r 0 r (omega arith) (omega arith) (mark_then marks.Semicolon r (done 0 (r + 1) (omega arith)))))))))))
 
     pub for_body-local : (line : ℕ) (first : SourceList) (test : SourceExpression) (step : OptionalStatement) (height at : ℕ) →

@@ -1,7 +1,7 @@
 ghost use Rattle.std.specs.Prelude.{◌≡◌, ℕ, ◌+◌, ◌<◌, ◌≤◌, None, length, IfOk};
 ghost use Rattle.pc_word.specs.SourceLimits.{most_tokens};
 ghost use Rattle.pc_syntax.specs.Erasure.{expression_of};
-ghost use Rattle.pc_parser.specs.models.ExpressionParser.{target_named, name_at, number_at, grouped, input, primary_on, signed, unary_at, joined_at, choice, climb, operand, expression_at, below};
+ghost use Rattle.pc_parser.specs.models.ExpressionParser.{target_named, name_at, literal_at, grouped, input, primary_on, signed, unary_at, infixed_at, choice, climb, operand, expression_at, below};
 ghost use Rattle.pc_parser.specs.models.Parsing.{GivesParsed, target_of, AtPlace, UpTo};
 ghost use Rattle.pc_parser.specs.Places.{kind_at};
 
@@ -119,7 +119,7 @@ pub(crate) fn climb(
 
 /// Reads the operand behind an operator, and joins the two.
 #[cycle(expression)]
-#[tactic(auto, using(crate::proofs::Budgets::budgets), unfolding(crate::specs::models::ExpressionParser::joined_at))]
+#[tactic(auto, using(crate::proofs::Budgets::budgets), unfolding(crate::specs::models::ExpressionParser::infixed_at))]
 fn join(
     alloc: Global,
     tokens: &[Token],
@@ -132,7 +132,7 @@ fn join(
     requires low { left.height ≤ budget }
     requires tight { rank ≤ 10 }
     requires more { left.next + 1 ≤ length tokens.now }
-    ensures gives { GivesParsed expression_of result (joined_at tokens.now (below tokens.now budget) budget (expression_of left.tree) left.height left.next (operator, rank)) }
+    ensures gives { GivesParsed expression_of result (infixed_at tokens.now (below tokens.now budget) budget (expression_of left.tree) left.height left.next (operator, rank)) }
     ensures ends { IfOk result (λ parsed. UpTo tokens.now budget parsed.height parsed.next) }
 {
     let at = left.next;
@@ -220,7 +220,7 @@ fn primary(
 }
 
 /// A number.
-#[tactic(auto, using(crate::proofs::Budgets::budgets, crate::proofs::Budgets::tree_forms), unfolding(crate::specs::models::ExpressionParser::number_at))]
+#[tactic(auto, using(crate::proofs::Budgets::budgets, crate::proofs::Budgets::tree_forms), unfolding(crate::specs::models::ExpressionParser::literal_at))]
 fn number(
     tokens: &[Token],
     budget: usize,
@@ -230,7 +230,7 @@ fn number(
     requires stands { AtPlace tokens.now budget place }
     requires more { place + 1 ≤ length tokens.now }
     ensures ends { IfOk result (λ parsed. UpTo tokens.now budget parsed.height parsed.next) }
-    ensures gives { GivesParsed expression_of result (number_at tokens.now (below tokens.now budget) budget value place) }
+    ensures gives { GivesParsed expression_of result (literal_at tokens.now (below tokens.now budget) budget value place) }
 {
     within(1, budget, place)?;
     Ok(Parsed {

@@ -4,7 +4,7 @@ ghost use Rattle.pc_syntax.specs.Erasure.{expression_of, statement_of};
 ghost use Rattle.pc_parser.specs.Places.{kind_at, line_at};
 ghost use Rattle.pc_syntax.specs.Source.{Evaluation, Literal};
 ghost use Rattle.pc_parser.specs.Statements.{assigned};
-ghost use Rattle.pc_parser.specs.models.StatementParser.{test_at, closed_behind, name_budget, target_at, evaluation, evaluation_from, print_at, step_before, assignment, behind_target};
+ghost use Rattle.pc_parser.specs.models.StatementParser.{parenthesized_at, closed_behind, name_budget, target_at, evaluation, evaluation_from, print_at, step_before, assignment, behind_target};
 ghost use Rattle.pc_parser.specs.models.StatementParser.{on_target, named, marked, simple_on, simple_at, assignment_from, step_from};
 ghost use Rattle.pc_parser.specs.models.Parsing.{GivesParsed, target_of, AtPlace, UpTo};
 
@@ -18,7 +18,7 @@ use pc_syntax::{BinaryOp, Expr, Stmt};
 use std::alloc::Global;
 
 /// Reads an expression in the parentheses that a keyword wants.
-#[tactic(auto, using(crate::proofs::Budgets::budgets), unfolding(crate::specs::models::StatementParser::test_at))]
+#[tactic(auto, using(crate::proofs::Budgets::budgets), unfolding(crate::specs::models::StatementParser::parenthesized_at))]
 pub(crate) fn test(
     alloc: Global,
     tokens: &[Token],
@@ -26,7 +26,7 @@ pub(crate) fn test(
     place: usize,
 ) -> Result<Parsed<Expr>, Failure>
     requires { AtPlace tokens.now budget place }
-    ensures gives { GivesParsed expression_of result (test_at tokens.now budget place) }
+    ensures gives { GivesParsed expression_of result (parenthesized_at tokens.now budget place) }
     ensures ends { IfOk result (λ parsed. UpTo tokens.now budget parsed.height parsed.next) }
 {
     expect(tokens, Mark::LeftParen, place)?;

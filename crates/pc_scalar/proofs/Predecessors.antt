@@ -12,7 +12,7 @@ use Rattle.pc_scalar.specs.declared.before.Predecessor.{Predecessor}
 use Rattle.pc_scalar.specs.declared.before.Predecessor.TheVariants.{Nothing, Only, Several}
 use Rattle.pc_scalar.specs.Chain.{FollowsAlone}
 use Rattle.pc_scalar.specs.models.Ends.{NodeThere}
-use Rattle.pc_scalar.specs.models.Before.{joined, noted, IsBefore}
+use Rattle.pc_scalar.specs.models.Before.{with_edge, noted, IsBefore}
 
 module _ (flow : FlowGraph) (bound : ℕ) where
   -- whether the node with this number leads to another
@@ -41,7 +41,7 @@ module _ (flow : FlowGraph) (bound : ℕ) where
 
   -- an item that leads there
   one_item : (to : ℕ) (item : Item) (known : Predecessor) → IsReachableNode flow bound → slice_get flow.nodes bound ≡ Some (Op item to) → IsBefore flow bound to known
-      → IsBefore flow (bound + 1) to (joined bound known)
+      → IsBefore flow (bound + 1) to (with_edge bound known)
   one_item to item Nothing reached there h = (
     omega arith,
     h.0,
@@ -81,13 +81,13 @@ pub note_node : (flow : FlowGraph) (bound : ℕ) (table : List Predecessor) (nod
     → (to : ℕ) → to < length flow.nodes → IsBefore flow (bound + 1) to (slice_index_or (noted node bound table) to Nothing)
 note_node flow bound table (Op item next) long reached there within each to low = elim (cases_eq to next) [
   | inl same ↦
-      let is : slice_index_or (noted (Op item next) bound table) to Nothing ≡ joined bound (slice_index_or table next Nothing) =
-      ap (λ (n : ℕ). slice_index_or (noted (Op item next) bound table) n Nothing) same ∙ get_or-set_same table next (joined bound (slice_index_or table next Nothing)) Nothing within in
+      let is : slice_index_or (noted (Op item next) bound table) to Nothing ≡ with_edge bound (slice_index_or table next Nothing) =
+      ap (λ (n : ℕ). slice_index_or (noted (Op item next) bound table) n Nothing) same ∙ get_or-set_same table next (with_edge bound (slice_index_or table next Nothing)) Nothing within in
       subst (IsBefore flow (bound + 1) to) (sym is)
-      (subst (λ (n : ℕ). IsBefore flow (bound + 1) n (joined bound (slice_index_or table next Nothing))) (sym same)
+      (subst (λ (n : ℕ). IsBefore flow (bound + 1) n (with_edge bound (slice_index_or table next Nothing))) (sym same)
       (one_item flow bound next item (slice_index_or table next Nothing) reached there (each next (omega (arith, within, long)))))
   | inr apart ↦
-      subst (IsBefore flow (bound + 1) to) (sym (get_or-set_other table next to (joined bound (slice_index_or table next Nothing)) Nothing apart))
+      subst (IsBefore flow (bound + 1) to) (sym (get_or-set_other table next to (with_edge bound (slice_index_or table next Nothing)) Nothing apart))
       (quiet flow bound to (slice_index_or table to Nothing) (each to low) (λ other r stands edge.
       let is : Op item next ≡ other = (cc) in
       apart (sym (subst (λ (n : FlowNode). HasEdge n to) (sym is) edge))))
@@ -143,7 +143,7 @@ note_first flow table e entry to low = subst (λ (t : List Predecessor). IsBefor
 
 -- the list stays as long
 pub noted_length : (node : FlowNode) (at : ℕ) (table : List Predecessor) → length (noted node at table) ≡ length table
-noted_length (Op item to) at table = length-set table to (joined at (slice_index_or table to Nothing))
+noted_length (Op item to) at table = length-set table to (with_edge at (slice_index_or table to Nothing))
 noted_length (Test on on_yes on_no turn) at table = length-set (slice_set table on_yes Several) on_no Several ∙ length-set table on_yes Several
 noted_length Stop at table = refl
 noted_length (Trap kind line) at table = refl

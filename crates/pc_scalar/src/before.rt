@@ -1,7 +1,7 @@
 //! Which node leads to each, where one item alone does.
 ghost use Rattle.std.specs.Prelude.{◌≡◌, length, replicate, IfOk};
 ghost use Rattle.pc_scalar.specs.models.Met.{AreReached};
-ghost use Rattle.pc_scalar.specs.models.Before.{joined, noted, AreBefore};
+ghost use Rattle.pc_scalar.specs.models.Before.{with_edge, noted, AreBefore};
 ghost use Rattle.pc_scalar.specs.models.Ends.{NodeThere};
 
 use pc_flow::{Flow, FlowNode};
@@ -55,7 +55,7 @@ fn note(table: &mut [Predecessor], node: FlowNode, at: u32)
     match node {
         FlowNode::Op { next, .. } => {
             let known = table[next as usize];
-            table[next as usize] = joined(known, at);
+            table[next as usize] = with_edge(known, at);
         }
         FlowNode::Test { yes, no, .. } => {
             table[yes as usize] = Predecessor::Several;
@@ -65,9 +65,9 @@ fn note(table: &mut [Predecessor], node: FlowNode, at: u32)
     }
 }
 
-/// What leads to a node, with an item more.
-fn joined(known: Predecessor, from: u32) -> Predecessor
-    ensures { result ≡ joined from known }
+/// What leads to a node, with the edge of an item more.
+fn with_edge(known: Predecessor, from: u32) -> Predecessor
+    ensures { result ≡ with_edge from known }
 {
     match known {
         Predecessor::Nothing => Predecessor::Only(from),

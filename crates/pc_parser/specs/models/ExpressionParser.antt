@@ -78,8 +78,8 @@ module _ (tokens : List Token) (inner : Inner) (budget : ℕ) where
       (Parsed (Input (line_at tokens from)) 1 (from + 3))))
 
   -- a number
-  unfoldable pub number_at : (value : ℤ) → (from : ℕ) → ParseOutcome SourceExpression
-  number_at value from = allowed 1 budget from (Parsed (Literal value) 1 (from + 1))
+  unfoldable pub literal_at : (value : ℤ) → (from : ℕ) → ParseOutcome SourceExpression
+  literal_at value from = allowed 1 budget from (Parsed (Literal value) 1 (from + 1))
 
   -- a name, or an element of the array with the name
   unfoldable pub name_at : (symbol from : ℕ) → ParseOutcome SourceExpression
@@ -88,7 +88,7 @@ module _ (tokens : List Token) (inner : Inner) (budget : ℕ) where
 
   -- the primary expression that begins with this token
   unfoldable pub primary_on : Option TokenKind → (from : ℕ) → ParseOutcome SourceExpression
-  primary_on (Some (kinds.Number value)) from = number_at value from
+  primary_on (Some (kinds.Number value)) from = literal_at value from
   primary_on (Some (kinds.Name symbol)) from = name_at symbol from
   primary_on (Some (kinds.Key key)) from = if key_is key keys.Read then input from else Unreadable from
   primary_on (Some (kinds.Mark mark)) from = if mark_is mark marks.LeftParen then grouped from else Unreadable from
@@ -113,15 +113,15 @@ module _ (tokens : List Token) (inner : Inner) (budget : ℕ) where
   last_turn left height at (Some found) = TooHigh at
 
   -- an operand joined by an operator to the operand behind it
-  unfoldable pub joined_at : SourceExpression → (height at : ℕ) → Operator × ℕ → ParseOutcome SourceExpression
-  joined_at left height at found = allowed (height + 1) budget at (after (inner (found.1 + 1) (at + 1)) (λ right other to.
+  unfoldable pub infixed_at : SourceExpression → (height at : ℕ) → Operator × ℕ → ParseOutcome SourceExpression
+  infixed_at left height at found = allowed (height + 1) budget at (after (inner (found.1 + 1) (at + 1)) (λ right other to.
       Parsed (infixed found.0 (line_at tokens at) left right) (max height other + 1) to))
 
   -- an operand, and where an operator follows, what goes on behind the two that it joins
   unfoldable pub turn : (SourceExpression → (height at : ℕ) → ParseOutcome SourceExpression) →
       SourceExpression → (height at : ℕ) → Option (Operator × ℕ) → ParseOutcome SourceExpression
   turn next left height at None = Parsed left height at
-  turn next left height at (Some found) = after (joined_at left height at found) next
+  turn next left height at (Some found) = after (infixed_at left height at found) next
 
   -- an operand with the operators of a level or a tighter one that follow it, as many as there are turns
   unfoldable pub climb : (level turns : ℕ) → SourceExpression → (height at : ℕ) → ParseOutcome SourceExpression

@@ -61,8 +61,8 @@ name_budget budget = max (budget - 1) 1
 
 module _ (tokens : List Token) where
   -- `(` expression `)`
-  unfoldable pub test_at : (budget from : ℕ) → ParseOutcome SourceExpression
-  test_at budget from = expect tokens marks.LeftParen from (after (expression_at tokens budget 0 (from + 1)) (λ tree height to.
+  unfoldable pub parenthesized_at : (budget from : ℕ) → ParseOutcome SourceExpression
+  parenthesized_at budget from = expect tokens marks.LeftParen from (after (expression_at tokens budget 0 (from + 1)) (λ tree height to.
       expect tokens marks.RightParen to (Parsed tree height (to + 1))))
 
   -- a statement in front of this mark; only here is its height compared
@@ -106,7 +106,7 @@ module _ (tokens : List Token) where
 
     -- `print` `(` expression `)`
     unfoldable pub print_at : (from : ℕ) → ParseOutcome SourceStatement
-    print_at from = allowed 2 budget from (after (test_at (budget - 1) (from + 1)) (λ value height to.
+    print_at from = allowed 2 budget from (after (parenthesized_at (budget - 1) (from + 1)) (λ value height to.
         Parsed (Printing (line_at tokens from) value) (height + 1) to))
 
     -- a statement that `++` or `--` begins
@@ -230,16 +230,16 @@ module _ (tokens : List Token) where
         else Parsed (Branch line test body Absent) (max i j + 1) at
 
     unfoldable pub branch_at : (from : ℕ) → ParseOutcome SourceStatement
-    branch_at from = allowed 2 budget from (after (test_at (budget - 1) (from + 1)) (λ test i q.
+    branch_at from = allowed 2 budget from (after (parenthesized_at (budget - 1) (from + 1)) (λ test i q.
         after (inner q) (λ body j at. otherwise_at (line_at tokens from) test body i j at)))
 
     unfoldable pub while_at : (from : ℕ) → ParseOutcome SourceStatement
-    while_at from = allowed 2 budget from (after (test_at (budget - 1) (from + 1)) (λ test i q.
+    while_at from = allowed 2 budget from (after (parenthesized_at (budget - 1) (from + 1)) (λ test i q.
         after (inner q) (λ body j to. Parsed (WhileLoop (line_at tokens from) test body) (max i j + 1) to)))
 
     unfoldable pub do_at : (from : ℕ) → ParseOutcome SourceStatement
     do_at from = allowed 2 budget from (after (inner (from + 1)) (λ body i q.
-        expect_key tokens keys.While q (after (test_at (budget - 1) (q + 1)) (λ test j r.
+        expect_key tokens keys.While q (after (parenthesized_at (budget - 1) (q + 1)) (λ test j r.
         expect tokens marks.Semicolon r (Parsed (DoLoop (line_at tokens from) body test) (max i j + 1) (r + 1))))))
 
     -- the body of a `for`, behind its `)`

@@ -9,15 +9,15 @@ use Rattle.pc_scalar.specs.declared.before.Predecessor.{Predecessor}
 use Rattle.pc_scalar.specs.declared.before.Predecessor.TheVariants.{Nothing, Only, Several}
 use Rattle.pc_scalar.specs.Chain.{FollowsAlone}
 
--- with an item more
-abbrev pub joined : ℕ → Predecessor → Predecessor
-joined from Nothing = Only from
-joined from (Only other) = Several
-joined from Several = Several
+-- with the edge of an item more
+abbrev pub with_edge : ℕ → Predecessor → Predecessor
+with_edge from Nothing = Only from
+with_edge from (Only other) = Several
+with_edge from Several = Several
 
 -- with the edges of a node
 abbrev pub noted : FlowNode → ℕ → List Predecessor → List Predecessor
-noted (Op item to) at table = slice_set table to (joined at (slice_index_or table to Nothing))
+noted (Op item to) at table = slice_set table to (with_edge at (slice_index_or table to Nothing))
 noted (Test on on_yes on_no turn) at table = slice_set (slice_set table on_yes Several) on_no Several
 noted Stop at table = table
 noted (Trap kind line) at table = table
