@@ -6,7 +6,6 @@ use Rattle.std.specs.Str.Parse.{IsNumeral, ParsesUnsigned, digits_value, without
 use Rattle.std.proofs.lemmas.Bool.{lt-ltb, ltb-true}
 use Rattle.pc_word.specs.NumberText.{is_numeral}
 use Rattle.pc_word.proofs.NumberTexts.{is_numeral-from, is_numeral-to}
-use Rattle.pc_word.proofs.Truth.{and_true}
 use Rattle.pc_command.specs.Requests.{behind_at, sample_number_of}
 
 -- behind a `@`

@@ -1,6 +1,6 @@
 -- The matches that `clap` gives of words that it takes lack nothing.
 use Rattle.std.proofs.Common.{◌≡◌, ◌<◌, ◌||◌, Bool, true, false, not, List, [], ◌∷◌, length, refl, subst, arith}
-use Rattle.std.specs.Prelude.{Option, Some, None, bytes_eq, codes, nat_lt, option_and_then, option_map, slice_get}
+use Rattle.std.specs.Prelude.{Some, None, bytes_eq, codes, nat_lt, option_and_then, option_map, slice_get}
 use Rattle.std.specs.List.{AllByRecursion}
 use Rattle.std.specs.Option.{IsSome}
 use Rattle.clap.specs.Facts.{unwrap_or_range}

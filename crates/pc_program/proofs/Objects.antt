@@ -1,5 +1,5 @@
 -- Bytes that are refused.
-use Rattle.std.proofs.Common.{◌≡◌, ℕ, ◌≤◌, List, length, sym, ◌∙◌, ap, arith}
+use Rattle.std.proofs.Common.{◌≡◌, ℕ, ◌≤◌, List, length, ◌∙◌, ap, arith}
 use Rattle.std.specs.Prelude.{Ok, Err}
 use Rattle.pc_word.specs.MachineLimits.{most_object}
 use Rattle.pc_object.specs.ObjectText.{object_text}

@@ -7,14 +7,12 @@ use Rattle.pc_word.specs.declared.item.End.{End}
 use Rattle.pc_word.specs.declared.item.End.TheVariants as end
 use Rattle.pc_word.specs.declared.item.TrapKind.{TrapKind}
 use Rattle.pc_word.specs.declared.item.TrapKind.TheVariants as trap
-use Rattle.pc_word.specs.MachineLimits.{most_object, most_input}
+use Rattle.pc_word.specs.MachineLimits.{most_input}
 use Rattle.pc_word.specs.NumberText.{numbers_in}
 use Rattle.pc_object.specs.ObjectText.{CodeWithNotes, object_text}
-use Rattle.pc_object.specs.Reading.{object_reading}
-use Rattle.pc_object.proofs.ReadingLaws.{one_object, reads_text}
+use Rattle.pc_object.proofs.ReadingLaws.{one_object}
 use Rattle.pc_outside.specs.Shelf.{Files, ReadFaultOf}
 use Rattle.pc_command.specs.Requests.{SimulateRequest}
-use Rattle.pc_report.specs.declared.fault.ObjectFault.{ObjectFault}
 use Rattle.pc_report.specs.declared.fault.InputFault.{InputFault}
 use Rattle.pc_report.specs.declared.fault.ToolFault.{ToolFault}
 use Rattle.pc_tool.specs.CompilerLaws.{HasErrorFault}

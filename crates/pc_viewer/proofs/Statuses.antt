@@ -1,5 +1,5 @@
 -- What follows from the viewer's promise.
-use Rattle.std.proofs.Common.{◌≡◌, ℕ, ◌≤◌, ◌⊎◌, inl, inr, List, length, Option, Some, None, refl, sym, ◌∙◌, ap, subst}
+use Rattle.std.proofs.Common.{◌≡◌, ℕ, ◌≤◌, ◌⊎◌, inl, inr, List, Option, Some, None, refl, sym, ◌∙◌, subst}
 use Rattle.std.proofs.Common.{arith}
 use Rattle.std.specs.Option.{IsSomeAnd}
 use Rattle.pc_word.specs.Count.{Rose}
@@ -7,7 +7,6 @@ use Rattle.pc_object.specs.ObjectText.{CodeWithNotes, object_text}
 use Rattle.pc_object.proofs.ReadingLaws.{one_object}
 use Rattle.pc_outside.specs.Shelf.{ReadFaultOf}
 use Rattle.pc_command.specs.Requests.{ViewRequest}
-use Rattle.pc_report.specs.declared.fault.ObjectFault.{ObjectFault}
 use Rattle.pc_viewer.specs.Laws.{SendsText, BreaksOff, HasViewed, HasBroken, HasReadFault, HasErrorFault, IsToldObject, ViewerStatuses}
 use Rattle.pc_program.specs.Files.{HoldsText}
 use Rattle.pc_program.specs.Objects.{HasObjectFault, Holds, IsNoObject, IsTextOf}
