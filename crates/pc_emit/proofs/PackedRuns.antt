@@ -170,7 +170,8 @@ module _ (e : Emission) (keeps : TableKeeps e.table) (limits : Limits) (rows : L
               (answer_of_answer (leaf_run code below m n) (leaf_run code (form_leaf e to there.form) u n) (region_run table (Next to) u k.0)
               (subst (λ (l : Leaf). Answers (leaf_run code below m n) (leaf_run code l u n) (leaf_run code below m n).end) there.is (passes_forth code moves.passes m n)) k.1)),
         )
-    leaf_forth n of out s m Stop below (leads, ends_here) holds never next regions = (0, Answers-equal (after_printing out (leaf_run code Ends m n)) (seen_after out s Stop 0) (sym (leaf_seen code out m Ends n)))
+    leaf_forth n of out s m Stop below (leads, ends_here) holds never next regions =
+        (0, Answers-equal (after_printing out (leaf_run code Ends m n)) (seen_after out s Stop 0) (sym (leaf_seen code out m Ends n)))
     leaf_forth n of out s m (Trap kind line) below (leads, traps_here) holds never next regions =
         (0, Answers-equal (after_printing out (leaf_run code (Traps kind line) m n)) (seen_after out s (Trap kind line) 0) (sym (leaf_seen code out m (Traps kind line) n)))
 
@@ -234,7 +235,8 @@ module _ (e : Emission) (keeps : TableKeeps e.table) (limits : Limits) (rows : L
               (Answers-after out x (leaf_run code below m (length moves.copies + k.0)) x.end
               (subst (λ (y : Seen). Answers x y x.end) (sym (passes_back code moves.passes m k.0 ∙ ap (λ (l : Leaf). leaf_run code l u k.0) there.is)) k.1)),
         )
-    leaf_back n of out s m Stop below (leads, ends_here) holds never next regions = (0, Answers-equal (seen_after out s Stop n) (after_printing out (leaf_run code Ends m 0)) (leaf_seen code out m Ends 0))
+    leaf_back n of out s m Stop below (leads, ends_here) holds never next regions =
+        (0, Answers-equal (seen_after out s Stop n) (after_printing out (leaf_run code Ends m 0)) (leaf_seen code out m Ends 0))
     leaf_back n of out s m (Trap kind line) below (leads, traps_here) holds never next regions =
         (0, Answers-equal (seen_after out s (Trap kind line) n) (after_printing out (leaf_run code (Traps kind line) m 0)) (leaf_seen code out m (Traps kind line) 0))
 
