@@ -1,5 +1,5 @@
 //! The words of the command line.
-ghost use Rattle.std.specs.Prelude.{◌≡◌, drop};
+ghost use Rattle.std.specs.Prelude.{◌≡◌, [], drop};
 
 use std::alloc::{AllocError, Global};
 use std::{env, io};
@@ -12,7 +12,7 @@ pub fn read_words(rt: &HostRuntime) -> Result<Vec<String>, AllocError> {
     match env::args(rt) {
         Ok(all) => Ok(behind_name(all.collect(rt.alloc())?)),
         Err(error) if error.kind() == io::ErrorKind::OutOfMemory => Err(AllocError),
-        Err(_) => Ok(Vec::new(rt.alloc())),
+        Err(_) => Ok(no_words(rt.alloc())),
     }
 }
 
@@ -24,4 +24,11 @@ fn behind_name(mut words: Vec<String>) -> Vec<String>
         words.remove(0);
     }
     words
+}
+
+/// No words. That they are a command of no program is a law of pc_command.
+fn no_words(alloc: Global) -> Vec<String>
+    ensures { result.items ≡ [] }
+{
+    Vec::new(alloc)
 }
