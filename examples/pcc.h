@@ -2,7 +2,7 @@
  *
  *     gcc -fwrapv -o example example.c
  *
- * pcc itself skips lines that include something. A read behind the end of the input ends the program with
+ * pcc itself skips lines that include something. A read past the end of the input ends the program with
  * status 12, as pvm does; a division by zero and an index out of bounds are left to the compiler. */
 #include <stdio.h>
 #include <stdlib.h>

@@ -9,6 +9,7 @@ use Rattle.pc_window.specs.Rebasing.{is_in}
 use Rattle.pc_assign.specs.Assigned.{is_register, one_has, used_has}
 use Rattle.pc_assign.specs.Stored.{beside}
 use Rattle.pc_assign.specs.models.Choosing.{used_holds}
+use Rattle.pc_word.proofs.Places.{other_way}
 
 -- each name has the register beside it
 abbrev pub GivesEach : (ℕ → Option ℕ) → List ℕ → List ℕ → Type 0
@@ -72,9 +73,6 @@ gives_alike : (of other : ℕ → Option ℕ) (xs rs : List ℕ) → AllByRecurs
 gives_alike of other [] rs k h = tt
 gives_alike of other (x ∷ xs) [] k h = h
 gives_alike of other (x ∷ xs) (r ∷ rs) k h = (k.0 ∙ h.0, gives_alike of other xs rs k.1 h.1)
-
-other_way : (x y : ℕ) → nat_eq x y ≡ false → nat_eq y x ≡ false
-other_way x y h = grind (arith, nat_tests)
 
 itself : (x : ℕ) → nat_eq x x ≡ true
 itself x = grind (arith, nat_tests)

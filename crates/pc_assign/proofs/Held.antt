@@ -3,7 +3,6 @@ use Rattle.std.proofs.Common.{◌≡◌, ℕ, zero, suc, ◌+◌, ◌<◌, ◌�
 use Rattle.std.proofs.Common.{refl, sym, ◌∙◌, ap, subst, inl, inr, arith, get_or}
 use Rattle.std.specs.Prelude.{nat_eq, slice_get}
 use Rattle.std.specs.List.{list_any}
-use Rattle.pc_table.specs.TableKeeps.{reads_name}
 use Rattle.pc_window.specs.declared.home.Home.{Home}
 use Rattle.pc_window.specs.Names.{homes_use}
 use Rattle.pc_window.specs.Rebasing.{is_in}
@@ -14,6 +13,7 @@ use Rattle.pc_assign.specs.Pressure.{allowed}
 use Rattle.pc_assign.specs.Assigned.{passed_at}
 use Rattle.pc_assign.specs.declared.register_set.RegisterSet.{RegisterSet}
 use Rattle.pc_assign.specs.models.Choosing.{member, AreMost, IsParameterTaken, AreParameters, used_holds}
+use Rattle.pc_word.specs.Items.{reads_name}
 
 -- ---- uses
 

@@ -1,8 +1,7 @@
 -- The names of a state, added to a set one by one.
-use Rattle.std.proofs.Common.{◌≡◌, ℕ, Bool, false, List, [], ◌∷◌, ◌++◌, Option, Some, None, Result, Ok, Err, refl, sym, ◌∙◌, ap, fold, arith}
+use Rattle.std.proofs.Common.{◌≡◌, ℕ, Bool, false, List, [], ◌∷◌, ◌++◌, Option, Some, None, Result, Ok, Err, refl, sym, ◌∙◌, ap, fold}
 use Rattle.std.specs.Prelude.{nat_eq, OnOk, if◌then◌else◌}
 use Rattle.std.specs.List.{IsDistinct, AllByRecursion, list_any, cons_option}
-use Rattle.std.proofs.lemmas.Bool.Decides.{nat_tests}
 use Rattle.std.proofs.lemmas.List.Elements.{filter_map-append}
 use Rattle.std.proofs.lemmas.List.Sums.{fold-append}
 use Rattle.indexmap.specs.IndexSet.{insert_key, insert_all}
@@ -14,15 +13,13 @@ use Rattle.pc_word.proofs.Truth.{or_made_false}
 use Rattle.pc_automaton.specs.declared.automaton.AutomatonLeaf.{AutomatonLeaf}
 use Rattle.pc_automaton.specs.Automaton.{names_written}
 use Rattle.pc_assign.proofs.Held.{in_more}
+use Rattle.pc_word.proofs.Places.{other_way}
 
 -- ---- distinct lists
 
 -- none of a list is among these
 abbrev pub NoneAmong : List ℕ → List ℕ → Type 0
 NoneAmong keys xs = AllByRecursion (λ x. list_any (nat_eq x) keys ≡ false) xs
-
-other_way : (x y : ℕ) → nat_eq x y ≡ false → nat_eq y x ≡ false
-other_way x y h = grind (arith, nat_tests)
 
 -- so with one more, from which they differ
 still_none : (keys : List ℕ) (x : ℕ) (xs : List ℕ) → NoneAmong keys xs → AllByRecursion (λ y. nat_eq x y ≡ false) xs → NoneAmong (keys ++ x ∷ []) xs

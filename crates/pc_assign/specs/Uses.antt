@@ -2,10 +2,10 @@
 use Rattle.std.specs.Prelude.{ℕ, Bool, false, ◌||◌}
 use Rattle.std.specs.List.{list_any}
 use Rattle.pc_word.specs.Row.{Row, Then, Either, At_leaf}
-use Rattle.pc_table.specs.TableKeeps.{reads_name}
 use Rattle.pc_window.specs.Names.{homes_use}
 use Rattle.pc_automaton.specs.declared.automaton.AutomatonLeaf.{AutomatonLeaf}
 use Rattle.pc_automaton.specs.declared.automaton.AutomatonLeaf.TheVariants.{To, Out, Stop, Trap}
+use Rattle.pc_word.specs.Items.{reads_name}
 
 -- whether a leaf uses a name: among its arguments, or as the value of a home
 abbrev pub leaf_uses : AutomatonLeaf → ℕ → Bool

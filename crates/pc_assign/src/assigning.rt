@@ -2,7 +2,6 @@
 ghost use Rattle.std.specs.Prelude.{◌≡◌, ◌<◌, ◌≤◌, ◌^◌, ◌↔◌, ℕ, true};
 ghost use Rattle.std.specs.Prelude.{false, nat_eq, nat_lt, [], length, unwrap_or, IfOk, MatchResult};
 ghost use Rattle.std.specs.List.{AllByRecursion, IsDistinct, list_all};
-ghost use Rattle.pc_automaton.specs.StoredRow.{row_in};
 ghost use Rattle.pc_automaton.specs.Automaton.{state_in, states_in};
 ghost use Rattle.pc_assign.specs.Pressure.{allowed, LowBefore};
 ghost use Rattle.pc_assign.specs.Assigned.{state_names, IsAssigned, BeginsWithVariables};
@@ -10,6 +9,7 @@ ghost use Rattle.pc_assign.specs.Stored.{registers_in, Refuses};
 ghost use Rattle.pc_assign.specs.models.Choosing.{AreMost, PassedMost, AreHeld, AreChosen};
 ghost use Rattle.pc_assign.specs.models.Passing.{noted};
 ghost use Rattle.pc_assign.specs.models.Assigning.{IsGiven, RefusesState};
+ghost use Rattle.pc_word.specs.StoredRow.{row_in};
 
 use crate::assigned::{Assigned, StateRegisters};
 use crate::definitions::{Held, define};
@@ -19,8 +19,8 @@ use crate::parameters::{parameter_registers, set_of};
 use crate::passing::{PassedList, note};
 use crate::pressure::pressure_of;
 use crate::register_set::{RegisterSet, SCRATCH};
-use pc_automaton::{Automaton, AutomatonLeaf, AutomatonState, RowTree};
-use pc_word::Seq;
+use pc_automaton::{Automaton, AutomatonLeaf, AutomatonState};
+use pc_word::{RowTree, Seq};
 use std::alloc::{AllocError, Global};
 
 /// A register for each name of each state. The parameters of the first state are variables.

@@ -1,15 +1,15 @@
 //! Registers of the names that a row defines.
 ghost use Rattle.std.specs.Prelude.{◌≡◌, ◌≤◌, ◌||◌, ℕ, length, OnOk};
 ghost use Rattle.pc_window.specs.Rebasing.{is_in};
-ghost use Rattle.pc_automaton.specs.StoredRow.{row_in};
 ghost use Rattle.pc_assign.specs.Uses.{row_uses};
 ghost use Rattle.pc_assign.specs.Pressure.{allowed};
 ghost use Rattle.pc_assign.specs.models.Choosing.{member, AreMost, used_holds, IsHeld, IsChosen, AreChosen};
+ghost use Rattle.pc_word.specs.StoredRow.{row_in};
 
 use crate::register_set::{RegisterSet, SCRATCH};
-use crate::uses::{used_in, written_by};
-use pc_automaton::{AutomatonLeaf, RowTree};
-use pc_word::Seq;
+use crate::uses::used_in;
+use pc_automaton::AutomatonLeaf;
+use pc_word::{RowTree, Seq};
 use std::alloc::AllocError;
 
 /// Parameters, their registers in the same order, and these as a set.
@@ -33,7 +33,7 @@ pub(crate) fn define(
         (row_in (λ leaf. leaf) row.now) registers.old registers.new) }
 {
     match row {
-        RowTree::Step { item, next } => match written_by(*item) {
+        RowTree::Step { item, next } => match item.dest() {
             Some(_) => {
                 let register = choose(held, above, next);
                 registers.push(register)?;

@@ -11,8 +11,6 @@ mod parameters;
 mod passing;
 mod pressure;
 mod register_set;
-#[cfg(test)]
-mod tests;
 mod uses;
 
 pub use assigned::Assigned;

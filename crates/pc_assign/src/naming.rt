@@ -2,13 +2,13 @@
 ghost use Rattle.std.specs.Prelude.{◌≡◌, nat_eq, [], IfOk, OnOk};
 ghost use Rattle.std.specs.List.{IsDistinct};
 ghost use Rattle.indexmap.specs.IndexSet.{insert_all};
-ghost use Rattle.pc_automaton.specs.StoredRow.{row_in};
 ghost use Rattle.pc_automaton.specs.Automaton.{names_written, state_in};
 ghost use Rattle.pc_assign.specs.Assigned.{state_names};
+ghost use Rattle.pc_word.specs.StoredRow.{row_in};
 
-use crate::uses::written_by;
 use indexmap::IndexSet;
-use pc_automaton::{AutomatonLeaf, AutomatonState, RowTree};
+use pc_automaton::{AutomatonLeaf, AutomatonState};
+use pc_word::RowTree;
 use std::alloc::{AllocError, Global};
 
 /// The names of a state: its parameters, and what its row defines, in preorder.
@@ -39,7 +39,7 @@ fn add_written(names: &mut IndexSet<u32>, row: &RowTree<AutomatonLeaf>) -> Resul
     ensures { OnOk result (names.new.keys ≡ insert_all nat_eq names.old.keys (names_written (row_in (λ leaf. leaf) row.now))) }
 {
     match row {
-        RowTree::Step { item, next } => match written_by(*item) {
+        RowTree::Step { item, next } => match item.dest() {
             Some(name) => {
                 names.insert_full(name)?;
                 add_written(names, next)

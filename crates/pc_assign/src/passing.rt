@@ -1,14 +1,14 @@
 //! What the leaves of states pass to later states.
 ghost use Rattle.std.specs.Prelude.{◌≡◌, ◌+◌, ◌<◌, ℕ, map, IfOk, OnOk};
-ghost use Rattle.pc_automaton.specs.StoredRow.{row_in};
 ghost use Rattle.pc_assign.specs.Assigned.{operand_register};
 ghost use Rattle.pc_assign.specs.Stored.{beside};
 ghost use Rattle.pc_assign.specs.models.Passing.{Notes, NotesFirst};
 ghost use Rattle.pc_word.specs.Row.{At_leaf};
+ghost use Rattle.pc_word.specs.StoredRow.{row_in};
 
 use crate::assigned::StateRegisters;
-use pc_automaton::{AutomatonLeaf, RowTree};
-use pc_word::{Operand, Seq};
+use pc_automaton::AutomatonLeaf;
+use pc_word::{Operand, RowTree, Seq};
 use std::alloc::{AllocError, Global};
 
 /// The registers of what is passed to a state, in the order of its parameters, where they are names.

@@ -1,14 +1,15 @@
 //! How many names of a state are live together.
 ghost use Rattle.std.specs.Prelude.{◌≡◌, ◌+◌, ◌<◌, ◌≤◌, ◌^◌, suc, length, count_by};
-ghost use Rattle.pc_automaton.specs.StoredRow.{row_in};
 ghost use Rattle.pc_automaton.specs.Automaton.{state_in};
 ghost use Rattle.pc_assign.specs.Uses.{row_uses};
 ghost use Rattle.pc_assign.specs.Pressure.{allowed, pressure_of, row_pressure};
 ghost use Rattle.pc_assign.specs.models.Choosing.{definitions_in, IsUsedSet};
+ghost use Rattle.pc_word.specs.StoredRow.{row_in};
 
 use crate::register_set::{RegisterSet, SCRATCH};
-use crate::uses::{row_uses, used_by, written_by};
-use pc_automaton::{AutomatonLeaf, AutomatonState, RowTree};
+use crate::uses::{row_uses, used_by};
+use pc_automaton::{AutomatonLeaf, AutomatonState};
+use pc_word::RowTree;
 
 /// Places of used parameters, and a pressure.
 #[derive(Clone, Copy)]
@@ -47,7 +48,7 @@ fn pressure_below(parameters: &[u32], above: u64, row: &RowTree<AutomatonLeaf>) 
     ensures live { result.live ≡ row_pressure parameters.now above (row_in (λ leaf. leaf) row.now) }
 {
     match row {
-        RowTree::Step { item, next } => match written_by(*item) {
+        RowTree::Step { item, next } => match item.dest() {
             Some(_) => {
                 let below = pressure_below(parameters, above + 1, next);
                 let live = above + 1 + u64::from(below.used.count());
@@ -81,7 +82,7 @@ fn row_pressure(parameters: &[u32], above: u64, row: &RowTree<AutomatonLeaf>) ->
     ensures { result ≡ row_pressure parameters.now above (row_in (λ leaf. leaf) row.now) }
 {
     match row {
-        RowTree::Step { item, next } => match written_by(*item) {
+        RowTree::Step { item, next } => match item.dest() {
             Some(_) => item_pressure(parameters, above, next).max(row_pressure(
                 parameters,
                 above + 1,

@@ -1,32 +1,16 @@
 //! What a row uses and defines.
 ghost use Rattle.std.specs.Prelude.{◌≡◌, ◌≤◌, length};
 ghost use Rattle.std.specs.List.{list_any};
-ghost use Rattle.pc_word.specs.Items.{dest_of};
-ghost use Rattle.pc_table.specs.TableKeeps.{reads_name};
-ghost use Rattle.pc_automaton.specs.StoredRow.{row_in};
+ghost use Rattle.pc_word.specs.Items.{reads_name};
 ghost use Rattle.pc_assign.specs.Uses.{leaf_uses, row_uses};
 ghost use Rattle.pc_assign.specs.Pressure.{allowed};
 ghost use Rattle.pc_assign.specs.models.Choosing.{IsUsedSet};
+ghost use Rattle.pc_word.specs.StoredRow.{row_in};
 
 use crate::register_set::RegisterSet;
-use pc_automaton::{AutomatonLeaf, RowTree};
+use pc_automaton::AutomatonLeaf;
 use pc_window::Home;
-use pc_word::{Item, Operand};
-
-/// The name that an item writes.
-pub(crate) fn written_by(item: Item) -> Option<u32>
-    ensures { result ≡ dest_of item }
-{
-    match item {
-        Item::Bin { dest, .. } => Some(dest),
-        Item::Copy { dest, .. } => Some(dest),
-        Item::Load { dest, .. } => Some(dest),
-        Item::Store { .. } => None,
-        Item::Print { .. } => None,
-        Item::Read { dest } => Some(dest),
-        Item::More { dest } => Some(dest),
-    }
-}
+use pc_word::{Operand, RowTree};
 
 /// Whether some leaf of a row uses a name.
 pub(crate) fn row_uses(row: &RowTree<AutomatonLeaf>, name: u32) -> bool
@@ -82,22 +66,12 @@ fn leaf_uses(leaf: &AutomatonLeaf, name: u32) -> bool
 fn arguments_use(arguments: &[Operand], name: u32) -> bool
     ensures { result ≡ list_any (λ operand. reads_name operand name) arguments.now }
 {
-    arguments.iter().any(|operand| reads_name(*operand, name))
+    arguments.iter().any(|operand| operand.is_name(name))
 }
 
 /// Whether one of some homes reads a name.
 fn homes_use(homes: &[Home], name: u32) -> bool
     ensures { result ≡ list_any (λ home. reads_name home.value name) homes.now }
 {
-    homes.iter().any(|home| reads_name(home.value, name))
-}
-
-/// Whether an operand reads a name.
-fn reads_name(operand: Operand, name: u32) -> bool
-    ensures { result ≡ reads_name operand name }
-{
-    match operand {
-        Operand::Name(read) => read == name,
-        Operand::Lit(_) => false,
-    }
+    homes.iter().any(|home| home.value.is_name(name))
 }

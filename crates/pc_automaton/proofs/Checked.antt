@@ -10,15 +10,17 @@ use Rattle.pc_word.proofs.Truth.{and_true, and_made, or_false, or_made_false, no
 use Rattle.pc_word.specs.declared.item.Operand.{Operand}
 use Rattle.pc_word.specs.declared.item.Operand.TheVariants.{Name, Lit}
 use Rattle.pc_word.specs.Items.{operands_of, dest_of}
+use Rattle.pc_word.specs.Commit.{writes}
 use Rattle.pc_word.specs.Row.{Row, Then, Either, At_leaf, items_of, tests_of, leaves_of}
 use Rattle.pc_window.specs.declared.home.Home.{Home}
 use Rattle.pc_window.specs.Names.{IsKnown, ReadsKnown, and_dest}
 use Rattle.pc_window.specs.Rebasing.{is_in}
+use Rattle.pc_window.proofs.Listed.{flipped}
 use Rattle.pc_automaton.specs.declared.automaton.AutomatonLeaf.{AutomatonLeaf}
 use Rattle.pc_automaton.specs.declared.automaton.AutomatonLeaf.TheVariants.{To, Out, Stop, Trap}
 use Rattle.pc_automaton.specs.declared.automaton.AutomatonState.{AutomatonState as StoredState}
 use Rattle.pc_automaton.specs.Automaton.{AutomatonState, state_in, states_in, is_parameter, names_written, LeafIsKnown, LeavesAreKnown, Takes, LeafLeads, IsStateAmong, IsAutomaton}
-use Rattle.pc_automaton.specs.models.Checking.{is_written, knows, knows_item, knows_row, knows_leaf, knows_leaves, writes_in, spares}
+use Rattle.pc_automaton.specs.models.Checking.{knows, knows_item, knows_row, knows_leaf, knows_leaves, writes_in, spares}
 use Rattle.pc_automaton.specs.models.Checking.{are_apart, writes_once, stand_once, takes, leads, all_lead, is_state, is_automaton}
 
 -- ---- lists
@@ -202,15 +204,15 @@ none_append (x ∷ xs) ys zs =
 
 -- ---- the names that a row writes
 
-sides_written : (on_yes on_no : Row AutomatonLeaf) → filter_map dest_of (items_of on_yes ++ items_of on_no) ≡ names_written on_yes ++ names_written on_no
+pub sides_written : (on_yes on_no : Row AutomatonLeaf) → filter_map dest_of (items_of on_yes ++ items_of on_no) ≡ names_written on_yes ++ names_written on_no
 sides_written on_yes on_no = filter_map-append dest_of (items_of on_yes) (items_of on_no)
 
-in_cons : (x : ℕ) (found : Option ℕ) (names : List ℕ) → (is_written x found || is_in x names) ≡ is_in x (cons_option found names)
-in_cons x (Some dest) names = refl
+in_cons : (x : ℕ) (found : Option ℕ) (names : List ℕ) → (writes found x || is_in x names) ≡ is_in x (cons_option found names)
+in_cons x (Some dest) names = ap (λ (b : Bool). b || is_in x names) (flipped dest x)
 in_cons x None names = refl
 
 writes_in_is : (row : Row AutomatonLeaf) (x : ℕ) → writes_in row x ≡ is_in x (names_written row)
-writes_in_is (Then item rest) x = ap (λ (b : Bool). is_written x (dest_of item) || b) (writes_in_is rest x) ∙ in_cons x (dest_of item) (names_written rest)
+writes_in_is (Then item rest) x = ap (λ (b : Bool). writes (dest_of item) x || b) (writes_in_is rest x) ∙ in_cons x (dest_of item) (names_written rest)
 writes_in_is (Either on on_yes on_no) x =
     (λ i. writes_in_is on_yes x i || writes_in_is on_no x i) ∙ sym (list_any-append (nat_eq x) (names_written on_yes) (names_written on_no))
     ∙ ap (is_in x) (sym (sides_written on_yes on_no))

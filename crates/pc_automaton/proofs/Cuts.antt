@@ -1,27 +1,27 @@
 -- The front of a window as a row.
 use Rattle.std.proofs.Common.{◌≡◌, ℕ, List, Option, refl, sym, ◌∙◌, ap}
-use Rattle.std.specs.Prelude.{true, false, IfOk, Result, Ok, Err}
+use Rattle.std.specs.Prelude.{true, IfOk, Result, Ok, Err}
 use Rattle.pc_word.specs.declared.item.Limits.{Limits}
 use Rattle.pc_word.specs.Row.{Row, Then, Either, At_leaf}
 use Rattle.pc_linear.specs.Form.{Form}
 use Rattle.pc_table.specs.Table.{Table}
 use Rattle.pc_window.specs.declared.tree.WindowTree.{WindowTree}
-use Rattle.pc_window.specs.declared.tree.WindowTree.TheVariants as stored
 use Rattle.pc_window.specs.declared.names.NameTable.{NameTable}
 use Rattle.pc_window.specs.Tree.{Tree, Pending, Undecided, Exit, Stop_exit, Trap_exit, Front, Issued, Split, Unfinished}
 use Rattle.pc_window.specs.WindowRun.{Window, supply_of}
 use Rattle.pc_window.specs.Kept.{CutKeeps, Left}
 use Rattle.pc_window.specs.Steps.{Cuts, IsProper, left_of, front_row, cut_row, with_tree}
-use Rattle.pc_window.specs.StoredWindow.{InNodes, tree_in, supply_in, window_in, NodesBehind}
+use Rattle.pc_window.specs.StoredWindow.{InNodes, tree_in, supply_in, window_in}
 use Rattle.pc_window.proofs.CutRows.{cuts_keep}
 use Rattle.pc_window.proofs.LegalRows.{rows_are_legal}
 use Rattle.pc_window.proofs.Proper.{cuts_proper}
-use Rattle.pc_window.proofs.WindowsStored.{single_window}
-use Rattle.pc_window.specs.declared.error.WindowError.{WindowError}
-use Rattle.pc_automaton.specs.declared.row_tree.RowTree.{RowTree}
+use Rattle.pc_window.proofs.WindowsStored.{single_window, in_nodes_behind}
+use Rattle.pc_word.specs.declared.out_of_memory.OutOfMemory.{OutOfMemory}
+use Rattle.pc_word.specs.declared.row_tree.RowTree.{RowTree}
 use Rattle.pc_automaton.specs.declared.left.Left.{Left as StoredLeft}
-use Rattle.pc_automaton.specs.StoredRow.{row_in, left_in}
+use Rattle.pc_automaton.specs.StoredLeft.{left_in}
 use Rattle.pc_automaton.specs.models.Cutting.{bare_window}
+use Rattle.pc_word.specs.StoredRow.{row_in}
 
 -- what is left does not depend on the front
 left_bare : (table : Table) (w : Window) (tree : Tree) → left_of table (bare_window (supply_of w) w.limits w.inside) tree ≡ left_of table w tree
@@ -55,27 +55,10 @@ cut_at_front table w row f is front cut = is ∙ row_bare table w f ∙ sym cut 
 
 pub ruleset cuts = (cut_at_front)
 
--- a tree whose nodes are single has single nodes behind its root
-below_behind : (tree : WindowTree) → InNodes false tree → NodesBehind tree
-below_behind (stored.Step' tag origin item p rest) h = absurd h
-below_behind (stored.Test' tag origin on p on_yes q on_no) h = absurd h
-below_behind (stored.Node' p below) h = h
-below_behind (stored.Exit region tag homes) h = tt
-below_behind stored.Stop h = tt
-below_behind (stored.Trap kind line) h = tt
-
-pub in_nodes_behind : (tree : WindowTree) → InNodes true tree → NodesBehind tree
-in_nodes_behind (stored.Step' tag origin item p rest) h = below_behind rest h
-in_nodes_behind (stored.Test' tag origin on p on_yes q on_no) h = (below_behind on_yes h.0, below_behind on_no h.1)
-in_nodes_behind (stored.Node' p below) h = absurd h
-in_nodes_behind (stored.Exit region tag homes) h = tt
-in_nodes_behind stored.Stop h = tt
-in_nodes_behind (stored.Trap kind line) h = tt
-
 pub ruleset behind = (in_nodes_behind)
 
 -- a cut that is told keeps what a cut keeps
-pub keeps_of : (table : Table) (w : Window) (result : Result (RowTree StoredLeft) WindowError) → IfOk result (λ row. Cuts table w (row_in left_in row))
+pub keeps_of : (table : Table) (w : Window) (result : Result (RowTree StoredLeft) OutOfMemory) → IfOk result (λ row. Cuts table w (row_in left_in row))
     → IfOk result (λ row. IsProper w → CutKeeps table w (row_in left_in row))
 keeps_of table w (Ok row) cut = λ proper. cuts_keep table w (row_in left_in row) cut proper
 keeps_of table w (Err error) cut = tt

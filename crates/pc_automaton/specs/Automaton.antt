@@ -8,7 +8,7 @@ use Rattle.pc_window.specs.Rebasing.{is_in}
 use Rattle.pc_automaton.specs.declared.automaton.AutomatonLeaf.{AutomatonLeaf}
 use Rattle.pc_automaton.specs.declared.automaton.AutomatonLeaf.TheVariants.{To, Out, Stop, Trap}
 use Rattle.pc_automaton.specs.declared.automaton.AutomatonState.{AutomatonState as StoredState}
-use Rattle.pc_automaton.specs.StoredRow.{row_in}
+use Rattle.pc_word.specs.StoredRow.{row_in}
 
 -- a state: the names that it is passed values for, and its row
 pub record AutomatonState : Type 0 where

@@ -1,6 +1,8 @@
 pub mod models
-pub mod StoredRow
+pub mod StoredLeft
 pub mod Automaton
 pub mod AutomatonRun
 pub mod RunsAsRegion
 pub mod There
+pub mod Reachable
+pub mod RowFits

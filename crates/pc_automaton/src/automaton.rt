@@ -3,10 +3,10 @@ ghost use Rattle.std.specs.Prelude.{◌≡◌, ◌<◌, ◌^◌, length, Some, s
 ghost use Rattle.pc_automaton.specs.Automaton.{IsAutomaton, states_in};
 
 use crate::checking::are_states;
-use crate::{OperandList, RowTree, StateList};
+use crate::{OperandList, StateList};
 use pc_table::VarList;
 use pc_window::HomeList;
-use pc_word::TrapKind;
+use pc_word::{RowTree, TrapKind};
 use std::marker::Model;
 
 /// Where a row of an automaton leads.

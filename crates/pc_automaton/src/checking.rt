@@ -2,15 +2,14 @@
 ghost use Rattle.std.specs.Prelude.{◌≡◌, ◌↔◌, true, length, not, map, nat_eq};
 ghost use Rattle.std.specs.List.{list_all};
 ghost use Rattle.pc_word.specs.Items.{operands_of, dest_of};
-ghost use Rattle.pc_automaton.specs.StoredRow.{row_in};
 ghost use Rattle.pc_automaton.specs.Automaton.{IsAutomaton, states_in, state_in};
 ghost use Rattle.pc_automaton.specs.models.Checking.{known_at, knows, knows_item, knows_row, knows_leaf, knows_leaves};
-ghost use Rattle.pc_automaton.specs.models.Checking.{is_written, writes_in, spares, are_apart, writes_once, stand_once, leads, all_lead, is_state, is_automaton};
+ghost use Rattle.pc_automaton.specs.models.Checking.{writes_in, spares, are_apart, writes_once, stand_once, leads, all_lead, is_state, is_automaton};
+ghost use Rattle.pc_word.specs.StoredRow.{row_in};
 
 use crate::automaton::{AutomatonLeaf, AutomatonState};
-use crate::row_tree::RowTree;
 use pc_window::Home;
-use pc_word::{Item, Operand};
+use pc_word::{Item, Operand, Operands, RowTree};
 
 /// The names that are known at a place of a row.
 #[derive(Drop)]
@@ -84,14 +83,10 @@ fn knows(known: &Known, operand: Operand) -> bool
 fn knows_item(known: &Known, item: Item) -> bool
     ensures { result ≡ knows_item (known_at known.now) (operands_of item) }
 {
-    match item {
-        Item::Bin { left, right, .. } => knows(known, left) && knows(known, right),
-        Item::Copy { from, .. } => knows(known, from),
-        Item::Load { index, .. } => knows(known, index),
-        Item::Store { index, value, .. } => knows(known, index) && knows(known, value),
-        Item::Print { value } => knows(known, value),
-        Item::Read { .. } => true,
-        Item::More { .. } => true,
+    match item.operands() {
+        Operands::None => true,
+        Operands::One(one) => knows(known, one),
+        Operands::Two(one, other) => knows(known, one) && knows(known, other),
     }
 }
 
@@ -139,7 +134,7 @@ fn knows_leaves(known: &Known, row: &RowTree<AutomatonLeaf>) -> bool
     ensures { result ≡ knows_leaves (known_at known.now) (row_in (λ leaf. leaf) row.now) }
 {
     match row {
-        RowTree::Step { item, next } => match written_by(*item) {
+        RowTree::Step { item, next } => match item.dest() {
             Some(name) => {
                 let below = Known::Written {
                     name,
@@ -151,21 +146,6 @@ fn knows_leaves(known: &Known, row: &RowTree<AutomatonLeaf>) -> bool
         },
         RowTree::Test { yes, no, .. } => knows_leaves(known, yes) && knows_leaves(known, no),
         RowTree::Leaf { leaf } => knows_leaf(known, leaf),
-    }
-}
-
-/// The name that an item writes.
-fn written_by(item: Item) -> Option<u32>
-    ensures { result ≡ dest_of item }
-{
-    match item {
-        Item::Bin { dest, .. } => Some(dest),
-        Item::Copy { dest, .. } => Some(dest),
-        Item::Load { dest, .. } => Some(dest),
-        Item::Store { .. } => None,
-        Item::Print { .. } => None,
-        Item::Read { dest } => Some(dest),
-        Item::More { dest } => Some(dest),
     }
 }
 
@@ -187,19 +167,9 @@ fn writes_in(row: &RowTree<AutomatonLeaf>, name: u32) -> bool
     ensures { result ≡ writes_in (row_in (λ leaf. leaf) row.now) name }
 {
     match row {
-        RowTree::Step { item, next } => is_written(name, *item) || writes_in(next, name),
+        RowTree::Step { item, next } => item.writes(name) || writes_in(next, name),
         RowTree::Test { yes, no, .. } => writes_in(yes, name) || writes_in(no, name),
         RowTree::Leaf { .. } => false,
-    }
-}
-
-/// Whether a name is the one that an item writes.
-fn is_written(name: u32, item: Item) -> bool
-    ensures { result ≡ is_written name (dest_of item) }
-{
-    match written_by(item) {
-        Some(dest) => name == dest,
-        None => false,
     }
 }
 
@@ -207,7 +177,7 @@ fn is_written(name: u32, item: Item) -> bool
 fn spares(row: &RowTree<AutomatonLeaf>, item: Item) -> bool
     ensures { result ≡ spares (row_in (λ leaf. leaf) row.now) (dest_of item) }
 {
-    match written_by(item) {
+    match item.dest() {
         Some(name) => !writes_in(row, name),
         None => true,
     }

@@ -5,14 +5,14 @@ ghost use Rattle.pc_window.specs.Kept.{CutKeeps};
 ghost use Rattle.pc_window.specs.Laws.{IsLegal};
 ghost use Rattle.pc_window.specs.Steps.{Cuts, left_of, left_at_root, front_row, with_tree, IsProper, EachLeft};
 ghost use Rattle.pc_window.specs.StoredWindow.{window_in, tree_in, front_in, supply_in, InNodes, NodesBehind};
-ghost use Rattle.pc_automaton.specs.StoredRow.{row_in, left_in, LeftInNodes, EachLeaf};
+ghost use Rattle.pc_automaton.specs.StoredLeft.{left_in, LeftInNodes};
 ghost use Rattle.pc_automaton.specs.models.Cutting.{bare_window};
+ghost use Rattle.pc_word.specs.StoredRow.{row_in, EachLeaf};
 
 use crate::left::Left;
-use crate::row_tree::RowTree;
 use pc_table::RegionTable;
 use pc_window::{FormList, NameTable, Window, WindowError, WindowTree, is_inside};
-use pc_word::Limits;
+use pc_word::{Limits, RowTree};
 use std::alloc::{AllocError, Global};
 
 /// The front of a window as a row, and at each of its leaves what is left: a window that begins

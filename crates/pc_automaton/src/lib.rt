@@ -6,15 +6,11 @@ mod automaton;
 mod checking;
 mod cutting;
 mod left;
-mod row_tree;
-#[cfg(test)]
-mod tests;
 
 pub use automaton::{Automaton, AutomatonLeaf, AutomatonState};
 pub use cutting::cut_front;
 pub use left::Left;
 use pc_word::{Operand, Seq};
-pub use row_tree::RowTree;
 
 /// Operands, in the order of the parameters that they are passed to.
 pub type OperandList = Seq<Operand>;

@@ -8,21 +8,21 @@ use Rattle.pc_word.specs.declared.item.OpCode.{OpCode}
 use Rattle.pc_word.specs.declared.item.Operand.{Operand}
 use Rattle.pc_word.specs.declared.item.Operand.TheVariants.{Name, Lit}
 use Rattle.pc_word.specs.declared.item.TrapKind.{TrapKind}
-use Rattle.pc_word.specs.Items.{dest_of}
+use Rattle.pc_word.specs.Items.{dest_of, reads_name, reads}
 use Rattle.pc_word.specs.Commit.{writes}
 use Rattle.pc_linear.specs.Form.{Form}
-use Rattle.pc_table.specs.TableKeeps.{reads_name, reads}
 use Rattle.pc_window.specs.declared.home.Home.{Home}
-use Rattle.pc_window.proofs.Live.{or_first, or_second}
 use Rattle.pc_window.specs.Tree.{Tree, Pending, Undecided, Exit, Stop_exit, Trap_exit}
 use Rattle.pc_window.specs.Names.{homes_use, uses, named, definitions_of}
 use Rattle.pc_canon.specs.Pairs.{Pair, corresponds, defined, OperandsAlike, HomesAlike}
 use Rattle.pc_canon.specs.Shift.{FormsAlike, ItemsAlike, both_bin, both_copy, both_load, both_store, both_print, both_read, both_more, Maps, DestsAlike, TreesAlike, both_then}
 use Rattle.pc_canon.specs.Shift.{both_either, both_exit, both_stop, both_trap}
-use Rattle.pc_canon.specs.Canonical.{place_of, placed, placed_item, placed_homes, canonical_tree, side_by_side}
+use Rattle.pc_canon.specs.Canonical.{place_of, placed_item, placed_homes, canonical_tree, side_by_side}
 use Rattle.pc_canon.proofs.Membership.{has}
 use Rattle.pc_canon.proofs.Alike.{EachAlike, no_more, one_more}
 use Rattle.pc_canon.proofs.FirstTags.{TagsFrom}
+use Rattle.pc_word.specs.Naming.{map_name}
+use Rattle.pc_word.proofs.Truth.{or_first, or_second}
 
 -- ---- from equal canonical trees
 
@@ -64,7 +64,7 @@ lit_same m n e = cc
 abbrev Listed : List ℕ → (ℕ → Bool) → Type 0
 Listed names reads = (x : ℕ) → reads x ≡ true → has names x ≡ true
 
-operand_from : (xs ys : List ℕ) (a b : Operand) → Listed xs (λ x. reads_name a x) → Listed ys (λ y. reads_name b y) → placed (place_of xs) a ≡ placed (place_of ys) b
+operand_from : (xs ys : List ℕ) (a b : Operand) → Listed xs (λ x. reads_name a x) → Listed ys (λ y. reads_name b y) → map_name (place_of xs) a ≡ map_name (place_of ys) b
     → OperandsAlike (side_by_side xs ys) a b
 operand_from xs ys (Name x) (Name y) p q e = place_corresponds xs ys x y (p x (eq-eqb x x refl)) (q y (eq-eqb y y refl)) (name_same (place_of xs x) (place_of ys y) e)
 operand_from xs ys (Lit a) (Lit b) p q e = lit_same a b e
@@ -95,20 +95,20 @@ print_same a a' e = cc
 item_from : (xs ys : List ℕ) (i j : Item) → Listed xs (λ x. reads i x) → Listed ys (λ y. reads j y)
     → placed_item (place_of xs) i ≡ placed_item (place_of ys) j → ItemsAlike (side_by_side xs ys) i j
 item_from xs ys (Bin op d l r) (Bin op' d' l' r') p q e =
-    let h = bin_same op op' (placed (place_of xs) l) (placed (place_of xs) r) (placed (place_of ys) l') (placed (place_of ys) r') e in
+    let h = bin_same op op' (map_name (place_of xs) l) (map_name (place_of xs) r) (map_name (place_of ys) l') (map_name (place_of ys) r') e in
     subst (λ (o : OpCode). ItemsAlike (side_by_side xs ys) (Bin op d l r) (Bin o d' l' r')) h.0
     (both_bin (operand_from xs ys l l' (listed_first xs (λ x. reads_name l x) (λ x. reads_name r x) p) (listed_first ys (λ x. reads_name l' x) (λ x. reads_name r' x) q) h.1)
     (operand_from xs ys r r' (listed_second xs (λ x. reads_name l x) (λ x. reads_name r x) p) (listed_second ys (λ x. reads_name l' x) (λ x. reads_name r' x) q) h.2))
-item_from xs ys (Copy d a) (Copy d' a') p q e = both_copy (operand_from xs ys a a' p q (copy_same (placed (place_of xs) a) (placed (place_of ys) a') e))
+item_from xs ys (Copy d a) (Copy d' a') p q e = both_copy (operand_from xs ys a a' p q (copy_same (map_name (place_of xs) a) (map_name (place_of ys) a') e))
 item_from xs ys (Load d array a) (Load d' array' a') p q e =
-    let h = load_same array array' (placed (place_of xs) a) (placed (place_of ys) a') e in
+    let h = load_same array array' (map_name (place_of xs) a) (map_name (place_of ys) a') e in
     subst (λ (n : ℕ). ItemsAlike (side_by_side xs ys) (Load d array a) (Load d' n a')) h.0 (both_load (operand_from xs ys a a' p q h.1))
 item_from xs ys (Store array l r) (Store array' l' r') p q e =
-    let h = store_same array array' (placed (place_of xs) l) (placed (place_of xs) r) (placed (place_of ys) l') (placed (place_of ys) r') e in
+    let h = store_same array array' (map_name (place_of xs) l) (map_name (place_of xs) r) (map_name (place_of ys) l') (map_name (place_of ys) r') e in
     subst (λ (n : ℕ). ItemsAlike (side_by_side xs ys) (Store array l r) (Store n l' r')) h.0
     (both_store (operand_from xs ys l l' (listed_first xs (λ x. reads_name l x) (λ x. reads_name r x) p) (listed_first ys (λ x. reads_name l' x) (λ x. reads_name r' x) q) h.1)
     (operand_from xs ys r r' (listed_second xs (λ x. reads_name l x) (λ x. reads_name r x) p) (listed_second ys (λ x. reads_name l' x) (λ x. reads_name r' x) q) h.2))
-item_from xs ys (Print a) (Print a') p q e = both_print (operand_from xs ys a a' p q (print_same (placed (place_of xs) a) (placed (place_of ys) a') e))
+item_from xs ys (Print a) (Print a') p q e = both_print (operand_from xs ys a a' p q (print_same (map_name (place_of xs) a) (map_name (place_of ys) a') e))
 item_from xs ys (Read d) (Read d') p q e = both_read
 item_from xs ys (More d) (More d') p q e = both_more
 item_from xs ys i j p q e = absurd (cc)
@@ -120,7 +120,7 @@ homes_from : (xs ys : List ℕ) (hs ks : List Home) → Listed xs (λ x. homes_u
     → HomesAlike (side_by_side xs ys) hs ks
 homes_from xs ys [] [] p q e = tt
 homes_from xs ys (a ∷ hs) (b ∷ ks) p q e =
-    let h = home_same (record { variable = a.variable; value = placed (place_of xs) a.value }) (record { variable = b.variable; value = placed (place_of ys) b.value })
+    let h = home_same (record { variable = a.variable; value = map_name (place_of xs) a.value }) (record { variable = b.variable; value = map_name (place_of ys) b.value })
     (placed_homes (place_of xs) hs) (placed_homes (place_of ys) ks) e in (
       h.0,
       operand_from xs ys a.value b.value (listed_first xs (λ x. reads_name a.value x) (λ x. homes_use hs x) p) (listed_first ys (λ y. reads_name b.value y) (λ y. homes_use ks y) q) h.1,
@@ -249,7 +249,8 @@ trees_from vars forms forms' a b xs ys (Pending t o i r) (Pending t' o' i' r') p
     (both_then tags items (named_dests maps forms forms' (dest_of i) (dest_of i') (definitions_of r) (definitions_of r') both f)
     (subst (λ (ns : List Pair). TreesAlike maps forms forms' ns r r') (side_by_side_named xs ys (dest_of i) (dest_of i') both) below))
 trees_from vars forms forms' a b xs ys (Undecided t o c y n) (Undecided t' o' c' y' n') p q m k f e =
-    let h = either_same (t - a) (t' - b) o o' (placed (place_of xs) c) (placed (place_of ys) c') (canonical_tree a xs y) (canonical_tree b ys y') (canonical_tree a xs n) (canonical_tree b ys n') e in
+    let h = either_same (t - a) (t' - b) o o' (map_name (place_of xs) c) (map_name (place_of ys) c')
+    (canonical_tree a xs y) (canonical_tree b ys y') (canonical_tree a xs n) (canonical_tree b ys n') e in
     let maps : Maps = record { variables = vars; shift = b; other_shift = a } in
     let p' = listed_second xs (λ x. reads_name c x) (λ x. uses y x || uses n x) p in
     let q' = listed_second ys (λ x. reads_name c' x) (λ x. uses y' x || uses n' x) q in

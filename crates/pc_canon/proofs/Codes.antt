@@ -3,23 +3,23 @@ use Rattle.std.proofs.Common.{◌≡◌, ℕ, ◌-◌, List, [], ◌∷◌, ◌+
 use Rattle.std.specs.Prelude.{ℤ, pos, Bool, true, false, Option, Some, None, slice_get}
 use Rattle.pc_word.specs.declared.item.Item.{Item}
 use Rattle.pc_word.specs.declared.item.Item.TheVariants.{Bin, Copy, Load, Store, Print, Read, More}
-use Rattle.pc_word.specs.declared.item.OpCode.{OpCode}
-use Rattle.pc_word.specs.declared.item.OpCode.TheVariants.{Add, Sub, Mul, Div, Rem, Shl, Shr, And, Or, Xor, Less, LessEq, Equal, Unequal, Below}
 use Rattle.pc_word.specs.declared.item.Operand.{Operand}
 use Rattle.pc_word.specs.declared.item.Operand.TheVariants.{Name, Lit}
 use Rattle.pc_word.specs.declared.item.TrapKind.{TrapKind}
 use Rattle.pc_word.specs.declared.item.TrapKind.TheVariants.{DivideByZero, OutOfBounds, EndOfInput}
-use Rattle.pc_word.specs.Items.{dest_of}
+use Rattle.pc_word.specs.Items.{dest_of, op_number}
 use Rattle.pc_window.specs.Tree.{Tree, Pending, Undecided, Exit, Stop_exit, Trap_exit, Front, Issued, Split, Unfinished, whole}
 use Rattle.pc_window.specs.Names.{named, parameters_of}
 use Rattle.pc_window.specs.WindowRun.{Window}
 use Rattle.pc_canon.specs.Shift.{SameFront}
-use Rattle.pc_canon.specs.Canonical.{place_of, placed, placed_item, placed_homes, canonical_tree, canonical_front, tags_of, first_tag, canonical}
-use Rattle.pc_canon.specs.Key.{op_number, trap_number, list_numbers, operand_numbers, item_numbers, home_numbers, tree_numbers, shape_numbers, truth_number, constant_numbers}
+use Rattle.pc_canon.specs.Canonical.{place_of, placed_item, placed_homes, canonical_tree, canonical_front, tags_of, first_tag, canonical}
+use Rattle.pc_canon.specs.Key.{trap_number, list_numbers, operand_numbers, item_numbers, home_numbers, tree_numbers, shape_numbers, truth_number, constant_numbers}
 use Rattle.pc_canon.specs.Key.{column_numbers, limit_numbers, loop_numbers, canonical_numbers, key_of}
 use Rattle.pc_canon.proofs.Bytes.{same_numbers}
 use Rattle.pc_canon.proofs.FormsKept.{fronts_to}
 use Rattle.pc_canon.proofs.FormsTell.{whole_canonical}
+use Rattle.pc_word.specs.Naming.{map_name}
+use Rattle.pc_word.proofs.Items.{same_operator}
 
 -- what is written in numbers is known by them, and by where they end
 abbrev pub IsCode : {A : Type 0} → (A → List ℤ) → Type 0
@@ -59,32 +59,6 @@ list_code numbers code (x ∷ xs) [] r s e = absurd (cc)
 
 -- ---- operators and operands
 
-abbrev operators : List OpCode
-operators = Add ∷ Sub ∷ Mul ∷ Div ∷ Rem ∷ Shl ∷ Shr ∷ And ∷ Or ∷ Xor ∷ Less ∷ LessEq ∷ Equal ∷ Unequal ∷ Below ∷ []
-
-operator_at : (op : OpCode) → slice_get operators (op_number op) ≡ Some op
-operator_at Add = refl
-operator_at Sub = refl
-operator_at Mul = refl
-operator_at Div = refl
-operator_at Rem = refl
-operator_at Shl = refl
-operator_at Shr = refl
-operator_at And = refl
-operator_at Or = refl
-operator_at Xor = refl
-operator_at Less = refl
-operator_at LessEq = refl
-operator_at Equal = refl
-operator_at Unequal = refl
-operator_at Below = refl
-
--- an operator is known by its number
-same_operator : (one other : OpCode) → op_number one ≡ op_number other → one ≡ other
-same_operator one other e =
-    let both : Some one ≡ Some other = sym (operator_at one) ∙ ap (slice_get operators) e ∙ operator_at other in
-    (cc)
-
 abbrev traps : List TrapKind
 traps = DivideByZero ∷ OutOfBounds ∷ EndOfInput ∷ []
 
@@ -120,26 +94,26 @@ module _ (p q : ℕ → ℕ) where
       → (placed_item p i ≡ placed_item q j) × (r ≡ s)
   item_code (Bin op d left right) (Bin op' d' left' right') r s e =
       let heads = two_heads (pos 0) (pos (op_number op)) (pos 0) (pos (op_number op'))
-      ((operand_numbers (placed p left) ++ operand_numbers (placed p right)) ++ r) ((operand_numbers (placed q left') ++ operand_numbers (placed q right')) ++ s) e in
+      ((operand_numbers (map_name p left) ++ operand_numbers (map_name p right)) ++ r) ((operand_numbers (map_name q left') ++ operand_numbers (map_name q right')) ++ s) e in
       let same = same_operator op op' (same_natural (op_number op) (op_number op') heads.1) in
-      let sides = two_operands (placed p left) (placed p right) (placed q left') (placed q right') r s heads.2 in
+      let sides = two_operands (map_name p left) (map_name p right) (map_name q left') (map_name q right') r s heads.2 in
       ((λ i. Bin (same i) 0 (sides.0 i) (sides.1 i)), sides.2)
   item_code (Copy d from) (Copy d' from') r s e =
-      let side = operand_code (placed p from) (placed q from') r s (one_head (pos 1) (pos 1) (operand_numbers (placed p from) ++ r) (operand_numbers (placed q from') ++ s) e).1 in
+      let side = operand_code (map_name p from) (map_name q from') r s (one_head (pos 1) (pos 1) (operand_numbers (map_name p from) ++ r) (operand_numbers (map_name q from') ++ s) e).1 in
       ((λ i. Copy 0 (side.0 i)), side.1)
   item_code (Load d array index) (Load d' array' index') r s e =
-      let heads = two_heads (pos 2) (pos array) (pos 2) (pos array') (operand_numbers (placed p index) ++ r) (operand_numbers (placed q index') ++ s) e in
-      let side = operand_code (placed p index) (placed q index') r s heads.2 in
+      let heads = two_heads (pos 2) (pos array) (pos 2) (pos array') (operand_numbers (map_name p index) ++ r) (operand_numbers (map_name q index') ++ s) e in
+      let side = operand_code (map_name p index) (map_name q index') r s heads.2 in
       let same = same_natural array array' heads.1 in
       ((λ i. Load 0 (same i) (side.0 i)), side.1)
   item_code (Store array index value) (Store array' index' value') r s e =
       let heads = two_heads (pos 3) (pos array) (pos 3) (pos array')
-      ((operand_numbers (placed p index) ++ operand_numbers (placed p value)) ++ r) ((operand_numbers (placed q index') ++ operand_numbers (placed q value')) ++ s) e in
+      ((operand_numbers (map_name p index) ++ operand_numbers (map_name p value)) ++ r) ((operand_numbers (map_name q index') ++ operand_numbers (map_name q value')) ++ s) e in
       let same = same_natural array array' heads.1 in
-      let sides = two_operands (placed p index) (placed p value) (placed q index') (placed q value') r s heads.2 in
+      let sides = two_operands (map_name p index) (map_name p value) (map_name q index') (map_name q value') r s heads.2 in
       ((λ i. Store (same i) (sides.0 i) (sides.1 i)), sides.2)
   item_code (Print value) (Print value') r s e =
-      let side = operand_code (placed p value) (placed q value') r s (one_head (pos 4) (pos 4) (operand_numbers (placed p value) ++ r) (operand_numbers (placed q value') ++ s) e).1 in
+      let side = operand_code (map_name p value) (map_name q value') r s (one_head (pos 4) (pos 4) (operand_numbers (map_name p value) ++ r) (operand_numbers (map_name q value') ++ s) e).1 in
       ((λ i. Print (side.0 i)), side.1)
   item_code (Read d) (Read d') r s e = (refl, (one_head (pos 5) (pos 5) r s e).1)
   item_code (More d) (More d') r s e = (refl, (one_head (pos 6) (pos 6) r s e).1)
@@ -173,12 +147,12 @@ module _ (a b : ℕ) where
       let other = tree_numbers (canonical_tree a xs on_no) in
       let one' = tree_numbers (canonical_tree b ys on_yes') in
       let other' = tree_numbers (canonical_tree b ys on_no') in
-      let on = operand_numbers (placed (place_of xs) c) in
-      let on' = operand_numbers (placed (place_of ys) c') in
+      let on = operand_numbers (map_name (place_of xs) c) in
+      let on' = operand_numbers (map_name (place_of ys) c') in
       let heads = three_heads (pos 1) (pos (t - a)) (pos o) (pos 1) (pos (t' - b)) (pos o') ((on ++ (one ++ other)) ++ r) ((on' ++ (one' ++ other')) ++ s) e in
       let tag = same_natural (t - a) (t' - b) heads.1 in
       let origin = same_natural o o' heads.2 in
-      let test = operand_code (placed (place_of xs) c) (placed (place_of ys) c') ((one ++ other) ++ r) ((one' ++ other') ++ s)
+      let test = operand_code (map_name (place_of xs) c) (map_name (place_of ys) c') ((one ++ other) ++ r) ((one' ++ other') ++ s)
       (rejoined on (one ++ other) r on' (one' ++ other') s heads.3) in
       let first = tree_code xs ys on_yes on_yes' (other ++ r) (other' ++ s) (rejoined one other r one' other' s test.1) in
       let second = tree_code xs ys on_no on_no' r s first.1 in

@@ -2,7 +2,7 @@
 use Rattle.std.proofs.Common.{◌≡◌, ℕ, suc, ◌+◌, ◌-◌, List, [], ◌∷◌, ◌++◌, inl, inr, refl, sym, ◌∙◌, ap, subst, arith}
 use Rattle.std.specs.Prelude.{ℤ, Bool, true, false, not, ◌&&◌, if◌then◌else◌, nat_eq, min, map, Option, Some, None}
 use Rattle.std.proofs.lemmas.Bool.{eqb-true, eq-eqb}
-use Rattle.pc_word.proofs.Truth.{decide_le}
+use Rattle.pc_word.proofs.Truth.{decide_le, same_test}
 use Rattle.pc_word.specs.declared.item.Item.{Item}
 use Rattle.pc_word.specs.declared.item.Item.TheVariants.{Bin, Copy, Load, Store, Print}
 use Rattle.pc_word.specs.declared.item.Operand.{Operand}
@@ -16,7 +16,7 @@ use Rattle.pc_window.specs.WindowRun.{Window}
 use Rattle.pc_canon.specs.Pairs.{Pair, corresponds, ones, others, defined, OperandsAlike, HomesAlike}
 use Rattle.pc_canon.specs.Shift.{OneToOne, EachPair, FormsAlike, ItemsAlike, both_bin, both_copy, both_load, both_store, both_print, both_read, both_more, Maps, DestsAlike}
 use Rattle.pc_canon.specs.Shift.{TagsAlike, TreesAlike, both_then, both_either, both_exit, both_stop, both_trap, SameFront, Shifted}
-use Rattle.pc_canon.specs.Canonical.{place_of, placed, placed_item, placed_homes, canonical_tree, canonical_front, tags_of, least_of, first_tag, Constant, constant_in}
+use Rattle.pc_canon.specs.Canonical.{place_of, placed_item, placed_homes, canonical_tree, canonical_front, tags_of, least_of, first_tag, Constant, constant_in}
 use Rattle.pc_canon.specs.Canonical.{forms_of_parameters, forms_of_definitions, with_factor, column, with_occurring, columns_of, above_forms, canonical}
 use Rattle.pc_canon.proofs.Membership.{has, Distinct, has_is, distinct_from}
 use Rattle.pc_canon.proofs.FactorColumns.{column-above}
@@ -25,26 +25,21 @@ use Rattle.pc_canon.proofs.Alike.{EachAlike, no_more, one_more}
 use Rattle.pc_canon.proofs.Pairs.{same_some, turned, turned_corresponds, paired, corresponds_paired}
 use Rattle.pc_canon.proofs.ShiftForms.{each_corresponds}
 use Rattle.pc_canon.proofs.CanonicalTrees.{BothOrNeither, both_or_neither}
+use Rattle.pc_word.specs.Naming.{map_name}
 
 -- ---- names that correspond
 
 abbrev Corr : List Pair → ℕ → ℕ → Type 0
 Corr names x y = corresponds names x y ≡ true
 
-bool_same : (b c : Bool) → (b ≡ true → c ≡ true) → (c ≡ true → b ≡ true) → b ≡ c
-bool_same true true p q = refl
-bool_same false false p q = refl
-bool_same true false p q = sym (p refl)
-bool_same false true p q = q refl
-
 one_way : (names : List Pair) (x y x' y' : ℕ) → Corr names x y → Corr names x' y' → x ≡ x' → y ≡ y'
 one_way names x y x' y' p q e =
     same_some y y' (sym (corresponds_paired names x y p) ∙ ap (λ (n : ℕ). paired names n) e ∙ corresponds_paired names x' y' q)
 
 -- names that correspond to equal names are equal, and the other way round
-same_test : (names : List Pair) (x y x' y' : ℕ) → Corr names x y → Corr names x' y' → nat_eq x x' ≡ nat_eq y y'
-same_test names x y x' y' p q =
-    bool_same (nat_eq x x') (nat_eq y y')
+same_names : (names : List Pair) (x y x' y' : ℕ) → Corr names x y → Corr names x' y' → nat_eq x x' ≡ nat_eq y y'
+same_names names x y x' y' p q =
+    same_test (nat_eq x x') (nat_eq y y')
     (λ e. eq-eqb y y' (one_way names x y x' y' p q (eqb-true x x' e)))
     (λ e. eq-eqb x x' (one_way (turned names) y x y' x' (turned_corresponds names x y ∙ p) (turned_corresponds names x' y' ∙ q) (eqb-true y y' e)))
 
@@ -108,7 +103,7 @@ kept_step names false true x y xs ys e h t = absurd (cc)
 
 kept_uses : (names : List Pair) (x y : ℕ) {xs ys : List ℕ} → Corr names x y → EachAlike (Corr names) xs ys → EachAlike (Corr names) (without_name (Some x) xs) (without_name (Some y) ys)
 kept_uses names x y p no_more = no_more
-kept_uses names x y p (one_more {a} {b} {xs} {ys} h t) = kept_step names (nat_eq x a) (nat_eq y b) a b (without_name (Some x) xs) (without_name (Some y) ys) (same_test names x y a b p h) h
+kept_uses names x y p (one_more {a} {b} {xs} {ys} h t) = kept_step names (nat_eq x a) (nat_eq y b) a b (without_name (Some x) xs) (without_name (Some y) ys) (same_names names x y a b p h) h
     (kept_uses names x y p t)
 
 first_uses_alike : (names : List Pair) {xs ys : List ℕ} → EachAlike (Corr names) xs ys → EachAlike (Corr names) (first_uses xs) (first_uses ys)
@@ -125,7 +120,7 @@ same_choice false true m n e h = absurd (cc)
 
 places_alike : (names : List Pair) (x y : ℕ) {xs ys : List ℕ} → Corr names x y → EachAlike (Corr names) xs ys → place_of xs x ≡ place_of ys y
 places_alike names x y p no_more = refl
-places_alike names x y p (one_more {a} {b} {xs} {ys} h t) = same_choice (nat_eq a x) (nat_eq b y) (place_of xs x) (place_of ys y) (same_test names a b x y h p) (places_alike names x y p t)
+places_alike names x y p (one_more {a} {b} {xs} {ys} h t) = same_choice (nat_eq a x) (nat_eq b y) (place_of xs x) (place_of ys y) (same_names names a b x y h p) (places_alike names x y p t)
 
 -- names that correspond stand at the same places
 abbrev Agrees : List Pair → List ℕ → List ℕ → Type 0
@@ -143,7 +138,7 @@ agrees_named names xs ys None None both h x y = h x y
 agrees_named names xs ys (Some a) None both h x y = absurd both
 agrees_named names xs ys None (Some b) both h x y = absurd both
 
-operand_to : (names : List Pair) (xs ys : List ℕ) (a b : Operand) → Agrees names xs ys → OperandsAlike names a b → placed (place_of xs) a ≡ placed (place_of ys) b
+operand_to : (names : List Pair) (xs ys : List ℕ) (a b : Operand) → Agrees names xs ys → OperandsAlike names a b → map_name (place_of xs) a ≡ map_name (place_of ys) b
 operand_to names xs ys (Name x) (Name y) c h = ap (λ (n : ℕ). Name n) (c x y h)
 operand_to names xs ys (Lit a) (Lit b) c h = ap (λ (z : ℤ). Lit z) h
 operand_to names xs ys (Name x) (Lit b) c h = absurd h
@@ -151,13 +146,13 @@ operand_to names xs ys (Lit a) (Name y) c h = absurd h
 
 item_to : {names : List Pair} {i j : Item} (xs ys : List ℕ) → Agrees names xs ys → ItemsAlike names i j → placed_item (place_of xs) i ≡ placed_item (place_of ys) j
 item_to {names} xs ys c (both_bin {op} {left} {left'} {right} {right'} h k) =
-    ap (λ (o : Operand). Bin op 0 o (placed (place_of xs) right)) (operand_to names xs ys left left' c h)
-    ∙ ap (λ (o : Operand). Bin op 0 (placed (place_of ys) left') o) (operand_to names xs ys right right' c k)
+    ap (λ (o : Operand). Bin op 0 o (map_name (place_of xs) right)) (operand_to names xs ys left left' c h)
+    ∙ ap (λ (o : Operand). Bin op 0 (map_name (place_of ys) left') o) (operand_to names xs ys right right' c k)
 item_to {names} xs ys c (both_copy {from} {from'} h) = ap (λ (o : Operand). Copy 0 o) (operand_to names xs ys from from' c h)
 item_to {names} xs ys c (both_load {array} {index} {index'} h) = ap (λ (o : Operand). Load 0 array o) (operand_to names xs ys index index' c h)
 item_to {names} xs ys c (both_store {array} {index} {index'} {value} {value'} h k) =
-    ap (λ (o : Operand). Store array o (placed (place_of xs) value)) (operand_to names xs ys index index' c h)
-    ∙ ap (λ (o : Operand). Store array (placed (place_of ys) index') o) (operand_to names xs ys value value' c k)
+    ap (λ (o : Operand). Store array o (map_name (place_of xs) value)) (operand_to names xs ys index index' c h)
+    ∙ ap (λ (o : Operand). Store array (map_name (place_of ys) index') o) (operand_to names xs ys value value' c k)
 item_to {names} xs ys c (both_print {value} {value'} h) = ap (λ (o : Operand). Print o) (operand_to names xs ys value value' c h)
 item_to xs ys c both_read = refl
 item_to xs ys c both_more = refl
@@ -166,9 +161,9 @@ homes_to : (names : List Pair) (xs ys : List ℕ) (hs ks : List Home) → Agrees
 homes_to names xs ys [] [] c h = refl
 homes_to names xs ys (a ∷ hs) (b ∷ ks) c h =
     let home : ℕ → Operand → Home = λ v o. record { variable = v; value = o } in
-    ap (λ (v : ℕ). home v (placed (place_of xs) a.value) ∷ placed_homes (place_of xs) hs) h.0
+    ap (λ (v : ℕ). home v (map_name (place_of xs) a.value) ∷ placed_homes (place_of xs) hs) h.0
     ∙ ap (λ (o : Operand). home b.variable o ∷ placed_homes (place_of xs) hs) (operand_to names xs ys a.value b.value c h.1)
-    ∙ ap (λ (l : List Home). home b.variable (placed (place_of ys) b.value) ∷ l) (homes_to names xs ys hs ks c h.2)
+    ∙ ap (λ (l : List Home). home b.variable (map_name (place_of ys) b.value) ∷ l) (homes_to names xs ys hs ks c h.2)
 homes_to names xs ys [] (b ∷ ks) c h = absurd h
 homes_to names xs ys (a ∷ hs) [] c h = absurd h
 
@@ -184,10 +179,10 @@ trees_to {maps} {names} a b xs ys e c (both_then {tag} {tag'} {origin} {item} {i
     ∙ ap (λ (i : Item). Pending (tag' - b) origin i (canonical_tree a (named (dest_of item) xs) rest)) (item_to xs ys c items)
     ∙ ap (λ (t : Tree). Pending (tag' - b) origin (placed_item (place_of ys) item') t) r
 trees_to {maps} {names} a b xs ys e c (both_either {tag} {tag'} {origin} {on} {on'} {on_yes} {on_yes'} {on_no} {on_no'} tags test yes_side no_side) =
-    ap (λ (n : ℕ). Undecided n origin (placed (place_of xs) on) (canonical_tree a xs on_yes) (canonical_tree a xs on_no)) (tag_to a b maps.shift maps.other_shift tag tag' e tags)
+    ap (λ (n : ℕ). Undecided n origin (map_name (place_of xs) on) (canonical_tree a xs on_yes) (canonical_tree a xs on_no)) (tag_to a b maps.shift maps.other_shift tag tag' e tags)
     ∙ ap (λ (o : Operand). Undecided (tag' - b) origin o (canonical_tree a xs on_yes) (canonical_tree a xs on_no)) (operand_to names xs ys on on' c test)
-    ∙ ap (λ (t : Tree). Undecided (tag' - b) origin (placed (place_of ys) on') t (canonical_tree a xs on_no)) (trees_to a b xs ys e c yes_side)
-    ∙ ap (λ (t : Tree). Undecided (tag' - b) origin (placed (place_of ys) on') (canonical_tree b ys on_yes') t) (trees_to a b xs ys e c no_side)
+    ∙ ap (λ (t : Tree). Undecided (tag' - b) origin (map_name (place_of ys) on') t (canonical_tree a xs on_no)) (trees_to a b xs ys e c yes_side)
+    ∙ ap (λ (t : Tree). Undecided (tag' - b) origin (map_name (place_of ys) on') (canonical_tree b ys on_yes') t) (trees_to a b xs ys e c no_side)
 trees_to {maps} {names} a b xs ys e c (both_exit {region} {tag} {tag'} {homes} {homes'} tags h) =
     ap (λ (n : ℕ). Exit region n (placed_homes (place_of xs) homes)) (tag_to a b maps.shift maps.other_shift tag tag' e tags)
     ∙ ap (λ (l : List Home). Exit region (tag' - b) l) (homes_to names xs ys homes homes' c h)
@@ -243,9 +238,10 @@ fronts_to a b xs ys (Issued t o i r) (Issued t' o' i' r') h e =
     done_as (t - a) (t' - b) o o' (placed_item (place_of xs) i) (placed_item (place_of ys) i') (canonical_front a (named (dest_of i) xs) r) (canonical_front b (named (dest_of i') ys) r') p.0 p.1 p.2
     (fronts_to a b (named (dest_of i) xs) (named (dest_of i') ys) r r' h p.3)
 fronts_to a b xs ys (Split t o c y n) (Split t' o' c' y' n') h e =
-    let p = either_parts (t - a) (t' - b) o o' (placed (place_of xs) c) (placed (place_of ys) c') (canonical_tree a xs (whole y)) (canonical_tree b ys (whole y'))
+    let p = either_parts (t - a) (t' - b) o o' (map_name (place_of xs) c) (map_name (place_of ys) c') (canonical_tree a xs (whole y)) (canonical_tree b ys (whole y'))
     (canonical_tree a xs (whole n)) (canonical_tree b ys (whole n')) e in
-    split_as (t - a) (t' - b) o o' (placed (place_of xs) c) (placed (place_of ys) c') (canonical_front a xs y) (canonical_front b ys y') (canonical_front a xs n) (canonical_front b ys n') p.0 p.1 p.2
+    split_as (t - a) (t' - b) o o' (map_name (place_of xs) c) (map_name (place_of ys) c')
+    (canonical_front a xs y) (canonical_front b ys y') (canonical_front a xs n) (canonical_front b ys n') p.0 p.1 p.2
     (fronts_to a b xs ys y y' h.0 p.3) (fronts_to a b xs ys n n' h.1 p.4)
 fronts_to a b xs ys (Unfinished r) (Unfinished r') h e = ap (λ (t : Tree). Unfinished t) e
 fronts_to a b xs ys (Issued t o i r) (Split t' o' c' y' n') h e = absurd h

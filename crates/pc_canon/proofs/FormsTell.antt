@@ -12,7 +12,7 @@ use Rattle.pc_window.specs.Names.{named, parameters_of}
 use Rattle.pc_window.specs.WindowRun.{Window}
 use Rattle.pc_canon.specs.Pairs.{Pair, ones, others}
 use Rattle.pc_canon.specs.Shift.{OneToOne, EachPair, FormsAlike, SameFront, ShiftedBy}
-use Rattle.pc_canon.specs.Canonical.{place_of, placed, placed_item, canonical_tree, canonical_front, tags_of, first_tag, Constant, constant_in, forms_of_parameters}
+use Rattle.pc_canon.specs.Canonical.{place_of, placed_item, canonical_tree, canonical_front, tags_of, first_tag, Constant, constant_in, forms_of_parameters}
 use Rattle.pc_canon.specs.Canonical.{forms_of_definitions, column, above_forms, Canonical, canonical, side_by_side, parameter_pairs}
 use Rattle.pc_canon.proofs.Membership.{has, has_is, distinct_to}
 use Rattle.pc_canon.proofs.FactorColumns.{column-begins, with_factor-same, with_factor-none, column-above}
@@ -21,6 +21,7 @@ use Rattle.pc_canon.proofs.Alike.{EachAlike, no_more, one_more}
 use Rattle.pc_canon.proofs.CanonicalTrees.{trees_from}
 use Rattle.pc_canon.proofs.ParameterLists.{parameters_listed, parameters_distinct}
 use Rattle.pc_canon.proofs.FirstTags.{first_is_least}
+use Rattle.pc_word.specs.Naming.{map_name}
 
 -- ---- fronts
 
@@ -28,8 +29,8 @@ pub whole_canonical : (first : ℕ) (names : List ℕ) (front : Front) → whole
 whole_canonical first names (Issued tag origin item rest) = ap (λ (t : Tree). Pending (tag - first) origin (placed_item (place_of names) item) t)
     (whole_canonical first (named (dest_of item) names) rest)
 whole_canonical first names (Split tag origin on on_yes on_no) =
-    ap (λ (t : Tree). Undecided (tag - first) origin (placed (place_of names) on) t (whole (canonical_front first names on_no))) (whole_canonical first names on_yes)
-    ∙ ap (λ (t : Tree). Undecided (tag - first) origin (placed (place_of names) on) (canonical_tree first names (whole on_yes)) t) (whole_canonical first names on_no)
+    ap (λ (t : Tree). Undecided (tag - first) origin (map_name (place_of names) on) t (whole (canonical_front first names on_no))) (whole_canonical first names on_yes)
+    ∙ ap (λ (t : Tree). Undecided (tag - first) origin (map_name (place_of names) on) (canonical_tree first names (whole on_yes)) t) (whole_canonical first names on_no)
 whole_canonical first names (Unfinished rest) = refl
 
 done_rest : (t t' o o' : ℕ) (i i' : Item) (r r' : Front) → Issued t o i r ≡ Issued t' o' i' r' → r ≡ r'
@@ -43,7 +44,7 @@ fronts_from a b xs ys (Issued t o i r) (Issued t' o' i' r') e =
     fronts_from a b (named (dest_of i) xs) (named (dest_of i') ys) r r'
     (done_rest (t - a) (t' - b) o o' (placed_item (place_of xs) i) (placed_item (place_of ys) i') (canonical_front a (named (dest_of i) xs) r) (canonical_front b (named (dest_of i') ys) r') e)
 fronts_from a b xs ys (Split t o c y n) (Split t' o' c' y' n') e =
-    let h = split_rest (t - a) (t' - b) o o' (placed (place_of xs) c) (placed (place_of ys) c') (canonical_front a xs y) (canonical_front b ys y') (canonical_front a xs n)
+    let h = split_rest (t - a) (t' - b) o o' (map_name (place_of xs) c) (map_name (place_of ys) c') (canonical_front a xs y) (canonical_front b ys y') (canonical_front a xs n)
     (canonical_front b ys n') e in
     (fronts_from a b xs ys y y' h.0, fronts_from a b xs ys n n' h.1)
 fronts_from a b xs ys (Unfinished r) (Unfinished r') e = tt

@@ -4,25 +4,12 @@ use Rattle.std.specs.Prelude.{ℤ, pos, map, replicate, slice_get}
 use Rattle.pc_linear.specs.declared.term.Term.{Term}
 use Rattle.pc_linear.specs.Form.{Form}
 use Rattle.pc_window.specs.Opening.{TermsBelow}
-use Rattle.pc_rebase.proofs.TermPlaces.{few_places, fewer_places}
+use Rattle.pc_linear.proofs.FewPlaces.{few_places, fewer_places, none_from, one_from}
 use Rattle.pc_canon.specs.Canonical.{Constant, constant_in, columns_of}
 use Rattle.pc_canon.specs.Key.{constant_numbers, column_numbers, list_numbers}
 use Rattle.pc_canon.specs.models.Gathered.{and_term, and_terms, with_factors, and_forms}
 use Rattle.pc_canon.specs.models.Written.{elements_numbers, forms_numbers}
 use Rattle.pc_canon.proofs.Codes.{joined}
-
-none_from : (ts : List Term) (at : ℕ) → slice_get ts at ≡ None → drop at ts ≡ []
-none_from [] zero h = refl
-none_from [] (suc at) h = refl
-none_from (t ∷ ts) zero h = absurd (cc)
-none_from (t ∷ ts) (suc at) h = none_from ts at h
-
-one_from : (ts : List Term) (at : ℕ) (t : Term) → slice_get ts at ≡ Some t → drop at ts ≡ t ∷ drop (at + 1) ts
-one_from [] at t h = absurd (cc)
-one_from (u ∷ ts) zero t h = let same : u ≡ t = (cc) in ap (λ (x : Term). x ∷ ts) same
-one_from (u ∷ ts) (suc at) t h =
-    let next : suc at + 1 ≡ suc (at + 1) = omega arith in
-    one_from ts at t h ∙ ap (λ (n : ℕ). t ∷ drop n (u ∷ ts)) (sym next)
 
 module _ (ts : List Term) (at : ℕ) where
   pub no_terms_left : (place : ℕ) (columns : List (List ℤ)) → slice_get ts at ≡ None → columns ≡ and_terms place (drop at ts) columns

@@ -13,9 +13,11 @@ use Rattle.pc_window.specs.declared.home.Home.{Home}
 use Rattle.pc_window.specs.Tree.{Tree, Pending, Undecided, Exit, Stop_exit, Trap_exit}
 use Rattle.pc_window.specs.Names.{named}
 use Rattle.pc_window.specs.Opening.{OperandBelow, ItemBelow, StubBelow, TreeBelow}
-use Rattle.pc_canon.specs.Canonical.{place_of, placed, placed_item, placed_homes, canonical_tree}
+use Rattle.pc_window.proofs.Walked.{dest_below}
+use Rattle.pc_canon.specs.Canonical.{place_of, placed_item, placed_homes, canonical_tree}
 use Rattle.pc_canon.specs.Key.{list_numbers, operand_numbers, item_numbers, home_numbers, tree_numbers}
 use Rattle.pc_canon.specs.models.Written.{place_at, leveled, deeper, levels_of, written}
+use Rattle.pc_word.specs.Naming.{map_name}
 
 -- these are the levels of the names of a list
 pub record AreLevels (levels names : List ℕ) : Type 0 where
@@ -93,7 +95,7 @@ levels-long n names = levels-length names (replicate n 0) ∙ replicate-length 0
 -- ---- what is written by levels is written by places
 
 module _ (levels names : List ℕ) (are : AreLevels levels names) where
-  operand-written : (o : Operand) → OperandBelow (length levels) o → placed (place_at levels (length names)) o ≡ placed (place_of names) o
+  operand-written : (o : Operand) → OperandBelow (length levels) o → map_name (place_at levels (length names)) o ≡ map_name (place_of names) o
   operand-written (Name x) below = ap (λ (n : ℕ). Name n) (sym (are.places x below))
   operand-written (Lit value) below = refl
 
@@ -109,15 +111,6 @@ module _ (levels names : List ℕ) (are : AreLevels levels names) where
   homes-written : (homes : List Home) → StubBelow (length levels) homes → placed_homes (place_at levels (length names)) homes ≡ placed_homes (place_of names) homes
   homes-written [] below = refl
   homes-written (home ∷ homes) below = λ i. record { variable = home.variable; value = operand-written home.value below.0 i } ∷ homes-written homes below.1 i
-
-item_dest : (n : ℕ) (item : Item) (dest : ℕ) → ItemBelow n item → dest_of item ≡ Some dest → dest < n
-item_dest n (Bin op d left right) dest h is = let same : d ≡ dest = (cc) in subst (λ (x : ℕ). x < n) same h.0
-item_dest n (Copy d from) dest h is = let same : d ≡ dest = (cc) in subst (λ (x : ℕ). x < n) same h.0
-item_dest n (Load d array index) dest h is = let same : d ≡ dest = (cc) in subst (λ (x : ℕ). x < n) same h.0
-item_dest n (Store array index value) dest h is = absurd (cc)
-item_dest n (Print value) dest h is = absurd (cc)
-item_dest n (Read d) dest h is = let same : d ≡ dest = (cc) in subst (λ (x : ℕ). x < n) same h
-item_dest n (More d) dest h is = let same : d ≡ dest = (cc) in subst (λ (x : ℕ). x < n) same h
 
 pub tree-written : (first : ℕ) (levels names : List ℕ) (depth : ℕ) (tree : Tree) → AreLevels levels names → depth ≡ length names → TreeBelow (length levels) tree
     → written first depth levels tree ≡ tree_numbers (canonical_tree first names tree)
@@ -141,15 +134,15 @@ tree-written first levels names depth (Pending tag origin item rest) are deep be
     under None e quiet defines = quiet
     under (Some dest) e quiet defines =
         defines dest
-        (with_level levels names dest (depth + 1) are (item_dest (length levels) item dest below.0 e) (ap (λ (n : ℕ). n + 1) deep))
+        (with_level levels names dest (depth + 1) are (dest_below (length levels) item dest below.0 e) (ap (λ (n : ℕ). n + 1) deep))
         (ap (λ (n : ℕ). n + 1) deep ∙ next)
         (subst (λ (n : ℕ). TreeBelow n rest) (sym (set_length levels dest (depth + 1))) below.1)
 tree-written first levels names depth (Undecided tag origin on one other) are deep below =
     (λ i. pos 1 ∷ pos (tag - first) ∷ pos origin ∷ (operand_numbers (test i) ++
     (tree-written first levels names depth one are deep below.1 i ++ tree-written first levels names depth other are deep below.2 i)))
   where
-    test : placed (place_at levels depth) on ≡ placed (place_of names) on
-    test = ap (λ (n : ℕ). placed (place_at levels n) on) deep ∙ operand-written levels names are on below.0
+    test : map_name (place_at levels depth) on ≡ map_name (place_of names) on
+    test = ap (λ (n : ℕ). map_name (place_at levels n) on) deep ∙ operand-written levels names are on below.0
 tree-written first levels names depth (Exit region tag homes) are deep below =
     ap (λ (list : List Home). pos 2 ∷ pos region ∷ pos (tag - first) ∷ list_numbers home_numbers list)
     (ap (λ (n : ℕ). placed_homes (place_at levels n) homes) deep ∙ homes-written levels names are homes below)

@@ -20,4 +20,3 @@ pub mod Gathering
 pub mod Leveled
 pub mod WrittenKeys
 pub mod Factors
-pub mod SixNames

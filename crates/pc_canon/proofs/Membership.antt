@@ -1,9 +1,9 @@
 -- Membership in lists of numbers, and lists without a number twice.
 use Rattle.std.proofs.Common.{◌≡◌, ℕ, List, [], ◌∷◌, refl, sym, ◌∙◌}
-use Rattle.std.specs.Prelude.{Bool, true, false, ◌||◌, nat_eq}
+use Rattle.std.specs.Prelude.{Bool, false, ◌||◌, nat_eq}
 use Rattle.std.specs.List.{AllByRecursion, IsDistinct}
 use Rattle.std.proofs.lemmas.Bool.{eqb-true, eq-eqb}
-use Rattle.pc_word.proofs.Truth.{or_false, or_made_false}
+use Rattle.pc_word.proofs.Truth.{or_false, or_made_false, same_test}
 use Rattle.pc_window.specs.Rebasing.{is_in}
 
 -- whether a number is in a list, asked of each element in turn
@@ -16,14 +16,8 @@ abbrev pub Distinct : List ℕ → Type 0
 Distinct [] = Unit {0}
 Distinct (y ∷ ys) = (has ys y ≡ false) × Distinct ys
 
-same_bool : (b c : Bool) → (b ≡ true → c ≡ true) → (c ≡ true → b ≡ true) → b ≡ c
-same_bool true true p q = refl
-same_bool false false p q = refl
-same_bool true false p q = sym (p refl)
-same_bool false true p q = q refl
-
 pub flipped : (x y : ℕ) → nat_eq x y ≡ nat_eq y x
-flipped x y = same_bool (nat_eq x y) (nat_eq y x) (λ e. eq-eqb y x (sym (eqb-true x y e))) (λ e. eq-eqb x y (sym (eqb-true y x e)))
+flipped x y = same_test (nat_eq x y) (nat_eq y x) (λ e. eq-eqb y x (sym (eqb-true x y e))) (λ e. eq-eqb x y (sym (eqb-true y x e)))
 
 pub has_is : (xs : List ℕ) (x : ℕ) → has xs x ≡ is_in x xs
 has_is [] x = refl

@@ -2,8 +2,7 @@
 use Rattle.std.proofs.Common.{◌≡◌, ℕ, List, [], ◌∷◌, ◌⊎◌, inl, inr, refl, sym, ◌∙◌, ap, subst}
 use Rattle.std.specs.Prelude.{Bool, true, false, not, ◌&&◌, ◌||◌, if◌then◌else◌, nat_eq, Option, Some, None}
 use Rattle.std.proofs.lemmas.Bool.{eqb-true, eq-eqb}
-use Rattle.pc_word.proofs.Truth.{or_made_false}
-use Rattle.pc_window.proofs.Live.{or_first, or_second}
+use Rattle.pc_word.proofs.Truth.{or_made_false, or_first, or_second}
 use Rattle.pc_canon.specs.Pairs.{Pair, corresponds, ones, others}
 use Rattle.pc_canon.specs.Shift.{EachPair}
 use Rattle.pc_canon.proofs.Membership.{has, Distinct}

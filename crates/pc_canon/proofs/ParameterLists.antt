@@ -7,17 +7,16 @@ use Rattle.pc_word.specs.declared.item.Item.{Item}
 use Rattle.pc_word.specs.declared.item.Item.TheVariants.{Bin, Copy, Load, Store, Print, Read, More}
 use Rattle.pc_word.specs.declared.item.Operand.{Operand}
 use Rattle.pc_word.specs.declared.item.Operand.TheVariants.{Name, Lit}
-use Rattle.pc_word.specs.Items.{dest_of}
+use Rattle.pc_word.specs.Items.{dest_of, reads, reads_name}
 use Rattle.pc_word.specs.Commit.{writes}
 use Rattle.pc_word.proofs.Lists.{all_both, all_imply}
-use Rattle.pc_word.proofs.Truth.{and_true, not_true}
-use Rattle.pc_table.specs.TableKeeps.{reads, reads_name}
+use Rattle.pc_word.proofs.Truth.{and_true, not_true, or_first, or_second, or_true}
 use Rattle.pc_window.specs.declared.home.Home.{Home}
 use Rattle.pc_window.specs.Tree.{Tree, Pending, Undecided, Exit, Stop_exit, Trap_exit}
 use Rattle.pc_window.specs.Names.{homes_use, uses, name_in, names_read, names_in_homes, without_name, free_uses, first_uses, parameters_of}
 use Rattle.pc_window.specs.Rebasing.{is_in}
-use Rattle.pc_window.proofs.Live.{or_first, or_second}
-use Rattle.pc_window.proofs.Uses.{or_is}
+use Rattle.pc_word.proofs.Places.{other_way}
+use Rattle.pc_table.proofs.Tests.{needed_above}
 
 -- ---- each name that is used is listed
 
@@ -31,7 +30,7 @@ in_both (y ∷ xs) ys x h = by (nat_eq x y) (is_in x xs) (is_in x ys) (is_in x (
 
 in_either : (xs ys : List ℕ) (x : ℕ) (p q : Bool) → (p ≡ true → is_in x xs ≡ true) → (q ≡ true → is_in x ys ≡ true) → (p || q) ≡ true
     → is_in x (xs ++ ys) ≡ true
-in_either xs ys x p q f g h = elim (or_is p q h) [
+in_either xs ys x p q f g h = elim (or_true p q h) [
   | inl k ↦ in_both xs ys x (or_first (is_in x xs) (is_in x ys) (f k))
   | inr k ↦ in_both xs ys x (or_second (is_in x xs) (is_in x ys) (g k))
 ]
@@ -80,21 +79,11 @@ free_listed x (Exit region tag homes) h = home_in_it x homes h
 free_listed x Stop_exit h = absurd (cc)
 free_listed x (Trap_exit kind line) h = absurd (cc)
 
-turned : (x y : ℕ) → nat_eq x y ≡ false → nat_eq y x ≡ false
-turned x y e = by (nat_eq y x) refl
-  where
-    clash : (b : Bool) → b ≡ true → b ≡ false → ⊥
-    clash b p q = cc
-
-    by : (b : Bool) → nat_eq y x ≡ b → nat_eq y x ≡ false
-    by false h = h
-    by true h = absurd (clash (nat_eq x y) (eq-eqb x y (sym (eqb-true y x h))) e)
-
 listed_step : (y x : ℕ) (xs : List ℕ) (b : Bool) → nat_eq x y ≡ b → (b || is_in x xs) ≡ true → (is_in x xs ≡ true → is_in x (first_uses xs) ≡ true)
     → (nat_eq x y || is_in x (without_name (Some y) (first_uses xs))) ≡ true
 listed_step y x xs true e k next = or_first (nat_eq x y) (is_in x (without_name (Some y) (first_uses xs))) e
 listed_step y x xs false e k next =
-    or_second (nat_eq x y) (is_in x (without_name (Some y) (first_uses xs))) (in_without (Some y) (first_uses xs) x (turned x y e) (next k))
+    or_second (nat_eq x y) (is_in x (without_name (Some y) (first_uses xs))) (in_without (Some y) (first_uses xs) x (other_way x y e) (next k))
 
 first_listed : (xs : List ℕ) (x : ℕ) → is_in x xs ≡ true → is_in x (first_uses xs) ≡ true
 first_listed [] x h = h
@@ -159,11 +148,6 @@ homes_read (home ∷ homes) =
     (all_imply (λ x. homes_use homes x ≡ true) (λ x. homes_use (home ∷ homes) x ≡ true) (names_in_homes homes)
     (λ x h. or_second (reads_name home.value x) (homes_use homes x) h) (homes_read homes))
 
-above_used : (a w b : Bool) → w ≡ false → b ≡ true → (a || (not w && b)) ≡ true
-above_used true w b e h = refl
-above_used false true b e h = absurd (cc)
-above_used false false b e h = h
-
 free_used : (tree : Tree) → AllByRecursion (λ x. uses tree x ≡ true) (free_uses tree)
 free_used (Pending tag origin item rest) =
     all_both (λ x. uses (Pending tag origin item rest) x ≡ true) (names_read item) (without_name (dest_of item) (free_uses rest))
@@ -171,7 +155,7 @@ free_used (Pending tag origin item rest) =
     (λ x h. or_first (reads item x) (not (writes (dest_of item) x) && uses rest x) h) (item_read item))
     (all_imply (λ x. (writes (dest_of item) x ≡ false) × (uses rest x ≡ true)) (λ x. uses (Pending tag origin item rest) x ≡ true)
     (without_name (dest_of item) (free_uses rest))
-    (λ x h. above_used (reads item x) (writes (dest_of item) x) (uses rest x) h.0 h.1)
+    (λ x h. needed_above (reads item x) (writes (dest_of item) x) (uses rest x) h.0 h.1)
     (without_written (λ x. uses rest x ≡ true) (dest_of item) (free_uses rest) (free_used rest)))
 free_used (Undecided tag origin on one other) =
     all_both (λ x. uses (Undecided tag origin on one other) x ≡ true) (name_in on) (free_uses one ++ free_uses other)

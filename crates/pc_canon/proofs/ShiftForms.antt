@@ -5,16 +5,13 @@ use Rattle.std.proofs.lemmas.Bool.{eqb-true, eq-eqb}
 use Rattle.pc_word.specs.declared.item.Item.{Item}
 use Rattle.pc_word.specs.declared.item.Operand.{Operand}
 use Rattle.pc_word.specs.declared.item.Operand.TheVariants.{Name, Lit}
-use Rattle.pc_word.proofs.Truth.{and_true, and_made, not_true}
-use Rattle.pc_window.proofs.Live.{or_first, or_second}
-use Rattle.pc_window.proofs.Uses.{or_is}
+use Rattle.pc_word.proofs.Truth.{and_true, and_made, not_true, or_first, or_second, or_true}
 use Rattle.pc_word.specs.Word.{holds}
 use Rattle.pc_word.specs.State.{State}
-use Rattle.pc_word.specs.Items.{operand_value, dest_of, value_of}
+use Rattle.pc_word.specs.Items.{operand_value, dest_of, value_of, reads_name, reads}
 use Rattle.pc_word.specs.Commit.{writes, state_after}
 use Rattle.pc_linear.specs.Form.{Form, Means}
 use Rattle.pc_table.specs.Table.{Table}
-use Rattle.pc_table.specs.TableKeeps.{reads_name, reads}
 use Rattle.pc_window.specs.declared.home.Home.{Home}
 use Rattle.pc_window.specs.Tree.{Tree}
 use Rattle.pc_window.specs.Names.{homes_use, uses}
@@ -45,7 +42,7 @@ sought_either names P Q y (inr h) = (h.0, or_second (P h.0) (Q h.0) h.1, h.2)
 -- what is found in one of two parts is found in both together
 sought_parts : (names : List Pair) (P P' Q Q' : ℕ → Bool) (y : ℕ) → (P' y ≡ true → Sought names P y)
     → (Q' y ≡ true → Sought names Q y) → (P' y || Q' y) ≡ true → Sought names (λ x. P x || Q x) y
-sought_parts names P P' Q Q' y p q h = elim (or_is (P' y) (Q' y) h) [
+sought_parts names P P' Q Q' y p q h = elim (or_true (P' y) (Q' y) h) [
   | inl k ↦ sought_either names P Q y (inl (p k))
   | inr k ↦ sought_either names P Q y (inr (q k))
 ]

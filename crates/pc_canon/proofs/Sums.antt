@@ -5,7 +5,7 @@ use Rattle.std.specs.Int.{w32, int_wrap}
 use Rattle.std.proofs.Math.IntN.{neg_ℤ, suc_ℤ, pred_ℤ, ℤ_ind, +ℤ_assoc, +ℤ_comm, +ℤ_idl}
 use Rattle.std.proofs.Math.IntN.{+ℤ_idr, +ℤ_one, -ℤ_one, suc_ℤ-+ℤ, pred_ℤ-+ℤ, suc_ℤ-*ℤ, pred_ℤ-*ℤ, zero-*ℤ}
 use Rattle.std.proofs.lemmas.Bool.{eqb-true, eq-eqb}
-use Rattle.pc_word.proofs.Truth.{or_false}
+use Rattle.pc_word.proofs.Truth.{or_false, or_second}
 use Rattle.pc_linear.specs.declared.term.Term.{Term}
 use Rattle.pc_linear.specs.Form.{Form, factor_in, factor_of, sum_of, form_number, ◌≈◌, Means, says}
 use Rattle.pc_canon.specs.Pairs.{Pair, ones, others}
@@ -100,13 +100,9 @@ extended-distinct : (terms : List Term) (xs : List ℕ) → Distinct xs → Dist
 extended-distinct [] xs h = h
 extended-distinct (term ∷ terms) xs h = extended-distinct terms (with_one (has xs term.variable) term.variable xs) (with_one-distinct (has xs term.variable) term.variable xs refl h)
 
-or_true : (b c : Bool) → c ≡ true → (b || c) ≡ true
-or_true true c h = refl
-or_true false c h = h
-
 with_one-has : (b : Bool) (x y : ℕ) (xs : List ℕ) → has xs y ≡ true → has (with_one b x xs) y ≡ true
 with_one-has true x y xs h = h
-with_one-has false x y xs h = or_true (nat_eq x y) (has xs y) h
+with_one-has false x y xs h = or_second (nat_eq x y) (has xs y) h
 
 with_one-has_it : (b : Bool) (x : ℕ) (xs : List ℕ) → has xs x ≡ b → has (with_one b x xs) x ≡ true
 with_one-has_it true x xs e = e

@@ -9,7 +9,7 @@ use Rattle.pc_window.specs.Names.{definitions_of, parameters_of}
 use Rattle.pc_window.specs.Opening.{TreeBelow}
 use Rattle.pc_window.specs.Rebasing.{is_in}
 use Rattle.pc_window.specs.WindowRun.{Window}
-use Rattle.pc_rebase.proofs.Listed.{parameters-below}
+use Rattle.pc_window.proofs.Listed.{parameters-below}
 use Rattle.pc_canon.specs.Canonical.{canonical, constant_in, canonical_front, tags_of, first_tag, columns_of, forms_of_parameters, forms_of_definitions}
 use Rattle.pc_canon.specs.Key.{list_numbers, tree_numbers, shape_numbers, constant_numbers, column_numbers, limit_numbers, loop_numbers, canonical_numbers}
 use Rattle.pc_canon.specs.models.Written.{levels_of, written, forms_numbers}
@@ -20,7 +20,7 @@ use Rattle.pc_canon.proofs.ParameterLists.{parameters_distinct}
 
 -- ---- how many parameters there are
 
-each_below : (n : ℕ) (xs : List ℕ) → AllByRecursion (λ x. x < n) xs → (q : ℕ) → is_in q xs ≡ true → q < n
+pub each_below : (n : ℕ) (xs : List ℕ) → AllByRecursion (λ x. x < n) xs → (q : ℕ) → is_in q xs ≡ true → q < n
 each_below n [] h q e = absurd (cc)
 each_below n (x ∷ xs) h q e = by (nat_eq q x) refl e (each_below n xs h.1 q)
   where

@@ -3,9 +3,6 @@ use Rattle.std.specs.Prelude.{ℕ, zero, suc, ◌-◌, min, max, ℤ, pos, negsu
 use Rattle.std.specs.Cmp.Lexicographic.{slice_cmp}
 use Rattle.std.specs.Ordering.{int_cmp, is_lt}
 use Rattle.pc_word.specs.declared.item.Item.{Item}
-use Rattle.pc_word.specs.declared.item.Item.TheVariants.{Bin, Copy, Load, Store, Print, Read, More}
-use Rattle.pc_word.specs.declared.item.Operand.{Operand}
-use Rattle.pc_word.specs.declared.item.Operand.TheVariants.{Name, Lit}
 use Rattle.pc_word.specs.declared.item.Limits.{Limits}
 use Rattle.pc_word.specs.Items.{dest_of}
 use Rattle.pc_linear.specs.declared.term.Term.{Term}
@@ -16,6 +13,8 @@ use Rattle.pc_window.specs.Names.{named, definitions_of, parameters_of}
 use Rattle.pc_window.specs.WindowRun.{Window}
 use Rattle.pc_canon.specs.Pairs.{Pair}
 use Rattle.pc_canon.specs.Shift.{has_terms}
+use Rattle.pc_word.specs.Naming.{map_name, map_operands, with_dest}
+use Rattle.pc_window.specs.Rename.{map_homes}
 
 -- ---- names
 
@@ -24,24 +23,13 @@ abbrev pub place_of : List ℕ → ℕ → ℕ
 place_of [] x = 0
 place_of (y ∷ ys) x = if nat_eq y x then 0 else suc (place_of ys x)
 
--- an operand with a place for its name
-abbrev pub placed : (ℕ → ℕ) → Operand → Operand
-placed place (Name x) = Name (place x)
-placed place (Lit value) = Lit value
-
 -- an item with places for the names that it reads, and 0 for the one that it writes
 abbrev pub placed_item : (ℕ → ℕ) → Item → Item
-placed_item place (Bin op dest left right) = Bin op 0 (placed place left) (placed place right)
-placed_item place (Copy dest from) = Copy 0 (placed place from)
-placed_item place (Load dest array index) = Load 0 array (placed place index)
-placed_item place (Store array index value) = Store array (placed place index) (placed place value)
-placed_item place (Print value) = Print (placed place value)
-placed_item place (Read dest) = Read 0
-placed_item place (More dest) = More 0
+placed_item place item = with_dest 0 (map_operands (map_name place) item)
 
 -- homes with places for the names that they read
 abbrev pub placed_homes : (ℕ → ℕ) → List Home → List Home
-placed_homes place homes = map (λ (home : Home). record { variable = home.variable; value = placed place home.value }) homes
+placed_homes place homes = map_homes (map_name place) homes
 
 -- ---- trees
 
@@ -50,7 +38,7 @@ abbrev pub canonical_tree : ℕ → List ℕ → Tree → Tree
 canonical_tree first names (Pending tag origin item rest) =
     Pending (tag - first) origin (placed_item (place_of names) item) (canonical_tree first (named (dest_of item) names) rest)
 canonical_tree first names (Undecided tag origin on on_yes on_no) =
-    Undecided (tag - first) origin (placed (place_of names) on) (canonical_tree first names on_yes) (canonical_tree first names on_no)
+    Undecided (tag - first) origin (map_name (place_of names) on) (canonical_tree first names on_yes) (canonical_tree first names on_no)
 canonical_tree first names (Exit region tag homes) = Exit region (tag - first) (placed_homes (place_of names) homes)
 canonical_tree first names Stop_exit = Stop_exit
 canonical_tree first names (Trap_exit kind line) = Trap_exit kind line
@@ -60,7 +48,7 @@ abbrev pub canonical_front : ℕ → List ℕ → Front → Front
 canonical_front first names (Issued tag origin item rest) =
     Issued (tag - first) origin (placed_item (place_of names) item) (canonical_front first (named (dest_of item) names) rest)
 canonical_front first names (Split tag origin on on_yes on_no) =
-    Split (tag - first) origin (placed (place_of names) on) (canonical_front first names on_yes) (canonical_front first names on_no)
+    Split (tag - first) origin (map_name (place_of names) on) (canonical_front first names on_yes) (canonical_front first names on_no)
 canonical_front first names (Unfinished rest) = Unfinished (canonical_tree first names rest)
 
 -- the tags of items, tests and stubs

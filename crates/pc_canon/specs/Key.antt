@@ -3,8 +3,6 @@ use Rattle.std.specs.Prelude.{ℕ, ℤ, pos, Bool, true, false, List, [], ◌∷
 use Rattle.pc_word.specs.declared.item.Item.{Item}
 use Rattle.pc_word.specs.declared.item.Item.TheVariants.{Bin, Copy, Load, Store, Print, Read, More}
 use Rattle.pc_word.specs.declared.item.Limits.{Limits}
-use Rattle.pc_word.specs.declared.item.OpCode.{OpCode}
-use Rattle.pc_word.specs.declared.item.OpCode.TheVariants.{Add, Sub, Mul, Div, Rem, Shl, Shr, And, Or, Xor, Less, LessEq, Equal, Unequal, Below}
 use Rattle.pc_word.specs.declared.item.Operand.{Operand}
 use Rattle.pc_word.specs.declared.item.Operand.TheVariants.{Name, Lit}
 use Rattle.pc_word.specs.declared.item.TrapKind.{TrapKind}
@@ -14,24 +12,7 @@ use Rattle.pc_window.specs.Tree.{Tree, Pending, Undecided, Exit, Stop_exit, Trap
 use Rattle.pc_window.specs.WindowRun.{Window}
 use Rattle.pc_canon.specs.Bytes.{bytes_of}
 use Rattle.pc_canon.specs.Canonical.{Constant, Canonical, canonical}
-
--- the number of an operator
-abbrev pub op_number : OpCode → ℕ
-op_number Add = 0
-op_number Sub = 1
-op_number Mul = 2
-op_number Div = 3
-op_number Rem = 4
-op_number Shl = 5
-op_number Shr = 6
-op_number And = 7
-op_number Or = 8
-op_number Xor = 9
-op_number Less = 10
-op_number LessEq = 11
-op_number Equal = 12
-op_number Unequal = 13
-op_number Below = 14
+use Rattle.pc_word.specs.Items.{op_number}
 
 -- the number of a kind of trap
 abbrev pub trap_number : TrapKind → ℕ

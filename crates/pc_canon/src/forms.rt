@@ -11,7 +11,6 @@ ghost use Rattle.pc_canon.specs.models.Written.{elements_numbers, forms_numbers}
 
 use crate::columns::{Column, add_form, in_order, write_columns};
 use crate::number_bytes::NumberBytes;
-use crate::writing::written_by;
 use pc_linear::LinForm;
 use pc_window::{NameTable, Window, WindowTree};
 use std::alloc::{AllocError, Global};
@@ -99,7 +98,7 @@ fn write_definitions(
     ensures numbers { OnOk result (numbers.new ≡ numbers.old ++ elements_numbers constant_numbers (map constant_in (map (forms_in table.now.forms) (definitions_of (tree_in tree.now))))) }
 {
     match tree {
-        WindowTree::Step { item, rest, .. } => match written_by(*item) {
+        WindowTree::Step { item, rest, .. } => match item.dest() {
             None => write_definitions(rest, table, place, columns, numbers),
             Some(dest) => {
                 add_form_of(table, dest, place, columns, numbers)?;

@@ -8,8 +8,6 @@ mod laws;
 mod levels;
 mod number_bytes;
 mod tags;
-#[cfg(test)]
-mod tests;
 mod window_key;
 mod writing;
 

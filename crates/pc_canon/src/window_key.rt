@@ -14,8 +14,7 @@ use crate::levels::levels_of;
 use crate::number_bytes::NumberBytes;
 use crate::tags::first_tag;
 use crate::writing::{write_shape, write_tree};
-use pc_rebase::{NumberList, parameters_of};
-use pc_window::{Window, WindowError};
+use pc_window::{NumberList, Window, WindowError, parameters_of};
 use pc_word::Limits;
 use std::alloc::{AllocError, Global};
 

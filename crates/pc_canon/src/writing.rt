@@ -1,16 +1,16 @@
 //! Trees in numbers.
 ghost use Rattle.std.specs.Prelude.{◌≡◌, ◌+◌, ◌-◌, ◌<◌, ◌^◌, ◌∷◌, ◌++◌, [], pos, length, OnOk, IfOk};
-ghost use Rattle.pc_word.specs.Items.{dest_of};
 ghost use Rattle.pc_window.specs.Tree.{tree_size};
 ghost use Rattle.pc_window.specs.Opening.{TreeBelow};
 ghost use Rattle.pc_window.specs.StoredWindow.{tree_in, front_in};
-ghost use Rattle.pc_canon.specs.Canonical.{placed, placed_item, placed_homes};
-ghost use Rattle.pc_canon.specs.Key.{op_number, trap_number, list_numbers, operand_numbers, item_numbers, home_numbers, shape_numbers};
+ghost use Rattle.pc_canon.specs.Canonical.{placed_item, placed_homes};
+ghost use Rattle.pc_canon.specs.Key.{trap_number, list_numbers, operand_numbers, item_numbers, home_numbers, shape_numbers};
 ghost use Rattle.pc_canon.specs.models.Written.{place_at, written};
+ghost use Rattle.pc_word.specs.Naming.{map_name};
 
 use crate::number_bytes::NumberBytes;
 use pc_window::{Home, WindowTree};
-use pc_word::{Item, OpCode, Operand, TrapKind};
+use pc_word::{Item, Operand, TrapKind};
 use std::alloc::AllocError;
 
 /// Writes a tree with tags counted from the first, where the names on the path have these levels: how
@@ -36,7 +36,7 @@ pub(crate) fn write_tree(
         } => {
             numbers.push_three(0, tag_number(*tag, first), i64::from(*origin))?;
             write_item(*item, depth, levels, numbers)?;
-            match written_by(*item) {
+            match item.dest() {
                 None => write_tree(rest, first, depth, levels, numbers)?,
                 Some(dest) => {
                     let before = levels[dest as usize];
@@ -106,7 +106,7 @@ fn write_item(
             right,
             ..
         } => {
-            numbers.push_two(0, op_number(op))?;
+            numbers.push_two(0, i64::from(op.number()))?;
             write_operand(left, depth, levels, numbers)?;
             write_operand(right, depth, levels, numbers)
         }
@@ -159,7 +159,7 @@ fn write_operand(
     levels: &[u32],
     numbers: &mut NumberBytes,
 ) -> Result<(), AllocError>
-    ensures { OnOk result (numbers.new ≡ numbers.old ++ operand_numbers (placed (place_at levels.now depth) operand)) }
+    ensures { OnOk result (numbers.new ≡ numbers.old ++ operand_numbers (map_name (place_at levels.now depth) operand)) }
 {
     match operand {
         Operand::Name(name) => { numbers.push_two(0, i64::from(place_at(levels, depth, name))) }
@@ -184,29 +184,6 @@ fn tag_number(tag: u32, first: u32) -> i64
     i64::from(tag.saturating_sub(first))
 }
 
-/// The number of an operator.
-fn op_number(op: OpCode) -> i64
-    ensures { result ≡ pos (op_number op) }
-{
-    match op {
-        OpCode::Add => 0,
-        OpCode::Sub => 1,
-        OpCode::Mul => 2,
-        OpCode::Div => 3,
-        OpCode::Rem => 4,
-        OpCode::Shl => 5,
-        OpCode::Shr => 6,
-        OpCode::And => 7,
-        OpCode::Or => 8,
-        OpCode::Xor => 9,
-        OpCode::Less => 10,
-        OpCode::LessEq => 11,
-        OpCode::Equal => 12,
-        OpCode::Unequal => 13,
-        OpCode::Below => 14,
-    }
-}
-
 /// The number of a kind of trap.
 fn trap_number(kind: TrapKind) -> i64
     ensures { result ≡ pos (trap_number kind) }
@@ -215,20 +192,5 @@ fn trap_number(kind: TrapKind) -> i64
         TrapKind::DivideByZero => 0,
         TrapKind::OutOfBounds => 1,
         TrapKind::EndOfInput => 2,
-    }
-}
-
-/// The name that an item writes.
-pub(crate) fn written_by(item: Item) -> Option<u32>
-    ensures { result ≡ dest_of item }
-{
-    match item {
-        Item::Bin { dest, .. } => Some(dest),
-        Item::Copy { dest, .. } => Some(dest),
-        Item::Load { dest, .. } => Some(dest),
-        Item::Store { .. } => None,
-        Item::Print { .. } => None,
-        Item::Read { dest } => Some(dest),
-        Item::More { dest } => Some(dest),
     }
 }

@@ -18,6 +18,3 @@ pub use error::CheckError;
 pub use laws::laws_of_resolved_programs;
 pub use measure::{branch_size, hold, need, size, statement_size};
 pub use program::check;
-
-#[cfg(test)]
-mod tests;

@@ -16,6 +16,3 @@ pub use laws::{laws_of_matches, laws_of_plain_words, laws_of_ranges};
 pub use simulate::{SimulateCommand, simulate_command};
 pub use source::SourceName;
 pub use view::{ViewCommand, view_command};
-
-#[cfg(test)]
-mod tests;

@@ -40,10 +40,10 @@ use Rattle.pc_emit.specs.declared.form.RegionForm.{RegionForm as StoredForm}
 use Rattle.pc_emit.specs.Bytes.{object_bytes}
 use Rattle.pc_emit.specs.Emitting.{region_forms, emission_of, AreEmitted}
 use Rattle.pc_emit.proofs.Emissions.{emitted_rows_do}
-use Rattle.pc_schedule.proofs.Paces.{emitted_rows_keep_pace, tightened_codes_keep_pace}
-use Rattle.pc_choose.specs.declared.choice.Choice.{Choice}
-use Rattle.pc_choose.specs.Choosing.{AreChosen}
-use Rattle.pc_choose.proofs.Emittable.{are_forms, form_is}
+use Rattle.pc_compile.specs.declared.choice.Choice.{Choice}
+use Rattle.pc_compile.specs.Choosing.{AreChosen}
+use Rattle.pc_compile.proofs.Emittable.{are_forms, form_is}
+use Rattle.pc_compile.proofs.Paces.{emitted_rows_keep_pace, tightened_codes_keep_pace}
 use Rattle.pc_compile.specs.Notes.{notes_of}
 use Rattle.pc_compile.specs.Compiled.{loose_code, IsCompiled}
 use Rattle.pc_compile.proofs.Counts.{all_units}

@@ -18,7 +18,7 @@ use Rattle.pc_regions.proofs.Members.{Has}
 use Rattle.pc_regions.proofs.CutKeeps.{head_at}
 use Rattle.pc_regions.proofs.CutRuns.{region_at}
 use Rattle.pc_compile.proofs.Counts.{all_units}
-use Rattle.pc_compile.proofs.Found.{found_all}
+use Rattle.pc_compile.proofs.MetRegions.{found_all}
 use Rattle.pc_compile.proofs.Sums.{same_or_not, one_if_same, one_if_other, total, total_both, total_most, total_one, total_two, sum_is}
 use Rattle.pc_compile.proofs.Sums.{count, counted, counted_once, has_front, has_back, all_of_members, member_of_all, no_more}
 

@@ -15,12 +15,12 @@ use Rattle.pc_table.specs.Table.{TableTree, Does, Asks, Next, Stops_here, Traps_
 use Rattle.pc_table.specs.TableKeeps.{units}
 use Rattle.pc_window.specs.Steps.{is_innermost}
 use Rattle.pc_emit.specs.Emitted.{RegionForm}
-use Rattle.pc_emit.specs.Bytes.{operand_bytes, item_bytes, tree_bytes, regions_bytes, object_bytes}
-use Rattle.pc_choose.specs.declared.choice.Form.{Form}
-use Rattle.pc_choose.specs.declared.choice.Form.TheVariants as form
-use Rattle.pc_choose.specs.declared.choice.Cause.{Cause}
-use Rattle.pc_choose.specs.declared.choice.Cause.TheVariants.{Rows, Live, Bytes}
-use Rattle.pc_choose.specs.declared.choice.Choice.{Choice}
+use Rattle.pc_emit.specs.Bytes.{tree_bytes, regions_bytes, object_bytes}
+use Rattle.pc_compile.specs.declared.choice.Form.{Form}
+use Rattle.pc_compile.specs.declared.choice.Form.TheVariants as form
+use Rattle.pc_compile.specs.declared.choice.Cause.{Cause}
+use Rattle.pc_compile.specs.declared.choice.Cause.TheVariants.{Rows, Live, Bytes}
+use Rattle.pc_compile.specs.declared.choice.Choice.{Choice}
 use Rattle.pc_machine.specs.MachineCode.{CodeRow}
 use Rattle.pc_word.specs.Row.{Then, Either, At_leaf}
 use Rattle.pc_object.specs.declared.object.Note.{Note}
@@ -29,6 +29,7 @@ use Rattle.pc_object.specs.ObjectText.{header_text, object_text, IsChoice}
 use Rattle.pc_tighten.specs.Sizes.{Room, row_room, rows_room}
 use Rattle.pc_compile.specs.Notes.{caused_note, packed_note, plain_notes, form_notes, choice_notes, choice_heading, loop_notes, notes_from, notes_of}
 use Rattle.pc_compile.proofs.Counts.{all_units}
+use Rattle.pc_object.specs.Sizes.{operand_bytes, item_bytes}
 
 -- ---- all regions plain
 

@@ -6,8 +6,8 @@ use Rattle.std.proofs.lemmas.List.Sums.{sum_by-cons}
 use Rattle.std.proofs.lemmas.Bool.Decides.{nat_tests}
 use Rattle.pc_word.proofs.Truth.{decide_le, of_most}
 use Rattle.pc_regions.specs.Reachable.{one_if}
-use Rattle.pc_regions.proofs.Places.{same_number, other_number, own_number, get_front}
 use Rattle.pc_regions.proofs.Members.{Has, Once}
+use Rattle.pc_word.proofs.Places.{same_number, other_number, own_number, get_front}
 
 -- ---- numbers told apart
 

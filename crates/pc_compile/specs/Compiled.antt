@@ -20,9 +20,9 @@ use Rattle.pc_tighten.specs.Tightened.{EachIsReachable, IsTightened}
 use Rattle.pc_object.specs.ObjectText.{CodeWithNotes, IsObject}
 use Rattle.pc_emit.specs.declared.form.RegionForm.{RegionForm}
 use Rattle.pc_emit.specs.Emitting.{region_forms, AreEmitted}
-use Rattle.pc_schedule.specs.Pace.{KeepsPaceOn}
-use Rattle.pc_choose.specs.declared.choice.Choice.{Choice}
-use Rattle.pc_choose.specs.Choosing.{AreChosen}
+use Rattle.pc_compile.specs.declared.choice.Choice.{Choice}
+use Rattle.pc_compile.specs.Choosing.{AreChosen}
+use Rattle.pc_compile.specs.Pace.{KeepsPaceOn}
 use Rattle.pc_compile.specs.Notes.{notes_of}
 use Rattle.pc_compile.specs.declared.error.CompileError.{CompileError}
 use Rattle.pc_compile.specs.declared.error.CompileError.TheVariants.{TooLarge, Memory}

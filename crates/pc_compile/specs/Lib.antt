@@ -1,3 +1,7 @@
 pub mod models
+pub mod Choosing
+pub mod ScheduleRun
+pub mod Pace
+pub mod Laws
 pub mod Notes
 pub mod Compiled

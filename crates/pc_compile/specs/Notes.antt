@@ -4,11 +4,11 @@ use Rattle.pc_word.specs.declared.loop_mark.LoopMark.{LoopMark}
 use Rattle.pc_table.specs.Table.{Table}
 use Rattle.pc_window.specs.Opening.{same_loop, headed_loop}
 use Rattle.pc_window.specs.Steps.{is_innermost}
-use Rattle.pc_choose.specs.declared.choice.Form.{Form}
-use Rattle.pc_choose.specs.declared.choice.Form.TheVariants.{Pipelined, Packed, Plain}
-use Rattle.pc_choose.specs.declared.choice.Cause.{Cause}
-use Rattle.pc_choose.specs.declared.choice.Cause.TheVariants.{Rows, Live, Bytes}
-use Rattle.pc_choose.specs.declared.choice.Choice.{Choice}
+use Rattle.pc_compile.specs.declared.choice.Form.{Form}
+use Rattle.pc_compile.specs.declared.choice.Form.TheVariants.{Pipelined, Packed, Plain}
+use Rattle.pc_compile.specs.declared.choice.Cause.{Cause}
+use Rattle.pc_compile.specs.declared.choice.Cause.TheVariants.{Rows, Live, Bytes}
+use Rattle.pc_compile.specs.declared.choice.Choice.{Choice}
 use Rattle.pc_object.specs.declared.object.Note.{Note}
 
 -- a note at a line

@@ -3,13 +3,9 @@ ghost use Rattle.std.specs.Prelude.{◌≡◌};
 ghost use Rattle.pc_compile.specs.declared.error.CompileError.TheVariants.{Memory};
 ghost use Rattle.pc_compile.specs.models.Errors.{error_of_lowering};
 
-use pc_choose::ChooseError;
-use pc_emit::EmitError;
-use pc_live::LiveError;
 use pc_lower::LowerError;
 use pc_pass::PassMemory;
-use pc_regions::RegionError;
-use pc_tighten::TightenError;
+use pc_word::OutOfMemory;
 use std::alloc::AllocError;
 use thiserror::Error;
 
@@ -44,18 +40,10 @@ impl From<PassMemory> for CompileError {
     }
 }
 
-impl From<LiveError> for CompileError {
+impl From<OutOfMemory> for CompileError {
     ghost from_gives = { λ _ error. error ≡ Memory };
 
-    fn from(_error: LiveError) -> CompileError {
-        CompileError::Memory
-    }
-}
-
-impl From<RegionError> for CompileError {
-    ghost from_gives = { λ _ error. error ≡ Memory };
-
-    fn from(_error: RegionError) -> CompileError {
+    fn from(_error: OutOfMemory) -> CompileError {
         CompileError::Memory
     }
 }
@@ -64,30 +52,6 @@ impl From<AllocError> for CompileError {
     ghost from_gives = { λ _ error. error ≡ Memory };
 
     fn from(_error: AllocError) -> CompileError {
-        CompileError::Memory
-    }
-}
-
-impl From<ChooseError> for CompileError {
-    ghost from_gives = { λ _ error. error ≡ Memory };
-
-    fn from(_error: ChooseError) -> CompileError {
-        CompileError::Memory
-    }
-}
-
-impl From<EmitError> for CompileError {
-    ghost from_gives = { λ _ error. error ≡ Memory };
-
-    fn from(_error: EmitError) -> CompileError {
-        CompileError::Memory
-    }
-}
-
-impl From<TightenError> for CompileError {
-    ghost from_gives = { λ _ error. error ≡ Memory };
-
-    fn from(_error: TightenError) -> CompileError {
         CompileError::Memory
     }
 }

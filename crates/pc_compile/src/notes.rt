@@ -5,7 +5,7 @@ ghost use Rattle.pc_window.specs.Opening.{headed_loop};
 ghost use Rattle.pc_compile.specs.Notes.{caused_note, packed_note, form_notes, choice_notes, notes_of};
 ghost use Rattle.pc_compile.specs.models.Heading.{heading_set, headings, without_outer, choice_in, noted, note_list, ArePlaces};
 
-use pc_choose::{Cause, Choice, Form};
+use crate::choice::{Cause, Choice, Form};
 use pc_object::{Note, NoteList};
 use pc_table::RegionTable;
 use pc_word::LoopMark;

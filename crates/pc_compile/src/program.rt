@@ -13,10 +13,12 @@ ghost use Rattle.pc_compile.specs.declared.error.CompileError.TheVariants.{Memor
 ghost use Rattle.pc_compile.specs.Compiled.{IsCompiled, IsUncompiled};
 ghost use Rattle.pc_compile.specs.models.Made.{IsObjectOf};
 
+use crate::ChoiceList;
+use crate::choice::Chosen;
+use crate::choosing::choose;
 use crate::error::CompileError;
 use crate::notes::notes;
 use pc_check::Checked;
-use pc_choose::{ChoiceList, Chosen, choose};
 use pc_emit::emit;
 use pc_flow::Flow;
 use pc_live::live;

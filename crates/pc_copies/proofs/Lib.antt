@@ -2,7 +2,6 @@ pub mod Arranged
 pub mod Copies
 pub mod Counts
 pub mod Follows
-pub mod Given
 pub mod Kept
 pub mod Places
 pub mod Rings

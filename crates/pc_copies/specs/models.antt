@@ -1,7 +1,6 @@
 pub mod Arranging
 pub mod Counting
 pub mod Following
-pub mod Given
 pub mod Packing
 pub mod Placing
 pub mod Sources

@@ -8,8 +8,6 @@ mod laws;
 mod moves;
 mod packing;
 mod place;
-#[cfg(test)]
-mod tests;
 
 pub use arranging::arrange;
 pub use error::CopyError;

@@ -12,13 +12,14 @@ use Rattle.pc_window.specs.Unwinding.{or_zero}
 use Rattle.pc_automaton.specs.declared.automaton.AutomatonLeaf.{AutomatonLeaf}
 use Rattle.pc_automaton.specs.Automaton.{AutomatonState, IsStateAmong, LeafLeads, Takes}
 use Rattle.pc_automaton.specs.There.{StateIsThere}
+use Rattle.pc_automaton.specs.Reachable.{EachIsReachable}
+use Rattle.pc_automaton.specs.RowFits.{RowFits}
 use Rattle.pc_copies.specs.declared.moves.Move.{Move}
 use Rattle.pc_machine.specs.MachineCode.{Leaf, Ends, CodeRow}
 use Rattle.pc_machine.specs.WellFormed.{IsLeaf, IsRow}
 use Rattle.pc_machine.specs.Reachable.{IsReachable, Entry}
-use Rattle.pc_pattern.specs.Pattern.{RowFits, EachIsLedTo}
 use Rattle.pc_emit.specs.Registers.{register_of}
-use Rattle.pc_emit.specs.Emitted.{RegionForm, Plain, Packed, LeadsToRegion, Passes, passes_none, passes_row}
+use Rattle.pc_emit.specs.Emitted.{RegionForm, Plain, ByAutomaton, LeadsToRegion, Passes, passes_none, passes_row}
 use Rattle.pc_emit.specs.Emitted.{LeafStands, StateStands, leads_to_state, leads_to_region, ends_here, traps_here}
 use Rattle.pc_emit.specs.Emitted.{LeadsBehind, to_item, to_test, to_region, to_end, to_trap, TreeStands, item_row, test_row, no_row, no_end_row, no_trap_row}
 use Rattle.pc_emit.specs.Emitted.{root_leaf, form_leaf, BeginsAt, by_leaf_alone, IsEmitted}
@@ -88,13 +89,13 @@ module _ (plan : Plan) (is : IsPlan plan) (rows : List CodeRow) (emitted : IsEmi
       at_most_one : (tree : TableTree) (form : Option RegionForm) → length (front_rows tree form) ≤ 1
       at_most_one tree None = omega arith
       at_most_one tree (Some Plain) = one_alone tree
-      at_most_one tree (Some (Packed states registers)) = omega arith
+      at_most_one tree (Some (ByAutomaton states registers)) = omega arith
 
   -- ---- reached
 
-  led_to : (region : ℕ) (states : List AutomatonState) (registers : ℕ → ℕ → Option ℕ) → forms_at plan region ≡ Some (Packed states registers) → EachIsLedTo states
+  led_to : (region : ℕ) (states : List AutomatonState) (registers : ℕ → ℕ → Option ℕ) → forms_at plan region ≡ Some (ByAutomaton states registers) → EachIsReachable states
   led_to region states registers has =
-      let can : CanHave (table_in plan) plan.limits (forms_at plan) (region_tree (table_in plan) region) (Packed states registers) = is.forms.each region (Packed states registers) has in
+      let can : CanHave (table_in plan) plan.limits (forms_at plan) (region_tree (table_in plan) region) (ByAutomaton states registers) = is.forms.each region (ByAutomaton states registers) has in
       can.led
 
   in_order : (region number : ℕ) → entry region + number ≡ (entry region + 0) + number
@@ -110,7 +111,7 @@ module _ (plan : Plan) (is : IsPlan plan) (rows : List CodeRow) (emitted : IsEmi
       own : {region : ℕ} (form : RegionForm) → RegionReached (emission_in plan) rows emitted is.kept region form → (number : ℕ) → entry region ≤ number
           → number < entry region + count region form → IsReachable rows number
       own Plain reached number low high = reached.own number low high
-      own (Packed states registers) reached number low high = reached.own number (omega (arith, low)) (omega (arith, high))
+      own (ByAutomaton states registers) reached number low high = reached.own number (omega (arith, low)) (omega (arith, high))
 
   -- ---- within limits
 
@@ -180,11 +181,11 @@ module _ (plan : Plan) (is : IsPlan plan) (rows : List CodeRow) (emitted : IsEmi
     passes_fit passes_none fits = fits
     passes_fit (passes_row {at} {copies} {more} {next} there rest) fits = slice_get_within rows at _ there
 
-    module _ (region : ℕ) (states : List AutomatonState) (registers : ℕ → ℕ → Option ℕ) (has : forms_at plan region ≡ Some (Packed states registers)) where
+    module _ (region : ℕ) (states : List AutomatonState) (registers : ℕ → ℕ → Option ℕ) (has : forms_at plan region ≡ Some (ByAutomaton states registers)) where
       can : CanPack (table_in plan) plan.limits (forms_at plan) states registers
-      can = can_pack (is.forms.each region (Packed states registers) has)
+      can = can_pack (is.forms.each region (ByAutomaton states registers) has)
         where
-          can_pack : CanHave (table_in plan) plan.limits (forms_at plan) (region_tree (table_in plan) region) (Packed states registers)
+          can_pack : CanHave (table_in plan) plan.limits (forms_at plan) (region_tree (table_in plan) region) (ByAutomaton states registers)
               → CanPack (table_in plan) plan.limits (forms_at plan) states registers
           can_pack h = h
 
@@ -196,7 +197,7 @@ module _ (plan : Plan) (is : IsPlan plan) (rows : List CodeRow) (emitted : IsEmi
           found (Some register) e = can.below number name register e
 
       stand : (number : ℕ) (state : AutomatonState) → slice_get states number ≡ Some state → StateStands (emission_in plan) rows region states registers number state
-      stand = emitted.stands region (Packed states registers) has
+      stand = emitted.stands region (ByAutomaton states registers) has
 
       -- a state that a leaf leads to has a row
       state_within : (number count : ℕ) → Takes (slice_get states number) count → entry region + number < length rows
@@ -265,11 +266,11 @@ module _ (plan : Plan) (is : IsPlan plan) (rows : List CodeRow) (emitted : IsEmi
         by_form : (it : Option RegionForm) → forms_at plan 0 ≡ it → number < length (front_rows (region_tree (table_in plan) 0) it) → Fits number
         by_form None e lt = absurd (omega (arith, lt))
         by_form (Some Plain) e lt = by_tree (region_tree (table_in plan) 0) refl e lt
-        by_form (Some (Packed states registers)) e lt = absurd (omega (arith, lt))
+        by_form (Some (ByAutomaton states registers)) e lt = absurd (omega (arith, lt))
 
     pub all_fit : (number : ℕ) → number < rows_end plan → Fits number
     all_fit = each_row Fits front_fits own
       where
         own : (region : ℕ) (form : RegionForm) → forms_at plan region ≡ Some form → (number : ℕ) → entry region ≤ number → number < entry region + count region form → Fits number
         own region Plain has number low high = tree_fits (length (table_in plan).regions) (emitted.stands region Plain has) (tree_there region) number low high
-        own region (Packed states registers) has number low high = packed_all_fit region states registers has number low high
+        own region (ByAutomaton states registers) has number low high = packed_all_fit region states registers has number low high

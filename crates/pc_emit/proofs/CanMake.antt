@@ -11,14 +11,13 @@ use Rattle.pc_word.specs.Items.{dest_of}
 use Rattle.pc_word.specs.Commit.{writes}
 use Rattle.pc_word.specs.Row.{Row, Then, Either, At_leaf, items_of, leaves_of}
 use Rattle.pc_word.proofs.Lists.{all_front, all_back, all_at}
-use Rattle.pc_word.proofs.Truth.{decide_le}
+use Rattle.pc_word.proofs.Truth.{decide_le, or_first, or_second, or_true}
 use Rattle.pc_table.specs.Table.{Table, TableRegion, live_of, region_live, region_tree}
 use Rattle.pc_table.specs.TableKeeps.{TableKeeps}
 use Rattle.pc_window.specs.declared.home.Home.{Home}
 use Rattle.pc_window.specs.Names.{IsKnown, HomesKnown, and_dest}
 use Rattle.pc_window.specs.Rebasing.{is_in}
-use Rattle.pc_window.proofs.Live.{or_first, or_second}
-use Rattle.pc_window.proofs.Uses.{or_is, nat_eq-tells}
+use Rattle.pc_window.proofs.Uses.{nat_eq-tells}
 use Rattle.pc_window.proofs.Grafts.{nat_eq-same}
 use Rattle.pc_window.specs.Unwinding.{or_zero}
 use Rattle.pc_automaton.specs.declared.automaton.AutomatonLeaf.{AutomatonLeaf}
@@ -30,13 +29,14 @@ use Rattle.pc_assign.specs.Pressure.{allowed}
 use Rattle.pc_assign.specs.Apart.{Differ, AllDiffer, HasAllowed, IsApart}
 use Rattle.pc_copies.specs.declared.moves.Move.{Move}
 use Rattle.pc_copies.specs.Moves.{IsNamed, IsMoveSource, AreMoves}
-use Rattle.pc_emit.specs.Registers.{register_of, in_register, argument_moves, home_moves}
+use Rattle.pc_emit.specs.Registers.{register_of, argument_moves, home_moves}
 use Rattle.pc_emit.specs.Emitting.{LeadsToForm, CanHave}
-use Rattle.pc_emit.specs.Emitted.{Packed, Emission}
+use Rattle.pc_emit.specs.Emitted.{ByAutomaton, Emission}
 use Rattle.pc_emit.specs.declared.plan.Plan.{Plan}
 use Rattle.pc_emit.specs.declared.packed.PackedSite.{PackedSite}
 use Rattle.pc_emit.specs.models.Layout.{table_in, forms_at, emission_in, states_at, registers_at, names_at, IsPlan, IsSite}
 use Rattle.pc_emit.specs.models.Packing.{CanMakeLeaf, CanMakeLeaves, CanMakeRow}
+use Rattle.pc_word.specs.Naming.{map_name}
 
 -- ---- registers
 
@@ -46,7 +46,7 @@ named_register of name has = subst (IsNamed allowed) (sym (ap or_zero has.has)) 
 
 -- so is an operand whose name has one
 named_operand : (of : ℕ → Option ℕ) (known : ℕ → Bool) → ((x : ℕ) → known x ≡ true → HasAllowed of x) → (o : Operand) → IsKnown known o
-    → IsMoveSource allowed (in_register (register_of of) o)
+    → IsMoveSource allowed (map_name (register_of of) o)
 named_operand of known has (Name x) k = named_register of x (has x k)
 named_operand of known has (Lit value) k = tt
 
@@ -80,14 +80,14 @@ record Passes (of to : ℕ → ℕ) (parameters : List ℕ) (arguments : List Op
   takes : slice_get parameters at ≡ Some parameter
   gives : slice_get arguments at ≡ Some argument
   dest : move.dest ≡ to parameter
-  from : move.from ≡ in_register of argument
+  from : move.from ≡ map_name of argument
 
 passes_at : (of to : ℕ → ℕ) (parameters : List ℕ) (arguments : List Operand) (at : ℕ) (move : Move) → slice_get (argument_moves of to parameters arguments) at ≡ Some move
     → Passes of to parameters arguments at move
 passes_at of to [] arguments at move e = absurd (cc)
 passes_at of to (p ∷ parameters) [] at move e = absurd (cc)
 passes_at of to (p ∷ parameters) (a ∷ arguments) zero move e =
-    let made : Move = record { dest = to p; from = in_register of a } in
+    let made : Move = record { dest = to p; from = map_name of a } in
     let same : made ≡ move = (cc) in
     record { parameter = p; argument = a; takes = refl; gives = refl; dest = sym (ap (λ (m : Move). m.dest) same); from = sym (ap (λ (m : Move). m.from) same) }
 passes_at of to (p ∷ parameters) (a ∷ arguments) (suc at) move e =
@@ -117,12 +117,12 @@ record Brings (of : ℕ → ℕ) (homes : List Home) (at : ℕ) (move : Move) : 
   home : Home
   there : slice_get homes at ≡ Some home
   dest : move.dest ≡ home.variable
-  from : move.from ≡ in_register of home.value
+  from : move.from ≡ map_name of home.value
 
 brings_at : (of : ℕ → ℕ) (homes : List Home) (at : ℕ) (move : Move) → slice_get (home_moves of homes) at ≡ Some move → Brings of homes at move
 brings_at of [] at move e = absurd (cc)
 brings_at of (home ∷ homes) zero move e =
-    let made : Move = record { dest = home.variable; from = in_register of home.value } in
+    let made : Move = record { dest = home.variable; from = map_name of home.value } in
     let same : made ≡ move = (cc) in
     record { home = home; there = refl; dest = sym (ap (λ (m : Move). m.dest) same); from = sym (ap (λ (m : Move). m.from) same) }
 brings_at of (home ∷ homes) (suc at) move e =
@@ -242,7 +242,7 @@ module _ (e : Emission) (keeps : TableKeeps e.table) (states : List AutomatonSta
       → AllByRecursion (LeafLeads states) (leaves_of row) → AllByRecursion (LeafIsThere e.table) (leaves_of row) → AllByRecursion (LeadsToForm e.table e.forms) (leaves_of row)
       → CanMakeLeaves (CanMakeLeaf e states registers (register_of (registers number))) row
   can_make_leaves known has (Then item rest) written are_known leads there forms =
-      can_make_leaves (and_dest known item) (λ x k. one_more x (dest_of item) written (or_is (writes (dest_of item) x) (known x) k)) rest
+      can_make_leaves (and_dest known item) (λ x k. one_more x (dest_of item) written (or_true (writes (dest_of item) x) (known x) k)) rest
       (others (dest_of item) written) are_known leads there forms
     where
       others : (d : Option ℕ) → AllByRecursion (HasAllowed (registers number)) (cons_option d (names_written rest)) → AllByRecursion (HasAllowed (registers number)) (names_written rest)
@@ -269,7 +269,7 @@ module _ (e : Emission) (keeps : TableKeeps e.table) (states : List AutomatonSta
 pub can_make : (plan : Plan) (site : PackedSite) → IsPlan plan → IsSite plan site → (number : ℕ) (state : AutomatonState) → slice_get (states_at site) number ≡ Some state
     → CanMakeRow plan site (names_at site number) state.row
 can_make plan site is at number state there =
-    let can : CanHave (table_in plan) plan.limits (forms_at plan) (region_tree (table_in plan) site.region) (Packed (states_at site) (registers_at site)) = is.forms.each site.region _ at.form in
+    let can : CanHave (table_in plan) plan.limits (forms_at plan) (region_tree (table_in plan) site.region) (ByAutomaton (states_at site) (registers_at site)) = is.forms.each site.region _ at.form in
     let among = all_at (IsStateAmong (states_at site)) (states_at site) number state can.automaton.each there in
     let apart = can.apart number state there in
     can_make_leaves (emission_in plan) is.kept (states_at site) (registers_at site) can.apart number (λ x. is_in x state.parameters)
@@ -279,7 +279,7 @@ can_make plan site is at number state there =
   where
     all_in : (P : ℕ → Type 0) (xs : List ℕ) (x : ℕ) → AllByRecursion P xs → is_in x xs ≡ true → P x
     all_in P [] x all there = absurd (cc)
-    all_in P (y ∷ xs) x all there = elim (or_is (nat_eq x y) (is_in x xs) there) [
+    all_in P (y ∷ xs) x all there = elim (or_true (nat_eq x y) (is_in x xs) there) [
       | inl p ↦ subst P (sym (nat_eq-tells x y p)) all.0
       | inr p ↦ all_in P xs x all.1 p
     ]

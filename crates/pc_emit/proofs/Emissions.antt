@@ -13,21 +13,22 @@ use Rattle.pc_window.specs.Kept.{HasItems}
 use Rattle.pc_window.specs.Rebasing.{is_in}
 use Rattle.pc_window.specs.Unwinding.{or_zero}
 use Rattle.pc_window.proofs.Paces.{answer_of_answer, NeverFaults-follows}
-use Rattle.pc_window.proofs.Uses.{or_is, nat_eq-tells}
-use Rattle.pc_unwind.specs.models.Ranks.{rank}
-use Rattle.pc_unwind.proofs.Ranking.{rank_falls}
+use Rattle.pc_window.proofs.Uses.{nat_eq-tells}
+use Rattle.pc_window.specs.models.Ranks.{rank}
+use Rattle.pc_window.proofs.Ranking.{rank_falls}
 use Rattle.pc_automaton.specs.declared.automaton.AutomatonLeaf.{AutomatonLeaf}
 use Rattle.pc_automaton.specs.declared.automaton.AutomatonLeaf.TheVariants.{To, Out}
 use Rattle.pc_automaton.specs.Automaton.{AutomatonState}
 use Rattle.pc_automaton.specs.AutomatonRun.{automaton_run}
 use Rattle.pc_machine.specs.MachineCode.{Leaf, CodeRow}
-use Rattle.pc_emit.specs.Emitted.{Emission, RegionForm, Plain, Packed, form_leaf, BeginsAt, at_first_row, by_leaf_alone, IsEmitted}
+use Rattle.pc_emit.specs.Emitted.{Emission, RegionForm, Plain, ByAutomaton, form_leaf, BeginsAt, at_first_row, by_leaf_alone, IsEmitted}
 use Rattle.pc_automaton.specs.RunsAsRegion.{LeadsUntested}
 use Rattle.pc_emit.specs.PackedForm.{IsPackedForm, IsRegionForm}
 use Rattle.pc_emit.specs.Laws.{EmittedRowsDoWhatTheirTableDoes}
 use Rattle.pc_emit.proofs.Leading.{row_run, leaf_run, leaf_seen, row_seen, leaf_grows}
 use Rattle.pc_emit.proofs.PackedRuns.{code, ForthIn, BackAt, StandsAt, CommitsAt, state_forth, row_back, state_back}
 use Rattle.pc_emit.proofs.PlainRuns.{roots, tree_forth, tree_back}
+use Rattle.pc_word.proofs.Truth.{or_true}
 
 -- a region that leads on without a test is in the table
 untested_there : (table : Table) (region to : ℕ) → untested (region_tree table region) ≡ Some to → region < length table.regions
@@ -52,7 +53,7 @@ rank_of table keeps region to (By_more {mid} comes is) =
 
 all_in : (P : ℕ → Type 0) (xs : List ℕ) (x : ℕ) → AllByRecursion P xs → is_in x xs ≡ true → P x
 all_in P [] x all there = absurd (cc)
-all_in P (y ∷ xs) x all there = elim (or_is (nat_eq x y) (is_in x xs) there) [
+all_in P (y ∷ xs) x all there = elim (or_true (nat_eq x y) (is_in x xs) there) [
   | inl p ↦ subst P (sym (nat_eq-tells x y p)) all.0
   | inr p ↦ all_in P xs x all.1 p
 ]
@@ -66,11 +67,11 @@ module _ (e : Emission) (keeps : TableKeeps e.table) (limits : Limits) (rows : L
   never_tree : (region : ℕ) (m : State) → NeverFaults (region_run e.table (Next region) m) → NeverFaults (region_run e.table (region_tree e.table region) m)
   never_tree region m never n fault is = never n fault (ap (λ (x : Seen). x.end) (sym (tree_same region m n)) ∙ is)
 
-  module _ (region : ℕ) (states : List AutomatonState) (registers : ℕ → ℕ → Option ℕ) (has : e.forms region ≡ Some (Packed states registers)) where
+  module _ (region : ℕ) (states : List AutomatonState) (registers : ℕ → ℕ → Option ℕ) (has : e.forms region ≡ Some (ByAutomaton states registers)) where
     abbrev packed : IsPackedForm e.table region states registers
-    packed = forms region (Packed states registers) has
+    packed = forms region (ByAutomaton states registers) has
 
-    begins_at : (m : State) → StandsAt e keeps limits rows region states registers packed.automaton packed.apart packed.there (emitted.stands region (Packed states registers) has) 0 m m
+    begins_at : (m : State) → StandsAt e keeps limits rows region states registers packed.automaton packed.apart packed.there (emitted.stands region (ByAutomaton states registers) has) 0 m m
     begins_at m = record {
       state = packed.first;
       there = packed.is_first;
@@ -88,7 +89,7 @@ module _ (e : Emission) (keeps : TableKeeps e.table) (limits : Limits) (rows : L
         → (k : ℕ) × Answers (row_run (code e keeps limits rows) (e.places.state region 0) m n) (region_run e.table (Next region) m k)
         (row_run (code e keeps limits rows) (e.places.state region 0) m n).end
     packed_forth n regions m never =
-        let k = state_forth e keeps limits rows region states registers packed.automaton packed.apart packed.there (emitted.stands region (Packed states registers) has)
+        let k = state_forth e keeps limits rows region states registers packed.automaton packed.apart packed.there (emitted.stands region (ByAutomaton states registers) has)
         n regions 0 m m (begins_at m) (never_automaton m never) in
         let j = (packed.runs m never).agree.forth k.0 in
         (j.0, answer_of_answer (row_run (code e keeps limits rows) (e.places.state region 0) m n) (automaton_run e.table states m k.0) (region_run e.table (Next region) m j.0) k.1 j.1)
@@ -101,7 +102,7 @@ module _ (e : Emission) (keeps : TableKeeps e.table) (limits : Limits) (rows : L
       -- where the first row has an item or a test
       with_items : ((k : ℕ) → k < n → (to : ℕ) → BackAt e keeps limits rows k to) → HasItems packed.first.row → IsShown
       with_items regions items =
-          let k = state_back e keeps limits rows region states registers packed.automaton packed.apart packed.there (emitted.stands region (Packed states registers) has)
+          let k = state_back e keeps limits rows region states registers packed.automaton packed.apart packed.there (emitted.stands region (ByAutomaton states registers) has)
           n regions 0 m m (begins_at m) (never_automaton m never) in (
             k.0,
             answer_of_answer (region_run e.table (Next region) m n) (automaton_run e.table states m n) (row_run (code e keeps limits rows) (e.places.state region 0) m k.0)
@@ -110,20 +111,20 @@ module _ (e : Emission) (keeps : TableKeeps e.table) (limits : Limits) (rows : L
 
       -- the leaf at which a row that is a leaf alone commits
       alone_at : (leaf other : AutomatonLeaf) → packed.first.row ≡ At_leaf leaf
-          → CommitsAt e keeps limits rows region states registers packed.automaton packed.apart packed.there (emitted.stands region (Packed states registers) has)
+          → CommitsAt e keeps limits rows region states registers packed.automaton packed.apart packed.there (emitted.stands region (ByAutomaton states registers) has)
           (row_step e.table.arrays packed.first.row m) other
           → packed.first.row ≡ At_leaf other
       alone_at leaf other is at =
           is ∙ ap (λ (l : AutomatonLeaf). At_leaf l)
           (subst (λ (r : Row AutomatonLeaf).
-          CommitsAt e keeps limits rows region states registers packed.automaton packed.apart packed.there (emitted.stands region (Packed states registers) has)
+          CommitsAt e keeps limits rows region states registers packed.automaton packed.apart packed.there (emitted.stands region (ByAutomaton states registers) has)
           (row_step e.table.arrays r m) other) is at)
 
       -- and where it has none
       without_items : ((to : ℕ) → ComesUntested e.table region to → BackAt e keeps limits rows n to) → (leaf : AutomatonLeaf) → packed.first.row ≡ At_leaf leaf → IsShown
       unfolding begins_at
       without_items lower leaf is =
-          let k = row_back e keeps limits rows region states registers packed.automaton packed.apart packed.there (emitted.stands region (Packed states registers) has)
+          let k = row_back e keeps limits rows region states registers packed.automaton packed.apart packed.there (emitted.stands region (ByAutomaton states registers) has)
           n 0 m m (begins_at m) (never_automaton m never)
           (λ next arguments at t u stands never'. absurd (subst (LeadsUntested e.table region) (alone_at leaf (To next arguments) is at) packed.untested))
           (λ to homes at. lower to (subst (LeadsUntested e.table region) (alone_at leaf (Out to homes) is at) packed.untested)) in (
@@ -150,7 +151,7 @@ module _ (e : Emission) (keeps : TableKeeps e.table) (limits : Limits) (rows : L
         subst (λ (y : Seen). Answers (leaf_run (code e keeps limits rows) (form_leaf e region Plain) m n) y (leaf_run (code e keeps limits rows) (form_leaf e region Plain) m n).end)
             (tree_same region m k.0) k.1,
       )
-  region_forth n regions region (Packed states registers) has m never = packed_forth region states registers has n regions m never
+  region_forth n regions region (ByAutomaton states registers) has m never = packed_forth region states registers has n regions m never
 
   forth_below : (n k : ℕ) → k < n → ForthIn e keeps limits rows k
   forth_below zero k less = absurd (omega arith)
@@ -164,7 +165,7 @@ module _ (e : Emission) (keeps : TableKeeps e.table) (limits : Limits) (rows : L
       let k = tree_back e keeps limits rows n (e.places.entry region) (region_tree e.table region) m regions (emitted.stands region Plain has) (roots e.table keeps region)
       (never_tree region m never) in
       (k.0, subst (λ (x : Seen). Answers x (leaf_run (code e keeps limits rows) (form_leaf e region Plain) m k.0) x.end) (tree_same region m n) k.1)
-  region_back n region regions lower (Packed states registers) has m never = packed_back region states registers has n m never regions lower
+  region_back n region regions lower (ByAutomaton states registers) has m never = packed_back region states registers has n m never regions lower
 
   -- by the number of units, and then by how many regions follow without a test
   back_ranked : (n r region : ℕ) → rank e.table region < r → ((k : ℕ) → k < n → (to : ℕ) → BackAt e keeps limits rows k to) → BackAt e keeps limits rows n region

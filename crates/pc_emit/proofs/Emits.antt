@@ -20,7 +20,7 @@ use Rattle.pc_machine.specs.WellFormed.{IsLeaf, IsRow}
 use Rattle.pc_machine.specs.Reachable.{IsReachable}
 use Rattle.pc_emit.specs.declared.form.RegionForm.{RegionForm as StoredForm}
 use Rattle.pc_emit.specs.Bytes.{tree_bytes, row_bytes, states_bytes, form_bytes, regions_bytes}
-use Rattle.pc_emit.specs.Emitted.{RegionForm, Plain, Packed, root_leaf, form_leaf, BeginsAt, at_first_row, by_leaf_alone, BeginsAtFirstRow, IsEmitted}
+use Rattle.pc_emit.specs.Emitted.{RegionForm, Plain, ByAutomaton, root_leaf, form_leaf, BeginsAt, at_first_row, by_leaf_alone, BeginsAtFirstRow, IsEmitted}
 use Rattle.pc_emit.specs.Emitting.{form_in, region_forms, CanHave, AreEmitted, AreForms}
 use Rattle.pc_emit.specs.declared.output.Output.{Output}
 use Rattle.pc_emit.specs.declared.plan.Plan.{Plan}
@@ -62,7 +62,7 @@ tree_few (Traps_here kind line) = omega arith
 rows_few : (tree : TableTree) (form : Option RegionForm) → rows_in tree form ≤ form_bytes tree form
 rows_few tree None = omega arith
 rows_few tree (Some Plain) = let few = tree_few tree in omega (arith, few)
-rows_few tree (Some (Packed states registers)) = states_few states
+rows_few tree (Some (ByAutomaton states registers)) = states_few states
 
 -- and all have no more rows than were counted
 all_few : (f : ℕ → Option RegionForm) (number : ℕ) (regions : List Region) (forms : List (Option StoredForm)) → ((at : ℕ) → f (number + at) ≡ form_in (slice_get forms at))
@@ -124,7 +124,7 @@ rows_below table forms limits first are begins =
     front_few : (tree : TableTree) (form : Option RegionForm) → length (front_rows tree form) ≤ 1
     front_few tree None = omega arith
     front_few tree (Some Plain) = alone_few tree
-    front_few tree (Some (Packed states registers)) = omega arith
+    front_few tree (Some (ByAutomaton states registers)) = omega arith
 
 -- the entries that are found are those of the plan
 pub are_entries : (table : RegionTable) (forms : List (Option StoredForm)) (limits : Limits) (entries : List ℕ) (first : ℕ) → length forms ≡ length table.regions
@@ -170,7 +170,7 @@ bare_less f number (region ∷ regions) =
     of_form : (tree : TableTree) (form : Option RegionForm) → bytes_in tree form ≤ form_bytes tree form
     of_form tree None = omega arith
     of_form tree (Some Plain) = omega arith
-    of_form tree (Some (Packed states registers)) = omega arith
+    of_form tree (Some (ByAutomaton states registers)) = omega arith
 
 -- a leaf alone is counted with region 0
 front_less : (f : ℕ → Option RegionForm) (regions : List TableRegion) → 1 ≤ length regions
@@ -191,7 +191,7 @@ front_less f (region ∷ regions) some =
     of_form : (tree : TableTree) (form : Option RegionForm) → bytes_of (front_rows tree form) + bytes_in tree form ≤ form_bytes tree form
     of_form tree None = omega arith
     of_form tree (Some Plain) = let few = of_tree tree in omega (arith, few)
-    of_form tree (Some (Packed states registers)) = omega arith
+    of_form tree (Some (ByAutomaton states registers)) = omega arith
 
 -- ---- region by region
 
@@ -336,7 +336,7 @@ module _ (plan : Plan) (is : IsPlan plan) (old new : Output) (rows : List CodeRo
 
       begins : (form : RegionForm) → forms_at plan 0 ≡ Some form → BeginsAt rows (form_leaf (emission_in plan) 0 form)
       begins Plain e = by_tree (region_tree (table_in plan) 0) refl (roots (table_in plan) is.kept 0) e
-      begins (Packed states registers) e = subst (λ (n : ℕ). BeginsAt rows (Leads_to n)) (sym (first_row states registers e)) at_first_row
+      begins (ByAutomaton states registers) e = subst (λ (n : ℕ). BeginsAt rows (Leads_to n)) (sym (first_row states registers e)) at_first_row
 
   -- a row is one of a region, or of copies
   by_part : (P : ℕ → Type 0) → ((number : ℕ) → number < rows_end plan → P number)
@@ -414,20 +414,20 @@ begins_behind table forms regions region form front first same some count of_for
 pub regions_few : (plan : Plan) → IsPlan plan → length plan.table.now.regions < 2 ^ 32
 regions_few plan is =
     let few = each_some (table_in plan).regions 0 (λ region states registers has.
-    let can : CanHave (table_in plan) plan.limits (forms_at plan) (region_tree (table_in plan) region) (Packed states registers) = is.forms.each region (Packed states registers) has in
+    let can : CanHave (table_in plan) plan.limits (forms_at plan) (region_tree (table_in plan) region) (ByAutomaton states registers) = is.forms.each region (ByAutomaton states registers) has in
     can.automaton.some) in
     let short = is.forms.short in
     let many = length-map plan.table.now.regions table_region in
     omega (arith, few, short, many)
   where
-    one : (tree : TableTree) (form : Option RegionForm) → ((states : List AutomatonState) (registers : ℕ → ℕ → Option ℕ) → form ≡ Some (Packed states registers) → 1 ≤ length states)
+    one : (tree : TableTree) (form : Option RegionForm) → ((states : List AutomatonState) (registers : ℕ → ℕ → Option ℕ) → form ≡ Some (ByAutomaton states registers) → 1 ≤ length states)
         → 1 ≤ form_bytes tree form
     one tree None some = omega arith
     one tree (Some Plain) some = omega arith
-    one tree (Some (Packed states registers)) some = let few = states_few states in let first = some states registers refl in omega (arith, few, first)
+    one tree (Some (ByAutomaton states registers)) some = let few = states_few states in let first = some states registers refl in omega (arith, few, first)
 
     each_some : (regions : List TableRegion) (number : ℕ)
-        → ((region : ℕ) (states : List AutomatonState) (registers : ℕ → ℕ → Option ℕ) → forms_at plan region ≡ Some (Packed states registers) → 1 ≤ length states)
+        → ((region : ℕ) (states : List AutomatonState) (registers : ℕ → ℕ → Option ℕ) → forms_at plan region ≡ Some (ByAutomaton states registers) → 1 ≤ length states)
         → length regions ≤ regions_bytes (forms_at plan) number regions
     each_some [] number some = omega arith
     each_some (region ∷ regions) number some =

@@ -7,7 +7,7 @@ use Rattle.pc_table.specs.Table.{TableTree, Does, Asks, Next, Stops_here, Traps_
 use Rattle.pc_table.specs.TableKeeps.{units}
 use Rattle.pc_machine.specs.MachineCode.{Leaf}
 use Rattle.pc_emit.specs.declared.form.RegionForm.{RegionForm as StoredForm}
-use Rattle.pc_emit.specs.Emitted.{RegionForm, Plain, Packed, root_leaf, form_leaf, LeadsToRegion}
+use Rattle.pc_emit.specs.Emitted.{RegionForm, Plain, ByAutomaton, root_leaf, form_leaf, LeadsToRegion}
 use Rattle.pc_emit.specs.Emitting.{form_in, CanHave}
 use Rattle.pc_emit.specs.declared.plan.Plan.{Plan}
 use Rattle.pc_emit.specs.models.Layout.{rows_in, AreEntries, table_in, forms_at, emission_in, rows_end, IsPlan}
@@ -88,10 +88,11 @@ module _ (plan : Plan) (is : IsPlan plan) where
 
       by_form : (form : RegionForm) → forms_at plan region ≡ Some form → CopiesMayLeadTo plan (form_leaf (emission_in plan) region form)
       by_form Plain has = by_tree (region_tree (table_in plan) region) refl (roots (table_in plan) is.kept region) has (region_within region Plain has)
-      by_form (Packed states registers) has = record {
+      by_form (ByAutomaton states registers) has = record {
         within =
-            let within = region_within region (Packed states registers) has in
-            let can : CanHave (table_in plan) plan.limits (forms_at plan) (region_tree (table_in plan) region) (Packed states registers) = is.forms.each region (Packed states registers) has in
+            let within = region_within region (ByAutomaton states registers) has in
+            let can : CanHave (table_in plan) plan.limits (forms_at plan) (region_tree (table_in plan) region) (ByAutomaton states registers) =
+            is.forms.each region (ByAutomaton states registers) has in
             let some = can.automaton.some in
             omega (arith, within, some);
         short = omega arith;

@@ -6,11 +6,11 @@ use Rattle.std.proofs.lemmas.List.{length-append}
 use Rattle.std.proofs.lemmas.Map.Made.{length-le_from_is_member}
 use Rattle.std.proofs.lemmas.Cmp.{nat_eq_equiv}
 use Rattle.pc_word.specs.Items.{dest_of}
-use Rattle.pc_window.proofs.Live.{or_first, or_second}
-use Rattle.pc_window.proofs.Uses.{or_is, nat_eq-tells}
+use Rattle.pc_window.proofs.Uses.{nat_eq-tells}
 use Rattle.pc_window.proofs.Grafts.{nat_eq-same}
 use Rattle.pc_copies.specs.declared.moves.Move.{Move}
 use Rattle.pc_copies.specs.Moves.{is_name, nontrivial_moves, copy_of, IsCycle, IsAmong, moves_of, AreCopies}
+use Rattle.pc_word.proofs.Truth.{or_first, or_second, or_true}
 
 -- the moves that are not to themselves are no more than all of them
 pub kept_few : (moves : List Move) → length (nontrivial_moves moves) ≤ length moves
@@ -50,7 +50,7 @@ dest_there (other ∷ moves) (suc at) move e = or_second (nat_eq move.dest other
 -- moves among others write registers that these write
 dests_among : (moves list : List Move) → AllByRecursion (IsAmong moves) list → (q : ℕ) → list_any (nat_eq q) (dests list) ≡ true → list_any (nat_eq q) (dests moves) ≡ true
 dests_among moves [] all q there = absurd (cc)
-dests_among moves (move ∷ list) all q there = elim (or_is (nat_eq q move.dest) (list_any (nat_eq q) (dests list)) there) [
+dests_among moves (move ∷ list) all q there = elim (or_true (nat_eq q move.dest) (list_any (nat_eq q) (dests list)) there) [
   | inl here ↦
       subst (λ (n : ℕ). list_any (nat_eq n) (dests moves) ≡ true) (sym (nat_eq-tells q move.dest here)) (dest_there moves all.0.at move all.0.there)
   | inr later ↦ dests_among moves list all.1 q later

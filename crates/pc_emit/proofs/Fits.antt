@@ -16,18 +16,18 @@ use Rattle.pc_window.specs.Names.{named}
 use Rattle.pc_window.specs.There.{ArrayIsThere}
 use Rattle.pc_window.proofs.Uses.{nat_eq-tells}
 use Rattle.pc_automaton.specs.declared.automaton.AutomatonLeaf.{AutomatonLeaf}
+use Rattle.pc_automaton.specs.RowFits.{RowFits}
 use Rattle.pc_machine.specs.MachineCode.{Leaf, CodeRow}
 use Rattle.pc_machine.specs.WellFormed.{IsOperand, IsItem, IsLeaf, IsPath, IsRow}
-use Rattle.pc_pattern.specs.Pattern.{RowFits}
-use Rattle.pc_emit.specs.Registers.{in_register, in_registers}
 use Rattle.pc_emit.specs.Emitted.{RowStands, item_stands, test_stands, leaf_stands}
 use Rattle.pc_emit.proofs.Undisturbed.{IsUndisturbed, StaysUndisturbed}
+use Rattle.pc_word.specs.Naming.{map_name, map_names}
 
 module _ (of : ℕ → ℕ) where
   -- ---- items in registers are of their kinds
 
   abbrev moved : Item → Item
-  moved item = in_registers of item
+  moved item = map_names of item
 
   memory_same : (item : Item) → is_memory (moved item) ≡ is_memory item
   memory_same (Bin op dest left right) = refl
@@ -76,7 +76,7 @@ module _ (of : ℕ → ℕ) where
         omega (arith, one, other, made, row)
     tests_same (leaf_stands related) = refl
 
-    tests_in : (P : Operand → Type 0) → ((on : Operand) → P (in_register of on)) → {row : Row AutomatonLeaf} {made : CodeRow} → RowStands Related of row made
+    tests_in : (P : Operand → Type 0) → ((on : Operand) → P (map_name of on)) → {row : Row AutomatonLeaf} {made : CodeRow} → RowStands Related of row made
         → AllByRecursion P (tests_of made)
     tests_in P each (item_stands item h) = tests_in P each h
     tests_in P each (test_stands on {yes_below} {no_below} h k) = (each on, all_both P (tests_of yes_below) (tests_of no_below) (tests_in P each h) (tests_in P each k))
@@ -171,7 +171,7 @@ module _ (of : ℕ → ℕ) where
   -- ---- the row of a state
 
   module _ (below : (name : ℕ) → of name < 127) where
-    operand_fits : (operand : Operand) → IsOperand (in_register of operand)
+    operand_fits : (operand : Operand) → IsOperand (map_name of operand)
     operand_fits (Name name) = let less = below name in omega (arith, less)
     operand_fits (Lit value) = tt
 

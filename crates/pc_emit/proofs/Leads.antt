@@ -57,7 +57,7 @@ module _ (plan : Plan) (region : ℕ) (is : IsPlan plan) (has : HasForm (table_i
       none_given : None ≡ Some has.form → ⊥
       none_given bad = cc
   region_led (Some stored.Plain) leaf e led = record { form = Plain; has = ap form_in e; is = led }
-  region_led (Some (stored.Packed automaton registers)) leaf e led = record { form = _; has = ap form_in e; is = led ∙ ap Leads_to (none_more (slice_index plan.entries.now region)) }
+  region_led (Some (stored.ByAutomaton automaton registers)) leaf e led = record { form = _; has = ap form_in e; is = led ∙ ap Leads_to (none_more (slice_index plan.entries.now region)) }
     where
       none_more : (n : ℕ) → n ≡ n + 0
       none_more n = omega arith

@@ -1,22 +1,18 @@
 -- A row that is put behind others.
-use Rattle.std.proofs.Common.{◌≡◌, ℕ, zero, suc, ◌+◌, List, [], ◌∷◌, ◌++◌, length, Some, refl, sym, ◌∙◌, ap, subst, arith}
+use Rattle.std.proofs.Common.{◌≡◌, ℕ, zero, suc, ◌+◌, List, [], ◌∷◌, ◌++◌, length, Some, sym, ◌∙◌, ap, subst, arith}
 use Rattle.std.specs.Prelude.{slice_get}
 use Rattle.std.proofs.lemmas.List.{length-map, length-append, map-append}
 use Rattle.pc_machine.specs.declared.tree.Tree.{Tree}
 use Rattle.pc_machine.specs.MachineCode.{CodeRow, row_of, rows_of}
 use Rattle.pc_emit.specs.declared.output.Output.{Output}
 use Rattle.pc_emit.specs.models.Output.{OutputGrows, StandsAt}
+use Rattle.pc_word.proofs.Places.{get_last}
 
 -- what stands in a list stands in a longer one
 still_there : {X : Type 0} (xs ys : List X) (at : ℕ) (x : X) → slice_get xs at ≡ Some x → slice_get (xs ++ ys) at ≡ Some x
 still_there [] ys at x e = absurd (cc)
 still_there (y ∷ xs) ys zero x e = e
 still_there (y ∷ xs) ys (suc at) x e = still_there xs ys at x e
-
--- and what was put behind it stands at its end
-stands_last : {X : Type 0} (xs : List X) (x : X) → slice_get (xs ++ x ∷ []) (length xs) ≡ Some x
-stands_last [] x = refl
-stands_last (y ∷ xs) x = stands_last xs x
 
 -- the trees of a list, and one more
 pub tree_still : (old new : List Tree) (tree : Tree) (at : ℕ) (row : CodeRow) → new ≡ old ++ tree ∷ []
@@ -29,7 +25,7 @@ pub tree_last : (old new : List Tree) (tree : Tree) → new ≡ old ++ tree ∷ 
 tree_last old new tree e =
     subst (λ (n : ℕ). slice_get (rows_of new) n ≡ Some (row_of tree)) (length-map old row_of)
     (subst (λ (l : List CodeRow). slice_get l (length (rows_of old)) ≡ Some (row_of tree)) (sym (ap rows_of e ∙ map-append row_of old (tree ∷ [])))
-    (stands_last (rows_of old) (row_of tree)))
+    (get_last (rows_of old) (row_of tree)))
 
 -- one more row of a region
 pub row_grows : (old new : Output) (tree : Tree) → new.rows ≡ old.rows ++ tree ∷ [] → new.copies.items ≡ old.copies.items → new.base ≡ old.base → OutputGrows old new

@@ -24,7 +24,7 @@ use Rattle.pc_machine.specs.MachineRun.{after_row, machine_step}
 use Rattle.pc_copies.specs.Moves.{after_rows, AreDone}
 use Rattle.pc_emit.specs.Registers.{register_of, argument_moves, home_moves}
 use Rattle.pc_assign.specs.Apart.{IsApart}
-use Rattle.pc_pattern.proofs.Places.{left_is_region}
+use Rattle.pc_automaton.proofs.LeftRuns.{left_is_region}
 use Rattle.pc_emit.proofs.Undisturbing.{stays_undisturbed}
 use Rattle.pc_emit.specs.Laws.{code_with}
 use Rattle.pc_emit.specs.Emitted.{Emission, RegionForm, form_leaf, LeadsThroughMoves, LeafStands, leads_to_state, leads_to_region, ends_here, traps_here}

@@ -15,7 +15,7 @@ use Rattle.pc_automaton.specs.AutomatonRun.{state_parameters}
 use Rattle.pc_copies.specs.declared.moves.Move.{Move}
 use Rattle.pc_machine.specs.MachineCode.{Leaf, Leads_to, Ends, Traps, CodeRow}
 use Rattle.pc_object.specs.ObjectText.{operand_text, item_text, leaf_text, row_text}
-use Rattle.pc_emit.specs.Registers.{in_register, in_registers, argument_moves, home_moves}
+use Rattle.pc_emit.specs.Registers.{argument_moves, home_moves}
 use Rattle.pc_emit.specs.Emitted.{LeadsToRegion, leads_to_state, leads_to_region, ends_here, traps_here, item_stands, test_stands, leaf_stands}
 use Rattle.pc_emit.specs.Bytes.{leaf_bytes, row_bytes}
 use Rattle.pc_emit.specs.declared.output.Output.{Output}
@@ -27,6 +27,7 @@ use Rattle.pc_emit.specs.models.Packing.{MovesAlong, MovesToRegion, LeafMade, Ro
 use Rattle.pc_emit.specs.models.Making.{CopiesMayLeadTo}
 use Rattle.pc_emit.proofs.Ways.{ways}
 use Rattle.pc_emit.proofs.Texts.{operand_short, item_short, operand_same, item_same}
+use Rattle.pc_word.specs.Naming.{map_name, map_names}
 
 -- ---- moves
 
@@ -69,7 +70,7 @@ many_arguments of to (parameter ∷ parameters) (argument ∷ arguments) same = 
 pub homes_short : (of : ℕ → ℕ) (homes : List Home) (moves : List Move) (bytes before : ℕ) → moves ≡ home_moves of homes → bytes ≤ before + (5 + 24 * length moves)
     → bytes ≤ before + (5 + 24 * length homes)
 homes_short of homes moves bytes before are short =
-    let many = ap (λ (l : List Move). length l) are ∙ length-map homes (λ (home : Home). let move : Move = record { dest = home.variable; from = in_register of home.value } in move) in
+    let many = ap (λ (l : List Move). length l) are ∙ length-map homes (λ (home : Home). let move : Move = record { dest = home.variable; from = map_name of home.value } in move) in
     omega (arith, short, many)
 
 -- ---- leaves
@@ -133,7 +134,7 @@ pub ruleset leaves = (
 
 module _ (plan : Plan) (site : PackedSite) (of : ℕ → ℕ) (row : Row AutomatonLeaf) (made : CodeRow) where
   pub item_made : (output : Output) (item : Item) (rest : Row AutomatonLeaf) (below : CodeRow) → row ≡ Then item rest → RowMade plan site of output rest below
-      → made ≡ Then (in_registers of item) below → RowMade plan site of output row made
+      → made ≡ Then (map_names of item) below → RowMade plan site of output row made
   item_made output item rest below e one is =
       subst (λ (r : Row AutomatonLeaf). RowMade plan site of output r made) (sym e)
       (subst (λ (m : CodeRow). RowMade plan site of output (Then item rest) m) (sym is)
@@ -141,7 +142,7 @@ module _ (plan : Plan) (site : PackedSite) (of : ℕ → ℕ) (row : Row Automat
 
   pub test_made : (mid output : Output) (on : Operand) (on_yes on_no : Row AutomatonLeaf) (yes_below no_below : CodeRow) → row ≡ Either on on_yes on_no
       → RowMade plan site of mid on_yes yes_below → OutputGrows mid output → RowMade plan site of output on_no no_below
-      → made ≡ Either (in_register of on) yes_below no_below → RowMade plan site of output row made
+      → made ≡ Either (map_name of on) yes_below no_below → RowMade plan site of output row made
   test_made mid output on on_yes on_no yes_below no_below e one grows other is =
       subst (λ (r : Row AutomatonLeaf). RowMade plan site of output r made) (sym e)
       (subst (λ (m : CodeRow). RowMade plan site of output (Either on on_yes on_no) m) (sym is)
@@ -157,25 +158,25 @@ module _ (plan : Plan) (site : PackedSite) (of : ℕ → ℕ) (row : Row Automat
 -- ---- bytes of rows
 
 module _ (of : ℕ → ℕ) (row : Row AutomatonLeaf) (made : CodeRow) (bytes before : ℕ) where
-  pub item_row_short : (item : Item) (rest : Row AutomatonLeaf) (below : CodeRow) → row ≡ Then item rest → made ≡ Then (in_registers of item) below
+  pub item_row_short : (item : Item) (rest : Row AutomatonLeaf) (below : CodeRow) → row ≡ Then item rest → made ≡ Then (map_names of item) below
       → bytes + length (row_text below) ≤ before + row_bytes rest → bytes + length (row_text made) ≤ before + row_bytes row
   item_row_short item rest below e is short =
       let counted = ap row_bytes e in
       let text = ap (λ (r : CodeRow). length (row_text r)) is in
-      let both = length-append (item_text (in_registers of item)) (row_text below) in
-      let one = item_short (in_registers of item) in
+      let both = length-append (item_text (map_names of item)) (row_text below) in
+      let one = item_short (map_names of item) in
       let same = item_same of item in
       omega (arith, short, counted, text, both, one, same)
 
   pub test_row_short : (on : Operand) (on_yes on_no : Row AutomatonLeaf) (yes_below no_below : CodeRow) (mid : ℕ) → row ≡ Either on on_yes on_no
-      → made ≡ Either (in_register of on) yes_below no_below → mid + length (row_text yes_below) ≤ before + row_bytes on_yes
+      → made ≡ Either (map_name of on) yes_below no_below → mid + length (row_text yes_below) ≤ before + row_bytes on_yes
       → bytes + length (row_text no_below) ≤ mid + row_bytes on_no → bytes + length (row_text made) ≤ before + row_bytes row
   test_row_short on on_yes on_no yes_below no_below mid e is first second =
       let counted = ap row_bytes e in
       let text = ap (λ (r : CodeRow). length (row_text r)) is in
-      let all = length-append (operand_text (in_register of on)) (row_text yes_below ++ row_text no_below) in
+      let all = length-append (operand_text (map_name of on)) (row_text yes_below ++ row_text no_below) in
       let both = length-append (row_text yes_below) (row_text no_below) in
-      let one = operand_short (in_register of on) in
+      let one = operand_short (map_name of on) in
       let same = operand_same of on in
       omega (arith, first, second, counted, text, all, both, one, same)
 

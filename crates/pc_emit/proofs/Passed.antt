@@ -5,23 +5,23 @@ use Rattle.std.specs.List.{AllByRecursion, list_any}
 use Rattle.pc_word.specs.declared.item.Operand.{Operand}
 use Rattle.pc_word.specs.declared.item.Operand.TheVariants.{Name, Lit}
 use Rattle.pc_word.specs.State.{State}
-use Rattle.pc_word.specs.Items.{operand_value}
+use Rattle.pc_word.specs.Items.{operand_value, reads_name}
 use Rattle.pc_table.specs.Table.{Table, region_live}
 use Rattle.pc_table.specs.Laws.{AlikeAtHead}
-use Rattle.pc_table.specs.TableKeeps.{reads_name}
 use Rattle.pc_window.specs.declared.home.Home.{Home}
 use Rattle.pc_window.specs.Tree.{home_of, home_state}
 use Rattle.pc_window.specs.Names.{homes_use}
 use Rattle.pc_window.specs.Rebasing.{is_in}
-use Rattle.pc_window.proofs.Live.{or_first, or_second}
-use Rattle.pc_window.proofs.Uses.{or_is, nat_eq-tells}
+use Rattle.pc_window.proofs.Uses.{nat_eq-tells}
 use Rattle.pc_window.proofs.Grafts.{nat_eq-same}
 use Rattle.pc_automaton.specs.declared.automaton.AutomatonLeaf.TheVariants.{To, Out}
 use Rattle.pc_automaton.specs.AutomatonRun.{passed, passed_state}
 use Rattle.pc_copies.specs.declared.moves.Move.{Move}
 use Rattle.pc_copies.specs.Moves.{AreDone}
-use Rattle.pc_emit.specs.Registers.{in_register, argument_moves, home_moves}
+use Rattle.pc_emit.specs.Registers.{argument_moves, home_moves}
 use Rattle.pc_emit.proofs.Rows.{LeafHolds, Holds}
+use Rattle.pc_word.specs.Naming.{map_name}
+use Rattle.pc_word.proofs.Truth.{or_first, or_second, or_true}
 
 -- what is so at each place is so of each
 at_each : {X : Type 0} (P : X → Type 0) (xs : List X) → ((at : ℕ) (x : X) → slice_get xs at ≡ Some x → P x) → AllByRecursion P xs
@@ -37,7 +37,7 @@ done_moved moves scratch old new done = at_each (λ move. new.names move.dest �
 
 -- an operand whose name is used has its value in the register
 operand_moved : (of : ℕ → ℕ) (s old : State) (o : Operand) → ((x : ℕ) → reads_name o x ≡ true → old.names (of x) ≡ s.names x)
-    → operand_value old.names (in_register of o) ≡ operand_value s.names o
+    → operand_value old.names (map_name of o) ≡ operand_value s.names o
 operand_moved of s old (Name x) h = h x (nat_eq-same x)
 operand_moved of s old (Lit value) h = refl
 
@@ -58,7 +58,7 @@ module _ (of to : ℕ → ℕ) (s old new : State) where
       value = moved.0 ∙ operand_moved of s old a (λ y r. hold y (or_first (reads_name a y) (list_any (λ o. reads_name o y) arguments) r))
 
       rest : (b : Bool) → nat_eq p x ≡ b → b ≡ false → is_in x parameters ≡ true
-      rest b e f = elim (or_is (nat_eq x p) (is_in x parameters) there) [
+      rest b e f = elim (or_true (nat_eq x p) (is_in x parameters) there) [
         | inl q ↦ absurd (let is = nat_eq-tells x p q in let same : nat_eq p x ≡ true = subst (λ (n : ℕ). nat_eq n x ≡ true) is (nat_eq-same x) in cc)
         | inr q ↦ q
       ]
@@ -94,7 +94,7 @@ module _ (of : ℕ → ℕ) (s old new : State) where
       value = moved.0 ∙ operand_moved of s old home.value (λ y r. hold y (or_first (reads_name home.value y) (homes_use homes y) r))
 
       rest : nat_eq home.variable v ≡ false → list_any (nat_eq v) (map (λ (home : Home). home.variable) homes) ≡ true
-      rest f = elim (or_is (nat_eq v home.variable) (list_any (nat_eq v) (map (λ (home : Home). home.variable) homes)) there) [
+      rest f = elim (or_true (nat_eq v home.variable) (list_any (nat_eq v) (map (λ (home : Home). home.variable) homes)) there) [
         | inl q ↦ absurd (let is = nat_eq-tells v home.variable q in let same : nat_eq home.variable v ≡ true = subst (λ (n : ℕ). nat_eq n v ≡ true) is (nat_eq-same v) in cc)
         | inr q ↦ q
       ]

@@ -13,13 +13,13 @@ use Rattle.pc_window.specs.declared.home.Home.{Home}
 use Rattle.pc_automaton.specs.declared.automaton.AutomatonLeaf.{AutomatonLeaf}
 use Rattle.pc_automaton.specs.declared.automaton.AutomatonLeaf.TheVariants.{To, Out, Stop, Trap}
 use Rattle.pc_automaton.specs.Automaton.{AutomatonState}
+use Rattle.pc_automaton.specs.Reachable.{EachIsReachable}
 use Rattle.pc_copies.specs.declared.moves.Move.{Move}
 use Rattle.pc_copies.specs.Laws.{copy_row}
 use Rattle.pc_machine.specs.MachineCode.{Leaf, Leads_to, CodeRow}
 use Rattle.pc_machine.specs.Reachable.{IsReachable, Entry, Behind}
-use Rattle.pc_pattern.specs.Pattern.{EachIsLedTo}
-use Rattle.pc_emit.specs.Registers.{in_register, register_of}
-use Rattle.pc_emit.specs.Emitted.{RegionForm, Plain, Packed, Emission, root_leaf, form_leaf, LeadsToRegion, Passes, passes_none, passes_row}
+use Rattle.pc_emit.specs.Registers.{register_of}
+use Rattle.pc_emit.specs.Emitted.{RegionForm, Plain, ByAutomaton, Emission, root_leaf, form_leaf, LeadsToRegion, Passes, passes_none, passes_row}
 use Rattle.pc_emit.specs.Emitted.{LeafStands, leads_to_state, leads_to_region, RowStands, item_stands, test_stands, leaf_stands, StateStands}
 use Rattle.pc_emit.specs.Emitted.{LeadsBehind, to_item, to_test, to_region, to_end, to_trap, TreeStands, item_row, test_row, no_row, no_end_row, no_trap_row}
 use Rattle.pc_emit.specs.Emitted.{BeginsAt, at_first_row, by_leaf_alone, IsEmitted}
@@ -28,11 +28,12 @@ use Rattle.pc_emit.specs.models.Making.{RowsReached}
 use Rattle.pc_emit.specs.models.Layout.{rows_in}
 use Rattle.pc_emit.proofs.PlainRuns.{IsRoot, roots}
 use Rattle.pc_emit.proofs.Copying.{one_leaf}
+use Rattle.pc_word.specs.Naming.{map_name}
 
 -- the first row of a region in a form
 abbrev pub form_row : Emission → ℕ → RegionForm → ℕ
 form_row e region Plain = e.places.entry region
-form_row e region (Packed states registers) = e.places.state region 0
+form_row e region (ByAutomaton states registers) = e.places.state region 0
 
 -- the only one of a list
 only : {X : Type 0} (y x : X) → Contains (y ∷ []) x → y ≡ x
@@ -51,7 +52,7 @@ stands_for {Related} {of} leaf (test_stands on {on_yes} {on_no} {yes_below} {no_
     either (Contains-append_cases (leaves_of on_yes) (leaves_of on_no) leaf has) (stands_for leaf h) (stands_for leaf k)
   where
     either : Contains (leaves_of on_yes) leaf ⊎ Contains (leaves_of on_no) leaf → (Contains (leaves_of on_yes) leaf → StandsFor Related leaf yes_below)
-        → (Contains (leaves_of on_no) leaf → StandsFor Related leaf no_below) → StandsFor Related leaf (Either (in_register of on) yes_below no_below)
+        → (Contains (leaves_of on_no) leaf → StandsFor Related leaf no_below) → StandsFor Related leaf (Either (map_name of on) yes_below no_below)
     either (inl here) one other = let it = one here in record { below = it.below; there = Contains-append_left (leaves_of yes_below) (leaves_of no_below) it.below it.there; related = it.related }
     either (inr here) one other = let it = other here in record { below = it.below; there = Contains-append_right (leaves_of yes_below) (leaves_of no_below) it.below it.there; related = it.related }
 stands_for {Related} leaf (leaf_stands {leaf = own} {below} related) has =
@@ -150,7 +151,7 @@ module _ (e : Emission) (rows : List CodeRow) (emitted : IsEmitted e rows) (keep
 
   module _ (region : ℕ) (states : List AutomatonState) (registers : ℕ → ℕ → Option ℕ)
       (stand : (number : ℕ) (state : AutomatonState) → slice_get states number ≡ Some state → StateStands e rows region states registers number state)
-      (led_to : EachIsLedTo states) where
+      (led_to : EachIsReachable states) where
     -- where a leaf of a state that is reached leads
     leaf_led : (number : ℕ) (state : AutomatonState) (leaf : AutomatonLeaf) → slice_get states number ≡ Some state → IsReachable rows (e.places.state region number)
         → Contains (leaves_of state.row) leaf
@@ -221,7 +222,7 @@ module _ (e : Emission) (rows : List CodeRow) (emitted : IsEmitted e rows) (keep
     pub own : RowsReached (form_row e region form) (form_row e region form + rows_in (region_tree e.table region) (Some form)) rows
     pub named : (to : ℕ) → Contains (form_leads (region_tree e.table region) form) to → RegionLed to
 
-  module _ (led_to : (region : ℕ) (states : List AutomatonState) (registers : ℕ → ℕ → Option ℕ) → e.forms region ≡ Some (Packed states registers) → EachIsLedTo states)
+  module _ (led_to : (region : ℕ) (states : List AutomatonState) (registers : ℕ → ℕ → Option ℕ) → e.forms region ≡ Some (ByAutomaton states registers) → EachIsReachable states)
       (in_order : (region number : ℕ) → e.places.state region number ≡ e.places.state region 0 + number) where
     pub region_reached : (region : ℕ) (form : RegionForm) → e.forms region ≡ Some form → RegionLed region → RegionReached region form
     region_reached region Plain has led =
@@ -229,9 +230,9 @@ module _ (e : Emission) (rows : List CodeRow) (emitted : IsEmitted e rows) (keep
         let tree = tree_reached (root_leaf (e.places.entry region) (region_tree e.table region)) (emitted.stands region Plain has) root
         (led (root_leaf (e.places.entry region) (region_tree e.table region)) (record { form = Plain; has = has; is = refl })) in
         record { own = tree.own; named = tree.named }
-    region_reached region (Packed states registers) has led =
-        let first = led (Leads_to (e.places.state region 0)) (record { form = Packed states registers; has = has; is = refl }) (e.places.state region 0) refl in
-        let stand = emitted.stands region (Packed states registers) has in
+    region_reached region (ByAutomaton states registers) has led =
+        let first = led (Leads_to (e.places.state region 0)) (record { form = ByAutomaton states registers; has = has; is = refl }) (e.places.state region 0) refl in
+        let stand = emitted.stands region (ByAutomaton states registers) has in
         let each = states_reached region states registers stand (led_to region states registers has) first in
         record {
           own = λ number low high.

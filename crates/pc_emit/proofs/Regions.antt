@@ -9,7 +9,7 @@ use Rattle.pc_automaton.specs.Automaton.{AutomatonState, state_in}
 use Rattle.pc_machine.specs.declared.tree.Tree.{Tree}
 use Rattle.pc_machine.specs.MachineCode.{rows_of}
 use Rattle.pc_emit.specs.Bytes.{tree_bytes, states_bytes}
-use Rattle.pc_emit.specs.Emitted.{RegionForm, Plain, Packed, RegionStands, StateStands}
+use Rattle.pc_emit.specs.Emitted.{RegionForm, Plain, ByAutomaton, RegionStands, StateStands}
 use Rattle.pc_emit.specs.Emitting.{NamesHaveForms}
 use Rattle.pc_emit.specs.declared.output.Output.{Output}
 use Rattle.pc_emit.specs.declared.plan.Plan.{Plan}
@@ -70,13 +70,13 @@ module _ (plan : Plan) (region : ℕ) where
       omega (arith, within, many, at)
 
   -- a packed one has those of its states
-  module _ (site : PackedSite) (its : site.region ≡ region) (e : forms_at plan region ≡ Some (Packed (states_at site) (registers_at site))) where
+  module _ (site : PackedSite) (its : site.region ≡ region) (e : forms_at plan region ≡ Some (ByAutomaton (states_at site) (registers_at site))) where
     pub packed_site : IsPlan plan → site.first ≡ slice_index plan.entries.now region → IsSite plan site
     packed_site is at = record {
       begins = at ∙ ap (slice_index plan.entries.now) (sym its);
       form = ap (forms_at plan) its ∙ e;
       few =
-          let within = region_within plan is region (Packed (states_at site) (registers_at site)) e in
+          let within = region_within plan is region (ByAutomaton (states_at site) (registers_at site)) e in
           let many = length-map site.automaton.now state_in in
           omega (arith, within, many, at);
     }

@@ -10,25 +10,24 @@ use Rattle.pc_word.specs.declared.item.MachineFault.{MachineFault}
 use Rattle.pc_word.specs.declared.item.MachineFault.TheVariants.{StoreOutOfRange, StoredTwice, ReadPastEnd}
 use Rattle.pc_word.specs.Word.{holds, word_apply, word_of_test}
 use Rattle.pc_word.specs.State.{State}
-use Rattle.pc_word.specs.Items.{operand_value, dest_of, value_of, element_at, place_in, next_input, some_left}
+use Rattle.pc_word.specs.Items.{operand_value, dest_of, value_of, element_at, place_in, next_input, some_left, reads_name}
 use Rattle.pc_word.specs.Commit.{Stored, writes, names_after, stores_of, cells_after, prints_of, reads_of, is_outside, some_meet, fault_of, state_after}
 use Rattle.pc_word.specs.Row.{Row, Then, Either, At_leaf, items_of, tests_of, path_of, leaf_of, RowOutcome, Faults, Commits, commit_of, row_step}
 use Rattle.pc_word.proofs.Lists.{all_front, all_back}
-use Rattle.pc_table.specs.TableKeeps.{reads_name}
 use Rattle.pc_window.specs.declared.home.Home.{Home}
 use Rattle.pc_window.specs.Names.{IsKnown, ReadsKnown, HomesKnown, homes_use, and_dest, named}
 use Rattle.pc_window.specs.Rebasing.{is_in}
-use Rattle.pc_window.proofs.Live.{or_first, or_second}
-use Rattle.pc_window.proofs.Uses.{or_is, nat_eq-tells}
+use Rattle.pc_window.proofs.Uses.{nat_eq-tells}
 use Rattle.pc_window.proofs.Grafts.{nat_eq-same}
 use Rattle.pc_automaton.specs.declared.automaton.AutomatonLeaf.{AutomatonLeaf}
 use Rattle.pc_automaton.specs.declared.automaton.AutomatonLeaf.TheVariants.{To, Out, Stop, Trap}
 use Rattle.pc_automaton.specs.Automaton.{LeafIsKnown, LeavesAreKnown}
 use Rattle.pc_machine.specs.MachineCode.{Leaf, CodeRow}
 use Rattle.pc_assign.specs.Uses.{leaf_uses, row_uses}
-use Rattle.pc_emit.specs.Registers.{in_register, in_registers}
 use Rattle.pc_emit.proofs.Undisturbed.{IsUndisturbed, StaysUndisturbed}
 use Rattle.pc_emit.specs.Emitted.{RowStands, item_stands, test_stands, leaf_stands}
+use Rattle.pc_word.specs.Naming.{map_name, map_names}
+use Rattle.pc_word.proofs.Truth.{or_first, or_second, or_true}
 
 -- a name that an operand reads
 known_read : (known : ℕ → Bool) (o : Operand) (x : ℕ) → IsKnown known o → reads_name o x ≡ true → known x ≡ true
@@ -38,14 +37,14 @@ known_read known (Lit value) x k r = absurd (cc)
 known_arguments : (known : ℕ → Bool) (arguments : List Operand) (x : ℕ) → AllByRecursion (IsKnown known) arguments
     → list_any (λ o. reads_name o x) arguments ≡ true → known x ≡ true
 known_arguments known [] x all used = absurd (cc)
-known_arguments known (o ∷ arguments) x all used = elim (or_is (reads_name o x) (list_any (λ o. reads_name o x) arguments) used) [
+known_arguments known (o ∷ arguments) x all used = elim (or_true (reads_name o x) (list_any (λ o. reads_name o x) arguments) used) [
   | inl p ↦ known_read known o x all.0 p
   | inr p ↦ known_arguments known arguments x all.1 p
 ]
 
 known_homes : (known : ℕ → Bool) (homes : List Home) (x : ℕ) → HomesKnown known homes → homes_use homes x ≡ true → known x ≡ true
 known_homes known [] x all used = absurd (cc)
-known_homes known (home ∷ homes) x all used = elim (or_is (reads_name home.value x) (homes_use homes x) used) [
+known_homes known (home ∷ homes) x all used = elim (or_true (reads_name home.value x) (homes_use homes x) used) [
   | inl p ↦ known_read known home.value x all.0 p
   | inr p ↦ known_homes known homes x all.1 p
 ]
@@ -65,7 +64,7 @@ path_writes path x = list_any (λ item. writes (dest_of item) x) path
 pub used_known : (names : ℕ → ℤ) (known : ℕ → Bool) (row : Row AutomatonLeaf) (x : ℕ) → LeavesAreKnown known row → leaf_uses (leaf_of names row) x ≡ true
     → (known x ≡ true) ⊎ (path_writes (path_of names row) x ≡ true)
 used_known names known (Then item rest) x leaves used = elim (used_known names (and_dest known item) rest x leaves used) [
-  | inl p ↦ elim (or_is (writes (dest_of item) x) (known x) p) [
+  | inl p ↦ elim (or_true (writes (dest_of item) x) (known x) p) [
     | inl w ↦ inr (or_first (writes (dest_of item) x) (path_writes (path_of names rest) x) w)
     | inr k ↦ inl k
   ]
@@ -109,7 +108,7 @@ path_items P names (At_leaf leaf) all = tt
 -- a register that is apart from those of some names is apart from that of each
 among_apart : (of : ℕ → ℕ) (xs : List ℕ) (d y : ℕ) → AllByRecursion (λ name. of name ≢ of y) xs → is_in d xs ≡ true → of d ≢ of y
 among_apart of [] d y all there = absurd (cc)
-among_apart of (x ∷ xs) d y all there = elim (or_is (nat_eq d x) (is_in d xs) there) [
+among_apart of (x ∷ xs) d y all there = elim (or_true (nat_eq d x) (is_in d xs) there) [
   | inl p ↦ subst (λ (n : ℕ). of n ≢ of y) (sym (nat_eq-tells d x p)) all.0
   | inr p ↦ among_apart of xs d y all.1 p
 ]
@@ -117,7 +116,7 @@ among_apart of (x ∷ xs) d y all there = elim (or_is (nat_eq d x) (is_in d xs) 
 written_apart : (of : ℕ → ℕ) (parameters above : List ℕ) (names : ℕ → ℤ) (row : Row AutomatonLeaf) (d x : ℕ) → StaysUndisturbed of parameters above row
     → is_in d above ≡ true → path_writes (path_of names row) x ≡ true → of d ≢ of x
 written_apart of parameters above names (Then item rest) d x apart there written =
-    elim (or_is (writes (dest_of item) x) (path_writes (path_of names rest) x) written) [
+    elim (or_true (writes (dest_of item) x) (path_writes (path_of names rest) x) written) [
       | inl w ↦ here (dest_of item) apart.0 w
       | inr w ↦ written_apart of parameters (named (dest_of item) above) names rest d x apart.1 (later (dest_of item)) w
     ]
@@ -146,7 +145,7 @@ module _ (lengths : List ℕ) (of : ℕ → ℕ) (s m : State) (cells : m.cells 
   abbrev pub Hold : (ℕ → Bool) → Type 0
   Hold known = (x : ℕ) → known x ≡ true → m.names (of x) ≡ s.names x
 
-  pub operand_same : (known : ℕ → Bool) → Hold known → (o : Operand) → IsKnown known o → operand_value m.names (in_register of o) ≡ operand_value s.names o
+  pub operand_same : (known : ℕ → Bool) → Hold known → (o : Operand) → IsKnown known o → operand_value m.names (map_name of o) ≡ operand_value s.names o
   operand_same known hold (Name x) k = hold x k
   operand_same known hold (Lit value) k = refl
 
@@ -154,11 +153,11 @@ module _ (lengths : List ℕ) (of : ℕ → ℕ) (s m : State) (cells : m.cells 
       → element_at (m.cells array) (place_in (slice_index lengths array) value') ≡ element_at (s.cells array) (place_in (slice_index lengths array) value)
   element_same array value value' e = λ i. element_at (cells i array) (place_in (slice_index lengths array) (e i))
 
-  value_same : (known : ℕ → Bool) → Hold known → (item : Item) → ReadsKnown known item → value_of lengths m (in_registers of item) ≡ value_of lengths s item
+  value_same : (known : ℕ → Bool) → Hold known → (item : Item) → ReadsKnown known item → value_of lengths m (map_names of item) ≡ value_of lengths s item
   value_same known hold (Bin op dest left right) k = λ i. word_apply op (operand_same known hold left k.0 i) (operand_same known hold right k.1.0 i)
   value_same known hold (Copy dest from) k = operand_same known hold from k.0
   value_same known hold (Load dest array index) k =
-      element_same array (operand_value s.names index) (operand_value m.names (in_register of index)) (operand_same known hold index k.0)
+      element_same array (operand_value s.names index) (operand_value m.names (map_name of index)) (operand_same known hold index k.0)
   value_same known hold (Store array index value) k = operand_same known hold value k.1.0
   value_same known hold (Print value) k = operand_same known hold value k.0
   value_same known hold (Read dest) k = ap next_input input
@@ -170,11 +169,11 @@ module _ (lengths : List ℕ) (of : ℕ → ℕ) (s m : State) (cells : m.cells 
     prints : prints_of m path' ≡ prints_of s path
     reads : reads_of path' ≡ reads_of path
 
-  do_same : (known : ℕ → Bool) → Hold known → (path : List Item) → AllByRecursion (ReadsKnown known) path → DoSame path (map (in_registers of) path)
+  do_same : (known : ℕ → Bool) → Hold known → (path : List Item) → AllByRecursion (ReadsKnown known) path → DoSame path (map (map_names of) path)
   do_same known hold [] all = record { stores = refl; prints = refl; reads = refl }
   do_same known hold (item ∷ path) all = one_more item all.0 (do_same known hold path all.1)
     where
-      one_more : (item : Item) → ReadsKnown known item → DoSame path (map (in_registers of) path) → DoSame (item ∷ path) (in_registers of item ∷ map (in_registers of) path)
+      one_more : (item : Item) → ReadsKnown known item → DoSame path (map (map_names of) path) → DoSame (item ∷ path) (map_names of item ∷ map (map_names of) path)
       one_more (Bin op dest left right) k h = record { stores = h.stores; prints = h.prints; reads = h.reads }
       one_more (Copy dest from) k h = record { stores = h.stores; prints = h.prints; reads = h.reads }
       one_more (Load dest array index) k h = record { stores = h.stores; prints = h.prints; reads = h.reads }
@@ -201,13 +200,13 @@ module _ (lengths : List ℕ) (of : ℕ → ℕ) (s m : State) (cells : m.cells 
   -- ---- names afterwards
 
   dest_in : (item : Item) (x : ℕ) (value : ℤ) → writes (dest_of item) x ≡ true → (other other' : ℤ)
-      → (if writes (dest_of (in_registers of item)) (of x) then value else other) ≡ (if writes (dest_of item) x then value else other')
+      → (if writes (dest_of (map_names of item)) (of x) then value else other) ≡ (if writes (dest_of item) x then value else other')
   dest_in item x value w other other' = ap (λ (b : Bool). if b then value else other) (moved item w) ∙ sym (ap (λ (b : Bool). if b then value else other') w)
     where
       same : (d : ℕ) → nat_eq d x ≡ true → nat_eq (of d) (of x) ≡ true
       same d e = let is = nat_eq-tells d x e in let both : of d ≡ of x = ap of is in grind arith
 
-      moved : (item : Item) → writes (dest_of item) x ≡ true → writes (dest_of (in_registers of item)) (of x) ≡ true
+      moved : (item : Item) → writes (dest_of item) x ≡ true → writes (dest_of (map_names of item)) (of x) ≡ true
       moved (Bin op dest left right) e = same dest e
       moved (Copy dest from) e = same dest e
       moved (Load dest array index) e = same dest e
@@ -217,7 +216,7 @@ module _ (lengths : List ℕ) (of : ℕ → ℕ) (s m : State) (cells : m.cells 
       moved (More dest) e = same dest e
 
   dest_out : (item : Item) (x : ℕ) (value value' : ℤ) → writes (dest_of item) x ≡ false → ((d : ℕ) → dest_of item ≡ Some d → of d ≢ of x) → (other other' : ℤ) → other ≡ other'
-      → (if writes (dest_of (in_registers of item)) (of x) then value else other) ≡ (if writes (dest_of item) x then value' else other')
+      → (if writes (dest_of (map_names of item)) (of x) then value else other) ≡ (if writes (dest_of item) x then value' else other')
   dest_out item x value value' w apart other other' e =
       ap (λ (b : Bool). if b then value else other) (moved item apart) ∙ e ∙ sym (ap (λ (b : Bool). if b then value' else other') w)
     where
@@ -228,7 +227,7 @@ module _ (lengths : List ℕ) (of : ℕ → ℕ) (s m : State) (cells : m.cells 
           by_test true e = absurd (ne (nat_eq-tells (of d) (of x) e))
           by_test false e = refl
 
-      moved : (item : Item) → ((d : ℕ) → dest_of item ≡ Some d → of d ≢ of x) → writes (dest_of (in_registers of item)) (of x) ≡ false
+      moved : (item : Item) → ((d : ℕ) → dest_of item ≡ Some d → of d ≢ of x) → writes (dest_of (map_names of item)) (of x) ≡ false
       moved (Bin op dest left right) a = differ dest (a dest refl)
       moved (Copy dest from) a = differ dest (a dest refl)
       moved (Load dest array index) a = differ dest (a dest refl)
@@ -242,13 +241,13 @@ module _ (lengths : List ℕ) (of : ℕ → ℕ) (s m : State) (cells : m.cells 
     abbrev NamesSame : ℕ → Row AutomatonLeaf → Type 0
     NamesSame x side = AllByRecursion (ReadsKnown (λ x. is_in x parameters)) (path_of s.names side)
         → (is_in x parameters ≡ true) ⊎ (path_writes (path_of s.names side) x ≡ true) → leaf_uses (leaf_of s.names side) x ≡ true
-        → names_after lengths m (map (in_registers of) (path_of s.names side)) (of x) ≡ names_after lengths s (path_of s.names side) x
+        → names_after lengths m (map (map_names of) (path_of s.names side)) (of x) ≡ names_after lengths s (path_of s.names side) x
 
     -- a name that the leaf uses which is taken, a parameter or written on the path, has its value in its register
     names_same : (above : List ℕ) (row : Row AutomatonLeaf) (x : ℕ) → StaysUndisturbed of parameters above row
         → AllByRecursion (ReadsKnown (λ x. is_in x parameters)) (path_of s.names row) → row_uses row x ≡ true
         → (is_in x parameters ≡ true) ⊎ (path_writes (path_of s.names row) x ≡ true) → leaf_uses (leaf_of s.names row) x ≡ true
-        → names_after lengths m (map (in_registers of) (path_of s.names row)) (of x) ≡ names_after lengths s (path_of s.names row) x
+        → names_after lengths m (map (map_names of) (path_of s.names row)) (of x) ≡ names_after lengths s (path_of s.names row) x
     names_same above (Then item rest) x apart reads below known used =
         by_dest (writes (dest_of item) x) refl (λ later. names_same (named (dest_of item) above) rest x apart.1 reads.1 (used_below s.names rest x used) later used)
       where
@@ -256,7 +255,7 @@ module _ (lengths : List ℕ) (of : ℕ → ℕ) (s m : State) (cells : m.cells 
         below_item : writes (dest_of item) x ≡ false → (is_in x parameters ≡ true) ⊎ (path_writes (path_of s.names rest) x ≡ true)
         below_item w = elim known [
           | inl p ↦ inl p
-          | inr p ↦ elim (or_is (writes (dest_of item) x) (path_writes (path_of s.names rest) x) p) [
+          | inr p ↦ elim (or_true (writes (dest_of item) x) (path_writes (path_of s.names rest) x) p) [
             | inl q ↦ absurd (cc)
             | inr q ↦ inr q
           ]
@@ -270,17 +269,17 @@ module _ (lengths : List ℕ) (of : ℕ → ℕ) (s m : State) (cells : m.cells 
 
         by_dest : (b : Bool) → writes (dest_of item) x ≡ b
             → ((is_in x parameters ≡ true) ⊎ (path_writes (path_of s.names rest) x ≡ true)
-            → names_after lengths m (map (in_registers of) (path_of s.names rest)) (of x) ≡ names_after lengths s (path_of s.names rest) x)
-            → (if writes (dest_of (in_registers of item)) (of x) then value_of lengths m (in_registers of item)
-            else names_after lengths m (map (in_registers of) (path_of s.names rest)) (of x))
+            → names_after lengths m (map (map_names of) (path_of s.names rest)) (of x) ≡ names_after lengths s (path_of s.names rest) x)
+            → (if writes (dest_of (map_names of item)) (of x) then value_of lengths m (map_names of item)
+            else names_after lengths m (map (map_names of) (path_of s.names rest)) (of x))
             ≡ (if writes (dest_of item) x then value_of lengths s item else names_after lengths s (path_of s.names rest) x)
         by_dest true w next =
-            ap (λ (z : ℤ). if writes (dest_of (in_registers of item)) (of x) then z else names_after lengths m (map (in_registers of) (path_of s.names rest)) (of x))
+            ap (λ (z : ℤ). if writes (dest_of (map_names of item)) (of x) then z else names_after lengths m (map (map_names of) (path_of s.names rest)) (of x))
             (value_same (λ x. is_in x parameters) hold item reads.0)
-            ∙ dest_in item x (value_of lengths s item) w (names_after lengths m (map (in_registers of) (path_of s.names rest)) (of x)) (names_after lengths s (path_of s.names rest) x)
+            ∙ dest_in item x (value_of lengths s item) w (names_after lengths m (map (map_names of) (path_of s.names rest)) (of x)) (names_after lengths s (path_of s.names rest) x)
         by_dest false w next =
-            dest_out item x (value_of lengths m (in_registers of item)) (value_of lengths s item) w (other (below_item w))
-            (names_after lengths m (map (in_registers of) (path_of s.names rest)) (of x)) (names_after lengths s (path_of s.names rest) x) (next (below_item w))
+            dest_out item x (value_of lengths m (map_names of item)) (value_of lengths s item) w (other (below_item w))
+            (names_after lengths m (map (map_names of) (path_of s.names rest)) (of x)) (names_after lengths s (path_of s.names rest) x) (next (below_item w))
     names_same above (Either on p q) x apart reads below known used =
         by_test (holds (operand_value s.names on)) (λ r k u. names_same above p x apart.0 r (used_below s.names p x u) k u)
         (λ r k u. names_same above q x apart.1 r (used_below s.names q x u) k u) reads known used
@@ -288,7 +287,7 @@ module _ (lengths : List ℕ) (of : ℕ → ℕ) (s m : State) (cells : m.cells 
         by_test : (b : Bool) → NamesSame x p → NamesSame x q → AllByRecursion (ReadsKnown (λ x. is_in x parameters)) (if b then path_of s.names p else path_of s.names q)
             → (is_in x parameters ≡ true) ⊎ (path_writes (if b then path_of s.names p else path_of s.names q) x ≡ true)
             → leaf_uses (if b then leaf_of s.names p else leaf_of s.names q) x ≡ true
-            → names_after lengths m (map (in_registers of) (if b then path_of s.names p else path_of s.names q)) (of x)
+            → names_after lengths m (map (map_names of) (if b then path_of s.names p else path_of s.names q)) (of x)
             ≡ names_after lengths s (if b then path_of s.names p else path_of s.names q) x
         by_test true one other r k u = one r k u
         by_test false one other r k u = other r k u
@@ -301,23 +300,23 @@ module _ (lengths : List ℕ) (of : ℕ → ℕ) (s m : State) (cells : m.cells 
 
     -- the path and the leaf that are taken
     record TakesSame (Related : AutomatonLeaf → Leaf → Type 0) (row : Row AutomatonLeaf) (below : CodeRow) : Type 0 where
-      path : path_of m.names below ≡ map (in_registers of) (path_of s.names row)
+      path : path_of m.names below ≡ map (map_names of) (path_of s.names row)
       related : Related (leaf_of s.names row) (leaf_of m.names below)
 
     takes_same : {Related : AutomatonLeaf → Leaf → Type 0} {row : Row AutomatonLeaf} {below : CodeRow} → RowStands Related of row below
         → AllByRecursion (IsKnown (λ x. is_in x parameters)) (tests_of row) → TakesSame Related row below
     takes_same {Related} (item_stands item h) tests =
         let t = takes_same {Related = Related} h tests in
-        record { path = ap (λ (l : List Item). in_registers of item ∷ l) t.path; related = t.related }
+        record { path = ap (λ (l : List Item). map_names of item ∷ l) t.path; related = t.related }
     takes_same {Related} (test_stands on {on_yes} {on_no} {yes_below} {no_below} h k) tests =
-        let t = side (holds (operand_value s.names on)) (holds (operand_value m.names (in_register of on)))
+        let t = side (holds (operand_value s.names on)) (holds (operand_value m.names (map_name of on)))
         (ap holds (operand_same (λ x. is_in x parameters) hold on tests.0))
         (takes_same {Related = Related} h (all_front (IsKnown (λ x. is_in x parameters)) (tests_of on_yes) (tests_of on_no) tests.1))
         (takes_same {Related = Related} k (all_back (IsKnown (λ x. is_in x parameters)) (tests_of on_yes) (tests_of on_no) tests.1)) in
         record { path = t.0; related = t.1 }
       where
         side : (b c : Bool) → c ≡ b → TakesSame Related on_yes yes_below → TakesSame Related on_no no_below
-            → ((if c then path_of m.names yes_below else path_of m.names no_below) ≡ map (in_registers of) (if b then path_of s.names on_yes else path_of s.names on_no))
+            → ((if c then path_of m.names yes_below else path_of m.names no_below) ≡ map (map_names of) (if b then path_of s.names on_yes else path_of s.names on_no))
             × Related (if b then leaf_of s.names on_yes else leaf_of s.names on_no) (if c then leaf_of m.names yes_below else leaf_of m.names no_below)
         side true true e p q = (p.path, p.related)
         side false false e p q = (q.path, q.related)
@@ -361,7 +360,7 @@ pub row_does : {Related : AutomatonLeaf → Leaf → Type 0} {row : Row Automato
 row_does {Related} {row} {below} lengths of parameters s m stands apart items tests leaves holding =
     let reads = path_items (ReadsKnown (λ x. is_in x parameters)) s.names row items in
     let path = path_of s.names row in
-    let path' = map (in_registers of) path in
+    let path' = map (map_names of) path in
     let t = takes_same lengths of s m holding.cells holding.input parameters holding.names {Related = Related} stands tests in
     let d = do_same lengths of s m holding.cells holding.input (λ x. is_in x parameters) holding.names path reads in
     let h : LeafHolds of (leaf_of s.names row) (state_after lengths s path) (state_after lengths m path') = record {

@@ -9,13 +9,14 @@ use Rattle.pc_word.proofs.Lists.{all_front, all_back}
 use Rattle.pc_window.specs.Names.{named}
 use Rattle.pc_window.specs.Rebasing.{is_in}
 use Rattle.pc_window.specs.Unwinding.{or_zero}
-use Rattle.pc_window.proofs.Uses.{or_is, nat_eq-tells}
+use Rattle.pc_window.proofs.Uses.{nat_eq-tells}
 use Rattle.pc_automaton.specs.declared.automaton.AutomatonLeaf.{AutomatonLeaf}
 use Rattle.pc_automaton.specs.Automaton.{AutomatonState, names_written}
 use Rattle.pc_assign.specs.Uses.{row_uses}
 use Rattle.pc_assign.specs.Apart.{Differ, HasAllowed, DestApart, KeepsApart, IsApart}
 use Rattle.pc_emit.specs.Registers.{register_of}
 use Rattle.pc_emit.proofs.Undisturbed.{IsUndisturbed, StaysUndisturbed}
+use Rattle.pc_word.proofs.Truth.{or_true}
 
 module _ (of : ℕ → Option ℕ) where
   -- names that share no register have different ones, if each has one
@@ -35,7 +36,7 @@ module _ (of : ℕ → Option ℕ) where
       → AllByRecursion (λ parameter. row_uses rest parameter ≡ true → Differ of dest parameter) parameters
       → (name : ℕ) → is_in name parameters ≡ true → row_uses rest name ≡ true → register_of of name ≢ register_of of dest
   used_differs rest dest [] h all apart name there used = absurd (cc)
-  used_differs rest dest (p ∷ parameters) h all apart name there used = elim (or_is (nat_eq name p) (is_in name parameters) there) [
+  used_differs rest dest (p ∷ parameters) h all apart name there used = elim (or_true (nat_eq name p) (is_in name parameters) there) [
     | inl e ↦ (let same : name ≡ p = nat_eq-tells name p e in
         subst (λ (n : ℕ). register_of of n ≢ register_of of dest) (sym same)
         (differ dest p h all.0 (apart.0 (subst (λ (n : ℕ). row_uses rest n ≡ true) same used))))

@@ -1,47 +1,13 @@
 -- The bytes that are counted for a table's regions in their forms, before any row is made. The rows that are emitted are
 -- never longer.
 use Rattle.std.specs.Prelude.{ℕ, zero, ◌+◌, ◌*◌, List, [], ◌∷◌, length, Option, Some, None}
-use Rattle.pc_word.specs.declared.item.Item.{Item}
-use Rattle.pc_word.specs.declared.item.Item.TheVariants.{Bin, Copy, Load, Store, Print, Read, More}
-use Rattle.pc_word.specs.declared.item.Operand.{Operand}
-use Rattle.pc_word.specs.declared.item.Operand.TheVariants.{Name, Lit}
 use Rattle.pc_word.specs.Row.{Row, Then, Either, At_leaf}
 use Rattle.pc_table.specs.Table.{TableTree, Does, Asks, Next, Stops_here, Traps_here, TableRegion, Table}
 use Rattle.pc_automaton.specs.declared.automaton.AutomatonLeaf.{AutomatonLeaf}
 use Rattle.pc_automaton.specs.declared.automaton.AutomatonLeaf.TheVariants.{To, Out, Stop, Trap}
 use Rattle.pc_automaton.specs.Automaton.{AutomatonState}
-use Rattle.pc_emit.specs.Emitted.{RegionForm, Plain, Packed}
-
--- ---- parts of a row
-
--- a register or a literal, with its tag
-abbrev pub operand_bytes : Operand → ℕ
-operand_bytes (Name name) = 2
-operand_bytes (Lit value) = 5
-
--- an item: its tag and its fields
-abbrev pub item_bytes : Item → ℕ
-item_bytes (Bin op dest left right) = 3 + operand_bytes left + operand_bytes right
-item_bytes (Copy dest from) = 2 + operand_bytes from
-item_bytes (Load dest array index) = 3 + operand_bytes index
-item_bytes (Store array index value) = 2 + operand_bytes index + operand_bytes value
-item_bytes (Print value) = 1 + operand_bytes value
-item_bytes (Read dest) = 2
-item_bytes (More dest) = 2
-
--- a test: its tag and its operand
-abbrev pub test_bytes : Operand → ℕ
-test_bytes on = 1 + operand_bytes on
-
--- a leaf that leads to a row, the end, and a trap with its line
-abbrev pub goto_bytes : ℕ
-goto_bytes = 5
-
-abbrev pub end_bytes : ℕ
-end_bytes = 1
-
-abbrev pub trap_bytes : ℕ
-trap_bytes = 6
+use Rattle.pc_emit.specs.Emitted.{RegionForm, Plain, ByAutomaton}
+use Rattle.pc_object.specs.Sizes.{item_bytes, test_bytes, goto_bytes, end_bytes, trap_bytes, header_bytes, length_bytes, count_bytes, note_bytes}
 
 -- for each argument or home that is passed, two rows of one copy
 abbrev pub passed_bytes : ℕ
@@ -87,7 +53,7 @@ plain_bytes tree = trap_bytes + tree_bytes tree
 abbrev pub form_bytes : TableTree → Option RegionForm → ℕ
 form_bytes tree None = plain_bytes tree
 form_bytes tree (Some Plain) = plain_bytes tree
-form_bytes tree (Some (Packed states registers)) = states_bytes states
+form_bytes tree (Some (ByAutomaton states registers)) = states_bytes states
 
 -- regions, the first of which has this number
 abbrev pub regions_bytes : (ℕ → Option RegionForm) → (number : ℕ) → List TableRegion → ℕ
@@ -97,4 +63,4 @@ regions_bytes forms number (region ∷ regions) = form_bytes region.tree (forms 
 -- an object of a table in these forms: its header and arrays, its regions, and a note for each loop
 abbrev pub object_bytes : Table → (ℕ → Option RegionForm) → ℕ
 object_bytes table forms =
-    12 + 4 * length table.arrays + (regions_bytes forms 0 table.regions + (2 + 13 * length table.loops))
+    header_bytes + length_bytes * length table.arrays + (regions_bytes forms 0 table.regions + (count_bytes + note_bytes * length table.loops))

@@ -16,14 +16,15 @@ use Rattle.pc_machine.specs.MachineCode.{Leaf, Leads_to, Ends, Traps, CodeRow}
 use Rattle.pc_copies.specs.declared.moves.Move.{Move}
 use Rattle.pc_copies.specs.Moves.{IsArranged}
 use Rattle.pc_copies.specs.Laws.{copy_row}
-use Rattle.pc_emit.specs.Registers.{register_of, in_register, in_registers, argument_moves, home_moves}
+use Rattle.pc_emit.specs.Registers.{register_of, argument_moves, home_moves}
+use Rattle.pc_word.specs.Naming.{map_name, map_names}
 
 -- ---- forms
 
 -- the form of a region: a row for each item and test; or an automaton, with the register of each name of each state
 pub data RegionForm : Type 0 where
   Plain : RegionForm
-  Packed : (states : List AutomatonState) → (registers : ℕ → ℕ → Option ℕ) → RegionForm
+  ByAutomaton : (states : List AutomatonState) → (registers : ℕ → ℕ → Option ℕ) → RegionForm
 
 -- the rows at which plain regions begin, and the rows of the states of packed ones
 pub record Places : Type 0 where
@@ -51,7 +52,7 @@ root_leaf row (Traps_here kind line) = Traps kind line
 -- the leaf that leads to a region in this form
 abbrev pub form_leaf : Emission → ℕ → RegionForm → Leaf
 form_leaf e region Plain = root_leaf (e.places.entry region) (region_tree e.table region)
-form_leaf e region (Packed states registers) = Leads_to (e.places.state region 0)
+form_leaf e region (ByAutomaton states registers) = Leads_to (e.places.state region 0)
 
 -- a leaf that leads to a region that has a form
 pub record LeadsToRegion (e : Emission) (region : ℕ) (leaf : Leaf) : Type 0 where
@@ -87,10 +88,10 @@ pub data LeafStands (e : Emission) (rows : List CodeRow) (region : ℕ) (states 
 -- a row of names, and the row of registers that does it
 pub data RowStands (Related : AutomatonLeaf → Leaf → Type 0) (of : ℕ → ℕ) : Row AutomatonLeaf → CodeRow → Type 0 where
   item_stands : (item : Item) {rest : Row AutomatonLeaf} {below : CodeRow} → RowStands Related of rest below
-      → RowStands Related of (Then item rest) (Then (in_registers of item) below)
+      → RowStands Related of (Then item rest) (Then (map_names of item) below)
   test_stands : (on : Operand) {on_yes on_no : Row AutomatonLeaf} {yes_below no_below : CodeRow}
       → RowStands Related of on_yes yes_below → RowStands Related of on_no no_below
-      → RowStands Related of (Either on on_yes on_no) (Either (in_register of on) yes_below no_below)
+      → RowStands Related of (Either on on_yes on_no) (Either (map_name of on) yes_below no_below)
   leaf_stands : {leaf : AutomatonLeaf} {below : Leaf} → Related leaf below → RowStands Related of (At_leaf leaf) (At_leaf below)
 
 -- the row of a state
@@ -127,7 +128,7 @@ pub data TreeStands (e : Emission) (rows : List CodeRow) : (row : ℕ) → Table
 -- the rows of a region in a form
 abbrev pub RegionStands : Emission → List CodeRow → ℕ → RegionForm → Type 0
 RegionStands e rows region Plain = TreeStands e rows (e.places.entry region) (region_tree e.table region)
-RegionStands e rows region (Packed states registers) =
+RegionStands e rows region (ByAutomaton states registers) =
     (number : ℕ) (state : AutomatonState) → slice_get states number ≡ Some state → StateStands e rows region states registers number state
 
 -- row 0 is the row of region 0, or it is the leaf alone that leads to it
@@ -138,7 +139,7 @@ pub data BeginsAt (rows : List CodeRow) : Leaf → Type 0 where
 -- row 0 is the first row of region 0, if this is packed
 abbrev pub BeginsAtFirstRow : Emission → Type 0
 BeginsAtFirstRow e =
-    (states : List AutomatonState) (registers : ℕ → ℕ → Option ℕ) → e.forms 0 ≡ Some (Packed states registers) → e.places.state 0 0 ≡ 0
+    (states : List AutomatonState) (registers : ℕ → ℕ → Option ℕ) → e.forms 0 ≡ Some (ByAutomaton states registers) → e.places.state 0 0 ≡ 0
 
 -- the rows of a code: those of each region that has a form, region 0 among them
 pub record IsEmitted (e : Emission) (rows : List CodeRow) : Type 0 where

@@ -10,17 +10,18 @@ use Rattle.pc_automaton.specs.declared.automaton.AutomatonLeaf.{AutomatonLeaf}
 use Rattle.pc_automaton.specs.declared.automaton.AutomatonLeaf.TheVariants.{To, Out, Stop, Trap}
 use Rattle.pc_automaton.specs.Automaton.{AutomatonState, IsAutomaton, states_in}
 use Rattle.pc_automaton.specs.There.{StateIsThere}
+use Rattle.pc_automaton.specs.Reachable.{EachIsReachable}
+use Rattle.pc_automaton.specs.RowFits.{RowFits}
 use Rattle.pc_assign.specs.Pressure.{allowed}
 use Rattle.pc_assign.specs.Apart.{IsApart}
 use Rattle.pc_assign.specs.Stored.{registers_in}
-use Rattle.pc_pattern.specs.Pattern.{RowFits, EachIsLedTo}
 use Rattle.pc_machine.specs.MachineCode.{CodeRow}
 use Rattle.pc_machine.specs.WellFormed.{IsRow}
 use Rattle.pc_machine.specs.Reachable.{IsReachable}
 use Rattle.pc_object.specs.ObjectText.{row_text}
 use Rattle.pc_emit.specs.declared.form.RegionForm.{RegionForm as StoredForm}
 use Rattle.pc_emit.specs.declared.form.RegionForm.TheVariants as stored
-use Rattle.pc_emit.specs.Emitted.{RegionForm, Plain, Packed, Emission, BeginsAtFirstRow, IsEmitted}
+use Rattle.pc_emit.specs.Emitted.{RegionForm, Plain, ByAutomaton, Emission, BeginsAtFirstRow, IsEmitted}
 use Rattle.pc_emit.specs.Leading.{IsMet}
 use Rattle.pc_emit.specs.Bytes.{regions_bytes, object_bytes}
 
@@ -31,7 +32,7 @@ abbrev pub form_in : Option (Option StoredForm) → Option RegionForm
 form_in None = None
 form_in (Some None) = None
 form_in (Some (Some stored.Plain)) = Some Plain
-form_in (Some (Some (stored.Packed automaton registers))) = Some (Packed (states_in automaton) (registers_in registers))
+form_in (Some (Some (stored.ByAutomaton automaton registers))) = Some (ByAutomaton (states_in automaton) (registers_in registers))
 
 -- the form of each region
 abbrev pub region_forms : List (Option StoredForm) → ℕ → Option RegionForm
@@ -93,12 +94,12 @@ pub record CanPack (table : Table) (limits : Limits) (forms : ℕ → Option Reg
   pub there : AllByRecursion (StateIsThere table) states
   pub out : (number : ℕ) (state : AutomatonState) → slice_get states number ≡ Some state → AllByRecursion (LeadsToForm table forms) (leaves_of state.row)
   pub fit : AllByRecursion (λ state. RowFits limits state.row) states
-  pub led : EachIsLedTo states
+  pub led : EachIsReachable states
 
 -- a form that may be emitted, of a region with this tree
 abbrev pub CanHave : Table → Limits → (ℕ → Option RegionForm) → TableTree → RegionForm → Type 0
 CanHave table limits forms tree Plain = NamesHaveForms table forms tree
-CanHave table limits forms tree (Packed states registers) = CanPack table limits forms states registers
+CanHave table limits forms tree (ByAutomaton states registers) = CanPack table limits forms states registers
 
 -- Forms of a table's regions that may be emitted: region 0 has one, each is one that its region may have, only regions that
 -- are led to from region 0 have one, no region that is a trap alone is plain, and the object is short enough.

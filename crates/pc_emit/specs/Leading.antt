@@ -6,7 +6,7 @@ use Rattle.pc_table.specs.Table.{TableTree, Does, Asks, Next, Stops_here, Traps_
 use Rattle.pc_automaton.specs.declared.automaton.AutomatonLeaf.{AutomatonLeaf}
 use Rattle.pc_automaton.specs.declared.automaton.AutomatonLeaf.TheVariants.{To, Out, Stop, Trap}
 use Rattle.pc_automaton.specs.Automaton.{AutomatonState}
-use Rattle.pc_emit.specs.Emitted.{RegionForm, Plain, Packed}
+use Rattle.pc_emit.specs.Emitted.{RegionForm, Plain, ByAutomaton}
 
 -- the regions that a tree names, in preorder, the yes side first
 abbrev pub tree_leads : TableTree → List ℕ
@@ -30,7 +30,7 @@ states_lead states = flat_map (λ state. flat_map leaf_leads (leaves_of state.ro
 -- the regions that a region with this tree leads to in a form
 abbrev pub form_leads : TableTree → RegionForm → List ℕ
 form_leads tree Plain = tree_leads tree
-form_leads tree (Packed states registers) = states_lead states
+form_leads tree (ByAutomaton states registers) = states_lead states
 
 -- region 0, and each region that such a region leads to in its form
 pub data IsMet (table : Table) (forms : ℕ → Option RegionForm) : (region : ℕ) → Type 0 where

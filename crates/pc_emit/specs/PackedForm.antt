@@ -9,7 +9,7 @@ use Rattle.pc_automaton.specs.Automaton.{AutomatonState, IsAutomaton}
 use Rattle.pc_automaton.specs.There.{StateIsThere}
 use Rattle.pc_automaton.specs.RunsAsRegion.{RunsAlike, LeadsUntested}
 use Rattle.pc_assign.specs.Apart.{IsApart}
-use Rattle.pc_emit.specs.Emitted.{RegionForm, Plain, Packed}
+use Rattle.pc_emit.specs.Emitted.{RegionForm, Plain, ByAutomaton}
 
 -- the automaton of a region, and registers for its names: names that are live together have different ones, and the first state
 -- is passed variables that are live at the region's head, each in the register of its number
@@ -27,4 +27,4 @@ pub record IsPackedForm (table : Table) (region : ℕ) (states : List AutomatonS
 -- a form that a region may have
 abbrev pub IsRegionForm : Table → ℕ → RegionForm → Type 0
 IsRegionForm table region Plain = Unit {0}
-IsRegionForm table region (Packed states registers) = IsPackedForm table region states registers
+IsRegionForm table region (ByAutomaton states registers) = IsPackedForm table region states registers

@@ -79,7 +79,7 @@ fn front_rows(
 {
     let mut rows = TreeList::new(alloc);
     match form {
-        None | Some(RegionForm::Packed { .. }) => {}
+        None | Some(RegionForm::ByAutomaton { .. }) => {}
         Some(RegionForm::Plain) => match tree {
             RegionTree::Stop | RegionTree::Trap { .. } => rows.push(root(tree, 0).tree())?,
             RegionTree::Step { .. } | RegionTree::Test { .. } | RegionTree::Next { .. } => {}
@@ -113,7 +113,7 @@ fn region_rows(
         None => Ok(()),
         Some(RegionForm::Plain) => tree_rows(alloc, plan, plan.tree_of(region), output),
         Some(
-            RegionForm::Packed {
+            RegionForm::ByAutomaton {
                 automaton,
                 registers,
             },

@@ -9,7 +9,7 @@ pub enum RegionForm {
     Plain,
     /// A row for each state of an automaton, with these registers for its names: the form of a region that
     /// is pipelined, and of one that is packed.
-    Packed {
+    ByAutomaton {
         automaton: Automaton,
         registers: Assigned,
     },

@@ -1,7 +1,8 @@
 //! Registers in place of names.
 ghost use Rattle.std.specs.Prelude.{◌≡◌, length, IfOk};
-ghost use Rattle.pc_emit.specs.Registers.{in_register, in_registers, argument_moves, home_moves};
+ghost use Rattle.pc_emit.specs.Registers.{argument_moves, home_moves};
 ghost use Rattle.pc_emit.specs.models.Output.{of_state};
+ghost use Rattle.pc_word.specs.Naming.{map_name, map_names};
 
 use pc_assign::Assigned;
 use pc_copies::Move;
@@ -29,7 +30,7 @@ impl StateNames<'_> {
 
     /// An operand with a register in place of its name.
     pub(crate) fn operand(&self, operand: Operand) -> Operand
-        ensures { result ≡ in_register (of_state self.now) operand }
+        ensures { result ≡ map_name (of_state self.now) operand }
     {
         match operand {
             Operand::Name(name) => Operand::Name(self.register(name)),
@@ -39,7 +40,7 @@ impl StateNames<'_> {
 
     /// An item with registers in place of its names.
     pub(crate) fn item(&self, item: Item) -> Item
-        ensures { result ≡ in_registers (of_state self.now) item }
+        ensures { result ≡ map_names (of_state self.now) item }
     {
         match item {
             Item::Bin {

@@ -1,7 +1,6 @@
 //! The rows of packed regions: one for each state, on registers.
 ghost use Rattle.std.specs.Prelude.{◌≡◌, ◌+◌, ◌*◌, ◌<◌, ◌≤◌, [], ◌∷◌, length, slice_get, IfOk, OnOk};
 ghost use Rattle.pc_word.specs.Row.{leaves_of};
-ghost use Rattle.pc_automaton.specs.StoredRow.{row_in};
 ghost use Rattle.pc_automaton.specs.AutomatonRun.{state_parameters};
 ghost use Rattle.pc_assign.specs.Pressure.{allowed};
 ghost use Rattle.pc_copies.specs.Moves.{AreMoves};
@@ -9,11 +8,13 @@ ghost use Rattle.pc_machine.specs.MachineCode.{Leads_to, row_of, rows_of};
 ghost use Rattle.pc_object.specs.ObjectText.{leaf_text, row_text};
 ghost use Rattle.pc_emit.specs.Registers.{argument_moves, home_moves};
 ghost use Rattle.pc_emit.specs.Emitting.{HasForm};
-ghost use Rattle.pc_emit.specs.Bytes.{goto_bytes, passed_bytes, leaf_bytes, row_bytes, states_bytes};
+ghost use Rattle.pc_emit.specs.Bytes.{passed_bytes, leaf_bytes, row_bytes, states_bytes};
 ghost use Rattle.pc_emit.specs.models.Output.{bytes_of, target_leaf, of_state, EachCopy, OutputGrows};
 ghost use Rattle.pc_emit.specs.models.Layout.{emission_in, rows_end, forms_at, names_at, registers_at, states_at, table_in, IsPlan, IsSite};
 ghost use Rattle.pc_emit.specs.models.Packing.{CanMakeLeaf, CanMakeRow, LeafMade, RowMade, StatesMade, MovesAlong, MovesToRegion};
 ghost use Rattle.pc_emit.specs.models.Making.{IsOnTheWay, LeavesReached, RowsReached};
+ghost use Rattle.pc_word.specs.StoredRow.{row_in};
+ghost use Rattle.pc_object.specs.Sizes.{goto_bytes};
 
 use crate::error::EmitError;
 use crate::names::{StateNames, argument_moves, home_moves};
@@ -23,10 +24,10 @@ use crate::plan::Plan;
 use crate::target::Target;
 use crate::trees::{with_item, with_test};
 use pc_assign::Assigned;
-use pc_automaton::{Automaton, AutomatonLeaf, RowTree};
+use pc_automaton::{Automaton, AutomatonLeaf};
 use pc_machine::Tree;
 use pc_window::Home;
-use pc_word::Operand;
+use pc_word::{Operand, RowTree};
 use std::alloc::Global;
 
 /// A packed region: its automaton with registers for names, and the row at which it begins.

@@ -5,11 +5,12 @@ ghost use Rattle.pc_copies.specs.Laws.{copy_row};
 ghost use Rattle.pc_copies.specs.Moves.{AreMoves};
 ghost use Rattle.pc_machine.specs.MachineCode.{row_of, rows_of};
 ghost use Rattle.pc_object.specs.ObjectText.{leaf_text};
-ghost use Rattle.pc_emit.specs.Bytes.{goto_bytes, passed_bytes};
+ghost use Rattle.pc_emit.specs.Bytes.{passed_bytes};
 ghost use Rattle.pc_emit.specs.models.Output.{bytes_of, target_leaf, EachCopy, OutputGrows};
 ghost use Rattle.pc_emit.specs.models.Layout.{rows_end, IsPlan};
 ghost use Rattle.pc_emit.specs.models.Packing.{MovesAlong};
 ghost use Rattle.pc_emit.specs.models.Making.{CopiesMayLeadTo, IsOnTheWay, LeavesReached};
+ghost use Rattle.pc_object.specs.Sizes.{goto_bytes};
 
 use crate::error::EmitError;
 use crate::output::Output;

@@ -70,7 +70,7 @@ fn beginning(form: &Option<RegionForm>, tree: &RegionTree, row: u32) -> Target
 {
     match form {
         Some(RegionForm::Plain) => root(tree, row),
-        Some(RegionForm::Packed { .. }) => Target::Row { row },
+        Some(RegionForm::ByAutomaton { .. }) => Target::Row { row },
         // Only a region that has a form is led to.
         None => unreachable!(),
     }
@@ -122,7 +122,7 @@ fn rows_in(tree: &RegionTree, form: &Option<RegionForm>) -> u32
     match form {
         None => 0,
         Some(RegionForm::Plain) => units(tree),
-        Some(RegionForm::Packed { automaton, .. }) => automaton.count(),
+        Some(RegionForm::ByAutomaton { automaton, .. }) => automaton.count(),
     }
 }
 

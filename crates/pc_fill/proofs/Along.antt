@@ -4,7 +4,7 @@ use Rattle.std.specs.Prelude.{if◌then◌else◌}
 use Rattle.pc_word.specs.declared.item.Item.{Item}
 use Rattle.pc_word.specs.declared.item.Operand.{Operand}
 use Rattle.pc_word.specs.Items.{dest_of}
-use Rattle.pc_window.specs.Rename.{mapped, renamed}
+use Rattle.pc_window.specs.Rename.{mapped}
 use Rattle.pc_window.specs.Tree.{Tree, Pending, Undecided, Front, Issued, Split, Unfinished, whole, tree_size}
 use Rattle.pc_window.specs.declared.tree.WindowTree.{WindowTree}
 use Rattle.pc_window.specs.StoredWindow.{tree_in, front_in}
@@ -15,6 +15,7 @@ use Rattle.pc_fill.specs.models.Landing.{joins, behind_leaf, above_test, place_o
 use Rattle.pc_fill.specs.models.Way.{Leads, To_item, To_test, Below_item, On_yes_side, On_no_side, Reaches, Behind_leaf, Behind_item, Behind_yes, Behind_no}
 use Rattle.pc_fill.specs.models.Way.{place_along, place_behind, taken_along, some_sides, crosses_along, leaf_along, above_along, landed_along}
 use Rattle.pc_fill.proofs.Entered.{at_below, on_yes_side, on_no_side}
+use Rattle.pc_word.specs.Naming.{renamed}
 
 -- ---- within
 

@@ -6,7 +6,6 @@ use Rattle.pc_word.specs.declared.item.Item.{Item}
 use Rattle.pc_word.specs.declared.item.Limits.{Limits}
 use Rattle.pc_word.specs.declared.item.Operand.{Operand}
 use Rattle.pc_window.specs.Tree.{Front, whole}
-use Rattle.pc_window.specs.Rename.{with_dest}
 use Rattle.pc_window.specs.WindowRun.{Window, supply_of}
 use Rattle.pc_window.specs.Filled.{Priority, InOrder, priority_of, given_supply, IsNext, IsWindow, HasSpace, Jump, IsFirstJump}
 use Rattle.pc_window.specs.Ready.{HasFresh, ReadyPlace, NotBehind}
@@ -18,6 +17,7 @@ use Rattle.pc_fill.specs.models.Landing.{landed, crosses, came, new_name, TwinIn
 use Rattle.pc_fill.proofs.Nodes.{stands_free, StandsFree}
 use Rattle.pc_fill.proofs.Entered.{IsTwin, EnteredAs, entered_as}
 use Rattle.pc_fill.proofs.FirstJump.{TwinFor, HadTwin, had_twin, kinds, ComesTwice, comes_twice}
+use Rattle.pc_word.specs.Naming.{with_dest}
 
 -- ---- the order
 

@@ -9,7 +9,7 @@ use Rattle.pc_word.specs.Items.{dest_of, operands_of}
 use Rattle.pc_linear.specs.Form.{Form}
 use Rattle.pc_window.specs.Hold.{Side}
 use Rattle.pc_window.specs.Tree.{Tree, Pending, Undecided, Front, Issued, Split, Unfinished, whole, tree_size}
-use Rattle.pc_window.specs.Rename.{with_dest, mapped, renamed}
+use Rattle.pc_window.specs.Rename.{mapped}
 use Rattle.pc_window.specs.Jump.{Rises, Root, Past_item, Past_yes, Past_no, DividesTree, Root_test, Past, EntersFront, Lands, Lands_renamed, Lands_test, Lands_once, Behind_item, On_yes, On_no}
 use Rattle.pc_window.specs.Filled.{risen_place, divided_place, priority_of, IsNext}
 use Rattle.pc_window.proofs.Readiness.{Alike, clear_alike}
@@ -19,6 +19,7 @@ use Rattle.pc_fill.specs.models.Taking.{taken_out, divided_on, divided_yes, divi
 use Rattle.pc_fill.specs.models.Landing.{both_unfinished, joins, above_test, place_or_root, landed, crossed, crosses, came, new_name}
 use Rattle.pc_fill.proofs.Sides.{not_zero, to_below, to_yes, to_no}
 use Rattle.pc_fill.proofs.Nodes.{node_on_yes, node_on_no, node_within}
+use Rattle.pc_word.specs.Naming.{with_dest, renamed}
 
 -- ---- choices by place
 

@@ -10,10 +10,11 @@ use Rattle.pc_linear.specs.Form.{Form}
 use Rattle.pc_linear.specs.Combine.{variable_form}
 use Rattle.pc_window.specs.Hold.{Side}
 use Rattle.pc_window.specs.Tree.{Tree, Pending, Undecided, Front, Issued, Split, Unfinished, whole, tree_size}
-use Rattle.pc_window.specs.Rename.{with_dest, mapped, renamed}
+use Rattle.pc_window.specs.Rename.{mapped}
 use Rattle.pc_window.specs.Names.{IsKnown, IsNew, ReadsKnown, Unwritten, NotWritten}
 use Rattle.pc_window.specs.Opening.{with_name, changed}
-use Rattle.pc_window.specs.Conflict.{Touch, touch_of, NoStoreDependence, MayFollow}
+use Rattle.pc_window.specs.declared.conflict.Touch.{Touch}
+use Rattle.pc_window.specs.Conflict.{touch_of, NoStoreDependence, MayFollow}
 use Rattle.pc_window.specs.Jump.{combined, Without, NewForm, Root, Past_item, Past_yes, Past_no, EntersFront, Lands, Lands_renamed, Lands_test, Lands_once, Behind_item, On_yes, On_no}
 use Rattle.pc_window.specs.Filled.{risen_place, priority_of, deeper, TwinsAlike, given_supply}
 use Rattle.pc_window.specs.Ready.{CanRise, Stands_here, Stands_below, Stands_on_yes, Stands_on_no, MayStandBehind, IsReadyAt, Item_ready, Test_ready, Ready_below, Ready_on_yes, Ready_on_no}
@@ -23,6 +24,7 @@ use Rattle.pc_fill.specs.models.Landing.{both_unfinished, TwinHere, TwinIn}
 use Rattle.pc_fill.proofs.Sides.{to_below, from_below, to_no, from_no, side_first, first_only, side_second, second_only}
 use Rattle.pc_fill.proofs.Nodes.{node_on_yes, node_on_no, node_within, stands_free, StandsFree, comes_up}
 use Rattle.pc_fill.proofs.Entered.{rises_at, rises_free, risen_within, renamed_again, twin_above}
+use Rattle.pc_word.specs.Naming.{with_dest, renamed}
 
 -- ---- another name changes nothing but the name
 

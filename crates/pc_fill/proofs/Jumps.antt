@@ -3,7 +3,6 @@ use Rattle.std.proofs.Common.{◌≡◌, ℕ, suc, ◌+◌, ◌-◌, ◌*◌, �
 use Rattle.pc_word.specs.declared.item.Item.{Item}
 use Rattle.pc_word.specs.declared.item.Limits.{Limits}
 use Rattle.pc_word.specs.declared.item.Operand.{Operand}
-use Rattle.pc_table.specs.TableKeeps.{reads}
 use Rattle.pc_linear.specs.Form.{Form}
 use Rattle.pc_window.specs.declared.window.Window.{Window as StoredWindow}
 use Rattle.pc_window.specs.Tree.{Tree, Pending, Undecided, Exit, Stop_exit, Trap_exit, Front, Issued, Split, Unfinished, whole, tree_size}
@@ -28,6 +27,7 @@ use Rattle.pc_window.proofs.WindowsStored.{whole_in}
 use Rattle.pc_fill.proofs.Coming.{FirstJumpTo, come_first}
 use Rattle.pc_window.proofs.Proper.{StaysNew, jump_below}
 use Rattle.pc_fill.proofs.StaysNew.{fresh_names, next_grows}
+use Rattle.pc_word.specs.Items.{reads}
 
 -- ---- sizes
 

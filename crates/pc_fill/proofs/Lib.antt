@@ -1,5 +1,4 @@
 pub mod Sides
-pub mod Touching
 pub mod Counting
 pub mod Nodes
 pub mod Ways
@@ -21,4 +20,3 @@ pub mod Named
 pub mod StaysNew
 pub mod Jumps
 pub mod Opened
-pub mod ConflictsKept

@@ -16,9 +16,9 @@ use Rattle.pc_fill.specs.models.Search.{HasRoom, comes_before, BestBefore}
 use Rattle.pc_fill.specs.models.Way.{Reaches}
 use Rattle.pc_fill.specs.models.Walk.{forms_of, IsSetting, IsReadyThere, StandsThere}
 use Rattle.pc_fill.specs.models.Walk.{placed, LeadsToFound, LooksAt}
-use Rattle.pc_fill.proofs.Sides.{fails_here, failed, held, same_fact}
 use Rattle.pc_fill.proofs.Searching.{room_here, here_room, look_behind, look_unready, look_found}
 use Rattle.pc_fill.proofs.Plain.{plain, plain_comes}
+use Rattle.pc_word.proofs.Truth.{fails_here, failed, held, same_fact}
 
 -- ---- ready where a path leads
 

@@ -10,9 +10,8 @@ use Rattle.pc_word.specs.declared.item.Item.TheVariants.{Bin, Copy, Load, Store,
 use Rattle.pc_word.specs.declared.item.OpCode.{OpCode}
 use Rattle.pc_word.specs.declared.item.Operand.{Operand}
 use Rattle.pc_word.specs.declared.item.Operand.TheVariants.{Name}
-use Rattle.pc_word.specs.Items.{dest_of}
+use Rattle.pc_word.specs.Items.{dest_of, reads, reads_name}
 use Rattle.pc_word.specs.Commit.{writes}
-use Rattle.pc_table.specs.TableKeeps.{reads, reads_name}
 use Rattle.pc_window.specs.declared.home.Home.{Home}
 use Rattle.pc_window.specs.Tree.{Tree, Pending, Undecided, Exit, Stop_exit, Trap_exit}
 use Rattle.pc_window.specs.Opening.{OperandBelow, StubBelow}

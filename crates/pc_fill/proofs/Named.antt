@@ -9,7 +9,6 @@ use Rattle.pc_window.specs.declared.tree.WindowTree.{WindowTree}
 use Rattle.pc_window.specs.declared.names.NameTable.{NameTable}
 use Rattle.pc_window.specs.declared.window.Window.{Window as StoredWindow}
 use Rattle.pc_window.specs.Tree.{Front}
-use Rattle.pc_window.specs.Rename.{with_dest}
 use Rattle.pc_window.specs.Opening.{Supply, with_name}
 use Rattle.pc_window.specs.Jump.{combined}
 use Rattle.pc_window.specs.Filled.{given_supply}
@@ -21,6 +20,7 @@ use Rattle.pc_fill.specs.models.Walk.{found_at}
 use Rattle.pc_fill.proofs.Along.{crosses_reached, landed_reached}
 use Rattle.pc_fill.proofs.Twins.{FirstAlong}
 use Rattle.pc_fill.proofs.TagOrderKept.{come_in_order}
+use Rattle.pc_word.specs.Naming.{with_dest}
 
 -- ---- names
 

@@ -4,10 +4,10 @@ use Rattle.std.proofs.Common.{false, Option, Some, None, refl, sym, ap, subst}
 use Rattle.std.specs.Prelude.{◌&&◌}
 use Rattle.pc_word.specs.declared.item.Item.{Item}
 use Rattle.pc_word.specs.declared.item.Item.TheVariants.{Bin, Copy, Load, Store, Print, Read, More}
-use Rattle.pc_word.specs.Items.{is_effect}
+use Rattle.pc_word.specs.Items.{is_effect, only_computes}
 use Rattle.pc_linear.specs.Form.{Form}
-use Rattle.pc_window.specs.Conflict.{Touch, touch_of, NoDependence, NoStoreDependence, NoConflict, MayFollow}
-use Rattle.pc_window.specs.Jump.{is_quiet}
+use Rattle.pc_window.specs.declared.conflict.Touch.{Touch}
+use Rattle.pc_window.specs.Conflict.{touch_of, NoDependence, NoStoreDependence, NoConflict, MayFollow}
 use Rattle.pc_window.specs.Ready.{MayStandBehind}
 use Rattle.pc_fill.specs.declared.path.Path.{Path}
 use Rattle.pc_fill.specs.declared.path.Path.TheVariants as path
@@ -19,7 +19,7 @@ use Rattle.pc_fill.specs.models.Places.{MayPass}
 pub record Plain (x : Item) : Type 0 where
   touches : touch_of x ≡ None
   effect : is_effect x ≡ false
-  quiet : is_quiet x ≡ true
+  quiet : only_computes x ≡ true
 
 pub plain : (x : Item) → is_plain x ≡ true → Plain x
 plain (Bin op dest left right) e = record { touches = refl; effect = refl; quiet = refl }

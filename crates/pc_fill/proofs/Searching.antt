@@ -4,7 +4,7 @@ use Rattle.std.proofs.Common.{false, [], ◌∷◌, Option, Some, None, refl, sy
 use Rattle.std.specs.Prelude.{nat_eq, nat_lt, ◌||◌, ◌&&◌, slice_get, IfSome}
 use Rattle.std.proofs.lemmas.Bool.{eqb-true, ltb-true}
 use Rattle.std.proofs.lemmas.Bool.Decides.{nat_tests}
-use Rattle.pc_word.proofs.Truth.{or_false, and_true, decide_le, most_of}
+use Rattle.pc_word.proofs.Truth.{or_false, and_true, decide_le, most_of, failed, held}
 use Rattle.pc_word.specs.declared.item.Item.{Item}
 use Rattle.pc_word.specs.declared.item.Limits.{Limits}
 use Rattle.pc_word.specs.declared.item.Operand.{Operand}
@@ -20,7 +20,6 @@ use Rattle.pc_fill.specs.declared.first.ReadyNode.{ReadyNode}
 use Rattle.pc_fill.specs.FirstReady.{StandsReady, IsFirstReady}
 use Rattle.pc_fill.specs.models.Places.{Node, nodes_of, MayComeFrom, IsReadyHere}
 use Rattle.pc_fill.specs.models.Search.{AreCounts, HasRoom, StandsAt, comes_before, BestBefore}
-use Rattle.pc_fill.proofs.Sides.{failed, held}
 use Rattle.pc_window.proofs.WindowsStored.{whole_in}
 use Rattle.pc_fill.proofs.Nodes.{node_on_yes, node_on_no, node_within, StandsFree, stands_free, free_ready}
 

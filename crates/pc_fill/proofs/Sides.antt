@@ -54,19 +54,6 @@ module _ (On_yes On_no : ℕ → Type 0) (n m : ℕ) where
 pub holds_here : (P : Type 0) → P → (true ≡ true) ↔ P
 holds_here P h = (λ e. h, λ p. refl)
 
-pub fails_here : (P : Type 0) → (P → ⊥) → (false ≡ true) ↔ P
-fails_here P h = (λ e. absurd (cc), λ p. absurd (h p))
-
-pub failed : {b : Bool} {P : Type 0} → (b ≡ true) ↔ P → b ≡ false → P → ⊥
-failed iff e p = let t = iff.1 p in absurd (cc)
-
-pub held : {b : Bool} {P : Type 0} → (b ≡ true) ↔ P → b ≡ true → P
-held iff e = iff.0 e
-
--- the same fact in other words
-pub same_fact : (b : Bool) (P Q : Type 0) → (P → Q) → (Q → P) → (b ≡ true) ↔ P → (b ≡ true) ↔ Q
-same_fact b P Q forth back iff = (λ e. forth (iff.0 e), λ q. iff.1 (back q))
-
 -- at the root, and below it
 pub at_root : (place : ℕ) (At Below : Type 0) → place ≡ 0 → At → Side (nat_eq place 0) At Below
 at_root place At Below e h = subst (λ (n : ℕ). Side (nat_eq n 0) At Below) (sym e) h

@@ -6,7 +6,7 @@ use Rattle.pc_word.proofs.Truth.{and_true, decide_le}
 use Rattle.pc_word.specs.declared.item.Item.{Item}
 use Rattle.pc_word.specs.declared.item.Operand.{Operand}
 use Rattle.pc_word.specs.Items.{dest_of}
-use Rattle.pc_window.specs.Rename.{mapped, renamed}
+use Rattle.pc_window.specs.Rename.{mapped}
 use Rattle.pc_window.specs.Tree.{Tree, Pending, Undecided, Exit, Stop_exit, Trap_exit, Front, Issued, Split, Unfinished, whole, tree_size}
 use Rattle.pc_window.specs.Ready.{ReadyPlace}
 use Rattle.pc_window.specs.StoredWindow.{front_in, window_in}
@@ -22,6 +22,7 @@ use Rattle.pc_fill.specs.models.Way.{taken_along, leaf_along, above_along, lande
 use Rattle.pc_fill.specs.models.Walk.{all_in, forms_of, placed}
 use Rattle.pc_fill.specs.models.TagOrder.{TagsInOrder, TagsInOrderBehind, comes_later}
 use Rattle.pc_fill.proofs.Nodes.{OfSides, Of_yes, Of_no, of_sides, node_on_yes, node_on_no, StandsFree, stands_free}
+use Rattle.pc_word.specs.Naming.{renamed}
 
 -- ---- tags
 

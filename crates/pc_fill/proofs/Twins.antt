@@ -2,24 +2,23 @@
 use Rattle.std.proofs.Common.{◌≡◌, ◌≢◌, ◌↔◌, ℕ, suc, ◌+◌, ◌-◌, ◌<◌, ◌≤◌, inl, inr, Bool, true}
 use Rattle.std.proofs.Common.{false, List, [], ◌∷◌, Option, Some, None, sym, ◌∙◌, ap, subst, lt-ltb, arith}
 use Rattle.std.specs.Prelude.{nat_lt, slice_get}
-use Rattle.pc_word.proofs.Truth.{decide_le}
+use Rattle.pc_word.proofs.Truth.{decide_le, fails_here, failed, held, same_fact}
 use Rattle.pc_word.specs.declared.item.Item.{Item}
 use Rattle.pc_word.specs.declared.item.Operand.{Operand}
 use Rattle.pc_word.specs.Items.{operands_of}
 use Rattle.pc_linear.specs.Form.{Form}
 use Rattle.pc_window.specs.Tree.{Tree, Pending, Undecided, Front, Issued, Split, Unfinished, whole, tree_size}
-use Rattle.pc_window.specs.Rename.{with_dest}
-use Rattle.pc_alike.specs.Alike.{AreAlike}
-use Rattle.pc_alike.proofs.Signatures.{alike_by_one}
 use Rattle.pc_fill.specs.models.Places.{Node, nodes_of, MayRise}
 use Rattle.pc_fill.specs.models.Search.{StandsAt}
 use Rattle.pc_fill.specs.models.Landing.{TwinsAt, TwinHere, TwinIn, both_unfinished, FirstFrom, FirstIn}
 use Rattle.pc_fill.specs.models.Way.{Reaches, Behind_item, Behind_yes}
-use Rattle.pc_fill.proofs.Sides.{fails_here, failed, held, same_fact, to_below, from_below, first_only, side_first, second_only, side_second}
+use Rattle.pc_fill.proofs.Sides.{to_below, from_below, first_only, side_first, second_only, side_second}
 use Rattle.pc_fill.proofs.Along.{reaches_within}
 use Rattle.pc_window.specs.Hold.{Side}
 use Rattle.pc_fill.proofs.Nodes.{node_within}
 use Rattle.pc_fill.proofs.Searching.{item_stands, test_stands}
+use Rattle.pc_word.specs.Naming.{with_dest, AreAlike}
+use Rattle.pc_word.proofs.Signatures.{alike_by_one}
 
 -- ---- one item
 

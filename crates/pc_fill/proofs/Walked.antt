@@ -3,7 +3,7 @@ use Rattle.std.proofs.Common.{◌≡◌, ◌∙◌, ◌↔◌, ℕ, suc, ◌+◌
 use Rattle.std.proofs.Common.{false, List, [], ◌∷◌, ◌++◌, Option, Some, None, refl, sym, ap, subst, arith}
 use Rattle.std.specs.Prelude.{nat_lt}
 use Rattle.std.proofs.lemmas.List.{append_assoc, append-nil}
-use Rattle.pc_word.proofs.Truth.{decide_le}
+use Rattle.pc_word.proofs.Truth.{decide_le, failed}
 use Rattle.pc_word.specs.declared.item.Item.{Item}
 use Rattle.pc_word.specs.declared.item.Limits.{Limits}
 use Rattle.pc_word.specs.declared.item.Operand.{Operand}
@@ -24,7 +24,7 @@ use Rattle.pc_fill.specs.models.Search.{AreCounts, BestBefore}
 use Rattle.pc_fill.specs.models.Way.{Leads, To_item, To_test, Below_item, On_yes_side, On_no_side, Reaches}
 use Rattle.pc_fill.specs.models.Walk.{all_in, forms_of, MayComeHere, IsSetting, StandsThere, ComesBehind}
 use Rattle.pc_fill.specs.models.Walk.{placed, BestSoFar, LooksAt, LooksBehind, LooksBelow}
-use Rattle.pc_fill.proofs.Sides.{to_below, from_below, to_yes, from_yes, to_no, from_no, failed}
+use Rattle.pc_fill.proofs.Sides.{to_below, from_below, to_yes, from_yes, to_no, from_no}
 use Rattle.pc_fill.proofs.Nodes.{stands_free}
 use Rattle.pc_fill.proofs.Searching.{best_behind, item_stands, rest_stands, test_stands, yes_stands, no_stands}
 use Rattle.pc_fill.specs.models.TagOrder.{TagsInOrder, comes_later}

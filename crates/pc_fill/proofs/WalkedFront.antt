@@ -21,7 +21,7 @@ use Rattle.pc_fill.specs.models.Search.{BestBefore}
 use Rattle.pc_fill.specs.models.Way.{Reaches, Behind_leaf, Behind_item, Behind_yes, Behind_no}
 use Rattle.pc_fill.specs.models.Walk.{all_in, forms_of, MayComeHere, IsSetting, ComesInFront}
 use Rattle.pc_fill.specs.models.Walk.{found_at, placed, place_found, LeadsToFound, BestSoFar, FindsFirst, LooksBehind, LooksThrough}
-use Rattle.pc_fill.proofs.Sides.{to_below, from_below, to_yes, from_yes, to_no, from_no, fails_here}
+use Rattle.pc_fill.proofs.Sides.{to_below, from_below, to_yes, from_yes, to_no, from_no}
 use Rattle.pc_fill.specs.FirstReady.{IsFirstReady}
 use Rattle.pc_window.specs.declared.window.Window.{Window as StoredWindow}
 use Rattle.pc_fill.proofs.Along.{place_reached}
@@ -29,6 +29,7 @@ use Rattle.pc_fill.proofs.Searching.{look_unready, item_stands, rest_stands, tes
 use Rattle.pc_fill.proofs.Searching.{nothing_before, none_found, first_found}
 use Rattle.pc_fill.proofs.Plain.{issued_plain}
 use Rattle.pc_fill.proofs.Walked.{turned, moved}
+use Rattle.pc_word.proofs.Truth.{fails_here}
 
 -- ---- in the front
 

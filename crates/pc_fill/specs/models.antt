@@ -1,4 +1,3 @@
-pub mod Touches
 pub mod Places
 pub mod Extent
 pub mod Known
@@ -10,4 +9,3 @@ pub mod Way
 pub mod TagOrder
 pub mod Walk
 pub mod CanFill
-pub mod Conflicts

@@ -2,7 +2,6 @@
 ghost use Rattle.std.specs.Prelude.{◌≡◌, ◌<◌, ◌≤◌, ◌+◌, ◌^◌, ℕ, ◌||◌, true, false, Some, is_some, IfOk, length};
 ghost use Rattle.pc_window.specs.Tree.{tree_size};
 ghost use Rattle.pc_window.specs.Filled.{given_supply};
-ghost use Rattle.pc_window.specs.Jump.{combined};
 ghost use Rattle.pc_window.specs.StoredWindow.{tree_in, front_in, forms_in, supply_in, window_in, NodesBehind};
 ghost use Rattle.pc_fill.specs.models.Landing.{came, new_name, FirstTwinOf, HasCome};
 ghost use Rattle.pc_fill.specs.models.Way.{Reaches, some_sides, crosses_along};
@@ -11,9 +10,7 @@ ghost use Rattle.pc_fill.specs.models.TagOrder.{TagsInOrderBehind};
 
 use crate::first::Found;
 use crate::landing::{Coming, land};
-use crate::taking::dest_of;
-use crate::twin::{Seeker, twin_of, with_dest};
-use pc_linear::LinForm;
+use crate::twin::{Seeker, twin_of};
 use pc_window::{NameTable, Window, WindowTree};
 use pc_word::Item;
 use std::alloc::{AllocError, Global};
@@ -50,30 +47,6 @@ fn has_sides(way: &[bool]) -> bool
     }
 }
 
-/// The form of what an item gives, where it is linear.
-fn combined(names: &NameTable, item: Item) -> Option<LinForm>
-    ensures { result ≡ combined (forms_in names.now.forms) item }
-{
-    match item {
-        Item::Bin {
-            op,
-            left,
-            right,
-            ..
-        } => {
-            let left = names.form(left);
-            let right = names.form(right);
-            LinForm::combine(op, &left, &right)
-        }
-        Item::Copy { .. } => None,
-        Item::Load { .. } => None,
-        Item::Store { .. } => None,
-        Item::Print { .. } => None,
-        Item::Read { .. } => None,
-        Item::More { .. } => None,
-    }
-}
-
 /// An item as it comes: with the next name, where it is to get one and writes one.
 #[tactic(auto, using(crate::proofs::Named::naming))]
 fn name_item(names: &mut NameTable, item: Item, renames: bool) -> Result<Item, AllocError>
@@ -88,12 +61,12 @@ fn name_item(names: &mut NameTable, item: Item, renames: bool) -> Result<Item, A
     if !renames {
         return Ok(item);
     }
-    match dest_of(item) {
-        None => Ok(with_dest(names.forms.len() as u32, item)),
+    match item.dest() {
+        None => Ok(item.with_dest(names.forms.len() as u32)),
         Some(_) => {
-            let form = combined(names, item);
+            let form = names.combined(item);
             let name = names.add(form)?;
-            Ok(with_dest(name, item))
+            Ok(item.with_dest(name))
         }
     }
 }

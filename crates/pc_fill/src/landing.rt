@@ -7,7 +7,7 @@ ghost use Rattle.pc_fill.specs.models.Taking.{taken_out, divided_on, divided_yes
 ghost use Rattle.pc_fill.specs.models.Landing.{both_unfinished, joins};
 ghost use Rattle.pc_fill.specs.models.Way.{taken_along, joins_along, leaf_along, landed_along};
 
-use crate::taking::{Divided, dest_of, divide, take_along, take_out};
+use crate::taking::{Divided, divide, take_along, take_out};
 use pc_window::{WindowTree, is_leaf};
 use pc_word::{Item, Operand};
 use std::alloc::{AllocError, Global};
@@ -56,7 +56,7 @@ fn land_item(
     ensures front { OnOk result (front_in tree.new ≡ Issued coming.tag coming.origin item (Unfinished (taken_along (dest_of item) (tree_in tree.old) way.now depth))) }
     ensures nodes { OnOk result (NodesBehind tree.new) }
 {
-    take_along(tree, way, depth, dest_of(item));
+    take_along(tree, way, depth, item.dest());
     let left = std::mem::replace(tree, WindowTree::Stop);
     let rest = Box::new(alloc, left)?;
     *tree = WindowTree::Step {
@@ -155,8 +155,8 @@ fn above(
 {
     let mut yes = yes;
     let mut no = no;
-    take_along(&mut yes, way, depth, dest_of(item));
-    take_out(&mut no, twin, dest_of(item));
+    take_along(&mut yes, way, depth, item.dest());
+    take_out(&mut no, twin, item.dest());
     let rest = Box::new(
         alloc,
         WindowTree::Test {

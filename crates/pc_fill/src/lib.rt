@@ -1,7 +1,6 @@
 //! Filling: what stands behind a window's front and is ready comes into it, as long as there is room.
 #![tactic(auto)]
 
-mod conflict;
 mod filling;
 mod first;
 mod jump;
@@ -13,8 +12,6 @@ mod readiness;
 mod room;
 mod tag_order;
 mod taking;
-#[cfg(test)]
-mod tests;
 mod twin;
 mod way;
 

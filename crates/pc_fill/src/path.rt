@@ -3,7 +3,6 @@ ghost use Rattle.std.specs.Prelude.{◌≡◌, ◌↔◌, true, ◌++◌, OnOk};
 ghost use Rattle.pc_window.specs.StoredWindow.{forms_in};
 ghost use Rattle.pc_fill.specs.models.Path.{is_plain, MayComeAlong, sides_of};
 
-use crate::conflict::{is_effect, is_memory};
 use crate::readiness::{may_cross, may_pass, may_stand_behind};
 use pc_window::NameTable;
 use pc_word::Item;
@@ -31,10 +30,10 @@ pub(crate) enum Path<'a> {
 pub(crate) fn is_plain(item: Item) -> bool
     ensures { result ≡ is_plain item }
 {
-    if is_memory(item) {
+    if item.is_memory() {
         return false;
     }
-    !is_effect(item)
+    !item.is_effect()
 }
 
 /// Whether an item, or a test, may come along a path into the front.

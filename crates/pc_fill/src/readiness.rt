@@ -5,24 +5,8 @@ ghost use Rattle.pc_window.specs.Ready.{MayStandBehind};
 ghost use Rattle.pc_window.specs.StoredWindow.{tree_in, forms_in};
 ghost use Rattle.pc_fill.specs.models.Places.{MayPass, MayCross, MayRise};
 
-use crate::conflict::{is_quiet, may_follow, no_conflict};
 use pc_window::{NameTable, WindowTree};
 use pc_word::Item;
-
-/// The number of items and tests of a tree.
-pub(crate) fn size(tree: &WindowTree) -> u32
-    requires { tree_size (tree_in tree.now) < 2 ^ 31 }
-    ensures { result ≡ tree_size (tree_in tree.now) }
-{
-    match tree {
-        WindowTree::Step { rest, .. } => 1 + size(rest),
-        WindowTree::Test { yes, no, .. } => 1 + size(yes) + size(no),
-        WindowTree::Node { below } => size(below),
-        WindowTree::Exit { .. } => 0,
-        WindowTree::Stop => 0,
-        WindowTree::Trap { .. } => 0,
-    }
-}
 
 /// The number of items and tests of a tree, counted no further than this many.
 pub(crate) fn size_up_to(tree: &WindowTree, most: u32) -> u32
@@ -51,7 +35,7 @@ pub(crate) fn may_pass(names: &NameTable, passed: Item, what: Option<Item>) -> b
     ensures { (result ≡ true) ↔ MayPass (forms_in names.now.forms) passed what }
 {
     match what {
-        Some(item) => no_conflict(names, passed, item),
+        Some(item) => names.no_conflict(passed, item),
         None => true,
     }
 }
@@ -61,7 +45,7 @@ pub(crate) fn may_cross(what: Option<Item>) -> bool
     ensures { (result ≡ true) ↔ MayCross what }
 {
     match what {
-        Some(item) => is_quiet(item),
+        Some(item) => item.only_computes(),
         None => false,
     }
 }
@@ -71,7 +55,7 @@ pub(crate) fn may_stand_behind(names: &NameTable, above: Item, what: Option<Item
     ensures { (result ≡ true) ↔ MayStandBehind (forms_in names.now.forms) above what }
 {
     match what {
-        Some(item) => may_follow(names, above, item),
+        Some(item) => names.may_follow(above, item),
         None => true,
     }
 }

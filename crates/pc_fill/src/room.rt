@@ -5,7 +5,6 @@ ghost use Rattle.pc_window.specs.Tree.{tree_size};
 ghost use Rattle.pc_window.specs.StoredWindow.{tree_in, front_in};
 ghost use Rattle.pc_fill.specs.models.Search.{AreCounts, FrontFits, HasRoom};
 
-use crate::conflict::is_memory;
 use pc_window::WindowTree;
 use pc_word::{Item, Limits};
 
@@ -51,7 +50,7 @@ fn with_item(below: Counts, item: Item) -> Counts
     requires memory { below.memory < 2 ^ 31 }
     ensures { result ≡ record { items = suc below.items; memory = (if is_memory item then 1 else 0) + below.memory; tests = below.tests } }
 {
-    let touches = if is_memory(item) { 1 } else { 0 };
+    let touches = if item.is_memory() { 1 } else { 0 };
     Counts {
         items: below.items + 1,
         memory: touches + below.memory,
@@ -87,7 +86,7 @@ pub(crate) fn has_room(counts: Counts, limits: Limits, what: Option<Item>) -> bo
     match what {
         None => counts.tests < limits.tests as u32,
         Some(item) => {
-            if !is_memory(item) {
+            if !item.is_memory() {
                 return counts.items < limits.ops as u32;
             }
             if counts.memory >= limits.mem as u32 {

@@ -2,91 +2,25 @@
 ghost use Rattle.std.specs.Prelude.{◌≡◌, ◌≢◌, ◌&&◌, nat_eq, Bool, ◌<◌, ◌^◌, true, false, Some, IfOk, length, slice_get};
 ghost use Rattle.pc_word.specs.Items.{dest_of};
 ghost use Rattle.pc_window.specs.Tree.{tree_size, Pending};
-ghost use Rattle.pc_window.specs.Rename.{map_operands, map_homes, mapped, renamed};
+ghost use Rattle.pc_window.specs.Rename.{map_homes, mapped};
 ghost use Rattle.pc_window.specs.StoredWindow.{tree_in, InNodes};
 ghost use Rattle.pc_fill.specs.models.Way.{taken_along};
 ghost use Rattle.pc_fill.specs.models.Taking.{taken_out, starts_with_item, divided_on, divided_yes, divided_no};
+ghost use Rattle.pc_word.specs.Naming.{map_operands, renamed};
 
 use crate::readiness::size_up_to;
-use pc_window::{Home, HomeList, WindowTree};
+use pc_window::{WindowTree, map_homes};
 use pc_word::{Item, Operand};
 use std::alloc::{AllocError, Global};
 
-/// The name that an item writes.
-pub(crate) fn dest_of(item: Item) -> Option<u32>
-    ensures { result ≡ dest_of item }
+/// An operand with one name in place of another.
+fn renamed(operand: Operand, old: u32, new: u32) -> Operand
+    ensures { result ≡ renamed (Some old) (Some new) operand }
 {
-    match item {
-        Item::Bin { dest, .. } => Some(dest),
-        Item::Copy { dest, .. } => Some(dest),
-        Item::Load { dest, .. } => Some(dest),
-        Item::Store { .. } => None,
-        Item::Print { .. } => None,
-        Item::Read { dest } => Some(dest),
-        Item::More { dest } => Some(dest),
+    if operand.is_name(old) {
+        return Operand::Name(new);
     }
-}
-
-/// Puts one name in the place of another, where an operand reads that.
-fn rename_operand(operand: &mut Operand, old: u32, new: u32)
-    ensures { operand.new ≡ renamed (Some old) (Some new) operand.old }
-{
-    if let Operand::Name(name) = operand {
-        if old == *name {
-            *name = new;
-        }
-    }
-}
-
-/// Puts one name in the place of another in what an item reads.
-fn rename_read(item: &mut Item, old: u32, new: u32)
-    ensures { item.new ≡ map_operands (renamed (Some old) (Some new)) item.old }
-{
-    match item {
-        Item::Bin { left, right, .. } => {
-            rename_operand(left, old, new);
-            rename_operand(right, old, new);
-        }
-        Item::Copy { from, .. } => rename_operand(from, old, new),
-        Item::Load { index, .. } => rename_operand(index, old, new),
-        Item::Store { index, value, .. } => {
-            rename_operand(index, old, new);
-            rename_operand(value, old, new);
-        }
-        Item::Print { value } => rename_operand(value, old, new),
-        Item::Read { .. } => {}
-        Item::More { .. } => {}
-    }
-}
-
-/// A home of a list.
-fn home_at(homes: &HomeList, at: usize) -> Home
-    requires { at < length homes.now }
-    ensures { slice_get homes.now at ≡ Some result }
-{
-    homes.as_slice()[at]
-}
-
-/// A home that reads one name in place of another.
-fn renamed_home(home: Home, old: u32, new: u32) -> Home
-    ensures { result ≡ record { variable = home.variable; value = renamed (Some old) (Some new) home.value } }
-{
-    let Home {
-        variable,
-        mut value,
-    } = home;
-    rename_operand(&mut value, old, new);
-    Home { variable, value }
-}
-
-/// Homes that read one name in place of another.
-fn rename_homes(homes: &mut HomeList, old: u32, new: u32)
-    ensures { homes.new ≡ map_homes (renamed (Some old) (Some new)) homes.old }
-{
-    for at in 0..homes.len() {
-        let home = home_at(homes, at);
-        homes.set(at, renamed_home(home, old, new));
-    }
+    operand
 }
 
 /// A tree that reads one name in place of another.
@@ -96,16 +30,18 @@ fn rename(tree: &mut WindowTree, old: u32, new: u32)
 {
     match tree {
         WindowTree::Step { item, rest, .. } => {
-            rename_read(item, old, new);
+            *item = item.map_operands(|operand| renamed(operand, old, new));
             rename(rest, old, new);
         }
         WindowTree::Test { on, yes, no, .. } => {
-            rename_operand(on, old, new);
+            *on = renamed(*on, old, new);
             rename(yes, old, new);
             rename(no, old, new);
         }
         WindowTree::Node { below } => rename(below, old, new),
-        WindowTree::Exit { homes, .. } => rename_homes(homes, old, new),
+        WindowTree::Exit { homes, .. } => {
+            map_homes(homes, |operand| renamed(operand, old, new));
+        }
         WindowTree::Stop => {}
         WindowTree::Trap { .. } => {}
     }
@@ -118,7 +54,7 @@ fn rest_of(item: Item, below: WindowTree, name: Option<u32>) -> WindowTree
     ensures nodes { (at_root : Bool) → InNodes at_root below → InNodes at_root result }
 {
     let mut rest = below;
-    if let Some(old) = dest_of(item) {
+    if let Some(old) = item.dest() {
         if let Some(new) = name {
             rename(&mut rest, old, new);
         }

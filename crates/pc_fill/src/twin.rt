@@ -1,7 +1,6 @@
 //! The twin of an item: an equal one on the other side of the test behind which it stands.
 ghost use Rattle.std.specs.Prelude.{◌≡◌, ◌↔◌, ◌<◌, ◌+◌, ◌^◌, ℕ, true, length};
 ghost use Rattle.pc_window.specs.Tree.{tree_size, whole};
-ghost use Rattle.pc_window.specs.Rename.{with_dest};
 ghost use Rattle.pc_window.specs.StoredWindow.{tree_in, front_in, forms_in};
 ghost use Rattle.pc_fill.specs.models.Places.{MayRise};
 ghost use Rattle.pc_fill.specs.models.Search.{StandsAt};
@@ -9,8 +8,7 @@ ghost use Rattle.pc_fill.specs.models.Way.{Reaches};
 ghost use Rattle.pc_fill.specs.models.Landing.{TwinsAt, FirstFrom, FirstIn};
 
 use crate::landing::both_unfinished;
-use crate::readiness::{may_rise, size};
-use pc_alike::are_alike;
+use crate::readiness::may_rise;
 use pc_window::{NameTable, WindowTree};
 use pc_word::Item;
 
@@ -20,43 +18,6 @@ pub(crate) struct Seeker {
     pub(crate) tag: u32,
     pub(crate) origin: u32,
     pub(crate) item: Item,
-}
-
-/// An item that writes another name.
-pub(crate) fn with_dest(name: u32, item: Item) -> Item
-    ensures { result ≡ with_dest name item }
-{
-    match item {
-        Item::Bin {
-            op,
-            left,
-            right,
-            ..
-        } => Item::Bin {
-            op,
-            dest: name,
-            left,
-            right,
-        },
-        Item::Copy { from, .. } => Item::Copy { dest: name, from },
-        Item::Load { array, index, .. } => Item::Load {
-            dest: name,
-            array,
-            index,
-        },
-        Item::Store {
-            array,
-            index,
-            value,
-        } => Item::Store {
-            array,
-            index,
-            value,
-        },
-        Item::Print { value } => Item::Print { value },
-        Item::Read { .. } => Item::Read { dest: name },
-        Item::More { .. } => Item::More { dest: name },
-    }
 }
 
 /// Whether an item at a place of a tree is a twin.
@@ -80,7 +41,7 @@ fn is_twin(
     if origin != seeker.origin {
         return false;
     }
-    if !are_alike(other, seeker.item) {
+    if !other.is_alike(seeker.item) {
         return false;
     }
     may_rise(names, Some(other), all, place)
@@ -116,7 +77,7 @@ fn find_twin(
         WindowTree::Test { yes, no, .. } => {
             match find_twin(yes, names, seeker, all, place + 1) {
                 Some(found) => Some(found),
-                None => find_twin(no, names, seeker, all, place + 1 + size(yes)),
+                None => find_twin(no, names, seeker, all, place + 1 + yes.size()),
             }
         }
         WindowTree::Node { below } => find_twin(below, names, seeker, all, place),

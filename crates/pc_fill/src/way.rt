@@ -5,7 +5,6 @@ ghost use Rattle.pc_window.specs.Tree.{tree_size};
 ghost use Rattle.pc_window.specs.StoredWindow.{tree_in, front_in};
 ghost use Rattle.pc_fill.specs.models.Way.{place_along, place_behind};
 
-use crate::readiness::size;
 use pc_window::WindowTree;
 
 /// The place of a tree where a way leads, below so many items.
@@ -27,7 +26,7 @@ fn place_along(tree: &WindowTree, way: &[bool], depth: u32) -> u32
                 if *side {
                     return 1 + place_along(yes, below, depth);
                 }
-                1 + size(yes) + place_along(no, below, depth)
+                1 + yes.size() + place_along(no, below, depth)
             }
         },
         WindowTree::Node { below } => place_along(below, way, depth),
@@ -52,7 +51,7 @@ pub(crate) fn place_behind(tree: &WindowTree, way: &[bool], depth: u32) -> u32
                 if *side {
                     return 1 + place_behind(yes, below, depth);
                 }
-                1 + size(yes) + place_behind(no, below, depth)
+                1 + yes.size() + place_behind(no, below, depth)
             }
         },
         WindowTree::Node { below } => place_along(below, way, depth),

@@ -4,8 +4,6 @@
 mod flow;
 mod laws;
 mod node;
-#[cfg(test)]
-mod tests;
 
 pub use flow::Flow;
 pub use laws::laws_of_flows;

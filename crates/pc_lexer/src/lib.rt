@@ -17,6 +17,3 @@ pub use laws::lexer_laws;
 pub use lex::tokens;
 pub use mark::Mark;
 pub use token::{Token, TokenKind, TokenList};
-
-#[cfg(test)]
-mod tests;

@@ -6,7 +6,7 @@ use Rattle.std.specs.Int.{w32, int_wrap}
 use Rattle.std.proofs.lemmas.Int.{ints, SFits-int_wrap, int_wrap_fits}
 use lib.IntN.{+ℤ_idl, *ℤ-zero}
 use Rattle.pc_word.specs.Word.{IsWord}
-use Rattle.pc_word.proofs.Truth.{and_true, and_made, not_true, decide_le}
+use Rattle.pc_word.proofs.Truth.{and_true, and_made, not_true, decide_le, or_true}
 use Rattle.pc_linear.specs.declared.term.Term.{Term}
 use Rattle.pc_linear.specs.Form.{Form, IsNormal, form_number, form_value, Means, ◌≈◌, sum_of, factor_of}
 use Rattle.pc_linear.specs.Combine.{difference, constant_form}
@@ -15,7 +15,7 @@ use Rattle.pc_linear.proofs.Words.{wrap_same, wrap_zero, add_same}
 use Rattle.pc_linear.proofs.Forms.{means_number}
 use Rattle.pc_linear.proofs.Values.{value-same}
 use Rattle.pc_linear.proofs.Normal.{plus-normal, plus-factor, same_form, constant-normal, factor-word, factor-sum, only}
-use Rattle.pc_linear.proofs.NeverEquals.{divides, divides_factors, some_power_tells, never_zero, divides_is, divides_tells, multiple_zero, or_true, no_difference, never_equal_tells, never_equal_finds}
+use Rattle.pc_linear.proofs.NeverEquals.{divides, divides_factors, some_power_tells, never_zero, divides_is, divides_tells, multiple_zero, no_difference, never_equal_tells, never_equal_finds}
 
 -- ---- the test by powers, as a fact
 

@@ -1,4 +1,5 @@
 pub mod Equalities
+pub mod FewPlaces
 pub mod Forms
 pub mod NeverEquals
 pub mod Normal

@@ -7,7 +7,7 @@ use Rattle.std.specs.Prelude.{ℤ, pos, negsuc, ◌+ℤ◌, ◌*ℤ◌, neg_ℤ,
 use Rattle.std.specs.Int.{w32, int_wrap, int_rem_euclid}
 use Rattle.std.proofs.lemmas.Int.{ints}
 use lib.IntN.{+ℤ_idl, +ℤ_assoc, *ℤ-zero, *ℤ_comm, zero-*ℤ}
-use Rattle.pc_word.proofs.Truth.{and_true, or_false}
+use Rattle.pc_word.proofs.Truth.{and_true, or_false, or_true}
 use Rattle.pc_word.proofs.Words.{unsigned_abs-neg}
 use Rattle.pc_linear.specs.declared.term.Term.{Term}
 use Rattle.pc_linear.specs.Form.{Form, sum_of, ◌≈◌, form_number, Rising}
@@ -120,11 +120,6 @@ zero_multiple z h = by_sign z (bits_zero z (h ∙ wrap_zero))
         Divides-neg 32 (pos (suc n)) p
 
 -- ---- where the test is true, no values make a form 0
-
--- one part of an or that passed
-pub or_true : (a b : Bool) → (a || b) ≡ true → (a ≡ true) ⊎ (b ≡ true)
-or_true true b h = inl refl
-or_true false b h = inr h
 
 sum_multiple : (σ : ℕ → ℤ) (k : ℕ) (ts : List Term) → divides_factors k ts ≡ true → Divides k (sum_of σ ts)
 sum_multiple σ k [] h = record { quotient = pos 0; is = sym (zero-*ℤ (pos (2 ^ k))) }

@@ -126,7 +126,7 @@ factor-sum x (t ∷ ts) = λ i. in_term (nat_eq x t.variable) i +ℤ factor-sum 
     in_term false = sym (*ℤ-zero t.factor)
 
 -- below the first variable there is no factor
-factor-below : (x least : ℕ) (ts : List Term) → x < least → Rising least ts → factor_of ts x ≡ pos 0
+pub factor-below : (x least : ℕ) (ts : List Term) → x < least → Rising least ts → factor_of ts x ≡ pos 0
 factor-below x least [] lt r = refl
 factor-below x least (t ∷ ts) lt r =
     let le = r.0 in

@@ -5,8 +5,6 @@ mod form;
 mod laws;
 mod sum;
 mod term;
-#[cfg(test)]
-mod tests;
 
 pub use form::LinForm;
 pub use laws::{laws_of_sums, laws_of_values};

@@ -10,7 +10,7 @@ use Rattle.pc_word.specs.declared.item.End.{End}
 use Rattle.pc_word.specs.declared.item.End.TheVariants.{Fault}
 use Rattle.pc_word.specs.Word.{holds, word_of_test, word_apply}
 use Rattle.pc_word.specs.State.{State, set_name}
-use Rattle.pc_word.specs.Items.{operand_value, place_in, element_at, some_left, operands_of, dest_of}
+use Rattle.pc_word.specs.Items.{operand_value, place_in, element_at, some_left, operands_of, dest_of, reads_name}
 use Rattle.pc_word.specs.Commit.{writes}
 use Rattle.pc_word.specs.Row.{RowOutcome, Faults, Commits, item_step}
 use Rattle.pc_word.specs.Run.{Seen, Step, Goes, Stops, after_printing, seen_of, run_from}
@@ -20,14 +20,14 @@ use Rattle.pc_flow.specs.declared.node.FlowNode.{FlowNode}
 use Rattle.pc_flow.specs.declared.node.FlowNode.TheVariants.{Op, Test, Stop, Trap}
 use Rattle.pc_flow.specs.FlowGraph.{FlowGraph}
 use Rattle.pc_flow.specs.FlowRun.{FlowState, step_after_item, run_node, flow_step}
-use Rattle.pc_live.specs.Live.{is_variable, IsLive, Read_here, Read_later}
+use Rattle.pc_live.specs.Live.{IsLive, Read_here, Read_later}
 use Rattle.pc_live.specs.Laws.{AlikeWhereLive, StepsAlike}
-use Rattle.pc_live.proofs.Logic.{or_first, or_second}
+use Rattle.pc_word.proofs.Truth.{or_first, or_second}
 
 -- ---- operands
 
 -- an operand has the same value where the variable that it is has
-pub operand_same : (names other : ℕ → ℤ) (operand : Operand) → ((x : ℕ) → is_variable operand x ≡ true → other x ≡ names x)
+pub operand_same : (names other : ℕ → ℤ) (operand : Operand) → ((x : ℕ) → reads_name operand x ≡ true → other x ≡ names x)
     → operand_value other operand ≡ operand_value names operand
 operand_same names other (Name name) h = h name (eq-eqb name name refl)
 operand_same names other (Lit value) h = refl
@@ -37,11 +37,11 @@ abbrev pub Same : (ℕ → ℤ) → (ℕ → ℤ) → List Operand → Type 0
 Same names other operands = AllByRecursion (λ operand. operand_value other operand ≡ operand_value names operand) operands
 
 pub operands_same : (names other : ℕ → ℤ) (operands : List Operand)
-    → ((x : ℕ) → list_any (λ operand. is_variable operand x) operands ≡ true → other x ≡ names x) → Same names other operands
+    → ((x : ℕ) → list_any (λ operand. reads_name operand x) operands ≡ true → other x ≡ names x) → Same names other operands
 operands_same names other [] h = tt
 operands_same names other (operand ∷ operands) h = (
-  operand_same names other operand (λ x e. h x (or_first (is_variable operand x) (list_any (λ o. is_variable o x) operands) e)),
-  operands_same names other operands (λ x e. h x (or_second (is_variable operand x) (list_any (λ o. is_variable o x) operands) e)),
+  operand_same names other operand (λ x e. h x (or_first (reads_name operand x) (list_any (λ o. reads_name o x) operands) e)),
+  operands_same names other operands (λ x e. h x (or_second (reads_name operand x) (list_any (λ o. reads_name o x) operands) e)),
 )
 
 -- ---- one item

@@ -5,7 +5,7 @@ use Rattle.std.proofs.lemmas.Bool.{cases_eq, cases_lt}
 use Rattle.std.proofs.lemmas.List.{get_or-replicate, get_or_past, length-replicate}
 use Rattle.std.proofs.lemmas.List.Sums.{sum_by-set, sum_by-le}
 use Rattle.std.specs.Prelude.{slice_get, slice_set}
-use Rattle.pc_word.proofs.Truth.{and_true, and_made, not_true}
+use Rattle.pc_word.proofs.Truth.{and_true, and_made, not_true, or_true, or_first, or_second}
 use Rattle.pc_flow.specs.declared.node.FlowNode.{FlowNode}
 use Rattle.pc_flow.specs.declared.node.FlowNode.TheVariants.{Op, Test, Stop, Trap}
 use Rattle.pc_flow.specs.FlowGraph.{FlowGraph, TestFits, variables, HasEdge}
@@ -13,7 +13,7 @@ use Rattle.pc_live.specs.declared.variable_set.VariableSet.{VariableSet}
 use Rattle.pc_live.specs.Live.{node_reads, node_writes, IsLive, Read_here, Read_later}
 use Rattle.pc_live.specs.Liveness.{member, set_at, IsLivenessOf}
 use Rattle.pc_live.specs.models.Rounds.{behind, needs, needs_of, needs_at, AreSound, IsClosedAt, IsClosed, total}
-use Rattle.pc_live.proofs.Logic.{or_true, or_first, or_second, place_within}
+use Rattle.pc_live.proofs.Logic.{place_within}
 use Rattle.pc_live.proofs.Bits.{none_in_empty}
 
 -- ---- targets

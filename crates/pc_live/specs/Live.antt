@@ -1,23 +1,16 @@
 -- When a variable is live at a node of a flow graph.
-use Rattle.std.specs.Prelude.{◌≡◌, ℕ, Bool, true, false, nat_eq, Some, slice_get}
+use Rattle.std.specs.Prelude.{◌≡◌, ℕ, Bool, true, false, Some, slice_get}
 use Rattle.std.specs.List.{list_any}
-use Rattle.pc_word.specs.declared.item.Operand.{Operand}
-use Rattle.pc_word.specs.declared.item.Operand.TheVariants.{Name, Lit}
-use Rattle.pc_word.specs.Items.{operands_of, dest_of}
+use Rattle.pc_word.specs.Items.{operands_of, dest_of, reads_name}
 use Rattle.pc_word.specs.Commit.{writes}
 use Rattle.pc_flow.specs.declared.node.FlowNode.{FlowNode}
 use Rattle.pc_flow.specs.declared.node.FlowNode.TheVariants.{Op, Test, Stop, Trap}
 use Rattle.pc_flow.specs.FlowGraph.{FlowGraph, HasEdge}
 
--- whether an operand is this variable
-abbrev pub is_variable : Operand → ℕ → Bool
-is_variable (Name name) variable = nat_eq name variable
-is_variable (Lit value) variable = false
-
 -- whether a node reads a variable: an operand of its item is the variable, or what it tests is
 abbrev pub node_reads : FlowNode → ℕ → Bool
-node_reads (Op item to) variable = list_any (λ operand. is_variable operand variable) (operands_of item)
-node_reads (Test on on_yes on_no turn) variable = is_variable on variable
+node_reads (Op item to) variable = list_any (λ operand. reads_name operand variable) (operands_of item)
+node_reads (Test on on_yes on_no turn) variable = reads_name on variable
 node_reads Stop variable = false
 node_reads (Trap kind line) variable = false
 

@@ -5,8 +5,6 @@ mod analysis;
 mod error;
 mod laws;
 mod liveness;
-#[cfg(test)]
-mod tests;
 mod uses;
 mod variable_set;
 

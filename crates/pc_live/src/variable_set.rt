@@ -2,7 +2,7 @@
 ghost use Rattle.std.specs.Prelude.{◌≡◌, ◌<◌, ◌≤◌, ◌^◌, ℕ, false, true, not, ◌&&◌, ◌||◌, nat_eq};
 ghost use Rattle.pc_flow.specs.FlowGraph.{variables, IsVariable};
 ghost use Rattle.pc_live.specs.Liveness.{member};
-ghost use Rattle.pc_live.specs.Live.{is_variable};
+ghost use Rattle.pc_word.specs.Items.{reads_name};
 
 use pc_word::Operand;
 
@@ -42,7 +42,7 @@ impl VariableSet {
     /// The set with what an operand reads in it.
     pub fn with_operand(self, operand: Operand) -> VariableSet
         requires { IsVariable operand }
-        ensures { (x : ℕ) → member result x ≡ (is_variable operand x || member self x) }
+        ensures { (x : ℕ) → member result x ≡ (reads_name operand x || member self x) }
     {
         match operand {
             Operand::Name(variable) => self.with(variable),

@@ -10,10 +10,10 @@ use Rattle.pc_word.proofs.Lists.{set_at, set_length, index_set_same, index_set_o
 use Rattle.pc_flow.specs.declared.node.FlowNode.{FlowNode}
 use Rattle.pc_flow.specs.declared.node.FlowNode.TheVariants.{Op, Test, Stop, Trap}
 use Rattle.pc_flow.specs.FlowGraph.{FlowGraph, IsTarget, Descends, NodeFits, tested_loop}
-use Rattle.pc_lower.proofs.Fills.{get_set_same, get_set_other}
 use Rattle.pc_lower.specs.LoopTests.{HasTest, TestsInside}
 use Rattle.pc_lower.proofs.LoopMarks.{header_length, header_outer}
 use Rattle.pc_lower.specs.models.Drafts.{Draft, IsDraft, IsPlaced, LeadsToPlaced, MayPlace, CanPlace, graph_with, draft_with, CanAim, aimed, headed, MayBegin, first_draft}
+use Rattle.pc_word.proofs.Places.{set_there, set_elsewhere}
 
 -- two numbers are the same or not
 decide_same : (i j : ℕ) → (i ≡ j) ⊎ (i ≢ j)
@@ -122,14 +122,14 @@ module _ (draft : Draft) (at : ℕ) (node : FlowNode) (inside : Option ℕ) (kee
   stands-new None h = tt
   stands-new (Some turn) h =
       let there = subst (λ (n : ℕ). at < n) (sym keeps.flow.all_placed) can.at_open.there in
-      get_set_same old.inside at inside there ∙ ap Some h
+      set_there old.inside at inside there ∙ ap Some h
 
   -- and so does each
   all-stand : TestsInside new
   all-stand number one e = elim (set_at old.nodes at number node one e) [
     | inl h ↦ subst (λ (n : ℕ). PlacedIn new.inside n one) (sym h.0) (subst (PlacedIn new.inside at) (sym h.1) (stands-new (tested_loop node) can.stands))
     | inr h ↦
-        let same = get_set_other old.inside at number inside (λ e. h.0 (sym e)) in
+        let same = set_elsewhere old.inside at number inside (λ e. h.0 (sym e)) in
         subst (λ (place : Option (Option ℕ)). IfSome (tested_loop one) (λ turn. place ≡ Some (Some turn))) (sym same) (keeps.tests_inside number one h.1)
   ]
 

@@ -1,27 +1,11 @@
 -- Numbers of a draft that are filled from the end: one part after the other.
-use Rattle.std.proofs.Common.{◌≡◌, ◌≢◌, ℕ, zero, suc, ◌+◌, ◌<◌, ◌≤◌, ◌⊎◌, inl, inr, List, [], ◌∷◌, length, Option, Some, refl, sym, ◌∙◌, ap, subst, arith}
-use Rattle.std.specs.Prelude.{IfSome, slice_get, slice_set, slice_index}
+use Rattle.std.proofs.Common.{◌≡◌, ℕ, ◌+◌, ◌<◌, ◌≤◌, ◌⊎◌, inl, inr, List, Option, sym, ◌∙◌, subst, arith}
+use Rattle.std.specs.Prelude.{IfSome, slice_index}
 use Rattle.pc_word.proofs.Truth.{decide_le}
 use Rattle.pc_flow.specs.declared.node.FlowNode.{FlowNode}
 use Rattle.pc_lower.specs.models.Drafts.{Draft, IsPlaced, PlacedTest, IsTested}
 use Rattle.pc_lower.specs.LoopTests.{HasTest}
 use Rattle.pc_lower.specs.models.Fills.{IsOutside, Fills, Keeps, Lays, HasRoom}
-
--- ---- lists with an element replaced
-
--- that element
-pub get_set_same : {X : Type 0} (xs : List X) (i : ℕ) (x : X) → i < length xs → slice_get (slice_set xs i x) i ≡ Some x
-get_set_same [] i x h = absurd (omega arith)
-get_set_same (y ∷ xs) zero x h = refl
-get_set_same (y ∷ xs) (suc i) x h = get_set_same xs i x (omega arith)
-
--- and the others
-pub get_set_other : {X : Type 0} (xs : List X) (i j : ℕ) (x : X) → i ≢ j → slice_get (slice_set xs i x) j ≡ slice_get xs j
-get_set_other [] i j x h = refl
-get_set_other (y ∷ xs) zero zero x h = absurd (h refl)
-get_set_other (y ∷ xs) zero (suc j) x h = refl
-get_set_other (y ∷ xs) (suc i) zero x h = refl
-get_set_other (y ∷ xs) (suc i) (suc j) x h = get_set_other xs i j x (λ e. h (ap suc e))
 
 -- ---- one part after the other
 

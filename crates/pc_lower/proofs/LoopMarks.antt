@@ -1,6 +1,6 @@
 -- The marks of loops, in the order of their keywords.
 use Rattle.std.proofs.Math.Numerals.{add-one}
-use Rattle.std.proofs.Common.{◌≡◌, ℕ, zero, suc, ◌+◌, ◌<◌, ◌≤◌, ◌⊎◌, inl, inr, List, [], ◌∷◌, ◌++◌, length, drop, get_or, Option, Some, None, refl, sym, ◌∙◌, ap, subst, arith}
+use Rattle.std.proofs.Common.{◌≡◌, ℕ, zero, suc, ◌+◌, ◌<◌, ◌≤◌, inl, inr, List, [], ◌∷◌, ◌++◌, length, drop, get_or, Option, Some, None, refl, sym, ◌∙◌, ap, subst, arith}
 use Rattle.std.specs.Prelude.{IfSome, slice_get, option_map}
 use Rattle.std.proofs.lemmas.List.{length-map, length-append, map-append}
 use Rattle.std.proofs.lemmas.Option.{slice_get-map}
@@ -16,6 +16,7 @@ use Rattle.pc_lower.specs.SourceLoops.{SourceLoop, source_loop, source_loops, wi
 use Rattle.pc_lower.specs.models.LowersStatement.{loop_count, list_loops}
 use Rattle.pc_lower.proofs.Weights.{statement_weight, list_weight}
 use Rattle.pc_lower.specs.models.Drafts.{with_header}
+use Rattle.pc_word.proofs.Places.{get_more}
 
 -- ---- one more mark
 
@@ -117,16 +118,6 @@ marked_all {items} {outer} {old} {new} {i} all past =
 abbrev pub OuterFirst : List SourceLoop → Type 0
 OuterFirst loops = (i : ℕ) (loop : SourceLoop) → slice_get loops i ≡ Some loop → IfSome loop.outer (λ outer. outer < i)
 
--- what stands in a list with an element more stood there before, or is that element
-one_more : {X : Type 0} (xs : List X) (y : X) (i : ℕ) (x : X) → slice_get (xs ++ y ∷ []) i ≡ Some x → (slice_get xs i ≡ Some x) ⊎ ((i ≡ length xs) × (y ≡ x))
-one_more [] y zero x e = inr (refl, cc)
-one_more [] y (suc i) x e = absurd (cc)
-one_more (z ∷ xs) y zero x e = inl e
-one_more (z ∷ xs) y (suc i) x e = elim (one_more xs y i x e) [
-  | inl h ↦ inl h
-  | inr h ↦ inr (ap suc h.0, h.1)
-]
-
 -- loops behind others, of which the loop round each has a smaller number
 pub record Ordered (old new : List SourceLoop) : Type 0 where
   pub longer : length old ≤ length new
@@ -140,7 +131,7 @@ loop-ordered line outer loops h inside =
     let more = length-append loops (new ∷ []) in
     record {
       longer = omega (arith, more);
-      first = λ i loop at. elim (one_more loops new i loop at) [
+      first = λ i loop at. elim (get_more loops new i loop at) [
         | inl before ↦ h i loop before
         | inr last ↦ subst (λ (n : ℕ). IfSome loop.outer (λ o. o < n)) (sym last.0) (subst (λ (l : SourceLoop). IfSome l.outer (λ o. o < length loops)) last.1 inside)
       ];

@@ -11,7 +11,8 @@ use Rattle.pc_lower.specs.models.Drafts.{Draft}
 use Rattle.pc_lower.specs.models.Fills.{Fills, Keeps, Lays, IsOutside}
 use Rattle.pc_lower.specs.models.LowersStatement.{LaysTurn, closed}
 use Rattle.pc_lower.proofs.LoopMarks.{loops_with_header, header_length}
-use Rattle.pc_lower.proofs.Fills.{fills_both, get_set_same, get_set_other}
+use Rattle.pc_lower.proofs.Fills.{fills_both}
+use Rattle.pc_word.proofs.Places.{set_there, set_elsewhere}
 
 -- two adjoining parts are one, where the second is placed behind the first
 module _ (a b c : Draft) (from mid to : ℕ) (front : Fills a b from mid) (back : Fills b c mid to) where
@@ -63,7 +64,7 @@ module _ (a c : Draft) (from to at : ℕ) (node : FlowNode) (own : ℕ) (header 
     as_many_loops = header_length c.graph.loops own header ∙ fills.as_many_loops;
     same_loops = loops_with_header c.graph.loops own header ∙ fills.same_loops;
     arrays = fills.arrays;
-    nodes_kept = λ i h. get_set_other c.graph.nodes at i node (elsewhere i h) ∙ fills.nodes_kept i h;
+    nodes_kept = λ i h. set_elsewhere c.graph.nodes at i node (elsewhere i h) ∙ fills.nodes_kept i h;
     ranks_kept = fills.ranks_kept;
     opens = fills.opens;
     filled = fills.filled;
@@ -74,7 +75,7 @@ module _ (a c : Draft) (from to at : ℕ) (node : FlowNode) (own : ℕ) (header 
 pub keeps_closed : (c : Draft) (from to lo hi : ℕ) (final : List FlowNode) (at : ℕ) (node : FlowNode) (own : ℕ) (header : ℕ)
     → Keeps (closed at node own header c) from to final → from ≤ lo → hi ≤ to → IsOutside lo hi at → Keeps c lo hi final
 keeps_closed c from to lo hi final at node own header h le ge out i above below =
-    h i (omega (arith, le, above)) (omega (arith, ge, below)) ∙ get_set_other c.graph.nodes at i node (other out)
+    h i (omega (arith, le, above)) (omega (arith, ge, below)) ∙ set_elsewhere c.graph.nodes at i node (other out)
   where
     other : IsOutside lo hi at → at ≢ i
     other (inl k) e = omega (arith, k, e, above)
@@ -83,7 +84,7 @@ keeps_closed c from to lo hi final at node own header h le ge out i above below 
 -- the test itself is there
 pub test_closed : (c : Draft) (from to : ℕ) (final : List FlowNode) (at : ℕ) (node : FlowNode) (own : ℕ) (header : ℕ)
     → Keeps (closed at node own header c) from to final → from ≤ at → at < to → at < length c.graph.nodes → slice_get final at ≡ Some node
-test_closed c from to final at node own header h lo hi there = h at lo hi ∙ get_set_same c.graph.nodes at node there
+test_closed c from to final at node own header h lo hi there = h at lo hi ∙ set_there c.graph.nodes at node there
 
 -- a condition with its test, what is behind them, and the test aimed
 pub lays_round : {a b c : Draft} {start at to k : ℕ} {P : List FlowNode → List ℕ → Type 0} (x : SourceExpression) (node : FlowNode) (own : ℕ) (header : ℕ)

@@ -11,7 +11,8 @@ use Rattle.pc_lower.specs.LoopTests.{HasTest}
 use Rattle.pc_lower.specs.models.Drafts.{Draft, PlacedTest, IsTested}
 use Rattle.pc_lower.specs.models.Fills.{Lays}
 use Rattle.pc_lower.specs.models.LowersStatement.{LaysTurn, AreTested, closed}
-use Rattle.pc_lower.proofs.Fills.{get_set_same, get_set_other, tested_still}
+use Rattle.pc_lower.proofs.Fills.{tested_still}
+use Rattle.pc_word.proofs.Places.{set_there, set_elsewhere}
 
 -- no loops
 pub tested_none : {d : Draft} {ends : ℕ} → AreTested d 0 ends
@@ -71,12 +72,12 @@ module _ (c : Draft) (at own : ℕ) (node : FlowNode) (header : ℕ) (turns : te
           record {
             node = node;
             is_there = subst (λ (k : ℕ). slice_get new.graph.nodes k ≡ Some node) same
-                (get_set_same c.graph.nodes at node (subst (λ (k : ℕ). k < length c.graph.nodes) (sym same) t.placed.there));
+                (set_there c.graph.nodes at node (subst (λ (k : ℕ). k < length c.graph.nodes) (sym same) t.placed.there));
             tests = turns ∙ sym test.tests ∙ ap tested_loop as_one ∙ t.test.tests;
           }
       | inr other ↦ record {
         node = t.test.node;
-        is_there = get_set_other c.graph.nodes at i node other ∙ t.test.is_there;
+        is_there = set_elsewhere c.graph.nodes at i node other ∙ t.test.is_there;
         tests = t.test.tests;
       }
     ];

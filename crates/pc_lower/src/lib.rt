@@ -15,8 +15,6 @@ mod program;
 mod site;
 mod spot;
 mod statement;
-#[cfg(test)]
-mod tests;
 mod value;
 
 pub use error::LowerError;

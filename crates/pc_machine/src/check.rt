@@ -72,12 +72,12 @@ impl Path {
         ensures { above_of result ≡ above_with item.now (above_of self.now) }
     {
         let mut written = self.written;
-        if let Some(register) = written_by(item) {
+        if let Some(register) = item.dest() {
             written[register as usize] = true;
         }
         Path {
             written,
-            effect: is_effect(item) || self.effect,
+            effect: item.is_effect() || self.effect,
         }
     }
 
@@ -201,7 +201,7 @@ impl Bounds {
     fn item(&self, counts: Counts, path: &Path, item: &Item) -> Result<Counts, Flaw>
         ensures { result ≡ checked (item_flaws self.now counts (above_of path.now) item.now) (counts_with_item (is_memory item.now) counts) }
     {
-        let counts = self.item_tag(counts, path, is_memory(item), is_effect(item))?;
+        let counts = self.item_tag(counts, path, item.is_memory(), item.is_effect())?;
         self.fields(path, item)?;
         Ok(counts)
     }
@@ -249,37 +249,6 @@ impl Bounds {
             self.row(Counts::none(), &path, tree)?;
         }
         Ok(())
-    }
-}
-
-/// Whether an item is a load or store.
-fn is_memory(item: &Item) -> bool
-    ensures { result ≡ is_memory item.now }
-{
-    matches!(item, Item::Load { .. } | Item::Store { .. })
-}
-
-/// Whether an item is a print, read or more.
-fn is_effect(item: &Item) -> bool
-    ensures { result ≡ is_effect item.now }
-{
-    matches!(
-        item,
-        Item::Print { .. } | Item::Read { .. } | Item::More { .. }
-    )
-}
-
-/// The register that an item writes.
-fn written_by(item: &Item) -> Option<u32>
-    ensures { result ≡ dest_of item.now }
-{
-    match item {
-        Item::Bin { dest, .. }
-        | Item::Copy { dest, .. }
-        | Item::Load { dest, .. }
-        | Item::Read { dest }
-        | Item::More { dest } => Some(*dest),
-        Item::Store { .. } | Item::Print { .. } => None,
     }
 }
 

@@ -6,8 +6,6 @@
 mod check;
 mod code;
 mod laws;
-#[cfg(test)]
-mod tests;
 mod tree;
 
 pub use check::{

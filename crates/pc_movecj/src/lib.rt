@@ -4,7 +4,5 @@
 mod climbing;
 mod dividing;
 mod moving;
-#[cfg(test)]
-mod tests;
 
 pub use moving::{move_cj, why_not};

@@ -14,16 +14,17 @@ use Rattle.pc_window.specs.Conflict.{MayFollow}
 use Rattle.pc_window.specs.Jump.{combined, NewForm, Without, GivesForm, Rises, EntersFront, Lands, Lands_renamed, Behind_item, On_yes, On_no}
 use Rattle.pc_window.specs.Opening.{Supply, with_name, changed}
 use Rattle.pc_window.specs.Filled.{given_supply, TwinsAlike}
-use Rattle.pc_window.specs.Rename.{with_dest}
 use Rattle.pc_window.proofs.Readiness.{alike, dest_named, not_written_named}
 use Rattle.pc_moveop.specs.NodeTree.{NodeTree, Item_node, Test_node, Leads_to, Leads_out, whole_tree, node_front, leaf_count}
 use Rattle.pc_moveop.specs.Climbing.{Passed_item, Mover, passing, mover_in, mover_at, crosses_test}
 use Rattle.pc_moveop.specs.Taking.{Coming, node_without, leaf_to, landed}
 use Rattle.pc_moveop.specs.Moving.{moved_item, moved_name, coming_of}
 use Rattle.pc_moveop.proofs.Legal.{ClearItem, ClearWay, clear_alike}
-use Rattle.pc_moveop.proofs.Known.{new_apart, IsKnownMover, known_at}
+use Rattle.pc_moveop.proofs.Known.{IsKnownMover, known_at}
 use Rattle.pc_moveop.proofs.Rising.{leaf_front, RisesKept, rises_kept, RisesNamed, rises_named}
 use Rattle.pc_moveop.proofs.Paths.{whole_front}
+use Rattle.pc_word.specs.Naming.{with_dest}
+use Rattle.pc_window.proofs.Rising.{new_to_either}
 
 -- it enters, and what becomes one has one tag and origin
 pub record Enters (known : ℕ → Bool) (forms forms' : ℕ → Form) (new : Option ℕ) (comes : Option Item) (from to : Front) : Type 0 where
@@ -50,7 +51,7 @@ module _ (forms : ℕ → Form) (base : ℕ → Bool) where
   kept_behind known t o y rest to None h = tt
   kept_behind known t o y rest to (Some m) h = λ clear crosses reads isnew scoped. (
       let k = h clear.1 crosses reads isnew scoped.2 in
-      let new = new_apart known y (dest_of m.item) k.1 in
+      let new = new_to_either known y (dest_of m.item) k.1 in
       (record { enters = Behind_item t o y (Some m.item) (node_front rest) (node_front (to (own m))) (follows forms m.item y clear.0, new.1) tt k.0.enters; twins = k.0.twins }, new.0)
       )
 
@@ -174,7 +175,7 @@ module _ (forms forms' : ℕ → Form) (base : ℕ → Bool) (n : ℕ) where
 -- ---- either way
 
 -- the form of the next name
-gives_next : (names : Supply) → ((y : ℕ) → Without names.next_variable (names.forms y)) → (x : Item) → dest_of x ≡ Some names.next
+pub gives_next : (names : Supply) → ((y : ℕ) → Without names.next_variable (names.forms y)) → (x : Item) → dest_of x ≡ Some names.next
     → GivesForm names.forms (given_supply names (Some names.next) (Some x)).forms x (Some names.next)
 gives_next names without x e = by_form (combined names.forms x)
   where
@@ -182,7 +183,7 @@ gives_next names without x e = by_form (combined names.forms x)
     by_form (Some given) = (given, refl, refl)
     by_form None = (variable_form names.next_variable, (names.next_variable, refl, without), refl)
 
-gives_named : (names : Supply) → ((y : ℕ) → Without names.next_variable (names.forms y)) → (x : Item)
+pub gives_named : (names : Supply) → ((y : ℕ) → Without names.next_variable (names.forms y)) → (x : Item)
     → GivesForm names.forms (given_supply names (dest_of (with_dest names.next x)) (Some (with_dest names.next x))).forms (with_dest names.next x) (dest_of (with_dest names.next x))
 gives_named names without x =
     let z = with_dest names.next x in

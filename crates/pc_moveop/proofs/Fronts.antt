@@ -1,44 +1,17 @@
 -- A front behind which a node changes.
-use Rattle.std.proofs.Common.{◌≡◌, ℕ, suc, ◌+◌, Bool, true, false, Option, Some, None, refl, sym, ap, subst, arith}
+use Rattle.std.proofs.Common.{◌≡◌, ℕ, suc, ◌+◌, Bool, true, false, refl, ap, arith}
 use Rattle.std.specs.Prelude.{◌-◌, if◌then◌else◌, nat_eq, nat_lt}
 use Rattle.pc_word.specs.declared.item.Item.{Item}
-use Rattle.pc_word.specs.declared.item.Item.TheVariants.{Bin, Copy, Load, Store, Print, Read, More}
 use Rattle.pc_word.specs.declared.item.Limits.{Limits}
 use Rattle.pc_word.specs.declared.item.Operand.{Operand}
-use Rattle.pc_word.specs.declared.item.Operand.TheVariants.{Name, Lit}
 use Rattle.pc_word.specs.Items.{is_memory}
 use Rattle.pc_linear.specs.Form.{Form}
-use Rattle.pc_linear.specs.Equality.{NeverEqual}
-use Rattle.pc_window.specs.Hold.{operand_form}
-use Rattle.pc_window.specs.Names.{IsKnown, ReadsKnown}
-use Rattle.pc_window.specs.Conflict.{Touch, touch_of, NoStoreDependence, MayFollow}
+use Rattle.pc_window.specs.Names.{ReadsKnown}
+use Rattle.pc_window.specs.Conflict.{touch_of, MayFollow}
 use Rattle.pc_window.specs.Tree.{Tree, Front, Issued, Split, Unfinished}
 use Rattle.pc_window.specs.Filled.{AllItems, Independent, item_count, memory_count, test_count, WithinLimits}
-use Rattle.pc_window.proofs.Fronts.{SameKnownForms, TouchKnown}
+use Rattle.pc_window.proofs.Fronts.{SameKnownForms, touch_known, store_dependence_same}
 use Rattle.pc_moveop.specs.NodeTree.{NodeTree, Item_node, Test_node, Leads_to, Leads_out, whole_tree, node_front, leaf_count, child_changed}
-
--- ---- the same forms of what is known
-
-same_form : (known : ℕ → Bool) (forms forms' : ℕ → Form) → SameKnownForms known forms forms' → (o : Operand) → IsKnown known o → operand_form forms' o ≡ operand_form forms o
-same_form known forms forms' same (Name x) is = same x is
-same_form known forms forms' same (Lit value) is = refl
-
-touch_known : (known : ℕ → Bool) (x : Item) → ReadsKnown known x → TouchKnown known (touch_of x)
-touch_known known (Bin op d l r) h = tt
-touch_known known (Copy d f) h = tt
-touch_known known (Load d a i) h = h.0
-touch_known known (Store a i v) h = h.0
-touch_known known (Print v) h = tt
-touch_known known (Read d) h = tt
-touch_known known (More d) h = tt
-
-same_dependence : (known : ℕ → Bool) (forms forms' : ℕ → Form) → SameKnownForms known forms forms' → (a b : Option Touch) → TouchKnown known a → TouchKnown known b
-    → NoStoreDependence forms a b → NoStoreDependence forms' a b
-same_dependence known forms forms' same (Some a) (Some b) ha hb h = λ arrays stores.
-    subst (λ (f : Form). NeverEqual f (operand_form forms' b.index)) (sym (same_form known forms forms' same a.index ha))
-    (subst (λ (f : Form). NeverEqual (operand_form forms a.index) f) (sym (same_form known forms forms' same b.index hb)) (h arrays stores))
-same_dependence known forms forms' same (Some a) None ha hb h = tt
-same_dependence known forms forms' same None b ha hb h = tt
 
 -- ---- items stay
 
@@ -48,7 +21,7 @@ pub data SameItems : Front → Front → Type 0 where
   Same_test : (t o : ℕ) (on : Operand) (p q p' q' : Front) → SameItems p p' → SameItems q q' → SameItems (Split t o on p q) (Split t o on p' q')
   Same_leaf : (rest rest' : Tree) → SameItems (Unfinished rest) (Unfinished rest')
 
-same_front : (t : NodeTree) → SameItems (node_front t) (node_front t)
+pub same_front : (t : NodeTree) → SameItems (node_front t) (node_front t)
 same_front (Item_node t o x rest) = Same_item t o x _ _ (same_front rest)
 same_front (Test_node t o on p q) = Same_test t o on _ _ _ _ (same_front p) (same_front q)
 same_front (Leads_to below) = Same_leaf _ _
@@ -98,7 +71,7 @@ module _ (known : ℕ → Bool) (forms forms' : ℕ → Form) (same : SameKnownF
       → Independent forms known from → AllItems (MayFollow forms y) from → AllItems (MayFollow forms' y) to
   same_follow y reads from to (Same_item t o x rest rest' s) free h = (
     record {
-      no_store_dependence = same_dependence known forms forms' same (touch_of y) (touch_of x) (touch_known known y reads) (touch_known known x free.0) h.0.no_store_dependence;
+      no_store_dependence = store_dependence_same known forms forms' same (touch_of y) (touch_of x) (touch_known known y reads) (touch_known known x free.0) h.0.no_store_dependence;
       one_effect = h.0.one_effect;
     },
     same_follow y reads rest rest' s free.2 h.1,

@@ -1,63 +1,26 @@
 -- What stands in a scoped node: what it reads is known above what it passes, and its name is new there.
-use Rattle.std.proofs.Common.{◌≡◌, ℕ, Bool, true, false, List, [], ◌∷◌, Option, Some, None, refl, sym, ◌∙◌, ap}
+use Rattle.std.proofs.Common.{ℕ, Bool, true, false, List, [], ◌∷◌, Option, Some, None, sym, ◌∙◌, ap}
 use Rattle.std.specs.Prelude.{◌-◌, ◌||◌, if◌then◌else◌, nat_eq, nat_lt}
 use Rattle.std.specs.List.{AllByRecursion}
-use Rattle.std.proofs.lemmas.Bool.{eqb-true, eq-eqb}
 use Rattle.pc_word.specs.declared.item.Item.{Item}
 use Rattle.pc_word.specs.declared.item.Operand.{Operand}
 use Rattle.pc_word.specs.declared.item.Operand.TheVariants.{Name, Lit}
 use Rattle.pc_word.specs.Items.{dest_of, operands_of}
-use Rattle.pc_word.specs.Commit.{writes}
 use Rattle.pc_linear.specs.Form.{Form}
-use Rattle.pc_window.specs.Tree.{Tree, Pending, Undecided, Exit, Stop_exit, Trap_exit}
-use Rattle.pc_window.specs.Names.{IsKnown, ReadsKnown, IsNew, and_dest, Scoped, Unwritten, NotWritten}
+use Rattle.pc_window.specs.Tree.{Tree, Pending, Undecided}
+use Rattle.pc_window.specs.Names.{IsKnown, ReadsKnown, IsNew, and_dest, Scoped}
 use Rattle.pc_moveop.specs.NodeTree.{NodeTree, Item_node, Test_node, Leads_to, Leads_out, whole_tree, node_size, leaf_count}
 use Rattle.pc_moveop.specs.Climbing.{Passed_item, Passed_test, Mover, passing, mover_in, mover_at}
 use Rattle.pc_moveop.proofs.Legal.{NotDefined, ClearWay}
+use Rattle.pc_window.proofs.Rising.{new_to_either}
 
 -- ---- names
-
--- what is new where one more name is known is new, and is not that name
-pub new_apart : (known : ℕ → Bool) (y : Item) (d : Option ℕ) → IsNew (and_dest known y) d → IsNew known d × IsNew (writes (dest_of y)) d
-new_apart known y None h = (tt, tt)
-new_apart known y (Some e) h = let k = neither (writes (dest_of y) e) (known e) h in (k.1, k.0)
-  where
-    neither : (a b : Bool) → (a || b) ≡ false → (a ≡ false) × (b ≡ false)
-    neither false b e = (refl, e)
-    neither true b e = absurd (cc)
 
 -- what is known and not defined by an item is known above it
 pub known_above : (known : ℕ → Bool) (y : Item) (os : List Operand) → AllByRecursion (IsKnown (and_dest known y)) os → AllByRecursion (NotDefined y) os → AllByRecursion (IsKnown known) os
 known_above known y [] h n = tt
 known_above known y (Lit v ∷ os) h n = (tt, known_above known y os h.1 n.1)
 known_above known y (Name x ∷ os) h n = (sym (ap (λ (b : Bool). b || known x) n.0) ∙ h.0, known_above known y os h.1 n.1)
-
--- a known name is written nowhere
-known_unwritten : (tree : Tree) (known : ℕ → Bool) (d : ℕ) → known d ≡ true → Scoped known tree → Unwritten d tree
-known_unwritten (Pending t o x rest) known d is h = (here (dest_of x) h.1, known_unwritten rest (and_dest known x) d (or_comes (writes (dest_of x) d) (known d) is) h.2)
-  where
-    or_comes : (a b : Bool) → b ≡ true → (a || b) ≡ true
-    or_comes true b e = refl
-    or_comes false b e = e
-
-    here : (e : Option ℕ) → IsNew known e → writes e d ≡ false
-    here None new = refl
-    here (Some e) new = elim (nat_eq e d) as (λ b. nat_eq e d ≡ b → b ≡ false) [
-      | false ↦ λ k. refl
-      | true ↦ λ k. absurd (let same : e ≡ d = eqb-true e d k in let m : known d ≡ false = sym (ap known same) ∙ new in cc)
-    ] refl
-known_unwritten (Undecided t o on p q) known d is h = (known_unwritten p known d is h.1, known_unwritten q known d is h.2)
-known_unwritten (Exit region tag homes) known d is h = tt
-known_unwritten Stop_exit known d is h = tt
-known_unwritten (Trap_exit kind line) known d is h = tt
-
--- what an item writes is not written below it
-pub not_written_below : (x : Item) (rest : Tree) (known : ℕ → Bool) → Scoped (and_dest known x) rest → NotWritten (dest_of x) rest
-not_written_below x rest known h = by_dest (dest_of x) refl
-  where
-    by_dest : (d : Option ℕ) → dest_of x ≡ d → NotWritten d rest
-    by_dest None e = tt
-    by_dest (Some d) e = known_unwritten rest (and_dest known x) d (ap (λ (o : Option ℕ). writes o d || known d) e ∙ (rw (eq-eqb d d refl) refl)) h
 
 -- ---- what is found
 
@@ -72,7 +35,7 @@ module _ (forms : ℕ → Form) where
   past_item known t o y rest finished None h = tt
   past_item known t o y rest finished (Some m) h = λ clear scoped. (
       let k = h clear.1 scoped.2 in
-      (known_above known y (operands_of m.item) k.0 clear.0.reads, (new_apart known y (dest_of m.item) k.1).0)
+      (known_above known y (operands_of m.item) k.0 clear.0.reads, (new_to_either known y (dest_of m.item) k.1).0)
       )
 
   past_yes : (known : ℕ → Bool) (t o : ℕ) (on : Operand) (p q : Tree) (found : Option Mover) → IsKnownMover known p found

@@ -5,11 +5,11 @@ use Rattle.std.specs.List.{list_any, AllByRecursion}
 use Rattle.pc_word.specs.declared.item.Item.{Item}
 use Rattle.pc_word.specs.declared.item.Operand.{Operand}
 use Rattle.pc_word.specs.declared.item.Operand.TheVariants.{Name, Lit}
-use Rattle.pc_word.specs.Items.{dest_of, operands_of, is_effect}
+use Rattle.pc_word.specs.Items.{dest_of, operands_of, is_effect, only_computes}
 use Rattle.pc_word.specs.Commit.{writes}
 use Rattle.pc_linear.specs.Form.{Form}
-use Rattle.pc_window.specs.Conflict.{Touch, touch_of}
-use Rattle.pc_window.specs.Jump.{is_quiet}
+use Rattle.pc_window.specs.declared.conflict.Touch.{Touch}
+use Rattle.pc_window.specs.Conflict.{touch_of}
 use Rattle.pc_window.proofs.Readiness.{Alike}
 use Rattle.pc_moveop.specs.Climbing.{Passed, Passed_item, Passed_test, defines, first_defined, MayPass, FirstConflict, No_conflict, Passes_test, Passes_item, Conflicts, is_test, has_effect}
 use Rattle.pc_moveop.specs.Refusing.{refused_first, depends_on, out_of_order, first_refusal}
@@ -31,7 +31,7 @@ pub record ClearItem (forms : ℕ → Form) (x : Item) (finished : Bool) (y : It
 
 abbrev pub Clear : (ℕ → Form) → Item → Passed → Type 0
 Clear forms x (Passed_item finished origin y) = ClearItem forms x finished y
-Clear forms x Passed_test = is_quiet x ≡ true
+Clear forms x Passed_test = only_computes x ≡ true
 
 abbrev pub ClearWay : (ℕ → Form) → Item → List Passed → Type 0
 ClearWay forms x way = AllByRecursion (Clear forms x) way
@@ -68,10 +68,10 @@ is_not false e = absurd (cc)
 
 pub clear_way : (forms : ℕ → Form) (x : Item) (way : List Passed) (conflict : Option ℕ)
     → FirstConflict forms x way conflict → conflict ≡ None → first_defined (operands_of x) way ≡ None
-    → (list_any is_test way && not (is_quiet x)) ≡ false → (list_any has_effect way && is_effect x) ≡ false → ClearWay forms x way
+    → (list_any is_test way && not (only_computes x)) ≡ false → (list_any has_effect way && is_effect x) ≡ false → ClearWay forms x way
 clear_way forms x way conflict No_conflict none defined crosses effect = tt
 clear_way forms x way conflict (Passes_test rest found first) none defined crosses effect = (
-  is_not (is_quiet x) crosses,
+  is_not (only_computes x) crosses,
   clear_way forms x rest found first none (sym (first_test rest (operands_of x))
       ∙ defined) (ap (λ (b : Bool). list_any is_test rest && b) crosses ∙ and_false (list_any is_test rest)) effect,
 )
@@ -108,9 +108,9 @@ pub way_not_refused : (forms : ℕ → Form) (x : Item) (way : List Passed) (con
 way_not_refused forms x way conflict first e =
     let a = both_none (depends_on (first_defined (operands_of x) way)) _ e in
     let b = both_none (out_of_order conflict) _ a.1 in
-    let c = both_none (if list_any is_test way && not (is_quiet x) then Some EffectAboveTest else None) _ b.1 in
+    let c = both_none (if list_any is_test way && not (only_computes x) then Some EffectAboveTest else None) _ b.1 in
     clear_way forms x way conflict first (no_origin conflict b.0) (no_name (first_defined (operands_of x) way) a.0)
-    (no_test (list_any is_test way && not (is_quiet x)) EffectAboveTest c.0) (no_test (list_any has_effect way && is_effect x) EffectOrder c.1)
+    (no_test (list_any is_test way && not (only_computes x)) EffectAboveTest c.0) (no_test (list_any has_effect way && is_effect x) EffectOrder c.1)
 
 -- ---- another name changes nothing
 

@@ -1,7 +1,5 @@
-pub mod Touching
 pub mod Climbs
 pub mod Refused
-pub mod Renamed
 pub mod Paths
 pub mod Brought
 pub mod Legal
@@ -12,4 +10,3 @@ pub mod Fronts
 pub mod Moved
 pub mod Windows
 pub mod Shapes
-pub mod GuardedStoreKept

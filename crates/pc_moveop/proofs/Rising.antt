@@ -10,13 +10,15 @@ use Rattle.pc_window.specs.Tree.{Tree, Pending, Undecided, Unfinished}
 use Rattle.pc_window.specs.Names.{IsNew, and_dest, Scoped, Unwritten}
 use Rattle.pc_window.specs.Conflict.{NoConflict}
 use Rattle.pc_window.specs.Jump.{Rises, Root, Past_item, Past_yes, Past_no}
-use Rattle.pc_window.specs.Rename.{map_operands, mapped, renamed, with_dest}
+use Rattle.pc_window.specs.Rename.{mapped}
 use Rattle.pc_window.proofs.Readiness.{alike, dest_named, clear_alike as conflict_alike, not_written_named}
 use Rattle.pc_moveop.specs.NodeTree.{NodeTree, Item_node, Test_node, Leads_to, Leads_out, whole_tree, node_front, node_size}
 use Rattle.pc_moveop.specs.Climbing.{Passed_item, Passed_test, Mover, passing, mover_in, crosses_test}
 use Rattle.pc_moveop.specs.Taking.{nodes_mapped, node_without, leaf_to}
 use Rattle.pc_moveop.proofs.Legal.{ClearItem, ClearWay}
-use Rattle.pc_moveop.proofs.Known.{new_apart, not_written_below}
+use Rattle.pc_window.proofs.Rising.{new_to_either}
+use Rattle.pc_window.proofs.Readiness.{not_written_known}
+use Rattle.pc_word.specs.Naming.{map_operands, renamed, with_dest}
 
 -- ---- renaming and leaves
 
@@ -48,7 +50,7 @@ module _ (forms : ℕ → Form) where
   kept_past_item known t o y rest left None h = tt
   kept_past_item known t o y rest left (Some m) h = λ clear crosses scoped. (
       let k = h clear.1 crosses scoped.2 in
-      let new = new_apart known y (dest_of m.item) k.1 in
+      let new = new_to_either known y (dest_of m.item) k.1 in
       (Past_item t o y false rest (left (dest_of m.item)) (clear_item forms m.item y clear.0) new.1 k.0, new.0)
       )
 
@@ -63,7 +65,7 @@ module _ (forms : ℕ → Form) where
       (if b then Some (record { tag = t; origin = o; item = y; way = [] }) else passing (Passed_item false o y) (mover_in (place - 1) rest))) [
         | true ↦ λ clear crosses scoped. (
           subst (λ (u : Tree). Rises forms t o y y false (Pending t o y (whole_tree rest)) u) (tree_mapped (renamed (dest_of y) (dest_of y)) rest)
-              (Root (whole_tree rest) (not_written_below y (whole_tree rest) known scoped.2)),
+              (Root (whole_tree rest) (not_written_known y (whole_tree rest) known scoped.2)),
           scoped.1,
         )
         | false ↦ kept_past_item known t o y (whole_tree rest) (λ d. whole_tree (node_without d (place - 1) rest)) (mover_in (place - 1) rest) (rises_kept (and_dest known y) (place - 1) rest)

@@ -5,8 +5,7 @@ use Rattle.pc_word.specs.declared.item.Operand.{Operand}
 use Rattle.pc_word.specs.Items.{dest_of}
 use Rattle.pc_window.specs.declared.window.Window.{Window as StoredWindow}
 use Rattle.pc_window.specs.StoredWindow.{tree_in}
-use Rattle.pc_window.specs.Tree.{Tree, Pending, Undecided, Exit, Stop_exit, Trap_exit, tree_size}
-use Rattle.pc_window.specs.Rename.{mapped, renamed}
+use Rattle.pc_window.specs.Tree.{tree_size}
 use Rattle.pc_moveop.specs.NodeTree.{NodeTree, Item_node, Test_node, Leads_to, Leads_out, nodes_in, whole_tree, node_size}
 use Rattle.pc_moveop.specs.NodeTree.{leaf_count, child_at, led_on, node_at, child_changed, with_node, HasRoot, NoEmptyNode}
 use Rattle.pc_moveop.specs.Climbing.{Passed, Passed_item, Passed_test, Mover, passing, mover_in, mover_at}
@@ -14,21 +13,16 @@ use Rattle.pc_moveop.specs.Taking.{nodes_mapped, node_without, leaf_to, Coming, 
 use Rattle.pc_moveop.specs.Refusing.{mover_behind}
 use Rattle.pc_moveop.specs.Moving.{NodeChanges, coming_of, HasMoved}
 use Rattle.pc_moveop.proofs.Paths.{tree_same}
+use Rattle.pc_word.specs.Naming.{renamed}
+use Rattle.pc_window.proofs.Sizes.{size_mapped}
 
 -- ---- how many items and tests
 
-tree_mapped_size : (f : Operand → Operand) (t : Tree) → tree_size (mapped f t) ≡ tree_size t
-tree_mapped_size f (Pending t o x rest) = ap suc (tree_mapped_size f rest)
-tree_mapped_size f (Undecided t o on p q) = λ i. suc (tree_mapped_size f p i + tree_mapped_size f q i)
-tree_mapped_size f (Exit region tag homes) = refl
-tree_mapped_size f Stop_exit = refl
-tree_mapped_size f (Trap_exit kind line) = refl
-
-mapped_size : (f : Operand → Operand) (t : NodeTree) → tree_size (whole_tree (nodes_mapped f t)) ≡ tree_size (whole_tree t)
+pub mapped_size : (f : Operand → Operand) (t : NodeTree) → tree_size (whole_tree (nodes_mapped f t)) ≡ tree_size (whole_tree t)
 mapped_size f (Item_node t o x rest) = ap suc (mapped_size f rest)
 mapped_size f (Test_node t o on p q) = λ i. suc (mapped_size f p i + mapped_size f q i)
 mapped_size f (Leads_to below) = mapped_size f below
-mapped_size f (Leads_out out) = tree_mapped_size f out
+mapped_size f (Leads_out out) = size_mapped f out
 
 pub leaf_size : (t : NodeTree) → tree_size (whole_tree (leaf_to t)) ≡ tree_size (whole_tree t)
 leaf_size (Item_node t o x rest) = refl
@@ -141,13 +135,13 @@ node_many (leaf ∷ path) n n' t at same = child_many leaf (with_node path n') (
 
 -- ---- no node is empty
 
-mapped_root : (f : Operand → Operand) (t : NodeTree) → HasRoot t → HasRoot (nodes_mapped f t)
+pub mapped_root : (f : Operand → Operand) (t : NodeTree) → HasRoot t → HasRoot (nodes_mapped f t)
 mapped_root f (Item_node t o x rest) h = tt
 mapped_root f (Test_node t o on p q) h = tt
 mapped_root f (Leads_to below) h = h
 mapped_root f (Leads_out out) h = h
 
-mapped_nodes : (f : Operand → Operand) (t : NodeTree) → NoEmptyNode t → NoEmptyNode (nodes_mapped f t)
+pub mapped_nodes : (f : Operand → Operand) (t : NodeTree) → NoEmptyNode t → NoEmptyNode (nodes_mapped f t)
 mapped_nodes f (Item_node t o x rest) h = mapped_nodes f rest h
 mapped_nodes f (Test_node t o on p q) h = (mapped_nodes f p h.0, mapped_nodes f q h.1)
 mapped_nodes f (Leads_to below) h = (mapped_root f below h.0, mapped_nodes f below h.1)

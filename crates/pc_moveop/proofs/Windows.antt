@@ -10,7 +10,6 @@ use Rattle.pc_window.specs.declared.window.Window.{Window as StoredWindow}
 use Rattle.pc_window.specs.StoredWindow.{tree_in, forms_in, supply_in, window_in}
 use Rattle.pc_window.specs.Tree.{Tree, Front}
 use Rattle.pc_window.specs.Opening.{Supply}
-use Rattle.pc_window.specs.Rename.{with_dest}
 use Rattle.pc_window.specs.WindowRun.{Window}
 use Rattle.pc_window.specs.Filled.{given_supply, IsNext, HasSpace, item_count, memory_count}
 use Rattle.pc_window.specs.Steps.{IsProper}
@@ -28,6 +27,7 @@ use Rattle.pc_moveop.proofs.Paths.{tree_same, front_same}
 use Rattle.pc_moveop.proofs.Legal.{ClearWay, both_none, way_not_refused}
 use Rattle.pc_moveop.proofs.Comes.{Enters, enters}
 use Rattle.pc_moveop.proofs.Moved.{node_window, StandsNew, RoomAt, window_moves, walk_kept}
+use Rattle.pc_word.specs.Naming.{with_dest}
 
 -- ---- a window in memory, by its nodes
 

@@ -7,7 +7,8 @@ use Rattle.pc_word.specs.declared.item.Operand.TheVariants.{Name, Lit}
 use Rattle.pc_word.specs.Items.{dest_of, is_effect}
 use Rattle.pc_word.specs.Commit.{writes}
 use Rattle.pc_linear.specs.Form.{Form}
-use Rattle.pc_window.specs.Conflict.{Touch, touch_of, NoDependence, NoStoreDependence}
+use Rattle.pc_window.specs.declared.conflict.Touch.{Touch}
+use Rattle.pc_window.specs.Conflict.{touch_of, NoDependence, NoStoreDependence}
 use Rattle.pc_moveop.specs.NodeTree.{NodeTree, Item_node, Test_node, Leads_to, Leads_out, node_size, leaf_count}
 
 -- what is passed: an item, which is finished where it is one of the node above and else stands in the same node; or a test there

@@ -7,7 +7,6 @@ use Rattle.pc_linear.specs.Form.{Form}
 use Rattle.pc_window.specs.Tree.{Tree}
 use Rattle.pc_window.specs.Walk.{IsWhole, walk}
 use Rattle.pc_window.specs.Hold.{TreeHolds}
-use Rattle.pc_window.specs.Rename.{with_dest}
 use Rattle.pc_window.specs.Filled.{given_supply}
 use Rattle.pc_window.specs.declared.window.Window.{Window as StoredWindow}
 use Rattle.pc_window.specs.StoredWindow.{tree_in, forms_in, supply_in}
@@ -17,6 +16,7 @@ use Rattle.pc_moveop.specs.NodeTree.{NodeTree, nodes_in, node_at, with_node}
 use Rattle.pc_moveop.specs.Climbing.{Mover, crosses_test}
 use Rattle.pc_moveop.specs.Taking.{Coming, landed}
 use Rattle.pc_moveop.specs.Refusing.{mover_of}
+use Rattle.pc_word.specs.Naming.{with_dest}
 
 -- the item as it comes: with the next name where a test stands before it
 abbrev pub moved_item : ℕ → Mover → Item

@@ -3,10 +3,9 @@ use Rattle.std.specs.Prelude.{ℕ, ◌≡◌, Bool, not, ◌&&◌, if◌then◌e
 use Rattle.std.specs.List.{list_any}
 use Rattle.pc_word.specs.declared.item.Item.{Item}
 use Rattle.pc_word.specs.declared.item.Limits.{Limits}
-use Rattle.pc_word.specs.Items.{operands_of, is_effect, is_memory}
+use Rattle.pc_word.specs.Items.{operands_of, is_effect, is_memory, only_computes}
 use Rattle.pc_window.specs.Tree.{Front}
 use Rattle.pc_window.specs.Filled.{item_count, memory_count}
-use Rattle.pc_window.specs.Jump.{is_quiet}
 use Rattle.pc_window.specs.declared.window.Window.{Window as StoredWindow}
 use Rattle.pc_window.specs.StoredWindow.{forms_in}
 use Rattle.pc_moveop.specs.declared.error.RoomKind.TheVariants.{Ops, Mem}
@@ -34,7 +33,7 @@ out_of_order None = None
 abbrev pub first_refusal : (depends conflict : Option ℕ) → (crosses effect : Bool) → Item → Option MoveError
 first_refusal depends conflict crosses effect item =
     refused_first (depends_on depends) (refused_first (out_of_order conflict)
-    (refused_first (if crosses && not (is_quiet item) then Some EffectAboveTest else None) (if effect && is_effect item then Some EffectOrder else None)))
+    (refused_first (if crosses && not (only_computes item) then Some EffectAboveTest else None) (if effect && is_effect item then Some EffectOrder else None)))
 
 -- why an item may not rise, where this is its first conflict
 abbrev pub refusal_of_way : Mover → (conflict : Option ℕ) → Option MoveError

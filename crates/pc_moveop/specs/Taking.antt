@@ -3,8 +3,9 @@ use Rattle.std.specs.Prelude.{ℕ, ◌-◌, if◌then◌else◌, nat_eq, nat_lt,
 use Rattle.pc_word.specs.declared.item.Item.{Item}
 use Rattle.pc_word.specs.declared.item.Operand.{Operand}
 use Rattle.pc_word.specs.Items.{dest_of}
-use Rattle.pc_window.specs.Rename.{map_operands, mapped, renamed}
+use Rattle.pc_window.specs.Rename.{mapped}
 use Rattle.pc_moveop.specs.NodeTree.{NodeTree, Item_node, Test_node, Leads_to, Leads_out, node_size, leaf_count}
+use Rattle.pc_word.specs.Naming.{map_operands, renamed}
 
 -- nodes that read other operands
 abbrev pub nodes_mapped : (Operand → Operand) → NodeTree → NodeTree

@@ -1,4 +1,2 @@
-pub mod Touches
 pub mod Climbs
 pub mod Landing
-pub mod GuardedStore

@@ -1,18 +1,17 @@
 //! An item on its way up into the node above, and what it meets.
-ghost use Rattle.std.specs.Prelude.{◌≡◌, ℕ, ◌<◌, ◌^◌, ◌||◌, List, [], ◌∷◌, Bool, Some, Option};
+ghost use Rattle.std.specs.Prelude.{◌≡◌, ◌↔◌, ℕ, ◌<◌, ◌^◌, ◌||◌, List, [], ◌∷◌, Bool, true, Some, Option, slice_get};
 ghost use Rattle.pc_word.specs.Items.{operands_of, is_effect};
 ghost use Rattle.pc_linear.specs.Form.{Form};
+ghost use Rattle.pc_window.specs.Conflict.{touch_of};
 ghost use Rattle.pc_window.specs.Tree.{tree_size};
 ghost use Rattle.pc_window.specs.StoredWindow.{tree_in, forms_in};
 ghost use Rattle.pc_moveop.specs.NodeTree.{nodes_in};
-ghost use Rattle.pc_moveop.specs.Climbing.{Passed, Passed_item, Passed_test, Mover, passing, mover_in, mover_at, defines_operand, FirstConflict};
+ghost use Rattle.pc_moveop.specs.Climbing.{Passed, Passed_item, Passed_test, Mover, passing, mover_in, mover_at, defines_operand, MayPass, FirstConflict};
 ghost use Rattle.pc_moveop.specs.models.Climbs.{Finds, first_marked};
 
-use crate::conflict::may_pass;
-use crate::items::{dest_of, first_operand, is_effect, second_operand};
 use crate::nodes::{leaf_count, node_size};
 use pc_window::{NameTable, WindowTree};
-use pc_word::{Item, Operand};
+use pc_word::{Item, Operand, Operands};
 
 /// An item on its way up: whether its first and its second operand are defined there, the origin
 /// of its first conflict, whether it passes a test, and a print, read or more.
@@ -45,6 +44,28 @@ fn start(tag: u32, origin: u32, item: Item) -> Climb
     }
 }
 
+/// The first operand of an item.
+fn first_operand(item: Item) -> Option<Operand>
+    ensures { result ≡ slice_get (operands_of item) 0 }
+{
+    match item.operands() {
+        Operands::None => None,
+        Operands::One(one) => Some(one),
+        Operands::Two(one, _) => Some(one),
+    }
+}
+
+/// The second operand of an item.
+fn second_operand(item: Item) -> Option<Operand>
+    ensures { result ≡ slice_get (operands_of item) 1 }
+{
+    match item.operands() {
+        Operands::None => None,
+        Operands::One(_) => None,
+        Operands::Two(_, other) => Some(other),
+    }
+}
+
 /// Whether an item defines an operand, or it was defined before.
 pub fn defines(above: Item, operand: Option<Operand>, before: bool) -> bool
     ensures { (finished : Bool) (origin : ℕ) → result ≡ (defines_operand operand (Passed_item finished origin above) || before) }
@@ -52,7 +73,7 @@ pub fn defines(above: Item, operand: Option<Operand>, before: bool) -> bool
     match operand {
         None => before,
         Some(Operand::Lit(_)) => before,
-        Some(Operand::Name(name)) => match dest_of(above) {
+        Some(Operand::Name(name)) => match above.dest() {
             None => before,
             Some(dest) => {
                 if dest == name {
@@ -62,6 +83,17 @@ pub fn defines(above: Item, operand: Option<Operand>, before: bool) -> bool
             }
         },
     }
+}
+
+/// Whether an item may come to stand before another, as far as loads and stores go; or, where that
+/// one is finished, right behind it.
+fn may_pass(names: &NameTable, above: Item, item: Item, finished: bool) -> bool
+    ensures { (result ≡ true) ↔ MayPass (forms_in names.now.forms) finished (touch_of above) (touch_of item) }
+{
+    if finished {
+        return names.no_store_dependence(above, item);
+    }
+    names.no_dependence(above, item)
 }
 
 /// The first conflict of an item once it has passed another.
@@ -86,7 +118,7 @@ fn first_conflict(
 fn has_effect(above: Item, before: bool) -> bool
     ensures { result ≡ (is_effect above || before) }
 {
-    if is_effect(above) {
+    if above.is_effect() {
         return true;
     }
     before

@@ -6,7 +6,6 @@ ghost use Rattle.pc_moveop.specs.NodeTree.{nodes_in};
 ghost use Rattle.pc_moveop.specs.Taking.{landed};
 ghost use Rattle.pc_moveop.specs.models.Landing.{coming_in, leads_on};
 
-use crate::items::dest_of;
 use crate::nodes::leaf_count;
 use crate::taking::leaf_without;
 use pc_window::WindowTree;
@@ -32,7 +31,7 @@ fn land_here(tree: &mut WindowTree, leaf: u32, place: u32, coming: Coming, spare
     }
     let from = std::mem::replace(tree, WindowTree::Stop);
     let mut rest = spare;
-    *rest = leaf_without(from, place, dest_of(coming.item));
+    *rest = leaf_without(from, place, coming.item.dest());
     *tree = WindowTree::Step {
         tag: coming.tag,
         origin: coming.origin,

@@ -2,23 +2,16 @@
 #![tactic(auto)]
 
 mod climbing;
-mod conflict;
 mod error;
-mod items;
 mod landing;
 mod moving;
-mod naming;
 mod nodes;
 mod refusing;
 mod renaming;
 mod taking;
-#[cfg(test)]
-mod tests;
 
 pub use climbing::{Climb, climb_in, defines};
 pub use error::{MoveError, RoomKind};
-pub use items::dest_of;
 pub use moving::{move_op, why_not};
-pub use naming::give_name;
 pub use nodes::{leaf_count, node_at, node_size, swap_node};
 pub use taking::{leaf_to, leaf_without};

@@ -15,7 +15,6 @@ ghost use Rattle.pc_moveop.specs.models.Landing.{coming_in};
 use crate::climbing::Climb;
 use crate::error::MoveError;
 use crate::landing::{Coming, land};
-use crate::naming::give_name;
 use crate::nodes::swap_node;
 use crate::refusing::legal_mover;
 use pc_window::{NameTable, Window, WindowTree};
@@ -51,7 +50,7 @@ fn named(names: &mut NameTable, climb: Climb) -> Result<Item, AllocError>
     if !climb.crosses {
         return Ok(climb.item);
     }
-    give_name(names, climb.item)
+    names.give_name(climb.item)
 }
 
 /// An item comes into the node that a path leads to, from a place of the node behind a leaf there.

@@ -11,7 +11,6 @@ ghost use Rattle.pc_moveop.specs.models.Climbs.{Finds, first_marked};
 
 use crate::climbing::{Climb, climb_at, first_defined};
 use crate::error::{MoveError, RoomKind};
-use crate::items::{is_effect, is_memory, is_quiet};
 use crate::nodes::node_at;
 use pc_window::{Window, WindowTree};
 use pc_word::{Item, Limits};
@@ -41,7 +40,7 @@ pub fn memory_count(tree: &WindowTree) -> u32
     match tree {
         WindowTree::Step { item, rest, .. } => {
             let below = memory_count(rest);
-            if is_memory(*item) {
+            if item.is_memory() {
                 return 1 + below;
             }
             below
@@ -65,12 +64,12 @@ pub(crate) fn refusal_of_way(climb: Climb) -> Option<MoveError>
         return Some(MoveError::MemoryOrder { origin });
     }
     if climb.crosses {
-        if !is_quiet(climb.item) {
+        if !climb.item.only_computes() {
             return Some(MoveError::EffectAboveTest);
         }
     }
     if climb.effect {
-        if is_effect(climb.item) {
+        if climb.item.is_effect() {
             return Some(MoveError::EffectOrder);
         }
     }
@@ -87,7 +86,7 @@ fn no_room_for(tree: &WindowTree, limits: Limits, item: Item) -> Option<MoveErro
             kind: RoomKind::Ops,
         });
     }
-    if is_memory(item) {
+    if item.is_memory() {
         if memory_count(tree) >= limits.mem as u32 {
             return Some(MoveError::Full {
                 kind: RoomKind::Mem,

@@ -2,12 +2,11 @@
 ghost use Rattle.std.specs.Prelude.{◌≡◌, ◌<◌, ◌^◌};
 ghost use Rattle.pc_word.specs.Items.{dest_of};
 ghost use Rattle.pc_window.specs.Tree.{tree_size};
-ghost use Rattle.pc_window.specs.Rename.{renamed};
 ghost use Rattle.pc_window.specs.StoredWindow.{tree_in};
 ghost use Rattle.pc_moveop.specs.NodeTree.{nodes_in};
 ghost use Rattle.pc_moveop.specs.Taking.{nodes_mapped, node_without, leaf_to, leaf_without};
+ghost use Rattle.pc_word.specs.Naming.{renamed};
 
-use crate::items::dest_of;
 use crate::nodes::node_size;
 use crate::renaming::rename;
 use pc_window::{WindowTree, is_leaf};
@@ -18,7 +17,7 @@ fn rest_of(item: Item, below: WindowTree, name: Option<u32>) -> WindowTree
     ensures { nodes_in result ≡ nodes_mapped (renamed (dest_of item) name) (nodes_in below) }
 {
     let mut rest = below;
-    rename(&mut rest, dest_of(item), name);
+    rename(&mut rest, item.dest(), name);
     rest
 }
 

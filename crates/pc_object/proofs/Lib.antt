@@ -7,4 +7,5 @@ pub mod RowLaws
 pub mod Ranges
 pub mod Examples
 pub mod Shorter
+pub mod Lengths
 pub mod Flawed

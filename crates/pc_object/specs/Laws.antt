@@ -1,5 +1,5 @@
 -- Laws of the format, of every object and all bytes. Each is the contract of a function of laws.rt, which does nothing.
-use Rattle.std.specs.Prelude.{◌≡◌, ℕ, ◌<◌, ◌≤◌, ◌↔◌, List, ◌∷◌, ◌++◌, length, take, slice_get, slice_index, Some, Ok, Err}
+use Rattle.std.specs.Prelude.{◌≡◌, ℕ, ◌+◌, ◌*◌, ◌<◌, ◌≤◌, ◌↔◌, List, ◌∷◌, ◌++◌, length, take, slice_get, slice_index, Some, Ok, Err}
 use Rattle.pc_word.specs.MachineLimits.{most_ops, most_tests, most_object}
 use Rattle.pc_machine.specs.declared.code.Flaw.{Flaw}
 use Rattle.pc_machine.specs.declared.check.Bounds.{Bounds}
@@ -8,6 +8,14 @@ use Rattle.pc_object.specs.declared.refusal.ObjectError.TheVariants.{Truncated, 
 use Rattle.pc_object.specs.ObjectText.{CodeWithNotes, object_text, IsObject}
 use Rattle.pc_object.specs.Numbers.{HasWords, HasCounts}
 use Rattle.pc_object.specs.Reading.{object_reading, row_at, deepest}
+use Rattle.pc_object.specs.declared.object.Note.{Note}
+use Rattle.pc_object.specs.ObjectText.{operand_text, item_text, leaf_text, row_text, header_text, notes_text}
+use Rattle.pc_object.specs.Sizes.{operand_bytes, item_bytes, test_bytes, goto_bytes, end_bytes, trap_bytes, header_bytes, length_bytes, count_bytes, note_bytes}
+use Rattle.pc_word.specs.declared.item.Item.{Item}
+use Rattle.pc_word.specs.declared.item.Operand.{Operand}
+use Rattle.pc_word.specs.declared.item.TrapKind.{TrapKind}
+use Rattle.pc_word.specs.Row.{Either}
+use Rattle.pc_machine.specs.MachineCode.{Leads_to, Ends, Traps, CodeRow, RowCode}
 
 -- each text is the text of one object
 abbrev pub OneTextOneObject : Type 0
@@ -38,3 +46,14 @@ abbrev pub DepthDecidesNothing : Type 0
 DepthDecidesNothing = (bounds : Bounds) (depth : ℕ) (bytes : List ℕ) → bounds.limits.ops ≤ most_ops → bounds.limits.tests ≤ most_tests
     → ((i : ℕ) → slice_index bytes i < 256) → deepest ≤ depth
     → row_at bounds depth no_counts nothing_above bytes ≡ row_at bounds deepest no_counts nothing_above bytes
+
+-- each part of an object's text has as many bytes as is said of it
+pub record SizesAreLengths : Type 0 where
+  pub operand : (o : Operand) → length (operand_text o) ≡ operand_bytes o
+  pub item : (x : Item) → length (item_text x) ≡ item_bytes x
+  pub test : (on : Operand) (p q : CodeRow) → length (row_text (Either on p q)) ≡ test_bytes on + (length (row_text p) + length (row_text q))
+  pub goto : (row : ℕ) → length (leaf_text (Leads_to row)) ≡ goto_bytes
+  pub end : length (leaf_text Ends) ≡ end_bytes
+  pub trap : (kind : TrapKind) (line : ℕ) → length (leaf_text (Traps kind line)) ≡ trap_bytes
+  pub header : (code : RowCode) → length (header_text code) ≡ header_bytes + length_bytes * length code.arrays
+  pub notes : (ns : List Note) → length (notes_text ns) ≡ count_bytes + note_bytes * length ns

@@ -13,22 +13,11 @@ ghost use Rattle.pc_word.specs.MachineLimits.{most_arrays};
 use crate::object::{Note, Object};
 use byteorder::{BigEndian, ByteOrder};
 use pc_machine::{Code, Tree};
-use pc_word::{Item, OpCode, Operand, TrapKind};
+use pc_word::{Item, OpCode, Operand, OutOfMemory, TrapKind};
 use std::alloc::{AllocError, Global};
-use thiserror::Error;
 
 /// Why an object could not be written.
-#[derive(Clone, Copy, Debug, PartialEq, Eq, Error)]
-pub enum EncodeError {
-    #[error("out of memory")]
-    Memory,
-}
-
-impl From<AllocError> for EncodeError {
-    fn from(_error: AllocError) -> EncodeError {
-        EncodeError::Memory
-    }
-}
+pub type EncodeError = OutOfMemory;
 
 /// The bytes of an object.
 pub fn encode(alloc: Global, object: &Object) -> Result<Vec<u8>, EncodeError>

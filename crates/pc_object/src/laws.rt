@@ -1,6 +1,6 @@
 //! Laws of the format, of every object and all bytes. Each is proved; nothing runs.
 
-ghost use Rattle.pc_object.specs.Laws.{OneTextOneObject, ReadsExactlyTexts, LongerIsTrailing, ShorterIsTruncated, FlawedIsBadField, DepthDecidesNothing};
+ghost use Rattle.pc_object.specs.Laws.{SizesAreLengths, OneTextOneObject, ReadsExactlyTexts, LongerIsTrailing, ShorterIsTruncated, FlawedIsBadField, DepthDecidesNothing};
 
 /// Each text is the text of one object.
 pub fn one_object()
@@ -32,4 +32,9 @@ pub fn flawed_is_bad_field()
 /// both before.
 pub fn depth_decides_nothing()
     ensures { DepthDecidesNothing }
+{}
+
+/// Each part of an object's text has as many bytes as `item_bytes` and its like say.
+pub fn sizes_are_lengths()
+    ensures { SizesAreLengths }
 {}

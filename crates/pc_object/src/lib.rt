@@ -8,16 +8,18 @@ mod laws;
 mod object;
 mod refusal;
 mod rows;
+mod sizes;
 mod tag;
 
 pub use decoding::decode;
 pub use encoding::{EncodeError, encode};
 pub use laws::{
     depth_decides_nothing, flawed_is_bad_field, longer_is_trailing, one_object,
-    reads_exactly_texts, shorter_is_truncated,
+    reads_exactly_texts, shorter_is_truncated, sizes_are_lengths,
 };
 pub use object::{Note, NoteList, Object};
 pub use refusal::ObjectError;
-
-#[cfg(test)]
-mod tests;
+pub use sizes::{
+    COUNT_BYTES, END_BYTES, GOTO_BYTES, HEADER_BYTES, LENGTH_BYTES, NOTE_BYTES, TRAP_BYTES,
+    item_bytes, operand_bytes, test_bytes,
+};

@@ -1,10 +1,10 @@
 //! Why calls on the outside are refused.
 ghost use Rattle.std.specs.Prelude.{◌≡◌};
-ghost use Rattle.pc_outside.specs.declared.error.OutsideError.TheVariants as outside;
 ghost use Rattle.pc_outside.specs.declared.error.ShelfError.TheVariants as shelf;
 ghost use Rattle.pc_outside.specs.declared.error.TakeError.TheVariants as take;
 
-use std::alloc::{AllocError, AllocFailed};
+use pc_word::OutOfMemory;
+use std::alloc::AllocError;
 use thiserror::Error;
 
 /// The outside failed: a read or a write did not come about.
@@ -35,20 +35,9 @@ pub enum TakeError {
 }
 
 /// Why something outside could not be made.
-#[derive(Clone, Copy, Debug, PartialEq, Eq, Error)]
-pub enum OutsideError {
-    /// There was no memory for it.
-    #[error("out of memory")]
-    Memory,
-}
-
-impl From<AllocError> for OutsideError {
-    ghost from_gives = { λ _ e. e ≡ outside.Memory };
-
-    fn from(_error: AllocError) -> OutsideError {
-        OutsideError::Memory
-    }
-}
+///
+/// There was no memory for it.
+pub type OutsideError = OutOfMemory;
 
 impl From<AllocError> for ShelfError {
     ghost from_gives = { λ _ e. e ≡ shelf.Memory };

@@ -34,6 +34,3 @@ pub use transfer::{send, take_all};
 
 /// Numbers of calls, counted from 1.
 pub type CallList = Seq<u64>;
-
-#[cfg(test)]
-mod tests;

@@ -14,6 +14,3 @@ mod tree;
 mod unit;
 
 pub use unit::{ParseError, one_program, parse};
-
-#[cfg(test)]
-mod tests;

@@ -4,8 +4,6 @@
 mod list;
 mod memory;
 mod pass;
-#[cfg(test)]
-mod tests;
 
 pub use list::{run_list, run_passes};
 pub use memory::PassMemory;

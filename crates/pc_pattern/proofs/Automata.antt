@@ -17,14 +17,12 @@ use Rattle.pc_linear.specs.Form.{Form}
 use Rattle.pc_window.specs.declared.home.Home.{Home}
 use Rattle.pc_window.specs.Tree.{Tree, Pending, Undecided, Exit, Stop_exit, Trap_exit, Front, Issued, Split, Unfinished, whole}
 use Rattle.pc_window.specs.Names.{uses, IsKnown, ReadsKnown, HomesKnown, and_dest, parameters_of}
-use Rattle.pc_window.specs.Rename.{with_dest}
 use Rattle.pc_window.specs.Rebasing.{is_in}
 use Rattle.pc_window.specs.WindowRun.{Window}
 use Rattle.pc_window.specs.Filled.{Independent}
 use Rattle.pc_window.specs.Kept.{Left}
 use Rattle.pc_window.specs.Steps.{Positive, IsProper, left_of, front_row, cut_row}
 use Rattle.pc_window.proofs.Filling.{filling_window}
-use Rattle.pc_window.proofs.Live.{or_first, or_second}
 use Rattle.pc_automaton.specs.declared.automaton.AutomatonLeaf.{AutomatonLeaf}
 use Rattle.pc_automaton.specs.declared.automaton.AutomatonLeaf.TheVariants.{To, Out, Stop, Trap}
 use Rattle.pc_automaton.specs.Automaton.{AutomatonState, is_parameter, LeafIsKnown, LeavesAreKnown, Takes, LeafLeads, IsStateAmong}
@@ -36,6 +34,8 @@ use Rattle.pc_canon.proofs.ParameterLists.{parameters_listed}
 use Rattle.pc_canon.specs.Canonical.{parameter_pairs}
 use Rattle.pc_pattern.proofs.Shifts.{shifted_many}
 use Rattle.pc_pattern.proofs.Members.{members_proper, begins_with, state_of}
+use Rattle.pc_word.specs.Naming.{with_dest}
+use Rattle.pc_word.proofs.Truth.{or_first, or_second}
 
 -- ---- what items and tests read
 

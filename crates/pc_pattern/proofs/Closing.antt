@@ -37,7 +37,7 @@ use Rattle.pc_canon.proofs.Alike.{home_states_alike}
 use Rattle.pc_canon.proofs.ShiftRuns.{shifted_runs}
 use Rattle.pc_canon.proofs.ShiftForms.{shifted_forms}
 use Rattle.pc_pattern.proofs.Passing.{state_corresponds, states_same, themselves_same}
-use Rattle.pc_pattern.proofs.Places.{left_is_region}
+use Rattle.pc_automaton.proofs.LeftRuns.{left_is_region}
 use Rattle.pc_pattern.proofs.Keeping.{brings_on_keeps, rest_kept_on, never_left}
 use Rattle.pc_pattern.proofs.Shifts.{shifted_items, parameter_sides}
 

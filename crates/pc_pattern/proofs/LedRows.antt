@@ -20,7 +20,6 @@ use Rattle.pc_window.specs.declared.home.Home.{Home}
 use Rattle.pc_window.specs.Tree.{Tree, Pending, Undecided, Exit, Stop_exit, Trap_exit, Front, Issued, Split, Unfinished, whole}
 use Rattle.pc_window.specs.Names.{uses, IsKnown, HomesKnown, and_dest, Scoped, parameters_of}
 use Rattle.pc_window.specs.Opening.{is_inside}
-use Rattle.pc_window.specs.Rename.{with_dest}
 use Rattle.pc_window.specs.Rebasing.{is_in}
 use Rattle.pc_window.specs.WindowRun.{Window}
 use Rattle.pc_window.specs.Kept.{Left, Rest, Gone, Finished, Trapped_at}
@@ -47,6 +46,7 @@ use Rattle.pc_canon.proofs.ParameterLists.{parameters_used}
 use Rattle.pc_pattern.proofs.Ends.{unwinds_fewer}
 use Rattle.pc_pattern.proofs.Keeping.{brings_on_keeps}
 use Rattle.pc_pattern.proofs.Pools.{KeysStand, number_there, row_keys}
+use Rattle.pc_word.specs.Naming.{with_dest}
 
 -- ---- what the leaves of a cut row use
 

@@ -1,6 +1,5 @@
 pub mod NamedRows
 pub mod WritesOnce
-pub mod Places
 pub mod Shifts
 pub mod Brought
 pub mod Keeping
@@ -25,5 +24,3 @@ pub mod Progress
 pub mod Steps
 pub mod States
 pub mod Turns
-pub mod EchoingKept
-pub mod ExchangingKept

@@ -16,7 +16,6 @@ use Rattle.pc_word.specs.declared.item.Item.{Item}
 use Rattle.pc_word.specs.declared.item.Operand.{Operand}
 use Rattle.pc_linear.specs.Form.{Form}
 use Rattle.pc_window.specs.Names.{uses}
-use Rattle.pc_window.specs.Rename.{with_dest}
 use Rattle.pc_window.specs.Jump.{Rises, Root, Past_item, Past_yes, Past_no, DividesTree, Root_test, Past, EntersFront, Lands, Lands_renamed, Lands_test}
 use Rattle.pc_window.specs.Jump.{Lands_once, Behind_item, On_yes, On_no}
 use Rattle.pc_window.specs.Filled.{Filled, Full, Goes_on}
@@ -41,6 +40,7 @@ use Rattle.pc_pattern.proofs.Shifts.{shifted_goes_on}
 use Rattle.pc_pattern.proofs.Brought.{member_rooted, member_proper, member_shifted}
 use Rattle.pc_pattern.proofs.Keeping.{settles_keep, brings_on_keeps, never_kept}
 use Rattle.pc_pattern.proofs.Closing.{state_agrees}
+use Rattle.pc_word.specs.Naming.{with_dest}
 
 -- ---- what holds of each member
 

@@ -13,11 +13,11 @@ use Rattle.pc_word.specs.Commit.{writes, names_after, Stored, stores_of, cells_a
 use Rattle.pc_word.specs.Commit.{state_after}
 use Rattle.pc_word.specs.Row.{Row, Then, Either, At_leaf, path_of, leaf_of, RowOutcome, Faults, Commits, commit_of, row_step}
 use Rattle.pc_window.specs.Names.{IsNew, and_dest}
-use Rattle.pc_window.specs.Rename.{with_dest}
-use Rattle.pc_window.proofs.Live.{or_first, or_second}
 use Rattle.pc_window.proofs.Undisturbed.{new-known}
 use Rattle.pc_canon.specs.Pairs.{Pair, corresponds, defined, Correspond}
 use Rattle.pc_pattern.specs.NamedRow.{RowsNamed, named_item, named_test, named_leaf}
+use Rattle.pc_word.specs.Naming.{with_dest}
+use Rattle.pc_word.proofs.Truth.{or_first, or_second}
 
 -- no name is written twice on a path, nor one of these
 abbrev pub WritesOnce : {L : Type 0} → (ℕ → Bool) → Row L → Type 0

@@ -11,7 +11,6 @@ use Rattle.pc_table.specs.TableKeeps.{TableKeeps}
 use Rattle.pc_window.specs.declared.home.Home.{Home}
 use Rattle.pc_window.specs.Tree.{Tree, Pending, Undecided, Exit, Stop_exit, Trap_exit, whole}
 use Rattle.pc_window.specs.Names.{uses, parameters_of}
-use Rattle.pc_window.specs.Rename.{with_dest}
 use Rattle.pc_window.specs.WindowRun.{Window}
 use Rattle.pc_window.specs.Kept.{Left, Rest}
 use Rattle.pc_window.specs.Steps.{Positive}
@@ -35,6 +34,7 @@ use Rattle.pc_pattern.proofs.Automata.{all_from_places}
 use Rattle.pc_pattern.proofs.Ends.{unwinds_fewer}
 use Rattle.pc_pattern.proofs.FirstRows.{same_state}
 use Rattle.pc_canon.proofs.ParameterLists.{parameters_used}
+use Rattle.pc_word.specs.Naming.{with_dest}
 
 module _ (rules : Rules) (keeps : TableKeeps rules.table) (room : Positive rules.limits) where
   -- what a window names is there, and its tags are at most some number

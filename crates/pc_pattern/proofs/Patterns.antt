@@ -3,8 +3,10 @@ use Rattle.std.proofs.Common.{ℕ, List, arith}
 use Rattle.pc_table.specs.TableKeeps.{TableKeeps}
 use Rattle.pc_window.specs.Steps.{Positive}
 use Rattle.pc_automaton.specs.Automaton.{AutomatonState}
+use Rattle.pc_automaton.specs.Reachable.{EachIsReachable}
+use Rattle.pc_automaton.specs.RowFits.{RowFits}
 use Rattle.pc_pattern.specs.Searches.{Rules, IsPattern}
-use Rattle.pc_pattern.specs.Pattern.{RowFits, EachIsLedTo, IsFound}
+use Rattle.pc_pattern.specs.Pattern.{IsFound}
 use Rattle.pc_pattern.specs.Laws.{PatternsRunAsTheRegion, PatternsHaveNoEmptyStates, PatternsFit, PatternsAreAutomata, SearchesHaveOneAnswer}
 use Rattle.pc_pattern.specs.Laws.{SearchesAreOne}
 use Rattle.pc_pattern.proofs.Members.{closed_runs, no_empty_states}
@@ -42,7 +44,7 @@ searches_are_one rules region steps members others taken taken' lefts lefts' p q
 
 -- the states of a closed search are found
 pub are_found : (rules : Rules) → TableKeeps rules.table → Positive rules.limits → (region rows : ℕ) (states : List AutomatonState)
-    → IsPattern rules region rows states → EachIsLedTo states → IsFound rules region rows states
+    → IsPattern rules region rows states → EachIsReachable states → IsFound rules region rows states
 are_found rules keeps room region rows states pattern led = record {
   pattern = pattern;
   few = (let few = pattern.few in let many = pattern.automates.as_many in omega (arith, few, many));

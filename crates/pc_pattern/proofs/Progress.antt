@@ -17,14 +17,15 @@ use Rattle.pc_window.specs.Kept.{Left}
 use Rattle.pc_window.specs.Steps.{EachLeft, Positive, IsProper, opened_window}
 use Rattle.pc_window.proofs.Filling.{filling_window}
 use Rattle.pc_window.proofs.Proper.{fills_proper, cuts_proper}
-use Rattle.pc_rebase.proofs.Listed.{parameters-below}
+use Rattle.pc_window.proofs.Listed.{parameters-below}
 use Rattle.pc_canon.specs.Pairs.{themselves}
 use Rattle.pc_canon.specs.Key.{key_of}
 use Rattle.pc_canon.proofs.ParameterLists.{parameters_listed, parameters_distinct}
 use Rattle.pc_automaton.specs.Automaton.{AutomatonState, names_written}
+use Rattle.pc_automaton.specs.Reachable.{IsLedTo, EachIsReachable}
 use Rattle.pc_pattern.specs.declared.error.SearchError.{SearchError}
 use Rattle.pc_pattern.specs.Searches.{Rules, RowFor, Settles, Search, begins, takes, StateFor, IsPattern}
-use Rattle.pc_pattern.specs.Pattern.{IsLedTo, EachIsLedTo, IsNotFound}
+use Rattle.pc_pattern.specs.Pattern.{IsNotFound}
 use Rattle.pc_pattern.specs.models.Pools.{Pool, IsSmall}
 use Rattle.pc_pattern.specs.models.Leading.{Made, Unmade, unmade_memory, unmade_row}
 use Rattle.pc_pattern.proofs.Pools.{KeysStand, last_in, LeadsTo, either_side, row_leads_to}
@@ -261,7 +262,7 @@ module _ (rules : Rules) (keeps : TableKeeps rules.table) (few_regions : length 
 
 -- where no window waits, each state but the first is led to
 pub states_led : (rules : Rules) (region rows : ℕ) (states : List AutomatonState) (keys : List (List ℕ))
-    → Searching rules region rows states (record { keys = keys; waiting = [] }) → EachIsLedTo states
+    → Searching rules region rows states (record { keys = keys; waiting = [] }) → EachIsReachable states
 states_led rules region rows states keys s at below =
     let many = made_many rules (s.took ++ []) s.took states s.made in
     let all = ap (λ (ks : List (List ℕ)). length ks) s.keys ∙ length-map (s.took ++ []) key_of ∙ ap (λ (ws : List Window). length ws) (append-nil s.took) in

@@ -11,7 +11,6 @@ use Rattle.pc_word.proofs.Lists.{all_both, all_at, count_more, count_both}
 use Rattle.pc_table.specs.Table.{Table}
 use Rattle.pc_table.specs.TableKeeps.{TableKeeps}
 use Rattle.pc_window.specs.Tree.{Tree, Pending, Undecided, Exit, Stop_exit, Trap_exit, Front, Issued, Split, Unfinished, whole, tree_size}
-use Rattle.pc_window.specs.Rename.{with_dest}
 use Rattle.pc_window.specs.Opening.{is_inside}
 use Rattle.pc_window.specs.WindowRun.{Window}
 use Rattle.pc_window.specs.Filled.{MostBehind}
@@ -24,12 +23,13 @@ use Rattle.pc_window.proofs.Proper.{fills_proper}
 use Rattle.pc_window.specs.Names.{uses}
 use Rattle.pc_renumber.proofs.Renumbered.{renumbered_limits}
 use Rattle.pc_automaton.specs.Automaton.{AutomatonState}
+use Rattle.pc_automaton.specs.RowFits.{RowFits}
 use Rattle.pc_canon.specs.Pairs.{Pair}
 use Rattle.pc_pattern.specs.NamedRow.{RowsNamed, named_item, named_test, named_leaf}
 use Rattle.pc_pattern.specs.Searches.{Rules, Settles, BringsOn, Looks, looks_new, looks_known, looks_bare, looks_out, looks_end, looks_trap, Search}
 use Rattle.pc_pattern.specs.Searches.{begins, takes, looks, IsClosed, Automates}
-use Rattle.pc_pattern.specs.Pattern.{RowFits}
 use Rattle.pc_pattern.proofs.Members.{EachLeft-leaves, members_proper, state_of}
+use Rattle.pc_word.specs.Naming.{with_dest}
 
 -- ---- rows that differ in names alone
 

@@ -15,13 +15,11 @@ use Rattle.pc_window.specs.WindowRun.{Window}
 use Rattle.pc_window.specs.Kept.{Left}
 use Rattle.pc_window.specs.Steps.{EachLeft, FillsTo, Cuts, UnwindsTo, Tidies, IsProper, opened_window}
 use Rattle.pc_window.specs.StoredWindow.{tree_in, window_in, IsJustOpened}
-use Rattle.pc_window.proofs.WindowsStored.{whole_in}
+use Rattle.pc_window.proofs.WindowsStored.{whole_in, as_many, in_nodes_behind}
 use Rattle.pc_window.proofs.Filling.{filling_limits}
 use Rattle.pc_fill.specs.Fillable.{IsFillable, FilledFrom}
 use Rattle.pc_unwind.specs.Unwindable.{CanUnwind}
 use Rattle.pc_unwind.proofs.Opened.{opened_unwinds}
-use Rattle.pc_unwind.proofs.TableRegions.{as_many}
-use Rattle.pc_automaton.proofs.Cuts.{in_nodes_behind}
 use Rattle.pc_automaton.specs.Automaton.{AutomatonState}
 use Rattle.pc_pattern.specs.declared.error.SearchError.{SearchError}
 use Rattle.pc_pattern.specs.declared.error.SearchError.TheVariants.{Memory}

@@ -10,7 +10,6 @@ use Rattle.pc_window.specs.declared.window.Window.{Window as StoredWindow}
 use Rattle.pc_window.specs.Tree.{Tree, whole, tree_size}
 use Rattle.pc_window.specs.Names.{parameters_of}
 use Rattle.pc_window.specs.Opening.{TreeBelow}
-use Rattle.pc_window.specs.Rename.{with_dest}
 use Rattle.pc_window.specs.Unwinding.{most_unwound}
 use Rattle.pc_window.specs.WindowRun.{Window}
 use Rattle.pc_window.specs.Kept.{Left, Rest}
@@ -34,6 +33,7 @@ use Rattle.pc_pattern.specs.models.Leading.{RowRefused, refused_row, refused_bel
 use Rattle.pc_pattern.proofs.LedRows.{none_bare}
 use Rattle.pc_pattern.proofs.Placed.{member_out}
 use Rattle.pc_pattern.proofs.Sizes.{can_unwind, rebased_same}
+use Rattle.pc_word.specs.Naming.{with_dest}
 
 -- ---- windows that are brought on
 

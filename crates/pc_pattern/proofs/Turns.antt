@@ -14,14 +14,15 @@ use Rattle.pc_window.specs.declared.window.Window.{Window as StoredWindow}
 use Rattle.pc_window.specs.Steps.{Positive, IsProper}
 use Rattle.pc_window.specs.StoredWindow.{window_in}
 use Rattle.pc_canon.specs.Key.{key_of}
-use Rattle.pc_unwind.proofs.TableRegions.{as_many}
+use Rattle.pc_window.proofs.WindowsStored.{as_many}
 use Rattle.pc_automaton.specs.declared.automaton.AutomatonState.{AutomatonState as StoredState}
 use Rattle.pc_automaton.specs.Automaton.{AutomatonState, state_in, states_in}
+use Rattle.pc_automaton.specs.Reachable.{EachIsReachable}
 use Rattle.pc_pattern.specs.declared.error.SearchError.{SearchError}
 use Rattle.pc_pattern.specs.declared.leading.Bounds.{Bounds}
 use Rattle.pc_pattern.specs.declared.pool.Pool.{Pool as StoredPool}
 use Rattle.pc_pattern.specs.Searches.{Rules, IsPattern}
-use Rattle.pc_pattern.specs.Pattern.{EachIsLedTo, IsNotFound}
+use Rattle.pc_pattern.specs.Pattern.{IsNotFound}
 use Rattle.pc_pattern.specs.models.Pools.{keys_in, pool_in, IsSmall}
 use Rattle.pc_pattern.specs.models.Leading.{rules_within, Made, Unmade, IsFirst}
 use Rattle.pc_pattern.proofs.Progress.{Searching, begins_searching, next_proper, next_limits, some_left, next_small, searching_on, too_far, states_led, pattern_found}
@@ -129,7 +130,7 @@ module _ (stored : RegionTable) (keeps : TableKeeps (table_of stored)) (few : le
 
   -- where no window waits, there is a pattern
   pub turned : (states : List StoredState) (pool : StoredPool) → pool.waiting.items ≡ [] → Searching rules region rows (states_in states) (pool_in pool)
-      → IsPattern rules region rows (states_in states) × EachIsLedTo (states_in states)
+      → IsPattern rules region rows (states_in states) × EachIsReachable (states_in states)
   turned states pool none s =
       let is : pool_in pool ≡ record { keys = keys_in pool.keys.keys; waiting = [] } =
       λ i. record { keys = keys_in pool.keys.keys; waiting = map window_in (none i) } in

@@ -11,8 +11,9 @@ use Rattle.pc_window.specs.Steps.{Positive}
 use Rattle.pc_automaton.specs.declared.automaton.AutomatonLeaf.TheVariants.{Trap}
 use Rattle.pc_automaton.specs.Automaton.{AutomatonState, IsAutomaton}
 use Rattle.pc_automaton.specs.There.{StateIsThere}
+use Rattle.pc_automaton.specs.RowFits.{RowFits}
 use Rattle.pc_pattern.specs.Searches.{Rules, Search, IsPattern, HasNoPattern}
-use Rattle.pc_pattern.specs.Pattern.{RowFits, NoneIsEmpty, RunsAsTheRegion, BeginsLive}
+use Rattle.pc_pattern.specs.Pattern.{NoneIsEmpty, RunsAsTheRegion, BeginsLive}
 
 -- the states of a closed search do what the region does
 abbrev pub PatternsRunAsTheRegion : Type 0

@@ -4,10 +4,10 @@ use Rattle.pc_word.specs.declared.item.Item.{Item}
 use Rattle.pc_word.specs.declared.item.Operand.{Operand}
 use Rattle.pc_word.specs.Items.{dest_of}
 use Rattle.pc_word.specs.Row.{Row, Then, Either, At_leaf}
-use Rattle.pc_window.specs.Rename.{with_dest}
 use Rattle.pc_automaton.specs.declared.automaton.AutomatonLeaf.{AutomatonLeaf}
 use Rattle.pc_automaton.specs.declared.automaton.AutomatonLeaf.TheVariants.{To, Out, Stop, Trap}
 use Rattle.pc_canon.specs.Pairs.{Pair, defined, ArgumentsAlike, HomesAlike}
+use Rattle.pc_word.specs.Naming.{with_dest}
 
 -- two rows with the same items and tests but for the names that are written; leaves are related under the names that
 -- correspond on the way to them

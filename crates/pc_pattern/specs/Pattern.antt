@@ -1,19 +1,17 @@
 -- What a search finds: the automaton of a region, and what it keeps.
-use Rattle.std.specs.Prelude.{◌≡◌, ℕ, suc, ◌<◌, ◌≤◌, true, nat_eq, List, length, map, Contains, Some, slice_get}
-use Rattle.std.specs.List.{AllByRecursion, count_by, list_any}
+use Rattle.std.specs.Prelude.{◌≡◌, ℕ, suc, ◌≤◌, true, nat_eq, List, length, map, Some, slice_get}
+use Rattle.std.specs.List.{AllByRecursion, list_any}
 use Rattle.pc_word.specs.Run.{NeverFaults}
 use Rattle.pc_word.specs.declared.item.Limits.{Limits}
-use Rattle.pc_word.specs.declared.item.Operand.{Operand}
 use Rattle.pc_word.specs.State.{State}
-use Rattle.pc_word.specs.Items.{is_memory, is_effect}
-use Rattle.pc_word.specs.Row.{Row, items_of, tests_of, leaves_of, paths_of}
 use Rattle.pc_table.specs.Table.{Table, Next, region_live}
 use Rattle.pc_table.specs.RegionRun.{region_run}
 use Rattle.pc_window.specs.Kept.{HasItems}
-use Rattle.pc_automaton.specs.declared.automaton.AutomatonLeaf.TheVariants.{To}
 use Rattle.pc_automaton.specs.Automaton.{AutomatonState, IsAutomaton}
 use Rattle.pc_automaton.specs.There.{StateIsThere}
 use Rattle.pc_automaton.specs.RunsAsRegion.{RunsAlike, LeadsUntested}
+use Rattle.pc_automaton.specs.Reachable.{EachIsReachable}
+use Rattle.pc_automaton.specs.RowFits.{RowFits}
 use Rattle.pc_pattern.specs.declared.error.SearchError.{SearchError}
 use Rattle.pc_pattern.specs.declared.member_key.MemberKey.{MemberKey}
 use Rattle.pc_pattern.specs.declared.error.SearchError.TheVariants.{Memory, NoPattern}
@@ -22,13 +20,6 @@ use Rattle.pc_pattern.specs.Searches.{Rules, IsPattern, HasKeys}
 -- the rules of a search within these limits, with this window number
 abbrev pub rules_for : Table → Limits → (number : ℕ) → Rules
 rules_for table limits number = record { table = table; limits = limits; number = number }
-
--- a row is within limits over its whole tree, and on each path at most one item is a print, read or more
-pub record RowFits {L : Type 0} (limits : Limits) (row : Row L) : Type 0 where
-  pub items : length (items_of row) ≤ limits.ops
-  pub tests : length (tests_of row) ≤ limits.tests
-  pub memory : count_by is_memory (items_of row) ≤ limits.mem
-  pub one_effect : AllByRecursion (λ path. count_by is_effect path ≤ 1) (paths_of row)
 
 -- each state but the first has an item or a test
 abbrev pub NoneIsEmpty : List AutomatonState → Type 0
@@ -39,19 +30,6 @@ NoneIsEmpty states = (at : ℕ) (state : AutomatonState) → slice_get states (s
 pub record RunsAsTheRegion (table : Table) (region : ℕ) (states : List AutomatonState) : Type 0 where
   pub alike : (first : AutomatonState) → slice_get states 0 ≡ Some first → (s : State) → NeverFaults (region_run table (Next region) s) → RunsAlike table region states first s
   pub untested : (first : AutomatonState) → slice_get states 0 ≡ Some first → LeadsUntested table region first.row
-
--- a leaf of a state with a smaller number leads to the state with this one
-pub record IsLedTo (states : List AutomatonState) (to : ℕ) : Type 0 where
-  pub from : ℕ
-  pub state : AutomatonState
-  pub arguments : List Operand
-  pub earlier : from < to
-  pub there : slice_get states from ≡ Some state
-  pub leaf : Contains (leaves_of state.row) (To to arguments)
-
--- so it is of each state but the first
-abbrev pub EachIsLedTo : List AutomatonState → Type 0
-EachIsLedTo states = (at : ℕ) → suc at < length states → IsLedTo states (suc at)
 
 -- the first state is passed variables that are live at the region's head
 abbrev pub BeginsLive : Table → (region : ℕ) → List AutomatonState → Type 0
@@ -66,7 +44,7 @@ pub record IsFound (rules : Rules) (region rows : ℕ) (states : List AutomatonS
   pub runs : RunsAsTheRegion rules.table region states
   pub fits : AllByRecursion (λ state. RowFits rules.limits state.row) states
   pub no_empty : NoneIsEmpty states
-  pub led : EachIsLedTo states
+  pub led : EachIsReachable states
   pub there : AllByRecursion (StateIsThere rules.table) states
   pub live : BeginsLive rules.table region states
 

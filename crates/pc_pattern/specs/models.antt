@@ -1,5 +1,3 @@
 pub mod Renaming
 pub mod Pools
 pub mod Leading
-pub mod Echoing
-pub mod Exchanging

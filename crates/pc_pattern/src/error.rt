@@ -3,8 +3,7 @@ ghost use Rattle.std.specs.Prelude.{◌≡◌};
 ghost use Rattle.pc_pattern.specs.declared.error.SearchError.TheVariants.{Memory};
 
 use crate::member_key::MemberKey;
-use pc_window::WindowError;
-use pc_word::Seq;
+use pc_word::{OutOfMemory, Seq};
 use std::alloc::AllocError;
 use thiserror::Error;
 
@@ -30,10 +29,10 @@ impl From<AllocError> for SearchError {
     }
 }
 
-impl From<WindowError> for SearchError {
+impl From<OutOfMemory> for SearchError {
     ghost from_gives = { λ _ e. e ≡ Memory };
 
-    fn from(_error: WindowError) -> SearchError {
+    fn from(_error: OutOfMemory) -> SearchError {
         SearchError::Memory
     }
 }

@@ -7,28 +7,29 @@ ghost use Rattle.pc_word.specs.Row.{Then, Either, items_of};
 ghost use Rattle.pc_table.specs.Table.{table_of};
 ghost use Rattle.pc_table.specs.TableKeeps.{TableKeeps};
 ghost use Rattle.pc_window.specs.Tree.{tree_size};
-ghost use Rattle.pc_window.specs.Rename.{with_dest};
 ghost use Rattle.pc_window.specs.Unwinding.{most_unwound};
 ghost use Rattle.pc_window.specs.Steps.{IsProper, EachLeft, LeftIs};
 ghost use Rattle.pc_window.specs.StoredWindow.{tree_in, window_in, InNodes};
-ghost use Rattle.pc_automaton.specs.StoredRow.{row_in, left_in, LeftInNodes, EachLeaf};
+ghost use Rattle.pc_automaton.specs.StoredLeft.{left_in, LeftInNodes};
 ghost use Rattle.pc_pattern.specs.Searches.{BringsOn, bare_leaf};
 ghost use Rattle.pc_pattern.specs.models.Renaming.{pairs_in, renamed_bare};
 ghost use Rattle.pc_pattern.specs.models.Pools.{pool_in, CanBringOn, IsSettled};
 ghost use Rattle.pc_pattern.specs.models.Leading.{rules_within, WindowLeads, LeftLeads, RowLeads, WindowRefused, LeftRefused, RowRefused};
+ghost use Rattle.pc_word.specs.Naming.{with_dest};
+ghost use Rattle.pc_word.specs.StoredRow.{row_in, EachLeaf};
 
 use crate::error::SearchError;
 use crate::member_key::MemberKey;
 use crate::pool::{Pool, numbered};
-use crate::renaming::{Renaming, arguments_for, renamed_homes, with_dest, written_by};
-use pc_automaton::{AutomatonLeaf, Left, RowTree};
+use crate::renaming::{Renaming, arguments_for, renamed_homes};
+use pc_automaton::{AutomatonLeaf, Left};
 use pc_canon::{WindowKey, key};
 use pc_rebase::rebase;
 use pc_table::RegionTable;
 use pc_unify::tidy;
 use pc_unwind::unwind;
 use pc_window::{Window, WindowError, WindowTree};
-use pc_word::{Extent, Item, Limits, Operand};
+use pc_word::{Extent, Item, Limits, Operand, RowTree};
 use std::alloc::{AllocError, Global};
 
 /// The bounds of a search.
@@ -173,7 +174,7 @@ fn step(
 ) -> Result<RowTree<AutomatonLeaf>, AllocError>
     ensures { IfOk result (λ row. row_in (λ leaf. leaf) row ≡ Then (with_dest name item) (row_in (λ leaf. leaf) below)) }
 {
-    let item = with_dest(name, item);
+    let item = item.with_dest(name);
     let next = Box::new(alloc, below)?;
     Ok(RowTree::Step { item, next })
 }
@@ -222,7 +223,7 @@ pub(crate) fn led(
             let other = *next;
             *next += 1;
             let below = Box::into_inner(below);
-            match written_by(item) {
+            match item.dest() {
                 None => {
                     let below = led(alloc, table, below, names, next, pool, bounds)?;
                     Ok(step(alloc, other, item, below)?)

@@ -10,8 +10,6 @@ mod member_key;
 mod pool;
 mod renaming;
 mod searching;
-#[cfg(test)]
-mod tests;
 
 pub use error::{KeyList, SearchError};
 pub use laws::{laws_of_patterns, laws_of_searches};

@@ -1,12 +1,10 @@
 //! Names of a state's row in place of those of a window.
 ghost use Rattle.std.specs.Prelude.{◌≡◌, IfOk};
-ghost use Rattle.pc_word.specs.Items.{dest_of};
-ghost use Rattle.pc_window.specs.Rename.{with_dest};
 ghost use Rattle.pc_pattern.specs.models.Renaming.{pairs_in, renamed_name, renamed_operand, renamed_home, renamed_homes, arguments_for};
 
 use pc_automaton::OperandList;
 use pc_window::{Home, HomeList};
-use pc_word::{Item, Operand};
+use pc_word::Operand;
 use std::alloc::{AllocError, Global};
 
 /// The names of a window's row that were written on the way to a place, and those of the state's row
@@ -87,56 +85,4 @@ pub(crate) fn arguments_for(
         arguments.push(Operand::Name(renamed_name(names, *name)))?;
     }
     Ok(arguments)
-}
-
-/// An item that writes another name.
-pub(crate) fn with_dest(name: u32, item: Item) -> Item
-    ensures { result ≡ with_dest name item }
-{
-    match item {
-        Item::Bin {
-            op,
-            left,
-            right,
-            ..
-        } => Item::Bin {
-            op,
-            dest: name,
-            left,
-            right,
-        },
-        Item::Copy { from, .. } => Item::Copy { dest: name, from },
-        Item::Load { array, index, .. } => Item::Load {
-            dest: name,
-            array,
-            index,
-        },
-        Item::Store {
-            array,
-            index,
-            value,
-        } => Item::Store {
-            array,
-            index,
-            value,
-        },
-        Item::Print { value } => Item::Print { value },
-        Item::Read { .. } => Item::Read { dest: name },
-        Item::More { .. } => Item::More { dest: name },
-    }
-}
-
-/// The name that an item writes.
-pub(crate) fn written_by(item: Item) -> Option<u32>
-    ensures { result ≡ dest_of item }
-{
-    match item {
-        Item::Bin { dest, .. } => Some(dest),
-        Item::Copy { dest, .. } => Some(dest),
-        Item::Load { dest, .. } => Some(dest),
-        Item::Store { .. } => None,
-        Item::Print { .. } => None,
-        Item::Read { dest } => Some(dest),
-        Item::More { dest } => Some(dest),
-    }
 }

@@ -11,8 +11,9 @@ ghost use Rattle.pc_window.specs.Unwinding.{most_unwound};
 ghost use Rattle.pc_window.specs.Steps.{IsProper};
 ghost use Rattle.pc_window.specs.StoredWindow.{tree_in, window_in};
 ghost use Rattle.pc_automaton.specs.Automaton.{state_in, states_in};
+ghost use Rattle.pc_automaton.specs.Reachable.{EachIsReachable};
 ghost use Rattle.pc_pattern.specs.Searches.{IsPattern};
-ghost use Rattle.pc_pattern.specs.Pattern.{rules_for, EachIsLedTo, IsFound, IsNotFound};
+ghost use Rattle.pc_pattern.specs.Pattern.{rules_for, IsFound, IsNotFound};
 ghost use Rattle.pc_pattern.specs.models.Pools.{pool_in, IsSmall, IsSettled};
 ghost use Rattle.pc_pattern.specs.models.Leading.{rules_within, Made, Unmade, IsFirst};
 
@@ -22,11 +23,10 @@ use crate::pool::{Pool, begun};
 use crate::renaming::Renaming;
 use pc_automaton::{Automaton, AutomatonState, StateList, cut_front};
 use pc_fill::fill;
-use pc_rebase::parameters_of;
 use pc_table::RegionTable;
 use pc_unify::tidy;
 use pc_unwind::unwind;
-use pc_window::{Window, WindowError};
+use pc_window::{Window, WindowError, parameters_of};
 use pc_word::{Extent, Limits};
 use std::alloc::{AllocError, Global};
 
@@ -76,7 +76,7 @@ fn closed(
     requires limits { AreLimits bounds.limits }
     requires extent { IsExtent bounds.extent }
     ensures pattern { IfOk result (λ states. IsPattern (rules_within (table_of table.now) bounds) region bounds.extent.rows (states_in states)) }
-    ensures led { IfOk result (λ states. EachIsLedTo (states_in states)) }
+    ensures led { IfOk result (λ states. EachIsReachable (states_in states)) }
     ensures not_found { IfErr result (λ error. IsNotFound (rules_within (table_of table.now) bounds) region bounds.extent.rows error) }
 {
     let first = first(alloc, table, region, bounds)?;

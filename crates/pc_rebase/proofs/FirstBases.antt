@@ -18,7 +18,7 @@ use Rattle.pc_rebase.specs.declared.standing.Standing.{Standing}
 use Rattle.pc_rebase.specs.models.Finding.{old_variable, nothing_found, base_found, found_by, found_all, all_written, shown}
 use Rattle.pc_rebase.specs.models.Standing.{shifted, standing_or, stands_in, written_by, itself_from, each_itself}
 use Rattle.pc_rebase.specs.models.Turning.{reversed, turned, unturned}
-use Rattle.pc_rebase.proofs.Listed.{or_false}
+use Rattle.pc_window.proofs.Listed.{or_false}
 use Rattle.pc_rebase.proofs.ParameterTurns.{reversed-more, first_below}
 use Rattle.pc_rebase.proofs.Replacing.{zero_normal}
 use Rattle.pc_rebase.proofs.Substituting.{rewritten-same, form_rewritten, written-normal, written-few, written-without, written-itself}

@@ -7,7 +7,7 @@ use Rattle.pc_window.specs.Opening.{Supply}
 use Rattle.pc_window.specs.Rebasing.{is_in, with_form, with_variable, rewritten, rewrite_all}
 use Rattle.pc_rebase.specs.models.Finding.{all_written}
 use Rattle.pc_rebase.specs.models.Standing.{written_by}
-use Rattle.pc_rebase.proofs.Listed.{or_true, flipped}
+use Rattle.pc_window.proofs.Listed.{or_true, flipped}
 
 -- names with new forms for some of them
 module _ (form : ℕ → Form) where

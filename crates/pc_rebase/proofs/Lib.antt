@@ -1,6 +1,3 @@
-pub mod Walked
-pub mod Listed
-pub mod MarkedNames
 pub mod FormTable
 pub mod TermPlaces
 pub mod Replacing
@@ -13,4 +10,3 @@ pub mod FoundInOrder
 pub mod MadeBases
 pub mod ParameterTurns
 pub mod RebasedWindows
-pub mod TwoVariablesKept

@@ -15,7 +15,7 @@ use Rattle.pc_rebase.specs.declared.terms.FewTerms.{FewTerms}
 use Rattle.pc_rebase.specs.declared.terms.FewTerms.TheVariants.{Nothing, One, Several}
 use Rattle.pc_rebase.specs.declared.turns.Turning.{Turning}
 use Rattle.pc_rebase.specs.models.Turning.{few_of, reversed, turned, unturned, second_turned}
-use Rattle.pc_rebase.proofs.Listed.{in_more}
+use Rattle.pc_window.proofs.Listed.{in_more}
 use Rattle.pc_rebase.proofs.MadeBases.{make_base-below, make_base-next, with_variable-below}
 
 -- ---- bases from the newest on

@@ -20,7 +20,7 @@ use Rattle.pc_window.proofs.Proper.{rebases_proper}
 use Rattle.pc_window.proofs.Settling.{rebases_keep}
 use Rattle.pc_window.proofs.WindowsStored.{single_window, whole_in}
 use Rattle.pc_rebase.specs.models.Turning.{unturned}
-use Rattle.pc_rebase.proofs.Listed.{or_true, parameters-below, all_names-below}
+use Rattle.pc_window.proofs.Listed.{or_true, parameters-below, all_names-below}
 
 -- a window in memory, by its parts
 abbrev pub with_parts : WindowTree → NameTable → Limits → Option ℕ → StoredWindow

@@ -8,6 +8,7 @@ use Rattle.std.proofs.lemmas.Int.{int_wrap_fits}
 use lib.IntN.{+ℤ_idl}
 use Rattle.pc_word.specs.declared.item.OpCode.TheVariants.{Add, Mul}
 use Rattle.pc_word.specs.Word.{IsWord}
+use Rattle.pc_word.proofs.Places.{drop_at}
 use Rattle.pc_linear.specs.declared.term.Term.{Term}
 use Rattle.pc_linear.specs.Form.{Form, IsNormal, IsForm, factor_of}
 use Rattle.pc_linear.specs.Combine.{plus, constant_form, variable_form, times_form, combine}
@@ -17,7 +18,7 @@ use Rattle.pc_rebase.specs.declared.standing.Standing.{Standing}
 use Rattle.pc_rebase.specs.models.Standing.{shifted, standing_or, stands_in, is_same, is_itself, all_stay, and_terms, written_by, itself_from, each_itself}
 use Rattle.pc_rebase.proofs.Replacing.{zero_normal, fitting_few, combine_add, times_few}
 use Rattle.pc_rebase.proofs.Substituting.{and_times-length, written-itself}
-use Rattle.pc_rebase.proofs.TermPlaces.{none_from, one_from, few_places, fewer_places}
+use Rattle.pc_linear.proofs.FewPlaces.{few_places, fewer_places, none_from}
 
 -- ---- one term more
 
@@ -83,7 +84,7 @@ module _ (f : Form) (kept : IsForm f) (at : ℕ) (stands : ℕ → Form) where
       let next : at + 1 ≡ suc at = omega arith in
       later ∙ ap (λ (n : ℕ). and_terms stands (drop n f.terms) mid) next
       ∙ (λ i. and_terms stands (drop (suc at) f.terms) ((more ∙ ap (λ (g : Form). plus sum (pos 1) (times_form g t.factor)) stood) i))
-      ∙ sym (ap (λ (ts : List Term). and_terms stands ts sum) (one_from f.terms at t there))
+      ∙ sym (ap (λ (ts : List Term). and_terms stands ts sum) (drop_at f.terms at t there))
 
 pub ruleset sums = (sum_ends, sum_goes_on, few_places, fewer_places)
 
@@ -98,10 +99,10 @@ module _ (f : Form) (kept : IsForm f) (at : ℕ) (stands : List Standing) where
   one_stayed t rest there same later =
       let next : at + 1 ≡ suc at = omega arith in
       later ∙ ap (λ (n : ℕ). all_stay stands (drop n f.terms)) next
-      ∙ sym (ap (all_stay stands) (one_from f.terms at t there) ∙ ap (λ (b : Bool). b && all_stay stands (drop (suc at) f.terms)) same)
+      ∙ sym (ap (all_stay stands) (drop_at f.terms at t there) ∙ ap (λ (b : Bool). b && all_stay stands (drop (suc at) f.terms)) same)
 
   pub one_changed : (t : Term) → slice_get f.terms at ≡ Some t → is_itself stands t.variable ≡ false → false ≡ all_stay stands (drop at f.terms)
-  one_changed t there other = sym (ap (all_stay stands) (one_from f.terms at t there) ∙ ap (λ (b : Bool). b && all_stay stands (drop (suc at) f.terms)) other)
+  one_changed t there other = sym (ap (all_stay stands) (drop_at f.terms at t there) ∙ ap (λ (b : Bool). b && all_stay stands (drop (suc at) f.terms)) other)
 
 pub ruleset stays = (all_stayed, one_stayed, one_changed, few_places, fewer_places)
 

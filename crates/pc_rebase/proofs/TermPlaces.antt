@@ -1,11 +1,14 @@
 -- The terms of a form, from a place on.
-use Rattle.std.proofs.Common.{◌≡◌, ◌≢◌, ◌⊎◌, inl, inr, ℕ, zero, suc, ◌+◌, ◌-◌, ◌<◌, ◌≤◌, List}
-use Rattle.std.proofs.Common.{[], ◌∷◌, Option, Some, None, length, drop, refl, sym, ◌∙◌, ap, subst, arith}
+use Rattle.std.proofs.Common.{◌≡◌, ◌≢◌, ◌⊎◌, inl, inr, ℕ, zero, suc, ◌+◌, ◌≤◌, List}
+use Rattle.std.proofs.Common.{[], ◌∷◌, Option, Some, None, drop, refl, sym, ◌∙◌, ap, subst, arith}
 use Rattle.std.specs.Prelude.{ℤ, pos, ◌+ℤ◌, Bool, true, false, if◌then◌else◌, nat_eq, slice_get}
 use Rattle.std.proofs.lemmas.Bool.Decides.{eqb_tells}
 use lib.IntN.{+ℤ_idl, +ℤ_idr}
+use Rattle.pc_word.proofs.Places.{drop_at}
 use Rattle.pc_linear.specs.declared.term.Term.{Term}
 use Rattle.pc_linear.specs.Form.{Form, IsForm, Rising, factor_of}
+use Rattle.pc_linear.proofs.FewPlaces.{few_places, fewer_places, none_from}
+use Rattle.pc_linear.proofs.Normal.{factor-below}
 use Rattle.pc_window.specs.Rebasing.{is_in, free_terms}
 use Rattle.pc_rebase.specs.declared.terms.FewTerms.{FewTerms}
 use Rattle.pc_rebase.specs.declared.terms.FewTerms.TheVariants.{Nothing}
@@ -13,22 +16,6 @@ use Rattle.pc_rebase.specs.models.Finding.{variable_below, old_variable}
 use Rattle.pc_rebase.specs.models.Turning.{few_of, and_term}
 
 -- ---- what stands at a place
-
-pub none_from : (ts : List Term) (at : ℕ) → slice_get ts at ≡ None → drop at ts ≡ []
-none_from [] zero h = refl
-none_from [] (suc at) h = refl
-none_from (t ∷ ts) zero h = absurd (cc)
-none_from (t ∷ ts) (suc at) h = none_from ts at h
-
-pub one_from : (ts : List Term) (at : ℕ) (t : Term) → slice_get ts at ≡ Some t → drop at ts ≡ t ∷ drop (suc at) ts
-one_from [] at t h = absurd (cc)
-one_from (u ∷ ts) zero t h = let same : u ≡ t = (cc) in ap (λ (x : Term). x ∷ ts) same
-one_from (u ∷ ts) (suc at) t h = one_from ts at t h
-
-within : (ts : List Term) (at : ℕ) (t : Term) → slice_get ts at ≡ Some t → at < length ts
-within [] at t h = absurd (cc)
-within (u ∷ ts) zero t h = omega arith
-within (u ∷ ts) (suc at) t h = let lt = within ts at t h in omega arith
 
 rising_fewer : (m n : ℕ) (us : List Term) → m ≤ n → Rising n us → Rising m us
 rising_fewer m n [] le r = tt
@@ -41,16 +28,6 @@ rising_from (t ∷ ts) zero m n le r = rising_fewer m n (t ∷ ts) le r
 rising_from (t ∷ ts) (suc at) m n le r = let p = r.0 in rising_from ts at m (suc t.variable) (omega arith) r.1
 
 -- ---- factors
-
--- below the first variable there is no factor
-factor-below : (x least : ℕ) (ts : List Term) → x < least → Rising least ts → factor_of ts x ≡ pos 0
-factor-below x least [] lt r = refl
-factor-below x least (t ∷ ts) lt r =
-    let le = r.0 in
-    (λ i. (if other (omega arith) i then t.factor else pos 0) +ℤ factor-below x (suc t.variable) ts (omega arith) r.1 i) ∙ +ℤ_idl (pos 0)
-  where
-    other : x < t.variable → nat_eq x t.variable ≡ false
-    other lt = grind arith
 
 factor_here : (t : Term) (ts : List Term) (x : ℕ) → t.variable ≡ x → Rising 0 (t ∷ ts) → factor_of (t ∷ ts) x ≡ t.factor
 factor_here t ts x is r =
@@ -75,21 +52,14 @@ module _ (f : Form) (kept : IsForm f) (at : ℕ) where
 
   pub its_factor : (x : ℕ) (t : Term) → slice_get f.terms at ≡ Some t → t.variable ≡ x → t.factor ≡ factor_of (drop at f.terms) x
   its_factor x t is same =
-      let from = one_from f.terms at t is in
+      let from = drop_at f.terms at t is in
       sym (ap (λ (ts : List Term). factor_of ts x) from
       ∙ factor_here t (drop (suc at) f.terms) x same (subst (λ (ts : List Term). Rising 0 ts) from (rising_from f.terms at 0 0 (omega arith) kept.normal.rising)))
 
   pub later_factor : (x : ℕ) (t : Term) (z : ℤ) → slice_get f.terms at ≡ Some t → t.variable ≢ x → z ≡ factor_of (drop (at + 1) f.terms) x → z ≡ factor_of (drop at f.terms) x
   later_factor x t z is other later =
       let next : at + 1 ≡ suc at = omega arith in
-      later ∙ ap (λ (n : ℕ). factor_of (drop n f.terms) x) next ∙ sym (ap (λ (ts : List Term). factor_of ts x) (one_from f.terms at t is) ∙ factor_there t (drop (suc at) f.terms) x other)
-
-  -- there are few places, and fewer behind one that is there
-  pub few_places : (t : Term) → slice_get f.terms at ≡ Some t → at < 4
-  few_places t is = let lt = within f.terms at t is in let few = kept.few in omega arith
-
-  pub fewer_places : (t : Term) → slice_get f.terms at ≡ Some t → length f.terms - (at + 1) < length f.terms - at
-  fewer_places t is = let lt = within f.terms at t is in omega arith
+      later ∙ ap (λ (n : ℕ). factor_of (drop n f.terms) x) next ∙ sym (ap (λ (ts : List Term). factor_of ts x) (drop_at f.terms at t is) ∙ factor_there t (drop (suc at) f.terms) x other)
 
   -- ---- terms whose variables are no bases
 
@@ -101,7 +71,7 @@ module _ (f : Form) (kept : IsForm f) (at : ℕ) where
   taken_term bases t more is taken later =
       let next : at + 1 ≡ suc at = omega arith in
       later ∙ ap (λ (n : ℕ). few_of (free_terms bases (drop n f.terms))) next
-      ∙ sym (ap (λ (ts : List Term). few_of (free_terms bases ts)) (one_from f.terms at t is)
+      ∙ sym (ap (λ (ts : List Term). few_of (free_terms bases ts)) (drop_at f.terms at t is)
       ∙ ap (λ (b : Bool). few_of (if b then free_terms bases (drop (suc at) f.terms) else t ∷ free_terms bases (drop (suc at) f.terms))) taken)
 
   pub free_term : (bases : List ℕ) (t : Term) (more : FewTerms) → slice_get f.terms at ≡ Some t → is_in t.variable bases ≡ false
@@ -110,7 +80,7 @@ module _ (f : Form) (kept : IsForm f) (at : ℕ) where
       let next : at + 1 ≡ suc at = omega arith in
       ap (and_term t) (later ∙ ap (λ (n : ℕ). few_of (free_terms bases (drop n f.terms))) next)
       ∙ one_more (free_terms bases (drop (suc at) f.terms))
-      ∙ sym (ap (λ (ts : List Term). few_of (free_terms bases ts)) (one_from f.terms at t is)
+      ∙ sym (ap (λ (ts : List Term). few_of (free_terms bases ts)) (drop_at f.terms at t is)
       ∙ ap (λ (b : Bool). few_of (if b then free_terms bases (drop (suc at) f.terms) else t ∷ free_terms bases (drop (suc at) f.terms))) free)
     where
       one_more : (ts : List Term) → and_term t (few_of ts) ≡ few_of (t ∷ ts)

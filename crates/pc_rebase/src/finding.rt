@@ -9,13 +9,12 @@ ghost use Rattle.pc_rebase.specs.models.Finding.{nothing_found, base_found, foun
 ghost use Rattle.pc_rebase.specs.models.Standing.{stands_in};
 ghost use Rattle.pc_rebase.specs.models.Turning.{turned, unturned};
 
-use crate::NumberList;
 use crate::bases::MOST_VARIABLES;
 use crate::standing::{Standing, StandingList, each_itself, written_by};
 use crate::terms::{form_of, old_variable};
 use crate::turns::Turning;
 use pc_linear::LinForm;
-use pc_window::{FormList, NameTable, WindowError};
+use pc_window::{FormList, NameTable, NumberList, WindowError};
 use pc_word::{OpCode, apply};
 use std::alloc::{AllocError, Global};
 

@@ -11,9 +11,8 @@ ghost use Rattle.pc_rebase.specs.models.Turning.{unturned};
 
 use crate::bases::MOST_VARIABLES;
 use crate::finding::first_turns;
-use crate::listing::{all_names, parameters_of};
 use crate::turns::{Turning, second_turns};
-use pc_window::{NameTable, Window, WindowError};
+use pc_window::{NameTable, Window, WindowError, all_names, parameters_of};
 use std::alloc::Global;
 
 /// Writes the forms of a window anew: its parameters, in the order of first use, become the variables

@@ -6,8 +6,8 @@ ghost use Rattle.pc_window.specs.StoredWindow.{forms_in};
 ghost use Rattle.pc_rebase.specs.models.Finding.{variable_below, old_variable};
 ghost use Rattle.pc_rebase.specs.models.Turning.{few_of, and_term};
 
-use crate::listed_names::is_in;
 use pc_linear::{LinForm, Term};
+use pc_window::is_in;
 
 /// No term, one, or several.
 #[derive(Clone, Copy, Debug)]

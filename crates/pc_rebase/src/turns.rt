@@ -6,10 +6,9 @@ ghost use Rattle.pc_window.specs.Rebasing.{second_turns, make_base};
 ghost use Rattle.pc_window.specs.StoredWindow.{supply_in};
 ghost use Rattle.pc_rebase.specs.models.Turning.{turned, second_turned};
 
-use crate::NumberList;
 use crate::bases::{make_base, set_variable};
 use crate::terms::{FewTerms, form_of, free_terms, new_base};
-use pc_window::{NameTable, WindowError};
+use pc_window::{NameTable, NumberList, WindowError};
 use std::alloc::Global;
 
 /// Names whose forms are being rebased, and the variables that are bases, in the order in which they

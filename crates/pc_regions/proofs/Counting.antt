@@ -13,8 +13,8 @@ use Rattle.pc_flow.specs.FlowGraph.{FlowGraph, IsFlow}
 use Rattle.pc_regions.specs.Reachable.{AreReachable, one_if, edges_of, in_edges}
 use Rattle.pc_flow.specs.Reachable.{IsReachableNode, Entry, Behind}
 use Rattle.pc_regions.specs.models.Counts.{up_to_two, CountsEdges, AddsEdge, AddsEdges}
-use Rattle.pc_regions.proofs.Places.{index_stands, same_number, other_number}
 use Rattle.pc_regions.proofs.Reaching.{item_leads, test_leads, edge_leads}
+use Rattle.pc_word.proofs.Places.{index_stands, same_number, other_number}
 
 -- ---- one edge
 

@@ -8,48 +8,48 @@ use Rattle.pc_word.specs.declared.item.Operand.{Operand}
 use Rattle.pc_word.specs.declared.item.Operand.TheVariants.{Name, Lit}
 use Rattle.pc_word.specs.declared.loop_mark.LoopMark.{LoopMark}
 use Rattle.pc_word.specs.MachineLimits.{most_arrays}
-use Rattle.pc_word.specs.Items.{operands_of, dest_of, array_of}
+use Rattle.pc_word.specs.Items.{operands_of, dest_of, array_of, reads_name, reads}
 use Rattle.pc_word.specs.Commit.{writes}
 use Rattle.pc_word.proofs.Lists.{all_imply}
-use Rattle.pc_word.proofs.Truth.{and_true, not_true}
+use Rattle.pc_word.proofs.Truth.{and_true, not_true, or_true}
 use Rattle.pc_flow.specs.declared.node.FlowNode.{FlowNode}
 use Rattle.pc_flow.specs.declared.node.FlowNode.TheVariants.{Op, Test, Stop, Trap}
 use Rattle.pc_flow.specs.FlowGraph.{FlowGraph, IsVariable, ItemFits, NodeFits, IsFlow, variables}
-use Rattle.pc_live.specs.Live.{is_variable, node_reads, IsLive, Read_here, Read_later}
-use Rattle.pc_live.proofs.Logic.{or_true, place_within}
+use Rattle.pc_live.specs.Live.{node_reads, IsLive, Read_here, Read_later}
+use Rattle.pc_live.proofs.Logic.{place_within}
 use Rattle.pc_table.specs.Table.{TableTree, TableRegion, Table, tree_of, live_of, region_live}
 use Rattle.pc_table.specs.RegionRun.{arrive}
-use Rattle.pc_table.specs.TableKeeps.{NamesVariable, ItemIsThere, TreeIsThere, reads_name, reads, needs, units, untested, ComesUntested, By_one, By_more, RegionKeeps, TableKeeps}
+use Rattle.pc_table.specs.TableKeeps.{NamesVariable, ItemIsThere, TreeIsThere, needs, units, untested, ComesUntested, By_one, By_more, RegionKeeps, TableKeeps}
 use Rattle.pc_regions.specs.Loops.{IsWithin, Same, Deeper, BelongsTo, IsEntered, Begins, Led_into, HeadsLoop}
 use Rattle.pc_regions.specs.Cut.{IsTreeOf, An_item, A_test, A_stop, A_trap, IsBehind, Taken, Not_taken, IsRegionOf, IsCutOf, heads_of}
-use Rattle.pc_regions.proofs.Places.{same_number}
 use Rattle.pc_regions.proofs.CutRuns.{region_at, arrive_tree}
+use Rattle.pc_word.proofs.Places.{same_number}
 
 -- ---- what items read
 
 -- an operand reads the variable that it is
-operand_reads : (operand : Operand) (x : ℕ) → reads_name operand x ≡ true → is_variable operand x ≡ true
+operand_reads : (operand : Operand) (x : ℕ) → reads_name operand x ≡ true → reads_name operand x ≡ true
 operand_reads (Name name) x h = h
 operand_reads (Lit value) x h = h
 
 -- one operand of a list
-in_list : (operand : Operand) (x : ℕ) → reads_name operand x ≡ true → (rest : List Operand) → list_any (λ o. is_variable o x) (operand ∷ rest) ≡ true
-in_list operand x h rest = first (is_variable operand x) (list_any (λ o. is_variable o x) rest) (operand_reads operand x h)
+in_list : (operand : Operand) (x : ℕ) → reads_name operand x ≡ true → (rest : List Operand) → list_any (λ o. reads_name o x) (operand ∷ rest) ≡ true
+in_list operand x h rest = first (reads_name operand x) (list_any (λ o. reads_name o x) rest) (operand_reads operand x h)
   where
     first : (a b : Bool) → a ≡ true → (a || b) ≡ true
     first true b e = refl
     first false b e = cc
 
 -- or of what is behind it
-behind_list : (operand : Operand) (x : ℕ) (rest : List Operand) → list_any (λ o. is_variable o x) rest ≡ true → list_any (λ o. is_variable o x) (operand ∷ rest) ≡ true
-behind_list operand x rest h = second (is_variable operand x) (list_any (λ o. is_variable o x) rest) h
+behind_list : (operand : Operand) (x : ℕ) (rest : List Operand) → list_any (λ o. reads_name o x) rest ≡ true → list_any (λ o. reads_name o x) (operand ∷ rest) ≡ true
+behind_list operand x rest h = second (reads_name operand x) (list_any (λ o. reads_name o x) rest) h
   where
     second : (a b : Bool) → b ≡ true → (a || b) ≡ true
     second true b e = refl
     second false b e = e
 
 -- of two operands one
-one_of_two : (one other : Operand) (x : ℕ) → (reads_name one x || reads_name other x) ≡ true → list_any (λ o. is_variable o x) (one ∷ other ∷ []) ≡ true
+one_of_two : (one other : Operand) (x : ℕ) → (reads_name one x || reads_name other x) ≡ true → list_any (λ o. reads_name o x) (one ∷ other ∷ []) ≡ true
 one_of_two one other x h = elim (or_true (reads_name one x) (reads_name other x) h) [
   | inl e ↦ in_list one x e (other ∷ [])
   | inr e ↦ behind_list one x (other ∷ []) (in_list other x e [])
@@ -67,13 +67,13 @@ item_reads (More dest) next x h = absurd (cc)
 
 -- ---- variables that are live are variables
 
-read_small : (operand : Operand) (x : ℕ) → IsVariable operand → is_variable operand x ≡ true → x < variables
+read_small : (operand : Operand) (x : ℕ) → IsVariable operand → reads_name operand x ≡ true → x < variables
 read_small (Name name) x fits h = subst (λ (y : ℕ). y < variables) (same_number name x h) fits
 read_small (Lit value) x fits h = absurd (cc)
 
-list_small : (operands : List Operand) (x : ℕ) → AllByRecursion IsVariable operands → list_any (λ o. is_variable o x) operands ≡ true → x < variables
+list_small : (operands : List Operand) (x : ℕ) → AllByRecursion IsVariable operands → list_any (λ o. reads_name o x) operands ≡ true → x < variables
 list_small [] x fits h = absurd (cc)
-list_small (operand ∷ operands) x fits h = elim (or_true (is_variable operand x) (list_any (λ o. is_variable o x) operands) h) [
+list_small (operand ∷ operands) x fits h = elim (or_true (reads_name operand x) (list_any (λ o. reads_name o x) operands) h) [
   | inl e ↦ read_small operand x fits.0 e
   | inr e ↦ list_small operands x fits.1 e
 ]

@@ -7,7 +7,6 @@ pub mod Marking
 pub mod Members
 pub mod Numberings
 pub mod OneCut
-pub mod Places
 pub mod Reaching
 pub mod RegionsCut
 pub mod SameTrees

@@ -12,8 +12,8 @@ use Rattle.pc_live.specs.declared.variable_set.VariableSet.{VariableSet}
 use Rattle.pc_live.specs.Live.{IsLive}
 use Rattle.pc_live.specs.Liveness.{member, set_at, IsLivenessOf}
 use Rattle.pc_regions.specs.models.Cutting.{live_below}
-use Rattle.pc_regions.proofs.Places.{same_number}
 use Rattle.pc_regions.proofs.CutKeeps.{live_small}
+use Rattle.pc_word.proofs.Places.{same_number}
 
 -- ---- ranges
 

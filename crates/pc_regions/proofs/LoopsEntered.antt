@@ -12,11 +12,11 @@ use Rattle.pc_word.specs.declared.item.TrapKind.{TrapKind}
 use Rattle.pc_flow.specs.declared.node.FlowNode.{FlowNode}
 use Rattle.pc_flow.specs.declared.node.FlowNode.TheVariants.{Op, Test, Stop, Trap}
 use Rattle.pc_flow.specs.FlowGraph.{FlowGraph, IsFlow, HasEdge}
-use Rattle.pc_regions.proofs.Places.{get_front, get_last, get_more, found_within, same_number, other_number}
 use Rattle.pc_regions.proofs.Reaching.{item_leads, test_leads}
 use Rattle.pc_regions.proofs.Counting.{listed_there}
 use Rattle.pc_regions.specs.Loops.{IsWithin, Same, Deeper, BelongsTo}
 use Rattle.pc_regions.specs.models.Entering.{Rounds, depth_bound, InLoop, LeadsInto, header_at, lesser, Enters, IsEnteredFrom, Begins, Led_into, AreHeadersOf, AreHeadersFrom, EntersFrom}
+use Rattle.pc_word.proofs.Places.{get_front, get_last, get_more, found_within, same_number, other_number}
 
 -- ---- loops round loops
 

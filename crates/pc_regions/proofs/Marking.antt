@@ -12,9 +12,9 @@ use Rattle.pc_regions.specs.Cut.{IsHead, Is_entry, Edges_meet, Heads_loop}
 use Rattle.pc_regions.specs.models.Counts.{CountsEdges}
 use Rattle.pc_regions.specs.models.Entering.{header_at, IsEnteredFrom, Begins, Led_into, AreHeadersFrom}
 use Rattle.pc_regions.specs.models.Marks.{mark_at, IsMarked, WillBeMarked, Was_marked, As_entry, As_header, Marks, AreHeads, FindsLoop}
-use Rattle.pc_regions.proofs.Places.{get_front, get_more, get_last}
 use Rattle.pc_regions.proofs.CutKeeps.{entered_belongs}
 use Rattle.pc_live.proofs.Logic.{place_within}
+use Rattle.pc_word.proofs.Places.{get_front, get_more, get_last}
 
 -- ---- headers that were found
 

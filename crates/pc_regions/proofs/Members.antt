@@ -4,8 +4,8 @@ use Rattle.std.specs.Prelude.{nat_eq, slice_get, slice_index, sum_by}
 use Rattle.std.specs.List.{list_any}
 use Rattle.std.specs.List.Sorted.{IsStrictlyIncreasing}
 use Rattle.std.proofs.lemmas.List.Sums.{sum_by-append, sum_by-cons}
-use Rattle.pc_live.proofs.Logic.{or_true, or_first, or_second}
-use Rattle.pc_regions.proofs.Places.{same_number, own_number}
+use Rattle.pc_word.proofs.Truth.{or_true, or_first, or_second}
+use Rattle.pc_word.proofs.Places.{same_number, own_number}
 
 -- a number stands in a list
 abbrev pub Has : List ℕ → ℕ → Type 0

@@ -7,7 +7,7 @@ use Rattle.std.proofs.lemmas.List.{get_or-replicate, length-replicate}
 use Rattle.pc_word.proofs.Lists.{count_more, set_at, set_length}
 use Rattle.pc_word.specs.SourceLimits.{most_nodes}
 use Rattle.pc_regions.specs.models.Numbered.{Numbered, IsNumbered, nothing_met, Meets}
-use Rattle.pc_regions.proofs.Places.{get_front, get_last, get_more, length_more, set_there, set_elsewhere}
+use Rattle.pc_word.proofs.Places.{get_front, get_last, get_more, length_more, set_there, set_elsewhere}
 
 -- a node that gets a number is counted
 count_set : (xs : List (Option ℕ)) (i x : ℕ) → slice_get xs i ≡ Some None → count_by is_some (slice_set xs i (Some x)) ≡ suc (count_by is_some xs)

@@ -12,11 +12,11 @@ use Rattle.pc_regions.specs.Reachable.{AreReachable, edges_of}
 use Rattle.pc_regions.specs.Loops.{HeadsLoop}
 use Rattle.pc_live.specs.Live.{IsLive}
 use Rattle.pc_regions.specs.Cut.{IsTreeOf, IsHead, Is_entry, Edges_meet, Heads_loop, AreMet, None_met, Known, Met, AreFound, First, Found, IsRegionOf, IsCutOf, heads_of, nexts_of}
-use Rattle.pc_regions.proofs.Places.{found_within, get_more, length_more}
 use Rattle.pc_regions.proofs.LoopsEntered.{within_below}
 use Rattle.pc_regions.proofs.CutKeeps.{head_at}
 use Rattle.pc_regions.proofs.Members.{same_sum, same_rising}
 use Rattle.pc_regions.proofs.SameTrees.{SameBelow, same_tree}
+use Rattle.pc_word.proofs.Places.{found_within, get_more, length_more}
 
 -- ---- heads
 

@@ -15,7 +15,7 @@ use Rattle.pc_regions.specs.Reachable.{AreReachable}
 use Rattle.pc_flow.specs.Reachable.{IsReachableNode, Entry, Behind}
 use Rattle.pc_regions.specs.models.Numbered.{Numbered, IsNumbered, nothing_met, Meets, KeepsPlaces}
 use Rattle.pc_regions.specs.models.Reaching.{MeetsEdges, IsReaching}
-use Rattle.pc_regions.proofs.Places.{get_front, get_more, found_within, none_left}
+use Rattle.pc_word.proofs.Places.{get_front, get_more, found_within, none_left}
 
 -- ---- where edges lead
 

@@ -14,10 +14,10 @@ use Rattle.pc_regions.specs.Cut.{IsHead, IsTreeOf, An_item, A_test, A_stop, A_tr
 use Rattle.pc_regions.specs.models.Numbered.{Numbered, IsNumbered, nothing_met, Meets}
 use Rattle.pc_regions.specs.models.Marks.{IsMarked, AreHeads, FindsLoop}
 use Rattle.pc_regions.specs.models.Cutting.{TreeFor, RegionFor, Names, live_below, AreRegionsSoFar, AreRegions}
-use Rattle.pc_regions.proofs.Places.{get_more, length_more, none_left}
 use Rattle.pc_regions.proofs.Reaching.{first_of}
 use Rattle.pc_regions.proofs.LiveLists.{live_exact, live_rising}
 use Rattle.pc_regions.proofs.Marking.{finds_heads}
+use Rattle.pc_word.proofs.Places.{get_more, length_more, none_left}
 
 -- ---- one region
 

@@ -12,8 +12,8 @@ use Rattle.pc_regions.specs.Cut.{IsTreeOf, An_item, A_test, A_stop, A_trap, Take
 use Rattle.pc_regions.specs.models.Numbered.{Numbered, Meets, KeepsPlaces}
 use Rattle.pc_regions.specs.models.Marks.{mark_at, IsMarked}
 use Rattle.pc_regions.specs.models.Cutting.{TreeFor, BehindFor, Names}
-use Rattle.pc_regions.proofs.Places.{length_more}
 use Rattle.pc_regions.proofs.Reaching.{item_leads, test_leads, meets_keeps}
+use Rattle.pc_word.proofs.Places.{length_more}
 
 -- ---- numbers that are named
 

@@ -10,8 +10,6 @@ mod laws;
 mod numbering;
 mod reachable;
 mod table;
-#[cfg(test)]
-mod tests;
 
 pub use error::RegionError;
 pub use laws::law_of_one_cut;

@@ -16,12 +16,13 @@ use Rattle.pc_window.specs.Opening.{OperandBelow, ItemBelow, StubBelow, TreeBelo
 use Rattle.pc_canon.specs.Pairs.{Pair, corresponds, ones, others, defined, OperandsAlike, HomesAlike}
 use Rattle.pc_canon.specs.Shift.{FormsAlike, ItemsAlike, both_bin, both_copy, both_load, both_store, both_print, both_read, both_more, Maps, DestsAlike, TreesAlike, both_then}
 use Rattle.pc_canon.specs.Shift.{EachPair, both_either, both_exit, both_stop, both_trap}
-use Rattle.pc_canon.specs.Canonical.{placed, placed_homes, side_by_side}
+use Rattle.pc_canon.specs.Canonical.{placed_homes, side_by_side}
 use Rattle.pc_canon.proofs.Membership.{has}
-use Rattle.pc_renumber.specs.Renumbering.{renumbered_item, renumbered_tree}
+use Rattle.pc_renumber.specs.Renumbering.{renumbered_tree}
 use Rattle.pc_renumber.proofs.NamesOfTrees.{OfOperand, OfItem, OfHomes, OfTree}
+use Rattle.pc_word.specs.Naming.{map_name, map_names}
 
-dest_renumbered : (f : ℕ → ℕ) (item : Item) → dest_of (renumbered_item f item) ≡ option_map f (dest_of item)
+dest_renumbered : (f : ℕ → ℕ) (item : Item) → dest_of (map_names f item) ≡ option_map f (dest_of item)
 dest_renumbered f (Bin op dest left right) = refl
 dest_renumbered f (Copy dest from) = refl
 dest_renumbered f (Load dest array index) = refl
@@ -63,11 +64,11 @@ each_new f P R h (x ∷ xs) all = (h x all.0, each_new f P R h xs all.1)
 -- ---- each new name is below a number
 
 module _ (f : ℕ → ℕ) (n : ℕ) (P : ℕ → Type 0) (below : (x : ℕ) → P x → f x < n) where
-  operand_below : (o : Operand) → OfOperand P o → OperandBelow n (placed f o)
+  operand_below : (o : Operand) → OfOperand P o → OperandBelow n (map_name f o)
   operand_below (Name x) h = below x h
   operand_below (Lit value) h = tt
 
-  item_below : (item : Item) → OfItem P item → ItemBelow n (renumbered_item f item)
+  item_below : (item : Item) → OfItem P item → ItemBelow n (map_names f item)
   item_below (Bin op dest left right) h = (below dest h.0, operand_below left h.1, operand_below right h.2)
   item_below (Copy dest from) h = (below dest h.0, operand_below from h.1)
   item_below (Load dest array index) h = (below dest h.0, operand_below index h.1)
@@ -95,11 +96,11 @@ module _ (f : ℕ → ℕ) (P : ℕ → Type 0) (apart : (x y : ℕ) → P x →
   KnownAlike known known' = (x : ℕ) → P x → known' (f x) ≡ known x
 
   module _ (known known' : ℕ → Bool) (same : KnownAlike known known') where
-    operand_known : (o : Operand) → OfOperand P o → IsKnown known o → IsKnown known' (placed f o)
+    operand_known : (o : Operand) → OfOperand P o → IsKnown known o → IsKnown known' (map_name f o)
     operand_known (Name x) h k = same x h ∙ k
     operand_known (Lit value) h k = tt
 
-    item_known : (item : Item) → OfItem P item → ReadsKnown known item → ReadsKnown known' (renumbered_item f item)
+    item_known : (item : Item) → OfItem P item → ReadsKnown known item → ReadsKnown known' (map_names f item)
     item_known (Bin op dest left right) h k = (operand_known left h.1 k.0, (operand_known right h.2 k.1.0, tt))
     item_known (Copy dest from) h k = (operand_known from h.1 k.0, tt)
     item_known (Load dest array index) h k = (operand_known index h.1 k.0, tt)
@@ -125,7 +126,7 @@ module _ (f : ℕ → ℕ) (P : ℕ → Type 0) (apart : (x y : ℕ) → P x →
       let dest = of_dest P item h.0 in (
         item_known known known' same item h.0 k.0,
         subst (IsNew known') (sym (dest_renumbered f item)) (new_alike known known' same (dest_of item) dest k.1),
-        scoped_alike (and_dest known item) (and_dest known' (renumbered_item f item)) rest
+        scoped_alike (and_dest known item) (and_dest known' (map_names f item)) rest
             (λ x p. ap (λ (d : Option ℕ). writes d (f x) || known' (f x)) (dest_renumbered f item) ∙ writes_alike known known' same (dest_of item) dest x p)
             h.1 k.2,
       )
@@ -167,11 +168,11 @@ module _ (f : ℕ → ℕ) (P : ℕ → Type 0) (apart : (x y : ℕ) → P x →
 
   module _ (maps : Maps) (forms forms' : ℕ → Form) (tags : maps.shift ≡ maps.other_shift)
       (alike : (x : ℕ) → P x → FormsAlike maps.variables (forms x) (forms' (f x))) where
-    operands_alike : (pairs : List Pair) → Corresponds pairs → (o : Operand) → OfOperand P o → OperandsAlike pairs o (placed f o)
+    operands_alike : (pairs : List Pair) → Corresponds pairs → (o : Operand) → OfOperand P o → OperandsAlike pairs o (map_name f o)
     operands_alike pairs all (Name x) h = all x h
     operands_alike pairs all (Lit value) h = refl
 
-    items_alike : (pairs : List Pair) → Corresponds pairs → (item : Item) → OfItem P item → ItemsAlike pairs item (renumbered_item f item)
+    items_alike : (pairs : List Pair) → Corresponds pairs → (item : Item) → OfItem P item → ItemsAlike pairs item (map_names f item)
     items_alike pairs all (Bin op dest left right) h = both_bin (operands_alike pairs all left h.1) (operands_alike pairs all right h.2)
     items_alike pairs all (Copy dest from) h = both_copy (operands_alike pairs all from h.1)
     items_alike pairs all (Load dest array index) h = both_load (operands_alike pairs all index h.1)

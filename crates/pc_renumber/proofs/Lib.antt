@@ -5,8 +5,6 @@ pub mod NewVariables
 pub mod AlikeTrees
 pub mod Renumbered
 pub mod Numbers
-pub mod Homes
 pub mod Marks
 pub mod NewForms
 pub mod RenumberedWindows
-pub mod SumWindows

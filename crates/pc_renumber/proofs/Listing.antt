@@ -8,14 +8,13 @@ use Rattle.std.proofs.lemmas.List.Folds.{list_any-append}
 use Rattle.pc_word.specs.Items.{dest_of}
 use Rattle.pc_word.specs.Commit.{writes}
 use Rattle.pc_word.proofs.Lists.{all_both, all_imply}
-use Rattle.pc_word.proofs.Truth.{or_false, or_made_false}
+use Rattle.pc_word.proofs.Truth.{or_false, or_made_false, or_first, or_second}
 use Rattle.pc_window.specs.Tree.{Tree, Pending, Undecided, Exit, Stop_exit, Trap_exit}
 use Rattle.pc_window.specs.Names.{Scoped, IsNew, and_dest, uses, named, definitions_of, parameters_of}
 use Rattle.pc_window.specs.Rebasing.{is_in, all_names}
-use Rattle.pc_window.proofs.Live.{or_first, or_second}
 use Rattle.pc_window.proofs.Grafts.{nat_eq-same}
-use Rattle.pc_rebase.specs.models.Listing.{and_name, and_names}
-use Rattle.pc_rebase.proofs.Listed.{in_more, all_listed}
+use Rattle.pc_window.specs.models.Listing.{and_name, and_names}
+use Rattle.pc_window.proofs.Listed.{in_more, all_listed}
 use Rattle.pc_canon.proofs.Membership.{has, has_is, Distinct, distinct_from}
 use Rattle.pc_canon.proofs.ParameterLists.{parameters_listed, parameters_used, parameters_distinct}
 use Rattle.pc_renumber.proofs.NamesOfTrees.{OfTree, of_tree}

@@ -9,24 +9,11 @@ use Rattle.pc_word.proofs.Lists.{all_at, set_length}
 use Rattle.pc_linear.specs.declared.term.Term.{Term}
 use Rattle.pc_linear.specs.Form.{Form}
 use Rattle.pc_window.specs.Opening.{TermsBelow, FormBelow}
-use Rattle.pc_rebase.proofs.TermPlaces.{few_places, fewer_places}
+use Rattle.pc_linear.proofs.FewPlaces.{few_places, fewer_places, none_from, one_from}
 use Rattle.pc_renumber.specs.Renumbering.{stands_in, stands_in_any, how_many_below}
 use Rattle.pc_renumber.specs.models.Numbering.{and_terms, and_forms, counts_from, AreNew}
 
 -- ---- the terms of a form
-
-none_from : (ts : List Term) (at : ℕ) → slice_get ts at ≡ None → drop at ts ≡ []
-none_from [] zero h = refl
-none_from [] (suc at) h = refl
-none_from (t ∷ ts) zero h = absurd (cc)
-none_from (t ∷ ts) (suc at) h = none_from ts at h
-
-one_from : (ts : List Term) (at : ℕ) (t : Term) → slice_get ts at ≡ Some t → drop at ts ≡ t ∷ drop (at + 1) ts
-one_from [] at t h = absurd (cc)
-one_from (u ∷ ts) zero t h = let same : u ≡ t = (cc) in ap (λ (x : Term). x ∷ ts) same
-one_from (u ∷ ts) (suc at) t h =
-    let next : suc at + 1 ≡ suc (at + 1) = omega arith in
-    one_from ts at t h ∙ ap (λ (n : ℕ). t ∷ drop n (u ∷ ts)) (sym next)
 
 module _ (ts : List Term) (at : ℕ) where
   pub no_marks : (marks : List Bool) → slice_get ts at ≡ None → marks ≡ and_terms (drop at ts) marks

@@ -7,15 +7,14 @@ use Rattle.pc_word.specs.declared.item.Item.{Item}
 use Rattle.pc_word.specs.declared.item.Item.TheVariants.{Bin, Copy, Load, Store, Print, Read, More}
 use Rattle.pc_word.specs.declared.item.Operand.{Operand}
 use Rattle.pc_word.specs.declared.item.Operand.TheVariants.{Name, Lit}
-use Rattle.pc_word.specs.Items.{dest_of}
+use Rattle.pc_word.specs.Items.{dest_of, reads, reads_name}
 use Rattle.pc_word.specs.Commit.{writes}
 use Rattle.pc_word.proofs.Lists.{all_front, all_back}
-use Rattle.pc_table.specs.TableKeeps.{reads, reads_name}
 use Rattle.pc_window.specs.declared.home.Home.{Home}
 use Rattle.pc_window.specs.Tree.{Tree, Pending, Undecided, Exit, Stop_exit, Trap_exit}
 use Rattle.pc_window.specs.Names.{homes_use, uses, named, definitions_of}
 use Rattle.pc_window.proofs.Grafts.{nat_eq-same}
-use Rattle.pc_window.proofs.Live.{or_first, or_second}
+use Rattle.pc_word.proofs.Truth.{or_first, or_second}
 
 -- ---- names that are read and written
 

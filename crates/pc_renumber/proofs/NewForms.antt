@@ -9,11 +9,11 @@ use Rattle.pc_linear.specs.Form.{Form, Rising, HasFactor, IsForm, term_in_variab
 use Rattle.pc_window.specs.Opening.{TermsBelow, FormBelow}
 use Rattle.pc_window.specs.declared.names.NameTable.{NameTable}
 use Rattle.pc_window.specs.StoredWindow.{forms_in, supply_in}
-use Rattle.pc_window.proofs.Live.{or_first, or_second}
 use Rattle.pc_window.proofs.Grafts.{nat_eq-same}
 use Rattle.pc_renumber.specs.Renumbering.{stands_in, stands_in_any, new_variable, renumbered_supply}
 use Rattle.pc_renumber.specs.models.Numbering.{AreNew, Rise}
 use Rattle.pc_renumber.proofs.NewVariables.{Among, rises, each_stands}
+use Rattle.pc_word.proofs.Truth.{or_first, or_second}
 
 -- ---- a whole form
 

@@ -5,12 +5,11 @@ use Rattle.std.specs.List.{AllByRecursion}
 use Rattle.std.proofs.lemmas.Bool.{eqb-true, eq-eqb}
 use lib.IntN.{+ℤ_idl}
 use Rattle.pc_word.proofs.Lists.{all_imply}
-use Rattle.pc_word.proofs.Truth.{or_made_false, decide_le}
+use Rattle.pc_word.proofs.Truth.{or_made_false, decide_le, or_first, or_second}
 use Rattle.pc_linear.specs.declared.term.Term.{Term}
 use Rattle.pc_linear.specs.Form.{Form, factor_of, terms_in_variables, in_variables}
 use Rattle.pc_window.specs.Opening.{TermsBelow, FormBelow}
 use Rattle.pc_window.specs.Rebasing.{is_in}
-use Rattle.pc_window.proofs.Live.{or_first, or_second}
 use Rattle.pc_window.proofs.Grafts.{nat_eq-same}
 use Rattle.pc_canon.specs.Pairs.{Pair, ones, others}
 use Rattle.pc_canon.specs.Shift.{OneToOne, EachPair, FormsAlike, has_terms}

@@ -13,14 +13,15 @@ use Rattle.pc_window.specs.declared.home.Home.{Home}
 use Rattle.pc_window.specs.Tree.{Tree, Pending, Undecided, Exit, Stop_exit, Trap_exit}
 use Rattle.pc_window.specs.Rebasing.{is_in}
 use Rattle.pc_window.proofs.Grafts.{nat_eq-same}
-use Rattle.pc_rebase.specs.models.Listing.{and_name}
-use Rattle.pc_rebase.proofs.Listed.{in_more}
-use Rattle.pc_rebase.proofs.Walked.{dest_below, item_defines, item_defines_none, sides_define}
-use Rattle.pc_canon.specs.Canonical.{place_of, placed, placed_homes}
+use Rattle.pc_window.specs.models.Listing.{and_name}
+use Rattle.pc_window.proofs.Listed.{in_more}
+use Rattle.pc_window.proofs.Walked.{dest_below, item_defines, item_defines_none}
+use Rattle.pc_canon.specs.Canonical.{place_of, placed_homes}
 use Rattle.pc_canon.proofs.Membership.{has, has_is}
-use Rattle.pc_renumber.specs.Renumbering.{renumbered_item, renumbered_tree}
+use Rattle.pc_renumber.specs.Renumbering.{renumbered_tree}
 use Rattle.pc_renumber.specs.models.Numbering.{number_in, place_if, AreNumbers}
 use Rattle.pc_renumber.proofs.NamesOfTrees.{OfOperand, OfItem, OfHomes, OfTree}
+use Rattle.pc_word.specs.Naming.{map_name, map_names}
 
 -- ---- one name more
 
@@ -114,11 +115,11 @@ pub ruleset nothing = (nothing_numbered, none_more)
 -- ---- a tree by the numbers of its names
 
 module _ (f g : ℕ → ℕ) (P : ℕ → Type 0) (same : (x : ℕ) → P x → f x ≡ g x) where
-  same_operand : (o : Operand) → OfOperand P o → placed f o ≡ placed g o
+  same_operand : (o : Operand) → OfOperand P o → map_name f o ≡ map_name g o
   same_operand (Name x) h = ap (λ (n : ℕ). Name n) (same x h)
   same_operand (Lit value) h = refl
 
-  same_item : (item : Item) → OfItem P item → renumbered_item f item ≡ renumbered_item g item
+  same_item : (item : Item) → OfItem P item → map_names f item ≡ map_names g item
   same_item (Bin op dest left right) h = λ i. Bin op (same dest h.0 i) (same_operand left h.1 i) (same_operand right h.2 i)
   same_item (Copy dest from) h = λ i. Copy (same dest h.0 i) (same_operand from h.1 i)
   same_item (Load dest array index) h = λ i. Load (same dest h.0 i) array (same_operand index h.1 i)

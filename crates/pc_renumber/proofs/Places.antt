@@ -7,12 +7,7 @@ use Rattle.std.proofs.lemmas.Option.{slice_get-map}
 use Rattle.pc_window.specs.Rebasing.{is_in}
 use Rattle.pc_canon.specs.Canonical.{place_of}
 use Rattle.pc_canon.proofs.Membership.{has, has_is, Distinct}
-
-same_test : (b c : Bool) → (b ≡ true → c ≡ true) → (c ≡ true → b ≡ true) → b ≡ c
-same_test true true f g = refl
-same_test false false f g = refl
-same_test true false f g = sym (f refl)
-same_test false true f g = g refl
+use Rattle.pc_word.proofs.Truth.{same_test}
 
 -- ---- the place of a name that is there
 

@@ -1,10 +1,9 @@
 -- What a window keeps that is renumbered.
 use Rattle.std.proofs.Common.{◌≡◌, ℕ, zero, suc, ◌+◌, ◌<◌, ◌≤◌, List, [], ◌∷◌, length, map, refl, sym, ◌∙◌, ap, subst}
-use Rattle.std.specs.Prelude.{Bool, true, false, ◌||◌, nat_eq, slice_index_or, option_map}
+use Rattle.std.specs.Prelude.{Bool, true, nat_eq, slice_index_or, option_map}
 use Rattle.std.specs.List.{AllByRecursion}
 use Rattle.std.proofs.lemmas.List.{length-map}
 use Rattle.std.proofs.lemmas.Map.Steps.{length-le_from_distinct_below}
-use Rattle.std.proofs.lemmas.Bool.{eqb-true}
 use Rattle.std.proofs.lemmas.Option.{get_or_from_slice_get, slice_get-map}
 use Rattle.pc_word.specs.declared.item.Item.{Item}
 use Rattle.pc_word.specs.declared.item.Item.TheVariants.{Bin, Copy, Load, Store, Print, Read, More}
@@ -21,34 +20,30 @@ use Rattle.pc_window.specs.StoredWindow.{forms_in, form_or_none}
 use Rattle.pc_window.specs.WindowRun.{Window}
 use Rattle.pc_window.specs.Steps.{IsProper}
 use Rattle.pc_window.proofs.Grafts.{nat_eq-same}
-use Rattle.pc_window.proofs.Live.{or_first, or_second}
 use Rattle.pc_window.proofs.Proper.{becomes_proper}
-use Rattle.pc_rebase.proofs.Listed.{all_names-below}
+use Rattle.pc_window.proofs.Listed.{all_names-below}
 use Rattle.pc_canon.specs.Shift.{OneToOne, FormsAlike, Maps, TreesAlike, SameFront, ShiftedBy, Shifted}
 use Rattle.pc_canon.specs.Canonical.{place_of, placed_homes, parameter_pairs}
 use Rattle.pc_canon.proofs.Membership.{has_is, Distinct, distinct_to}
 use Rattle.pc_canon.proofs.FormsTell.{forms_tell}
 use Rattle.pc_canon.proofs.FormsKept.{forms_kept}
-use Rattle.pc_renumber.specs.Renumbering.{stands_in_any, how_many_below, new_variable, renumbered_item, renumbered_tree, forms_of_names}
+use Rattle.pc_renumber.specs.Renumbering.{stands_in_any, how_many_below, new_variable, renumbered_tree, forms_of_names}
 use Rattle.pc_renumber.specs.Renumbering.{renumbered_supply, renumbered}
 use Rattle.pc_renumber.proofs.NamesOfTrees.{OfTree}
 use Rattle.pc_renumber.proofs.Listing.{all_distinct, names_there}
 use Rattle.pc_renumber.proofs.Places.{at_place, mapped_at_place, places_apart, place_below, distinct_mapped}
 use Rattle.pc_renumber.proofs.NewVariables.{Among, at_most, variable_pairs, one_to_one, form_alike, terms_below, each_stands}
 use Rattle.pc_renumber.proofs.AlikeTrees.{with_new, new_ones, new_others, each_new, tree_below, scoped_alike, list_corresponds, trees_alike}
+use Rattle.pc_word.specs.Naming.{map_names}
+use Rattle.pc_word.proofs.Truth.{or_first, or_second}
+use Rattle.pc_window.proofs.CutRows.{whole_front_of}
+use Rattle.pc_canon.proofs.WrittenKeys.{each_below}
 
 -- ---- the front
 
 -- its front is its first item or test, if there is one
 abbrev pub IsSingle : Window → Type 0
 IsSingle w = w.front ≡ front_of (whole w.front)
-
-whole_front : (tree : Tree) → whole (front_of tree) ≡ tree
-whole_front (Pending tag origin item rest) = refl
-whole_front (Undecided tag origin on one other) = refl
-whole_front (Exit region tag homes) = refl
-whole_front Stop_exit = refl
-whole_front (Trap_exit kind line) = refl
 
 same_front : (f : ℕ → ℕ) (tree : Tree) → SameFront (front_of tree) (front_of (renumbered_tree f tree))
 same_front f (Pending tag origin item rest) = tt
@@ -59,7 +54,7 @@ same_front f (Trap_exit kind line) = tt
 
 pub renumbered_single : (w : Window) → IsSingle w → IsSingle (renumbered w)
 unfolding renumbered
-renumbered_single w single = ap front_of (sym (whole_front (renumbered_tree (place_of (all_names (whole w.front))) (whole w.front))))
+renumbered_single w single = ap front_of (sym (whole_front_of (renumbered_tree (place_of (all_names (whole w.front))) (whole w.front))))
 
 pub renumbered_limits : (w : Window) → (renumbered w).limits ≡ w.limits
 unfolding renumbered
@@ -78,9 +73,9 @@ pub renumbered_size : (w : Window) → tree_size (whole (renumbered w).front) �
 unfolding renumbered
 renumbered_size w =
     let f = place_of (all_names (whole w.front)) in
-    ap tree_size (whole_front (renumbered_tree f (whole w.front))) ∙ same_size f (whole w.front)
+    ap tree_size (whole_front_of (renumbered_tree f (whole w.front))) ∙ same_size f (whole w.front)
 
-same_array : (f : ℕ → ℕ) (table : Table) (item : Item) → ArrayIsThere table item → ArrayIsThere table (renumbered_item f item)
+same_array : (f : ℕ → ℕ) (table : Table) (item : Item) → ArrayIsThere table item → ArrayIsThere table (map_names f item)
 same_array f table (Bin op dest left right) h = h
 same_array f table (Copy dest from) h = h
 same_array f table (Load dest array index) h = h
@@ -104,7 +99,7 @@ pub renumbered_parts : (table : Table) (most : ℕ) (w : Window) → PartsAreThe
 unfolding renumbered
 renumbered_parts table most w parts =
     let f = place_of (all_names (whole w.front)) in
-    subst (PartsAreThere table most) (sym (whole_front (renumbered_tree f (whole w.front)))) (same_parts f table most (whole w.front) parts)
+    subst (PartsAreThere table most) (sym (whole_front_of (renumbered_tree f (whole w.front)))) (same_parts f table most (whole w.front) parts)
 
 -- ---- names and forms
 
@@ -114,14 +109,6 @@ self_there (x ∷ xs) = (
   or_first (nat_eq x x) (is_in x xs) (nat_eq-same x),
   all_imply (λ y. is_in y xs ≡ true) (λ y. is_in y (x ∷ xs) ≡ true) xs (λ y e. or_second (nat_eq y x) (is_in y xs) e) (self_there xs),
 )
-
-each_below : (n : ℕ) (xs : List ℕ) → AllByRecursion (λ x. x < n) xs → (q : ℕ) → is_in q xs ≡ true → q < n
-each_below n [] h q e = absurd (cc)
-each_below n (x ∷ xs) h q e = by (nat_eq q x) refl e (each_below n xs h.1 q)
-  where
-    by : (b : Bool) → nat_eq q x ≡ b → (b || is_in q xs) ≡ true → (is_in q xs ≡ true → q < n) → q < n
-    by true same e next = subst (λ (y : ℕ). y < n) (sym (eqb-true q x same)) h.0
-    by false same e next = next e
 
 -- each form of a list by name is below a number where those that are listed are
 pub forms_listed : (m : ℕ) (fs : List Form) → AllByRecursion (FormBelow m) fs → (x : ℕ) → FormBelow m (forms_in fs x)
@@ -230,7 +217,7 @@ module _ (w : Window) (proper : IsProper w) where
         params_one_to_one = params_one_to_one;
         params_alike = each_new (place_of all) IsThere (λ x y. FormsAlike maps.variables (w.forms x) ((renumbered w).forms y)) forms_alike all (self_there all);
         fronts = subst (λ (front : Front). SameFront front (front_of (renumbered_tree (place_of all) tree))) (sym single) (same_front (place_of all) tree);
-        trees = subst (TreesAlike maps w.forms (renumbered w).forms (with_new (place_of all) all) tree) (sym (whole_front (renumbered_tree (place_of all) tree)))
+        trees = subst (TreesAlike maps w.forms (renumbered w).forms (with_new (place_of all) all) tree) (sym (whole_front_of (renumbered_tree (place_of all) tree)))
             (trees_alike (place_of all) IsThere (places_apart all) maps w.forms (renumbered w).forms refl forms_alike (with_new (place_of all) all)
             (λ x h. list_corresponds (place_of all) IsThere (places_apart all) all (self_there all) x h (has_is all x ∙ h)) tree there);
         limits = refl;

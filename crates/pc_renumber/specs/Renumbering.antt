@@ -1,8 +1,6 @@
 -- Windows whose names and form variables are numbered anew, without gaps.
 use Rattle.std.specs.Prelude.{◌≡◌, ℕ, zero, suc, ◌+◌, Bool, if◌then◌else◌, nat_eq, List, length, map}
 use Rattle.std.specs.List.{list_any}
-use Rattle.pc_word.specs.declared.item.Item.{Item}
-use Rattle.pc_word.specs.declared.item.Item.TheVariants.{Bin, Copy, Load, Store, Print, Read, More}
 use Rattle.pc_linear.specs.declared.term.Term.{Term}
 use Rattle.pc_linear.specs.Form.{Form, in_variables}
 use Rattle.pc_window.specs.Tree.{Tree, Pending, Undecided, Exit, Stop_exit, Trap_exit, whole}
@@ -11,25 +9,16 @@ use Rattle.pc_window.specs.Rebasing.{all_names}
 use Rattle.pc_window.specs.Steps.{window_of}
 use Rattle.pc_window.specs.StoredWindow.{forms_in}
 use Rattle.pc_window.specs.WindowRun.{Window}
-use Rattle.pc_canon.specs.Canonical.{place_of, placed, placed_homes}
+use Rattle.pc_canon.specs.Canonical.{place_of, placed_homes}
+use Rattle.pc_word.specs.Naming.{map_name, map_names}
 
 -- ---- names
 
--- an item that reads and writes the new names
-abbrev pub renumbered_item : (ℕ → ℕ) → Item → Item
-renumbered_item number (Bin op dest left right) = Bin op (number dest) (placed number left) (placed number right)
-renumbered_item number (Copy dest from) = Copy (number dest) (placed number from)
-renumbered_item number (Load dest array index) = Load (number dest) array (placed number index)
-renumbered_item number (Store array index value) = Store array (placed number index) (placed number value)
-renumbered_item number (Print value) = Print (placed number value)
-renumbered_item number (Read dest) = Read (number dest)
-renumbered_item number (More dest) = More (number dest)
-
 -- a tree with the new names; all else stays as it is
 abbrev pub renumbered_tree : (ℕ → ℕ) → Tree → Tree
-renumbered_tree number (Pending tag origin item rest) = Pending tag origin (renumbered_item number item) (renumbered_tree number rest)
+renumbered_tree number (Pending tag origin item rest) = Pending tag origin (map_names number item) (renumbered_tree number rest)
 renumbered_tree number (Undecided tag origin on on_yes on_no) =
-    Undecided tag origin (placed number on) (renumbered_tree number on_yes) (renumbered_tree number on_no)
+    Undecided tag origin (map_name number on) (renumbered_tree number on_yes) (renumbered_tree number on_no)
 renumbered_tree number (Exit region tag homes) = Exit region tag (placed_homes number homes)
 renumbered_tree number Stop_exit = Stop_exit
 renumbered_tree number (Trap_exit kind line) = Trap_exit kind line

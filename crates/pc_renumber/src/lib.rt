@@ -4,8 +4,6 @@
 mod forms;
 mod names;
 mod renumbering;
-#[cfg(test)]
-mod tests;
 mod trees;
 mod variables;
 

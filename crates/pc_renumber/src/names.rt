@@ -1,17 +1,14 @@
 //! The names of a tree, in the order of their new numbers.
 ghost use Rattle.std.specs.Prelude.{◌≡◌, ◌<◌, [], length, IfOk, OnOk};
 ghost use Rattle.std.specs.List.{AllByRecursion};
-ghost use Rattle.pc_word.specs.Items.{dest_of};
 ghost use Rattle.pc_window.specs.Names.{Scoped, uses, definitions_of, parameters_of};
 ghost use Rattle.pc_window.specs.Opening.{TreeBelow};
 ghost use Rattle.pc_window.specs.Rebasing.{all_names};
 ghost use Rattle.pc_window.specs.StoredWindow.{tree_in};
-ghost use Rattle.pc_rebase.specs.models.Listing.{and_name, and_names};
+ghost use Rattle.pc_window.specs.models.Listing.{and_name, and_names};
 ghost use Rattle.pc_renumber.specs.models.Numbering.{AreNumbers};
 
-use pc_rebase::NumberList;
-use pc_window::{WindowError, WindowTree};
-use pc_word::Item;
+use pc_window::{NumberList, WindowError, WindowTree};
 use std::alloc::{AllocError, Global};
 
 /// From this number on there are no names.
@@ -83,7 +80,7 @@ fn add_definitions(
 {
     match tree {
         WindowTree::Step { item, rest, .. } => {
-            if let Some(dest) = written_by(*item) {
+            if let Some(dest) = item.dest() {
                 add_name(dest, names, numbers)?;
             }
             add_definitions(rest, names, numbers)
@@ -121,19 +118,4 @@ fn add_name(
     }
     numbers[name as usize] = Some(names.len() as u32);
     Ok(names.push(name)?)
-}
-
-/// The name that an item writes.
-fn written_by(item: Item) -> Option<u32>
-    ensures { result ≡ dest_of item }
-{
-    match item {
-        Item::Bin { dest, .. } => Some(dest),
-        Item::Copy { dest, .. } => Some(dest),
-        Item::Load { dest, .. } => Some(dest),
-        Item::Store { .. } => None,
-        Item::Print { .. } => None,
-        Item::Read { dest } => Some(dest),
-        Item::More { dest } => Some(dest),
-    }
 }

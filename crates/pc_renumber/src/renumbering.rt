@@ -12,8 +12,7 @@ ghost use Rattle.pc_renumber.specs.models.Numbering.{AreNumbers};
 use crate::forms::renumbered_table;
 use crate::names::{add_all, no_numbers};
 use crate::trees::renumber_tree;
-use pc_rebase::{NumberList, parameters_of};
-use pc_window::{Window, WindowError};
+use pc_window::{NumberList, Window, WindowError, parameters_of};
 use std::alloc::Global;
 
 /// Numbers the names and form variables of a window anew.

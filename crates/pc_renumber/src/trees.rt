@@ -1,11 +1,12 @@
 //! Trees with new names.
-ghost use Rattle.std.specs.Prelude.{◌≡◌, ◌<◌, Bool, Some, length, slice_get};
+ghost use Rattle.std.specs.Prelude.{◌≡◌, Bool};
 ghost use Rattle.pc_window.specs.StoredWindow.{tree_in, InNodes};
-ghost use Rattle.pc_canon.specs.Canonical.{placed, placed_homes};
-ghost use Rattle.pc_renumber.specs.Renumbering.{renumbered_item, renumbered_tree};
+ghost use Rattle.pc_canon.specs.Canonical.{placed_homes};
+ghost use Rattle.pc_renumber.specs.Renumbering.{renumbered_tree};
 ghost use Rattle.pc_renumber.specs.models.Numbering.{number_in};
+ghost use Rattle.pc_word.specs.Naming.{map_name, map_names};
 
-use pc_window::{Home, HomeList, WindowTree};
+use pc_window::{HomeList, WindowTree, map_homes};
 use pc_word::{Item, Operand};
 
 /// Gives the names of a tree their new numbers.
@@ -32,86 +33,24 @@ pub(crate) fn renumber_tree(tree: &mut WindowTree, numbers: &[Option<u32>])
 
 /// An item that reads and writes the new names.
 fn renumbered_item(item: Item, numbers: &[Option<u32>]) -> Item
-    ensures { result ≡ renumbered_item (number_in numbers.now) item }
+    ensures { result ≡ map_names (number_in numbers.now) item }
 {
-    match item {
-        Item::Bin {
-            op,
-            dest,
-            left,
-            right,
-        } => Item::Bin {
-            op,
-            dest: number_in(numbers, dest),
-            left: renumbered_operand(left, numbers),
-            right: renumbered_operand(right, numbers),
-        },
-        Item::Copy { dest, from } => Item::Copy {
-            dest: number_in(numbers, dest),
-            from: renumbered_operand(from, numbers),
-        },
-        Item::Load { dest, array, index } => Item::Load {
-            dest: number_in(numbers, dest),
-            array,
-            index: renumbered_operand(index, numbers),
-        },
-        Item::Store {
-            array,
-            index,
-            value,
-        } => Item::Store {
-            array,
-            index: renumbered_operand(index, numbers),
-            value: renumbered_operand(value, numbers),
-        },
-        Item::Print { value } => Item::Print {
-            value: renumbered_operand(value, numbers),
-        },
-        Item::Read { dest } => Item::Read {
-            dest: number_in(numbers, dest),
-        },
-        Item::More { dest } => Item::More {
-            dest: number_in(numbers, dest),
-        },
-    }
+    let item = item.map_operands(|operand| renumbered_operand(operand, numbers));
+    item.map_dest(|name| number_in(numbers, name))
 }
 
 /// Gives the names that homes read their new numbers.
 fn renumber_homes(homes: &mut HomeList, numbers: &[Option<u32>])
     ensures { homes.new ≡ placed_homes (number_in numbers.now) homes.old }
 {
-    for at in 0..homes.len() {
-        let home = home_at(homes, at);
-        homes.set(at, renumbered_home(home, numbers));
-    }
-}
-
-/// A home of a list.
-fn home_at(homes: &HomeList, at: usize) -> Home
-    requires { at < length homes.now }
-    ensures { slice_get homes.now at ≡ Some result }
-{
-    homes.as_slice()[at]
-}
-
-/// A home that reads the new name.
-fn renumbered_home(home: Home, numbers: &[Option<u32>]) -> Home
-    ensures { result ≡ record { variable = home.variable; value = placed (number_in numbers.now) home.value } }
-{
-    Home {
-        variable: home.variable,
-        value: renumbered_operand(home.value, numbers),
-    }
+    map_homes(homes, |value| renumbered_operand(value, numbers));
 }
 
 /// An operand with the new name.
 fn renumbered_operand(operand: Operand, numbers: &[Option<u32>]) -> Operand
-    ensures { result ≡ placed (number_in numbers.now) operand }
+    ensures { result ≡ map_name (number_in numbers.now) operand }
 {
-    match operand {
-        Operand::Name(name) => Operand::Name(number_in(numbers, name)),
-        Operand::Lit(value) => Operand::Lit(value),
-    }
+    operand.map_name(|name| number_in(numbers, name))
 }
 
 /// The new number of a name, and 0 where it has none.

@@ -1,4 +1,1 @@
-pub mod JumpingTrees
 pub mod Refusal
-pub mod Waiting
-pub mod WorkedLoop

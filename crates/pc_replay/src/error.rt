@@ -4,7 +4,7 @@ ghost use Rattle.pc_replay.specs.declared.error.ReplayError.TheVariants.{Memory}
 ghost use Rattle.pc_replay.specs.models.Refusal.{refusal_for};
 
 use pc_moveop::MoveError;
-use pc_window::WindowError;
+use pc_word::OutOfMemory;
 use std::alloc::AllocError;
 use thiserror::Error;
 
@@ -34,10 +34,10 @@ impl From<AllocError> for ReplayError {
     }
 }
 
-impl From<WindowError> for ReplayError {
+impl From<OutOfMemory> for ReplayError {
     ghost from_gives = { λ _ e. e ≡ Memory };
 
-    fn from(_error: WindowError) -> ReplayError {
+    fn from(_error: OutOfMemory) -> ReplayError {
         ReplayError::Memory
     }
 }

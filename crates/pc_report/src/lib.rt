@@ -6,8 +6,6 @@ mod error;
 mod fault;
 mod lines;
 mod report;
-#[cfg(test)]
-mod tests;
 mod words;
 
 pub use error::ReportError;

@@ -2,30 +2,14 @@
 ghost use Rattle.std.specs.Prelude.{◌≡◌, ◌≤◌, ◌++◌, IfOk, OnOk, string_bytes, length};
 ghost use Rattle.pc_sample.specs.SampleText.{block_count, block_line, blocks_text, difference_line, gather_line, head_text, sample_text};
 
+use pc_word::OutOfMemory;
 use std::alloc::{AllocError, Global};
-use thiserror::Error;
 
 /// The bytes that a sample has at most.
 pub const MOST_SAMPLE: usize = 2_500;
 
 /// Why a sample was not made.
-#[derive(Clone, Copy, Debug, PartialEq, Eq, Error)]
-pub enum SampleError {
-    /// Memory ran out.
-    #[error("out of memory")]
-    Memory,
-}
-
-impl From<AllocError> for SampleError {
-    ghost use Rattle.std.specs.Prelude.{◌≡◌};
-    ghost use Rattle.pc_sample.specs.declared.generate.SampleError.TheVariants.{Memory};
-
-    ghost from_gives = { λ _ e. e ≡ Memory };
-
-    fn from(_error: AllocError) -> SampleError {
-        SampleError::Memory
-    }
-}
+pub type SampleError = OutOfMemory;
 
 /// The source that belongs to a number: a program of loops over two arrays.
 pub fn sample(alloc: Global, number: u32) -> Result<Vec<u8>, SampleError>

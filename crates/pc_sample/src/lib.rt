@@ -3,8 +3,6 @@
 
 mod generate;
 mod laws;
-#[cfg(test)]
-mod tests;
 
 pub use generate::{MOST_SAMPLE, SampleError, sample};
 pub use laws::laws_of_samples;

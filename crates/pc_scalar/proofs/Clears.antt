@@ -10,20 +10,20 @@ use Rattle.pc_word.specs.declared.item.Item.TheVariants.{Bin, Copy, Load, Store,
 use Rattle.pc_word.specs.declared.item.Operand.{Operand}
 use Rattle.pc_word.specs.declared.item.Operand.TheVariants.{Name, Lit}
 use Rattle.pc_word.specs.State.{State, set_name}
-use Rattle.pc_word.specs.Items.{operands_of, dest_of}
+use Rattle.pc_word.specs.Items.{operands_of, dest_of, reads_name}
 use Rattle.pc_word.specs.Commit.{writes}
 use Rattle.pc_word.specs.Row.{RowOutcome, Commits, item_step}
 use Rattle.pc_word.proofs.Items.{item_step-is}
-use Rattle.pc_word.proofs.Truth.{and_made, not_true}
+use Rattle.pc_word.proofs.Truth.{and_made, not_true, or_true, or_first, or_second}
 use Rattle.pc_flow.specs.declared.node.FlowNode.{FlowNode}
 use Rattle.pc_flow.specs.declared.node.FlowNode.TheVariants.{Op, Test, Stop, Trap}
 use Rattle.pc_flow.specs.FlowGraph.{FlowGraph, IsVariable, IsTarget, HasEdge, NodeFits, IsFlow, tested_loop, variables}
 use Rattle.pc_flow.specs.FlowRun.{step_after_item, run_node}
 use Rattle.pc_live.specs.declared.variable_set.VariableSet.{VariableSet}
-use Rattle.pc_live.specs.Live.{is_variable, node_reads, node_writes, IsLive, Read_here, Read_later}
+use Rattle.pc_live.specs.Live.{node_reads, node_writes, IsLive, Read_here, Read_later}
 use Rattle.pc_live.specs.Liveness.{member, set_at}
 use Rattle.pc_live.specs.models.Rounds.{behind}
-use Rattle.pc_live.proofs.Logic.{or_true, or_first, or_second, place_within}
+use Rattle.pc_live.proofs.Logic.{place_within}
 use Rattle.pc_live.proofs.Rounds.{some_behind}
 use Rattle.pc_pass.specs.Pass.{Keeps}
 use Rattle.pc_flow.specs.Reachable.{IsReachableNode, Behind}
@@ -171,13 +171,13 @@ wanted_kept : (sets : List VariableSet) (item : Item) (to dest : ℕ) → only_w
 wanted_kept sets item to dest only wanted = ap (is_unwanted (set_at sets to)) only ∙ ap not wanted
 
 -- what is read is a variable
-pub read_small : (operand : Operand) (x : ℕ) → IsVariable operand → is_variable operand x ≡ true → x < variables
+pub read_small : (operand : Operand) (x : ℕ) → IsVariable operand → reads_name operand x ≡ true → x < variables
 read_small (Name name) x small e = subst (λ (n : ℕ). n < variables) (eqb-true name x e) small
 read_small (Lit value) x small e = absurd (cc)
 
-pub reads_small : (operands : List Operand) (x : ℕ) → AllByRecursion IsVariable operands → list_any (λ operand. is_variable operand x) operands ≡ true → x < variables
+pub reads_small : (operands : List Operand) (x : ℕ) → AllByRecursion IsVariable operands → list_any (λ operand. reads_name operand x) operands ≡ true → x < variables
 reads_small [] x small e = absurd (cc)
-reads_small (operand ∷ operands) x small e = elim (or_true (is_variable operand x) (list_any (λ o. is_variable o x) operands) e) [
+reads_small (operand ∷ operands) x small e = elim (or_true (reads_name operand x) (list_any (λ o. reads_name o x) operands) e) [
   | inl h ↦ read_small operand x small.0 h
   | inr h ↦ reads_small operands x small.1 h
 ]

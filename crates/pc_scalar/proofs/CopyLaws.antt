@@ -2,17 +2,17 @@
 use Rattle.std.proofs.Common.{◌≡◌, ◌≢◌, inl, inr, ℕ, Bool, true, false, not, ◌||◌, List, length, Option, Some, None, refl, sym, ◌∙◌, ap, eq-eqb, eqb-true, true≢false}
 use Rattle.std.specs.Prelude.{nat_eq, slice_get}
 use Rattle.std.specs.List.{list_any}
+use Rattle.pc_word.specs.Naming.{map_operands}
 use Rattle.pc_word.specs.declared.item.Item.{Item}
 use Rattle.pc_word.specs.declared.item.Item.TheVariants.{Bin, Copy, Load, Store, Print, Read, More}
 use Rattle.pc_word.specs.declared.item.Operand.{Operand}
 use Rattle.pc_word.specs.declared.item.Operand.TheVariants.{Name, Lit}
-use Rattle.pc_word.specs.Items.{operands_of, dest_of}
-use Rattle.pc_word.proofs.Truth.{or_false}
+use Rattle.pc_word.specs.Items.{operands_of, dest_of, reads_name}
+use Rattle.pc_word.proofs.Truth.{or_false, or_true}
 use Rattle.pc_flow.specs.declared.node.FlowNode.{FlowNode}
 use Rattle.pc_flow.specs.declared.node.FlowNode.TheVariants.{Op, Test, Stop, Trap}
 use Rattle.pc_flow.specs.FlowGraph.{FlowGraph, variables}
-use Rattle.pc_live.specs.Live.{is_variable, node_reads}
-use Rattle.pc_live.proofs.Logic.{or_true}
+use Rattle.pc_live.specs.Live.{node_reads}
 use Rattle.pc_pass.specs.Pass.{Keeps}
 use Rattle.pc_scalar.specs.declared.plan.Plan.{Plan}
 use Rattle.pc_scalar.specs.declared.rule.Rule.TheVariants.{CopiedNames}
@@ -20,7 +20,7 @@ use Rattle.pc_scalar.specs.Copied.{NamesNoCopy}
 use Rattle.pc_scalar.specs.LoopTests.{KeepsLoopTests}
 use Rattle.pc_scalar.specs.Tally.{AreMany, IsWorkedOn}
 use Rattle.pc_scalar.specs.models.Plan.{Fits, planned}
-use Rattle.pc_scalar.specs.models.Known.{after, stays_true, source, copied, copied_item, rewritten, KnownAt, At_head, Behind_item}
+use Rattle.pc_scalar.specs.models.Known.{after, stays_true, source, copied, rewritten, KnownAt, At_head, Behind_item}
 use Rattle.pc_scalar.specs.models.Rewriting.{IsRewriting}
 use Rattle.pc_scalar.proofs.Knowing.{FromAfter, Was_known, Is_new, after_from}
 use Rattle.pc_scalar.proofs.Rewritten.{none_there, rewriting_keeps, rewriting_keeps_tests, reached_before}
@@ -51,7 +51,7 @@ module _ (known : List (Option Item)) (resolved : Resolved known) where
   copied_final (Lit value) name other from is there = cc
 
   -- an item that became a copy copies such an operand
-  copied_copy : (item : Item) (dest name : ℕ) → copied_item known item ≡ Copy dest (Name name) → (operand : Operand) × (copied known operand ≡ Name name)
+  copied_copy : (item : Item) (dest name : ℕ) → map_operands (copied known) item ≡ Copy dest (Name name) → (operand : Operand) × (copied known operand ≡ Name name)
   copied_copy (Copy d from) dest name e = let same : copied known from ≡ Name name = (cc) in (from, same)
   copied_copy (Bin op d left right) dest name e = absurd (cc)
   copied_copy (Load d array index) dest name e = absurd (cc)
@@ -60,8 +60,8 @@ module _ (known : List (Option Item)) (resolved : Resolved known) where
   copied_copy (Read d) dest name e = absurd (cc)
   copied_copy (More d) dest name e = absurd (cc)
 
-  resolved_both : (item : Item) (x dest name other : ℕ) (from : Operand) → FromAfter (copied_item known item) known x (Copy dest (Name name))
-      → FromAfter (copied_item known item) known name (Copy other from) → ⊥
+  resolved_both : (item : Item) (x dest name other : ℕ) (from : Operand) → FromAfter (map_operands (copied known) item) known x (Copy dest (Name name))
+      → FromAfter (map_operands (copied known) item) known name (Copy other from) → ⊥
   resolved_both item x dest name other from (Was_known there apart) (Was_known also more) = resolved.none x dest name other from there also
   resolved_both item x dest name other from (Was_known there apart) (Is_new written lasts same) =
       let touched = (or_false (nat_eq dest name) (nat_eq name name || false) (apart name written)).1 in
@@ -76,11 +76,11 @@ module _ (known : List (Option Item)) (resolved : Resolved known) where
       true≢false (sym stays ∙ ap not (eq-eqb name dest (sym dest_is)))
 
   -- so it stays after one item more
-  pub after_resolved : (item : Item) → Resolved (after (copied_item known item) known)
+  pub after_resolved : (item : Item) → Resolved (after (map_operands (copied known) item) known)
   after_resolved item = record {
     none = λ x dest name other from e h.
-        resolved_both item x dest name other from (after_from (copied_item known item) known x (Copy dest (Name name)) e)
-        (after_from (copied_item known item) known name (Copy other from) h);
+        resolved_both item x dest name other from (after_from (map_operands (copied known) item) known x (Copy dest (Name name)) e)
+        (after_from (map_operands (copied known) item) known name (Copy other from) h);
   }
 
 known_resolved : (flow : FlowGraph) (at : ℕ) (known : List (Option Item)) → KnownAt flow CopiedNames at known → Resolved known
@@ -89,7 +89,7 @@ known_resolved flow _ _ (Behind_item {from = from} {known = known} {item = item}
 
 -- ---- what a rewritten node names
 
-is_name : (operand : Operand) (x : ℕ) → is_variable operand x ≡ true → operand ≡ Name x
+is_name : (operand : Operand) (x : ℕ) → reads_name operand x ≡ true → operand ≡ Name x
 is_name (Name name) x e = ap Name (eqb-true name x e)
 is_name (Lit value) x e = absurd (cc)
 
@@ -97,19 +97,19 @@ is_name (Lit value) x e = absurd (cc)
 abbrev NamesBy : List (Option Item) → ℕ → Type 0
 NamesBy known x = (operand : Operand) × (copied known operand ≡ Name x)
 
-one_read : (known : List (Option Item)) (operand : Operand) (x : ℕ) → (is_variable (copied known operand) x || false) ≡ true → NamesBy known x
-one_read known operand x e = elim (or_true (is_variable (copied known operand) x) false e) [
+one_read : (known : List (Option Item)) (operand : Operand) (x : ℕ) → (reads_name (copied known operand) x || false) ≡ true → NamesBy known x
+one_read known operand x e = elim (or_true (reads_name (copied known operand) x) false e) [
   | inl h ↦ (operand, is_name (copied known operand) x h)
   | inr h ↦ absurd (cc)
 ]
 
-two_read : (known : List (Option Item)) (one other : Operand) (x : ℕ) → (is_variable (copied known one) x || (is_variable (copied known other) x || false)) ≡ true → NamesBy known x
-two_read known one other x e = elim (or_true (is_variable (copied known one) x) (is_variable (copied known other) x || false) e) [
+two_read : (known : List (Option Item)) (one other : Operand) (x : ℕ) → (reads_name (copied known one) x || (reads_name (copied known other) x || false)) ≡ true → NamesBy known x
+two_read known one other x e = elim (or_true (reads_name (copied known one) x) (reads_name (copied known other) x || false) e) [
   | inl h ↦ (one, is_name (copied known one) x h)
   | inr h ↦ one_read known other x h
 ]
 
-item_names : (known : List (Option Item)) (item : Item) (x : ℕ) → list_any (λ operand. is_variable operand x) (operands_of (copied_item known item)) ≡ true → NamesBy known x
+item_names : (known : List (Option Item)) (item : Item) (x : ℕ) → list_any (λ operand. reads_name operand x) (operands_of (map_operands (copied known) item)) ≡ true → NamesBy known x
 item_names known (Bin op dest left right) x e = two_read known left right x e
 item_names known (Copy dest from) x e = one_read known from x e
 item_names known (Load dest array index) x e = one_read known index x e
@@ -126,9 +126,9 @@ node_names known (Trap kind line) x e = absurd (cc)
 
 -- a copy of another operand lasts
 copy_lasts : (name : ℕ) (from : Operand) → from ≢ Name name → stays_true (Copy name from) ≡ true
-copy_lasts name from other = opposite (is_variable from name) refl
+copy_lasts name from other = opposite (reads_name from name) refl
   where
-    opposite : (b : Bool) → is_variable from name ≡ b → not b ≡ true
+    opposite : (b : Bool) → reads_name from name ≡ b → not b ≡ true
     opposite true e = absurd (other (is_name from name e))
     opposite false e = refl
 

@@ -1,6 +1,7 @@
 -- The nodes that differ where they are rewritten by what is known there: they are those that are counted.
 use Rattle.std.proofs.Common.{◌≡◌, ◌≢◌, inl, inr, ℕ, zero, suc, false, List, length, replicate, Option, None, refl, sym, ◌∙◌, ap, subst}
 use Rattle.std.specs.Prelude.{slice_get}
+use Rattle.pc_word.specs.Naming.{map_operands}
 use Rattle.pc_word.specs.declared.item.Item.{Item}
 use Rattle.pc_word.specs.declared.item.Item.TheVariants.{Bin, Copy, Load, Store, Print, Read, More}
 use Rattle.pc_word.specs.declared.item.OpCode.{OpCode}
@@ -17,7 +18,7 @@ use Rattle.pc_scalar.specs.LoopTests.{IsEdge}
 use Rattle.pc_scalar.specs.Tally.{AreMany, without_edges, IsChangedNode, IsWorkedOn}
 use Rattle.pc_scalar.specs.models.Counted.{Differ, differs_from, TellByOperands}
 use Rattle.pc_scalar.specs.models.Plan.{planned}
-use Rattle.pc_scalar.specs.models.Known.{source, copied, copied_item, holder, reused, valued_item, rewritten_item, rewritten_operand, rewritten, none_known, KnownAt, At_head, Behind_item}
+use Rattle.pc_scalar.specs.models.Known.{source, copied, holder, reused, valued_item, rewritten_item, rewritten_operand, rewritten, none_known, KnownAt, At_head, Behind_item}
 use Rattle.pc_scalar.specs.models.Rewriting.{Written, Rewrites, IsRewriting}
 use Rattle.pc_scalar.proofs.Operands.{rewritten_same}
 use Rattle.pc_scalar.proofs.Rewritten.{changed_edge}
@@ -34,7 +35,7 @@ none_copied : (operand : Operand) → copied none_known operand ≡ operand
 none_copied (Name name) = none_source variables name name
 none_copied (Lit value) = refl
 
-none_copied_item : (item : Item) → copied_item none_known item ≡ item
+none_copied_item : (item : Item) → map_operands (copied none_known) item ≡ item
 none_copied_item (Bin op dest left right) = ap (λ o. Bin op dest o (copied none_known right)) (none_copied left) ∙ ap (Bin op dest left) (none_copied right)
 none_copied_item (Copy dest from) = ap (Copy dest) (none_copied from)
 none_copied_item (Load dest array index) = ap (Load dest array) (none_copied index)

@@ -3,26 +3,25 @@ use Rattle.std.proofs.Common.{◌≡◌, inl, inr, ℕ, suc, Bool, true, false, 
 use Rattle.std.specs.Prelude.{ℤ, if◌then◌else◌, nat_eq, slice_get, slice_set, slice_index}
 use Rattle.std.specs.List.{list_any}
 use Rattle.std.proofs.lemmas.Bool.Decides.{Decides-int_eq}
+use Rattle.pc_word.specs.Naming.{map_operands}
 use Rattle.pc_word.specs.declared.item.Item.{Item}
 use Rattle.pc_word.specs.declared.item.Item.TheVariants.{Bin, Copy, Load, Store, Print, Read, More}
 use Rattle.pc_word.specs.declared.item.OpCode.{OpCode}
-use Rattle.pc_word.specs.declared.item.OpCode.TheVariants.{Add, Sub, Mul, Div, Rem, Shl, Shr, And, Or, Xor, Less, LessEq, Equal, Unequal, Below}
 use Rattle.pc_word.specs.declared.item.Operand.{Operand}
 use Rattle.pc_word.specs.declared.item.Operand.TheVariants.{Name, Lit}
 use Rattle.pc_word.specs.Word.{word_of_test, word_apply}
 use Rattle.pc_word.specs.State.{State, set_name, set_cell, set_input}
-use Rattle.pc_word.specs.Items.{operand_value, place_in, element_at, some_left, operands_of, dest_of, value_of}
+use Rattle.pc_word.specs.Items.{operand_value, place_in, element_at, some_left, operands_of, dest_of, value_of, reads_name, op_number}
 use Rattle.pc_word.specs.Commit.{writes}
 use Rattle.pc_word.specs.Row.{RowOutcome, Commits, item_step}
 use Rattle.pc_word.specs.Laws.{does_alone, stores_alone, reads_alone}
-use Rattle.pc_word.proofs.Items.{item_step-is}
+use Rattle.pc_word.proofs.Items.{item_step-is, same_operator}
 use Rattle.pc_word.proofs.Lists.{set_at}
 use Rattle.pc_word.proofs.Truth.{and_true, or_false, not_true}
-use Rattle.pc_live.specs.Live.{is_variable}
 use Rattle.pc_scalar.specs.declared.rule.Rule.{Rule}
 use Rattle.pc_scalar.specs.declared.rule.Rule.TheVariants.{CopiedNames, KnownValues}
 use Rattle.pc_scalar.specs.Chain.{touches}
-use Rattle.pc_scalar.specs.models.Known.{kept, after_write, after, stays_true, source, copied, copied_item, op_number}
+use Rattle.pc_scalar.specs.models.Known.{kept, after_write, after, stays_true, source, copied}
 use Rattle.pc_scalar.specs.models.Known.{same_operand, computes, holder, reused, valued_item, rewritten_item, rewritten_operand}
 use Rattle.pc_scalar.proofs.Tables.{mapped_from}
 
@@ -103,7 +102,7 @@ alone_names lengths (More dest) to s after_it printed e =
 -- ---- facts
 
 -- an operand keeps its value
-operand_kept : (operand : Operand) (d : ℕ) (s t : State) → is_variable operand d ≡ false → ((x : ℕ) → nat_eq d x ≡ false → t.names x ≡ s.names x)
+operand_kept : (operand : Operand) (d : ℕ) (s t : State) → reads_name operand d ≡ false → ((x : ℕ) → nat_eq d x ≡ false → t.names x ≡ s.names x)
     → operand_value t.names operand ≡ operand_value s.names operand
 operand_kept (Name name) d s t e others = others name (flipped (nat_eq d name) refl)
   where
@@ -113,14 +112,14 @@ operand_kept (Name name) d s t e others = others name (flipped (nat_eq d name) r
 operand_kept (Lit value) d s t e others = refl
 
 -- the value of an item whose operands keep theirs
-value_kept : (item : Item) (d : ℕ) (s t : State) → stays_true item ≡ true → list_any (λ operand. is_variable operand d) (operands_of item) ≡ false
+value_kept : (item : Item) (d : ℕ) (s t : State) → stays_true item ≡ true → list_any (λ operand. reads_name operand d) (operands_of item) ≡ false
     → ((x : ℕ) → nat_eq d x ≡ false → t.names x ≡ s.names x) → value_of [] t item ≡ value_of [] s item
 value_kept (Bin op dest left right) d s t lasts apart others =
-    let first = or_false (is_variable left d) (is_variable right d || false) apart in
-    let second = or_false (is_variable right d) false first.1 in
+    let first = or_false (reads_name left d) (reads_name right d || false) apart in
+    let second = or_false (reads_name right d) false first.1 in
     ap (λ (z : ℤ). word_apply op z (operand_value t.names right)) (operand_kept left d s t first.0 others)
     ∙ ap (λ (z : ℤ). word_apply op (operand_value s.names left) z) (operand_kept right d s t second.0 others)
-value_kept (Copy dest from) d s t lasts apart others = operand_kept from d s t (or_false (is_variable from d) false apart).0 others
+value_kept (Copy dest from) d s t lasts apart others = operand_kept from d s t (or_false (reads_name from d) false apart).0 others
 value_kept (Load dest array index) d s t lasts apart others = absurd (cc)
 value_kept (Store array index value) d s t lasts apart others = absurd (cc)
 value_kept (Print value) d s t lasts apart others = absurd (cc)
@@ -128,12 +127,12 @@ value_kept (Read dest) d s t lasts apart others = absurd (cc)
 value_kept (More dest) d s t lasts apart others = absurd (cc)
 
 -- an item that lasts does not read what it writes
-own_apart : (item : Item) (d : ℕ) → stays_true item ≡ true → dest_of item ≡ Some d → list_any (λ operand. is_variable operand d) (operands_of item) ≡ false
+own_apart : (item : Item) (d : ℕ) → stays_true item ≡ true → dest_of item ≡ Some d → list_any (λ operand. reads_name operand d) (operands_of item) ≡ false
 own_apart (Bin op dest left right) d lasts e =
     let same : dest ≡ d = (cc) in
-    let both = and_true (not (is_variable left dest)) (not (is_variable right dest)) lasts in
-    subst (λ (n : ℕ). (is_variable left n || (is_variable right n || false)) ≡ false) same
-    (none_of (is_variable left dest) (is_variable right dest) (not_true (is_variable left dest) both.0) (not_true (is_variable right dest) both.1))
+    let both = and_true (not (reads_name left dest)) (not (reads_name right dest)) lasts in
+    subst (λ (n : ℕ). (reads_name left n || (reads_name right n || false)) ≡ false) same
+    (none_of (reads_name left dest) (reads_name right dest) (not_true (reads_name left dest) both.0) (not_true (reads_name right dest) both.1))
   where
     none_of : (a b : Bool) → a ≡ false → b ≡ false → (a || (b || false)) ≡ false
     none_of false false p q = refl
@@ -141,7 +140,7 @@ own_apart (Bin op dest left right) d lasts e =
     none_of false true p q = absurd (cc)
 own_apart (Copy dest from) d lasts e =
     let same : dest ≡ d = (cc) in
-    subst (λ (n : ℕ). (is_variable from n || false) ≡ false) same (alone (is_variable from dest) (not_true (is_variable from dest) lasts))
+    subst (λ (n : ℕ). (reads_name from n || false) ≡ false) same (alone (reads_name from dest) (not_true (reads_name from dest) lasts))
   where
     alone : (a : Bool) → a ≡ false → (a || false) ≡ false
     alone false p = refl
@@ -155,7 +154,7 @@ own_apart (More dest) d lasts e = absurd (cc)
 -- a fact that is not touched
 fact_kept : (item : Item) (x d : ℕ) (s t : State) → IsFact s x item → touches item d ≡ false → ((y : ℕ) → nat_eq d y ≡ false → t.names y ≡ s.names y) → IsFact t x item
 fact_kept item x d s t fact apart others =
-    let both = or_false (writes (dest_of item) d) (list_any (λ operand. is_variable operand d) (operands_of item)) apart in
+    let both = or_false (writes (dest_of item) d) (list_any (λ operand. reads_name operand d) (operands_of item)) apart in
     let own : nat_eq x d ≡ false = sym (ap (λ (o : Option ℕ). writes o d) fact.dest) ∙ both.0 in
     record {
       dest = fact.dest;
@@ -251,32 +250,6 @@ after_holds lengths item known to s t printed before e =
 
 -- ---- operators and operands
 
-abbrev operators : List OpCode
-operators = Add ∷ Sub ∷ Mul ∷ Div ∷ Rem ∷ Shl ∷ Shr ∷ And ∷ Or ∷ Xor ∷ Less ∷ LessEq ∷ Equal ∷ Unequal ∷ Below ∷ []
-
-operator_at : (op : OpCode) → slice_get operators (op_number op) ≡ Some op
-operator_at Add = refl
-operator_at Sub = refl
-operator_at Mul = refl
-operator_at Div = refl
-operator_at Rem = refl
-operator_at Shl = refl
-operator_at Shr = refl
-operator_at And = refl
-operator_at Or = refl
-operator_at Xor = refl
-operator_at Less = refl
-operator_at LessEq = refl
-operator_at Equal = refl
-operator_at Unequal = refl
-operator_at Below = refl
-
--- an operator is known by its number
-same_number : (one other : OpCode) → op_number one ≡ op_number other → one ≡ other
-same_number one other e =
-    let both : Some one ≡ Some other = sym (operator_at one) ∙ ap (slice_get operators) e ∙ operator_at other in
-    (cc)
-
 -- operands that are the same have one value
 same_values : (one other : Operand) (names : ℕ → ℤ) → same_operand one other ≡ true → operand_value names one ≡ operand_value names other
 same_values (Name one) (Name other) names e = ap names (eqb-true one other e)
@@ -290,7 +263,7 @@ computed_value : (op : OpCode) (left right : Operand) (item : Item) (s : State) 
 computed_value op left right (Bin other dest first second) s e =
     let parts = and_true (nat_eq (op_number op) (op_number other)) (same_operand left first && same_operand right second) e in
     let sides = and_true (same_operand left first) (same_operand right second) parts.1 in
-    let same : op ≡ other = same_number op other (eqb-true (op_number op) (op_number other) parts.0) in
+    let same : op ≡ other = same_operator op other (eqb-true (op_number op) (op_number other) parts.0) in
     ap (λ (o : OpCode). word_apply o (operand_value s.names first) (operand_value s.names second)) (sym same)
     ∙ ap (λ (z : ℤ). word_apply op z (operand_value s.names second)) (sym (same_values left first s.names sides.0))
     ∙ ap (λ (z : ℤ). word_apply op (operand_value s.names left) z) (sym (same_values right second s.names sides.1))
@@ -342,7 +315,7 @@ module _ (known : List (Option Item)) (s : State) (holds : KnownHolds known s) w
   copied_value (Name name) = source_value name (slice_get known name) refl
   copied_value (Lit value) = refl
 
-  copied_alone : (lengths : List ℕ) (item : Item) (to : ℕ) → does_alone lengths (copied_item known item) to s ≡ does_alone lengths item to s
+  copied_alone : (lengths : List ℕ) (item : Item) (to : ℕ) → does_alone lengths (map_operands (copied known) item) to s ≡ does_alone lengths item to s
   copied_alone lengths (Bin op dest left right) to =
       ap (λ (z : ℤ). let done : RowOutcome ℕ = Commits [] (set_name dest (word_apply op z (operand_value s.names (copied known right))) s) to in done) (copied_value left)
       ∙ ap (λ (z : ℤ). let done : RowOutcome ℕ = Commits [] (set_name dest (word_apply op (operand_value s.names left) z) s) to in done) (copied_value right)

@@ -2,7 +2,6 @@ pub mod Chains
 pub mod Clears
 pub mod CopyLaws
 pub mod Differing
-pub mod Example
 pub mod Folds
 pub mod Knowing
 pub mod Meetings

@@ -13,7 +13,7 @@ use Rattle.pc_flow.specs.FlowGraph.{FlowGraph, IsFlow, HasEdge}
 use Rattle.pc_flow.specs.Reachable.{IsReachableNode, Entry, Behind}
 use Rattle.pc_pass.proofs.Changes.{reachable_there}
 use Rattle.pc_scalar.specs.models.Met.{edges_of, Meets, Known, First, MeetsAll, Nothing_met, Node_met, AreReached}
-use Rattle.pc_scalar.proofs.Tables.{get_front, get_last, get_more, set_there, set_elsewhere}
+use Rattle.pc_word.proofs.Places.{get_front, get_last, get_more, set_there, set_elsewhere}
 
 -- nodes that were met, of which some have had their edges followed
 pub record Meeting (flow : FlowGraph) (flags : List Bool) (met : List ℕ) (done : ℕ) : Type 0 where

@@ -6,7 +6,7 @@ use Rattle.std.proofs.lemmas.List.{get_or-replicate, get_or_past, length-replica
 use Rattle.std.specs.Prelude.{IfSome, slice_get, slice_set}
 use Rattle.pc_word.specs.Items.{dest_of}
 use Rattle.pc_word.specs.declared.item.Item.TheVariants.{Bin, Copy, Load, Store, Print, Read, More}
-use Rattle.pc_word.proofs.Truth.{and_true, not_true}
+use Rattle.pc_word.proofs.Truth.{and_true, not_true, or_true}
 use Rattle.pc_word.specs.declared.item.Item.{Item}
 use Rattle.pc_flow.specs.declared.node.FlowNode.{FlowNode}
 use Rattle.pc_flow.specs.declared.node.FlowNode.TheVariants.{Op, Test, Stop, Trap}
@@ -15,7 +15,6 @@ use Rattle.pc_live.specs.declared.variable_set.VariableSet.{VariableSet}
 use Rattle.pc_live.specs.Live.{node_reads, node_writes}
 use Rattle.pc_live.specs.Liveness.{member, set_at}
 use Rattle.pc_live.specs.models.Rounds.{behind}
-use Rattle.pc_live.proofs.Logic.{or_true}
 use Rattle.pc_live.proofs.Bits.{none_in_empty}
 use Rattle.pc_live.proofs.Rounds.{behind_some, set_fits}
 use Rattle.pc_scalar.specs.Cleared.{only_writes}

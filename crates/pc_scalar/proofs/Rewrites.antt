@@ -23,7 +23,7 @@ use Rattle.pc_scalar.specs.Chain.{FollowsAlone}
 use Rattle.pc_scalar.specs.models.Before.{IsBefore, AreBefore}
 use Rattle.pc_scalar.specs.models.Known.{kept, after_write, after, stays_true, holder, reused, rewritten_item, rewritten, none_known, KnownAt, At_head, Behind_item}
 use Rattle.pc_scalar.specs.models.Rewriting.{follows, begins, ChainFrom, Begins, Goes_on, Written, Rewrites}
-use Rattle.pc_scalar.proofs.Tables.{set_there, set_elsewhere}
+use Rattle.pc_word.proofs.Places.{set_there, set_elsewhere}
 
 -- ---- what follows alone
 

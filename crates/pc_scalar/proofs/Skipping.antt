@@ -13,8 +13,9 @@ use Rattle.pc_scalar.specs.declared.plan.Plan.{Plan}
 use Rattle.pc_scalar.specs.LoopTests.{IsLoopTest, KeepsLoopTests}
 use Rattle.pc_scalar.specs.models.Plan.{Fits, planned}
 use Rattle.pc_scalar.specs.models.Ends.{Jump, FallsAlong, AreEnds, NodeThere, led}
-use Rattle.pc_scalar.proofs.Tables.{mapped_there, mapped_from}
+use Rattle.pc_scalar.proofs.Tables.{mapped_from}
 use Rattle.pc_scalar.proofs.Chains.{stays_end, end_falls, end_leads_past, led_fits, led_turn, edge_led, edge_led_from, keeps_turn}
+use Rattle.pc_word.proofs.Places.{map_at}
 
 -- ---- edges
 
@@ -54,7 +55,7 @@ module _ (flow : FlowGraph) (plan : Plan) (table ends : List ℕ) (made : FlowNo
 
   -- what stands in the new graph
   pub new_there : (at : ℕ) (node : FlowNode) → slice_get flow.nodes at ≡ Some node → slice_get new.nodes at ≡ Some (led ends (made node))
-  new_there at node there = rw is.nodes (mapped_there (λ n. led ends (made n)) flow.nodes at node there)
+  new_there at node there = rw is.nodes (map_at (λ n. led ends (made n)) flow.nodes at node there)
 
   -- and what it was made of
   pub new_made_of : (at : ℕ) (node : FlowNode) → slice_get new.nodes at ≡ Some node

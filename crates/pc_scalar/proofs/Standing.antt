@@ -3,32 +3,32 @@ use Rattle.std.proofs.Common.{◌≡◌, ◌≢◌, inl, inr, ℕ, ◌<◌, Bool
 use Rattle.std.specs.Prelude.{IfSome, if◌then◌else◌, nat_eq, slice_get, slice_set}
 use Rattle.std.specs.List.{AllByRecursion, list_any}
 use Rattle.std.proofs.lemmas.List.{length-map}
+use Rattle.pc_word.specs.Naming.{map_operands}
 use Rattle.pc_word.specs.declared.item.Item.{Item}
 use Rattle.pc_word.specs.declared.item.Item.TheVariants.{Bin, Copy, Load, Store, Print, Read, More}
 use Rattle.pc_word.specs.declared.item.OpCode.{OpCode}
 use Rattle.pc_word.specs.declared.item.Operand.{Operand}
 use Rattle.pc_word.specs.declared.item.Operand.TheVariants.{Name, Lit}
-use Rattle.pc_word.specs.Items.{operands_of, dest_of}
+use Rattle.pc_word.specs.Items.{operands_of, dest_of, reads_name}
 use Rattle.pc_word.specs.Commit.{writes}
 use Rattle.pc_word.proofs.Truth.{or_false}
 use Rattle.pc_flow.specs.declared.node.FlowNode.{FlowNode}
 use Rattle.pc_flow.specs.declared.node.FlowNode.TheVariants.{Op, Test, Stop, Trap}
 use Rattle.pc_flow.specs.FlowGraph.{FlowGraph, IsVariable, ItemFits, IsFlow, NodeFits, KeepsTurn, tested_loop, variables}
-use Rattle.pc_live.specs.Live.{is_variable}
 use Rattle.pc_flow.specs.Reachable.{IsReachableNode}
 use Rattle.pc_scalar.specs.declared.plan.Plan.{Plan}
 use Rattle.pc_scalar.specs.declared.rule.Rule.{Rule}
 use Rattle.pc_scalar.specs.declared.rule.Rule.TheVariants.{CopiedNames, KnownValues}
 use Rattle.pc_scalar.specs.Chain.{FollowsAlone, Stands, Just_done, Still, touched_by}
 use Rattle.pc_scalar.specs.models.Plan.{Fits, planned}
-use Rattle.pc_scalar.specs.models.Known.{kept, after_write, after, stays_true, source, copied, copied_item, holder}
+use Rattle.pc_scalar.specs.models.Known.{kept, after_write, after, stays_true, source, copied, holder}
 use Rattle.pc_scalar.specs.models.Known.{reused, valued_item, rewritten_item, rewritten_operand, rewritten, KnownAt, At_head, Behind_item}
 use Rattle.pc_scalar.specs.models.Rewriting.{Written, IsRewriting}
 use Rattle.pc_scalar.proofs.Chains.{keeps_turn}
-use Rattle.pc_scalar.proofs.Tables.{mapped_there, set_there, set_elsewhere}
 use Rattle.pc_scalar.proofs.Rewrites.{known_once, known_length, of_item}
 use Rattle.pc_scalar.proofs.Knowing.{Was_known, Is_new, after_from, holder_found}
 use Rattle.pc_scalar.proofs.Rewritten.{none_there, rewritten_turn, reached_before, reached_after, changed_edge}
+use Rattle.pc_word.proofs.Places.{map_at, set_there, set_elsewhere}
 
 -- ---- what is known fits
 
@@ -53,7 +53,7 @@ module _ (known : List (Option Item)) (fits : KnownFits known) where
   copied_fits (Name name) small = source_fits name (slice_get known name) refl small
   copied_fits (Lit value) small = tt
 
-  copied_item_fits : (arrays : ℕ) (item : Item) → ItemFits arrays item → ItemFits arrays (copied_item known item)
+  copied_item_fits : (arrays : ℕ) (item : Item) → ItemFits arrays item → ItemFits arrays (map_operands (copied known) item)
   copied_item_fits arrays (Bin op dest left right) h = record { reads = (copied_fits left h.reads.0, (copied_fits right h.reads.1.0, tt)); writes = h.writes; array = tt }
   copied_item_fits arrays (Copy dest from) h = record { reads = (copied_fits from h.reads.0, tt); writes = h.writes; array = tt }
   copied_item_fits arrays (Load dest array index) h = record { reads = (copied_fits index h.reads.0, tt); writes = h.writes; array = h.array }
@@ -191,11 +191,11 @@ module _ (flow : FlowGraph) (rule : Rule) (plan : Plan) (is : IsRewriting flow r
       → touched_by item o ≡ false → slice_get (after_write other o known) x ≡ Some (Some item)
   still_there other item None x known dest e apart = e
   still_there other item (Some d) x known dest e apart =
-      let own = (or_false (writes (dest_of item) d) (list_any (λ operand. is_variable operand d) (operands_of item)) apart).0 in
+      let own = (or_false (writes (dest_of item) d) (list_any (λ operand. reads_name operand d) (operands_of item)) apart).0 in
       let names_apart : nat_eq x d ≡ false = sym (ap (λ (o : Option ℕ). writes o d) dest) ∙ own in
       let is_kept : kept d (Some item) ≡ Some item = ap (λ (b : Bool). if b then None else Some item) apart in
       still_learnt (stays_true other) other item x d known (λ same. true≢false (sym (eq-eqb x d (sym same)) ∙ names_apart))
-      (mapped_there (kept d) known x (Some item) e ∙ ap (λ (f : Option Item). Some f) is_kept)
+      (map_at (kept d) known x (Some item) e ∙ ap (λ (f : Option Item). Some f) is_kept)
 
   -- what stands at a node is known there
   pub stands_known : (item : Item) (x at : ℕ) → stays_true item ≡ true → dest_of item ≡ Some x → x < variables → Stands new item at

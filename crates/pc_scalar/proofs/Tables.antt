@@ -1,7 +1,7 @@
 -- Lists that are made of the nodes of a graph, one after the other.
-use Rattle.std.proofs.Common.{◌≡◌, ◌≢◌, ◌⊎◌, ℕ, zero, suc, ◌+◌, ◌<◌, ◌≤◌, List, [], ◌∷◌, ◌++◌, length, map, take, drop, get_or}
+use Rattle.std.proofs.Common.{◌≡◌, ℕ, zero, suc, ◌+◌, ◌<◌, ◌≤◌, List, [], ◌∷◌, ◌++◌, length, map, take, drop, get_or}
 use Rattle.std.proofs.Common.{set, append_assoc, Some, refl, sym, ◌∙◌, ap, subst, arith, inl, inr}
-use Rattle.std.specs.Prelude.{slice_get, slice_set, slice_index}
+use Rattle.std.specs.Prelude.{slice_get, slice_index}
 use Rattle.std.proofs.lemmas.Bool.{cases_eq}
 use Rattle.std.proofs.lemmas.List.{get_or_default, map-append, length-map, length-take-le, drop_more, get_or_at, set_at, take_more, take_all, get_or_append_left, get_or_push}
 use Rattle.std.proofs.lemmas.Option.{slice_get_within, slice_get-get_or}
@@ -36,12 +36,6 @@ numbered_more f xs table more i x n there is long e so_far k y low at_k = elim (
       ap (λ (l : List ℕ). slice_index l k) e ∙ get_or_append_left table (n ∷ []) 0 k (omega arith) ∙ so_far k y before at_k
 ]
 
--- the image at a place
-pub mapped_there : {X Y : Type 0} (f : X → Y) (xs : List X) (i : ℕ) (x : X) → slice_get xs i ≡ Some x → slice_get (map f xs) i ≡ Some (f x)
-mapped_there f [] i x e = absurd (cc)
-mapped_there f (y ∷ xs) zero x e = let same : y ≡ x = (cc) in ap (λ z. Some (f z)) same
-mapped_there f (y ∷ xs) (suc i) x e = mapped_there f xs i x e
-
 -- what the image at a place is of
 pub mapped_from : {X Y : Type 0} (f : X → Y) (xs : List X) (i : ℕ) (y : Y) → slice_get (map f xs) i ≡ Some y → (x : X) × (slice_get xs i ≡ Some x) × (f x ≡ y)
 mapped_from f [] i y e = absurd (cc)
@@ -63,39 +57,3 @@ changed_more f xs now i x there so_far is =
 -- the element at a place, at another default
 pub same_default : {X : Type 0} (f : X → X) (xs : List X) (i : ℕ) (d x : X) → i < length xs → x ≡ f (get_or xs i d) → x ≡ f (get_or xs i x)
 same_default f xs i d x there e = e ∙ ap f (get_or_default xs i d x there)
-
--- what stands in a list stands there in a longer one
-pub get_front : {X : Type 0} (xs ys : List X) (i : ℕ) (x : X) → slice_get xs i ≡ Some x → slice_get (xs ++ ys) i ≡ Some x
-get_front [] ys i x e = absurd (cc)
-get_front (z ∷ xs) ys zero x e = e
-get_front (z ∷ xs) ys (suc i) x e = get_front xs ys i x e
-
--- an element that was put behind a list
-pub get_last : {X : Type 0} (xs : List X) (x : X) → slice_get (xs ++ x ∷ []) (length xs) ≡ Some x
-get_last [] x = refl
-get_last (y ∷ xs) x = get_last xs x
-
--- what stands in a list with an element more stood there before, or is that element
-pub get_more : {X : Type 0} (xs : List X) (y : X) (i : ℕ) (x : X) → slice_get (xs ++ y ∷ []) i ≡ Some x
-    → (slice_get xs i ≡ Some x) ⊎ ((i ≡ length xs) × (y ≡ x))
-get_more [] y zero x e = inr (refl, cc)
-get_more [] y (suc i) x e = absurd (cc)
-get_more (z ∷ xs) y zero x e = inl e
-get_more (z ∷ xs) y (suc i) x e = elim (get_more xs y i x e) [
-  | inl h ↦ inl h
-  | inr h ↦ inr (ap suc h.0, h.1)
-]
-
--- what stands where an element was put
-pub set_there : {X : Type 0} (xs : List X) (i : ℕ) (x : X) → i < length xs → slice_get (slice_set xs i x) i ≡ Some x
-set_there [] i x h = absurd (omega arith)
-set_there (y ∷ xs) zero x h = refl
-set_there (y ∷ xs) (suc i) x h = set_there xs i x (omega arith)
-
--- and elsewhere
-pub set_elsewhere : {X : Type 0} (xs : List X) (i j : ℕ) (x : X) → i ≢ j → slice_get (slice_set xs i x) j ≡ slice_get xs j
-set_elsewhere [] i j x h = refl
-set_elsewhere (y ∷ xs) zero zero x h = absurd (h refl)
-set_elsewhere (y ∷ xs) zero (suc j) x h = refl
-set_elsewhere (y ∷ xs) (suc i) zero x h = refl
-set_elsewhere (y ∷ xs) (suc i) (suc j) x h = set_elsewhere xs i j x (λ e. h (ap suc e))

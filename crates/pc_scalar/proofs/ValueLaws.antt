@@ -5,11 +5,10 @@ use Rattle.pc_word.specs.declared.item.Item.{Item}
 use Rattle.pc_word.specs.declared.item.Item.TheVariants.{Bin, Copy, Load, Store, Print, Read, More}
 use Rattle.pc_word.specs.declared.item.OpCode.{OpCode}
 use Rattle.pc_word.specs.declared.item.Operand.{Operand}
-use Rattle.pc_word.specs.Items.{dest_of}
+use Rattle.pc_word.specs.Items.{dest_of, reads_name, op_number}
 use Rattle.pc_word.proofs.Truth.{and_made}
 use Rattle.pc_flow.specs.declared.node.FlowNode.TheVariants.{Op}
 use Rattle.pc_flow.specs.FlowGraph.{FlowGraph}
-use Rattle.pc_live.specs.Live.{is_variable}
 use Rattle.pc_pass.specs.Pass.{Keeps}
 use Rattle.pc_scalar.specs.declared.plan.Plan.{Plan}
 use Rattle.pc_scalar.specs.declared.rule.Rule.TheVariants.{KnownValues}
@@ -17,7 +16,7 @@ use Rattle.pc_scalar.specs.Valued.{ComputesNoneAgain}
 use Rattle.pc_scalar.specs.LoopTests.{KeepsLoopTests}
 use Rattle.pc_scalar.specs.Tally.{AreMany, IsWorkedOn}
 use Rattle.pc_scalar.specs.models.Plan.{Fits, planned}
-use Rattle.pc_scalar.specs.models.Known.{op_number, same_operand, computes, holder, reused, valued_item, rewritten}
+use Rattle.pc_scalar.specs.models.Known.{same_operand, computes, holder, reused, valued_item, rewritten}
 use Rattle.pc_scalar.specs.models.Rewriting.{IsRewriting}
 use Rattle.pc_scalar.proofs.Rewrites.{of_item}
 use Rattle.pc_scalar.proofs.Rewritten.{rewriting_keeps, rewriting_keeps_tests, reached_before}
@@ -95,7 +94,7 @@ valuing_reuses flow plan is = record {
       let none = valued_none w.known of.old op dest left right of.is in
       let small = stands_small flow KnownValues plan is (Bin op earlier left right) earlier at refl stands in
       let is_known = stands_known flow KnownValues plan is (Bin op earlier left right) earlier at
-      (lasts (is_variable left earlier) (is_variable right earlier) one other) refl small stands w.known w.known_at in
+      (lasts (reads_name left earlier) (reads_name right earlier) one other) refl small stands w.known w.known_at in
       holds_none op left right w.known earlier (Bin op earlier left right) is_known (computes_self op earlier left right) none;
 }
 

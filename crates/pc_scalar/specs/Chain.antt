@@ -2,12 +2,11 @@
 use Rattle.std.specs.Prelude.{◌≡◌, ◌≢◌, ◌||◌, ℕ, Bool, false, Option, Some, None, slice_get}
 use Rattle.std.specs.List.{list_any}
 use Rattle.pc_word.specs.declared.item.Item.{Item}
-use Rattle.pc_word.specs.Items.{operands_of, dest_of}
+use Rattle.pc_word.specs.Items.{operands_of, dest_of, reads_name}
 use Rattle.pc_word.specs.Commit.{writes}
 use Rattle.pc_flow.specs.declared.node.FlowNode.{FlowNode}
 use Rattle.pc_flow.specs.declared.node.FlowNode.TheVariants.{Op}
 use Rattle.pc_flow.specs.FlowGraph.{FlowGraph, HasEdge}
-use Rattle.pc_live.specs.Live.{is_variable}
 use Rattle.pc_flow.specs.Reachable.{IsReachableNode}
 
 -- an item leads to a node that is not the entry, and no other edge from a node that can be reached leads there
@@ -20,7 +19,7 @@ pub record FollowsAlone (flow : FlowGraph) (from at : ℕ) : Type 0 where
 
 -- whether an item writes or reads a name
 abbrev pub touches : Item → ℕ → Bool
-touches item name = writes (dest_of item) name || list_any (λ operand. is_variable operand name) (operands_of item)
+touches item name = writes (dest_of item) name || list_any (λ operand. reads_name operand name) (operands_of item)
 
 -- whether what is written is touched by an item
 abbrev pub touched_by : Item → Option ℕ → Bool

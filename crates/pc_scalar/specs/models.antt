@@ -1,7 +1,6 @@
 pub mod Before
 pub mod Counted
 pub mod Ends
-pub mod Example
 pub mod Folding
 pub mod Known
 pub mod Met

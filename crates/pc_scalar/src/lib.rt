@@ -17,8 +17,6 @@ mod reach;
 mod rewriting;
 mod rule;
 mod tally;
-#[cfg(test)]
-mod tests;
 mod values;
 mod valuing;
 

@@ -1,8 +1,8 @@
 //! How a node is rewritten by what is known there.
 ghost use Rattle.std.specs.Prelude.{◌≡◌};
-ghost use Rattle.pc_scalar.specs.models.Known.{copied, copied_item, op_number, same_operand, computes, holder, valued_item, rewritten};
+ghost use Rattle.pc_scalar.specs.models.Known.{copied, same_operand, computes, holder, valued_item, rewritten};
+ghost use Rattle.pc_word.specs.Items.{op_number};
 
-use crate::known::dest;
 use pc_flow::FlowNode;
 use pc_word::{Item, OpCode, Operand};
 
@@ -30,7 +30,7 @@ fn copied_node(known: &[Option<Item>], node: FlowNode) -> FlowNode
 {
     match node {
         FlowNode::Op { item, next } => FlowNode::Op {
-            item: copied_item(known, item),
+            item: item.map_operands(|operand| copied(known, operand)),
             next,
         },
         FlowNode::Test { on, yes, no, turn } => FlowNode::Test {
@@ -40,47 +40,6 @@ fn copied_node(known: &[Option<Item>], node: FlowNode) -> FlowNode
             turn,
         },
         FlowNode::Stop | FlowNode::Trap { .. } => node,
-    }
-}
-
-/// An item in which names of copies are what was copied.
-fn copied_item(known: &[Option<Item>], item: Item) -> Item
-    ensures { result ≡ copied_item known.now item }
-{
-    match item {
-        Item::Bin {
-            op,
-            dest,
-            left,
-            right,
-        } => Item::Bin {
-            op,
-            dest,
-            left: copied(known, left),
-            right: copied(known, right),
-        },
-        Item::Copy { dest, from } => Item::Copy {
-            dest,
-            from: copied(known, from),
-        },
-        Item::Load { dest, array, index } => Item::Load {
-            dest,
-            array,
-            index: copied(known, index),
-        },
-        Item::Store {
-            array,
-            index,
-            value,
-        } => Item::Store {
-            array,
-            index: copied(known, index),
-            value: copied(known, value),
-        },
-        Item::Print { value } => Item::Print {
-            value: copied(known, value),
-        },
-        Item::Read { .. } | Item::More { .. } => item,
     }
 }
 
@@ -137,7 +96,7 @@ fn holder(op: OpCode, left: Operand, right: Operand, known: &[Option<Item>]) -> 
     for fact in known {
         if let Some(item) = fact {
             if computes(op, left, right, item) {
-                return dest(item);
+                return item.dest();
             }
         }
     }
@@ -155,7 +114,7 @@ fn computes(op: OpCode, left: Operand, right: Operand, item: &Item) -> bool
             right: second,
             ..
         } => {
-            if op_number(op) != op_number(other) {
+            if op.number() != other.number() {
                 return false;
             }
             if !same_operand(left, first) {
@@ -175,28 +134,5 @@ pub(crate) fn same_operand(one: Operand, other: Operand) -> bool
         (Operand::Name(one), Operand::Name(other)) => one == other,
         (Operand::Lit(one), Operand::Lit(other)) => one == other,
         _ => false,
-    }
-}
-
-/// The number of an operator.
-fn op_number(op: OpCode) -> u8
-    ensures { result ≡ op_number op }
-{
-    match op {
-        OpCode::Add => 0,
-        OpCode::Sub => 1,
-        OpCode::Mul => 2,
-        OpCode::Div => 3,
-        OpCode::Rem => 4,
-        OpCode::Shl => 5,
-        OpCode::Shr => 6,
-        OpCode::And => 7,
-        OpCode::Or => 8,
-        OpCode::Xor => 9,
-        OpCode::Less => 10,
-        OpCode::LessEq => 11,
-        OpCode::Equal => 12,
-        OpCode::Unequal => 13,
-        OpCode::Below => 14,
     }
 }

@@ -6,15 +6,16 @@ use Rattle.pc_word.specs.declared.item.MachineFault.{MachineFault}
 use Rattle.pc_word.specs.Run.{Seen, after_printing, seen_of, run_from}
 use Rattle.pc_word.specs.Word.{holds}
 use Rattle.pc_word.specs.State.{State}
-use Rattle.pc_word.specs.Items.{operand_value, dest_of, value_of}
+use Rattle.pc_word.specs.Items.{operand_value, dest_of, value_of, reads, reads_name}
 use Rattle.pc_word.specs.Commit.{prints_of, fault_of, state_after, writes}
 use Rattle.pc_word.specs.Row.{commit_of}
 use Rattle.pc_table.specs.Table.{TableTree, Does, Asks, Next, Stops_here, Traps_here, Table, region_tree}
 use Rattle.pc_table.specs.RegionRun.{Place, arrive, place_at, lead_on, side_of, region_step, region_run}
-use Rattle.pc_table.specs.TableKeeps.{reads, reads_name, needs, TableKeeps}
+use Rattle.pc_table.specs.TableKeeps.{needs, TableKeeps}
 use Rattle.pc_table.specs.Laws.{AlikeAtHead}
-use Rattle.pc_table.proofs.Tests.{or_first, or_second, needed_above}
-use Rattle.pc_table.proofs.Items.{bare, Alike, Alike-fault, Alike-prints, Alike-value, Alike-after, same_evaluated, same_operand}
+use Rattle.pc_table.proofs.Tests.{needed_above}
+use Rattle.pc_word.proofs.Evaluated.{bare, Alike, Alike-fault, Alike-prints, Alike-value, Alike-after, same_evaluated, same_operand}
+use Rattle.pc_word.proofs.Truth.{or_first, or_second}
 
 -- one of two values by a test, where both pairs are equal as far as the test goes
 pub pick_same : {X : Type 0} (b : Bool) (v w a c : X) → v ≡ w → (b ≡ false → a ≡ c) → (if b then v else a) ≡ (if b then w else c)

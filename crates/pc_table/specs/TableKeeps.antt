@@ -3,13 +3,12 @@ use Rattle.std.specs.Prelude.{◌≡◌, ℕ, zero, suc, ◌+◌, ◌<◌, ◌�
 use Rattle.std.specs.List.{AllByRecursion, list_any}
 use Rattle.std.specs.List.Sorted.{IsStrictlyIncreasing}
 use Rattle.pc_word.specs.declared.item.Item.{Item}
-use Rattle.pc_word.specs.declared.item.Item.TheVariants.{Bin, Copy, Load, Store, Print, Read, More}
 use Rattle.pc_word.specs.declared.item.Operand.{Operand}
 use Rattle.pc_word.specs.declared.item.Operand.TheVariants.{Name, Lit}
 use Rattle.pc_word.specs.declared.loop_mark.LoopMark.{LoopMark}
 use Rattle.pc_word.specs.MachineLimits.{most_arrays}
 use Rattle.pc_word.specs.SourceLimits.{most_scalars, most_temporaries}
-use Rattle.pc_word.specs.Items.{operands_of, dest_of, array_of}
+use Rattle.pc_word.specs.Items.{operands_of, dest_of, array_of, reads_name, reads}
 use Rattle.pc_word.specs.Commit.{writes}
 use Rattle.pc_table.specs.Table.{TableTree, Does, Asks, Next, Stops_here, Traps_here, TableRegion, Table, region_tree, region_live}
 use Rattle.pc_table.specs.RegionRun.{arrive}
@@ -37,21 +36,6 @@ TreeIsThere arrays regions Stops_here = Unit {0}
 TreeIsThere arrays regions (Traps_here kind line) = Unit {0}
 
 -- ---- what a tree reads
-
--- whether an operand reads a name
-abbrev pub reads_name : Operand → ℕ → Bool
-reads_name (Name y) x = nat_eq y x
-reads_name (Lit value) x = false
-
--- whether an item does
-abbrev pub reads : Item → ℕ → Bool
-reads (Bin op dest left right) x = reads_name left x || reads_name right x
-reads (Copy dest from) x = reads_name from x
-reads (Load dest array index) x = reads_name index x
-reads (Store array index value) x = reads_name index x || reads_name value x
-reads (Print value) x = reads_name value x
-reads (Read dest) x = false
-reads (More dest) x = false
 
 -- whether a tree needs a variable: reads it before writing it, or leads to a region where it is live without writing it
 abbrev pub needs : Table → TableTree → ℕ → Bool

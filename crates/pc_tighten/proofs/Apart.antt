@@ -13,7 +13,8 @@ use Rattle.pc_word.specs.Items.{operand_value, place_in, is_effect}
 use Rattle.pc_word.specs.Commit.{Stored, stores_of, prints_of, reads_of, writes, is_at, cells_after, is_outside, meets_at, some_meet, reads_past_end, fault_of}
 use Rattle.pc_word.proofs.Lists.{all_front, all_back, all_both, all_imply}
 use Rattle.pc_tighten.specs.Compact.{stores, stores_under}
-use Rattle.pc_tighten.proofs.Lists.{or_left, or_right, or_both, none_of, any_none, nat_eq-sound, and_first, and_second}
+use Rattle.pc_tighten.proofs.Lists.{or_left, or_right, none_of, any_none, nat_eq-sound, and_first, and_second}
+use Rattle.pc_word.proofs.Truth.{or_made_false}
 
 -- ---- elements
 
@@ -91,7 +92,7 @@ meet-without [] ss qs e = meet-right ss qs e
 meet-without (p ∷ ps) ss qs e =
     let first = or_left (list_any (meets_at p.array p.place) (ps ++ (ss ++ qs))) (some_meet (ps ++ (ss ++ qs))) e in
     let rest = or_right (list_any (meets_at p.array p.place) (ps ++ (ss ++ qs))) (some_meet (ps ++ (ss ++ qs))) e in
-    or_both (list_any (meets_at p.array p.place) (ps ++ qs)) (some_meet (ps ++ qs)) (any-without (meets_at p.array p.place) ps ss qs first) (meet-without ps ss qs rest)
+    or_made_false (list_any (meets_at p.array p.place) (ps ++ qs)) (some_meet (ps ++ qs)) (any-without (meets_at p.array p.place) ps ss qs first) (meet-without ps ss qs rest)
 
 -- a store that meets none after it is apart from them
 apart_from : (array : ℕ) (place : Option ℕ) (q : Stored) → meets_at array place q ≡ false → (a i : ℕ) → (nat_eq array a && writes place i) ≡ true → is_at q a i ≡ false
@@ -137,8 +138,8 @@ meet-last lengths old s (Store a at value ∷ items) h e =
     let r = or_right (list_any (meets_at a place) qs) (some_meet qs) e in
     let this : nat_eq a s.array ≡ false = h.0 in
     let apart : nat_eq s.array a ≡ false = grind (arith, nat_tests) in
-    let none : list_any (meets_at a place) (s ∷ []) ≡ false = or_both (meets_at a place s) false (not_met a place s apart) refl in
-    or_both (list_any (meets_at a place) (qs ++ (s ∷ []))) (some_meet (qs ++ (s ∷ []))) (any-append (meets_at a place) qs (s ∷ []) p none) (meet-last lengths old s items h.1 r)
+    let none : list_any (meets_at a place) (s ∷ []) ≡ false = or_made_false (meets_at a place s) false (not_met a place s apart) refl in
+    or_made_false (list_any (meets_at a place) (qs ++ (s ∷ []))) (some_meet (qs ++ (s ∷ []))) (any-append (meets_at a place) qs (s ∷ []) p none) (meet-last lengths old s items h.1 r)
 meet-last lengths old s (Print value ∷ items) h e = meet-last lengths old s items h.1 e
 meet-last lengths old s (Read d ∷ items) h e = meet-last lengths old s items h.1 e
 meet-last lengths old s (More d ∷ items) h e = meet-last lengths old s items h.1 e

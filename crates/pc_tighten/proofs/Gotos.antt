@@ -18,9 +18,9 @@ use Rattle.pc_tighten.specs.models.Gotos.{rows_left, RowsShrink, HasRemoved, Are
 use Rattle.pc_tighten.specs.models.Raising.{code_with}
 use Rattle.pc_tighten.proofs.Lists.{nat_eq-apart}
 use Rattle.pc_tighten.proofs.Moves.{same_or_apart}
-use Rattle.pc_tighten.proofs.Places.{get_front, get_last, length_more, set_there, set_elsewhere}
 use Rattle.pc_tighten.proofs.Shrunk.{marked_go, none_alone}
 use Rattle.pc_tighten.proofs.Tightened.{tightens_on, tightening_keeps_reachable}
+use Rattle.pc_word.proofs.Places.{get_front, get_last, length_more, set_there, set_elsewhere}
 
 -- ---- how many stay below a number
 

@@ -17,7 +17,6 @@ pub mod Rounds
 pub mod Shrunk
 pub mod Sizes
 pub mod Drafting
-pub mod Places
 pub mod Gotos
 pub mod Listed
 pub mod Named

@@ -12,8 +12,8 @@ use Rattle.pc_machine.specs.MachineCode.{Leaf, Leads_to, Ends, Traps, CodeRow, i
 use Rattle.pc_machine.specs.Reachable.{Entry, Behind}
 use Rattle.pc_tighten.specs.models.Listing.{Listed, put_row, with_listed, with_target, with_targets, LeadsFrom, IsBehind, IsListing, IsList, AreListed, nothing_listed, AllListed}
 use Rattle.pc_tighten.proofs.Lists.{nat_eq-refl}
-use Rattle.pc_tighten.proofs.Places.{get_front, get_last, get_more, length_more, set_there, set_elsewhere}
 use Rattle.pc_tighten.proofs.Reaches.{goto_leaf, any_of_goto}
+use Rattle.pc_word.proofs.Places.{get_front, get_last, get_more, length_more, set_there, set_elsewhere}
 
 pub with_targets_append : (xs ys : List Leaf) (it : Listed) → with_targets (xs ++ ys) it ≡ with_targets ys (with_targets xs it)
 with_targets_append [] ys it = refl

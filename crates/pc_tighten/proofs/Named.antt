@@ -18,9 +18,9 @@ use Rattle.pc_tighten.specs.models.Listing.{Listed, AreListed, IsBehind}
 use Rattle.pc_tighten.specs.models.Parents.{named_again, put_name, with_name, with_names, with_all_names, IsParent, HasParent, if_before, parent_by, parent_in}
 use Rattle.pc_tighten.proofs.Lists.{nat_eq-refl, nat_eq-apart}
 use Rattle.pc_tighten.proofs.Moves.{same_or_apart, once_any}
-use Rattle.pc_tighten.proofs.Places.{set_there, set_elsewhere}
 use Rattle.pc_tighten.proofs.Compacted.{any-counted}
 use Rattle.pc_tighten.proofs.Reaches.{goto_of_any}
+use Rattle.pc_word.proofs.Places.{set_there, set_elsewhere}
 
 pub with_names_append : (from : ℕ) (xs ys : List Leaf) (table : List Naming) → with_names from (xs ++ ys) table ≡ with_names from ys (with_names from xs table)
 with_names_append from [] ys table = refl

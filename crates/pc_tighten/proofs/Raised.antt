@@ -27,10 +27,10 @@ use Rattle.pc_tighten.specs.models.Parents.{HasParent, StandAbove, parent_of}
 use Rattle.pc_tighten.specs.models.Raising.{place_by, place_of, weigh, code_with, Raises, CanRise, MovesUp, MayRise, IsSettled}
 use Rattle.pc_tighten.proofs.Drafting.{below_append, items_below}
 use Rattle.pc_tighten.proofs.Ends.{paths-count, each_alone}
-use Rattle.pc_tighten.proofs.Places.{set_elsewhere as set_other}
 use Rattle.pc_tighten.proofs.Rows.{below-leaves, set_elsewhere}
 use Rattle.pc_tighten.proofs.Tightened.{tightens_on}
 use Rattle.pc_tighten.proofs.WellMoved.{with_item-leaves, with_item-length, below-tests}
+use Rattle.pc_word.proofs.Places.{set_elsewhere as set_other}
 
 -- ---- one path alone
 

@@ -8,9 +8,7 @@ ghost use Rattle.pc_tighten.specs.Compact.{is_dest, is_full, comes_after, is_awa
 ghost use Rattle.pc_tighten.specs.Moves.{below, with_item};
 ghost use Rattle.pc_tighten.specs.models.Drafts.{below_row, draft_row, comes_after_path, items_but, held_at, FirstStay, MayGoUp};
 
-use crate::reasons::{
-    comes_after, comes_after_some, is_awaited_by, is_awaited_by_some, is_memory, is_tested,
-};
+use crate::reasons::{comes_after, comes_after_some, is_awaited_by, is_awaited_by_some, is_tested};
 use pc_machine::Tree;
 use pc_word::{Item, Limits, Operand, TrapKind};
 use std::alloc::{AllocError, Global};
@@ -131,7 +129,7 @@ fn left_for_memory(tree: &Tree, room: usize) -> usize
 {
     match tree {
         Tree::Step { item, next } => {
-            let used = usize::from(is_memory(*item));
+            let used = usize::from(item.is_memory());
             left_for_memory(next, room.saturating_sub(used))
         }
         Tree::Test { yes, no, .. } => left_for_memory(no, left_for_memory(yes, room)),
@@ -212,7 +210,7 @@ pub(crate) fn put(alloc: Global, draft: &mut Draft, to: usize, item: Item) -> Re
 fn is_full(limits: Limits, above: &Draft, x: Item) -> bool
     ensures { result ≡ is_full limits (draft_row above.now) x }
 {
-    has_no_room(limits, above) || is_memory(x) && has_no_room_for_memory(limits, above)
+    has_no_room(limits, above) || x.is_memory() && has_no_room_for_memory(limits, above)
 }
 
 /// Whether a row has as many items as a row may have.
@@ -229,7 +227,7 @@ fn has_no_room(limits: Limits, above: &Draft) -> bool
 fn has_no_room_for_memory(limits: Limits, above: &Draft) -> bool
     ensures { result ≡ nat_le limits.mem (count_by is_memory (items_of (draft_row above.now))) }
 {
-    let used = above.items.iter().filter(|item| is_memory(**item)).count();
+    let used = above.items.iter().filter(|item| item.is_memory()).count();
     let room = usize::from(limits.mem).saturating_sub(used);
     left_for_memory_in(&above.rest, room) == 0
 }

@@ -9,8 +9,6 @@ mod parents;
 mod raising;
 mod reasons;
 mod removing;
-#[cfg(test)]
-mod tests;
 mod tightening;
 
 pub use error::TightenError;

@@ -1,40 +1,12 @@
 //! What items read, write and touch, and which item another one comes after or awaits.
 ghost use Rattle.std.specs.Prelude.{◌≡◌, ◌&&◌};
 ghost use Rattle.std.specs.List.{list_any};
-ghost use Rattle.pc_word.specs.Items.{dest_of, is_effect, is_memory};
+ghost use Rattle.pc_word.specs.Items.{dest_of, is_effect};
 ghost use Rattle.pc_word.specs.Commit.{writes};
 ghost use Rattle.pc_tighten.specs.Compact.{is_dest, reads_dest, writes_both, loads, stores, stores_under, is_loaded_by};
 ghost use Rattle.pc_tighten.specs.Compact.{hangs_on, comes_after, is_awaited_by};
 
 use pc_word::{Item, Operand};
-
-/// The register that an item writes.
-fn dest_of(item: Item) -> Option<u32>
-    ensures { result ≡ dest_of item }
-{
-    match item {
-        Item::Bin { dest, .. } | Item::Copy { dest, .. } | Item::Load { dest, .. } => Some(dest),
-        Item::Read { dest } | Item::More { dest } => Some(dest),
-        Item::Store { .. } | Item::Print { .. } => None,
-    }
-}
-
-/// Whether an item is a load or store.
-pub(crate) fn is_memory(item: Item) -> bool
-    ensures { result ≡ is_memory item }
-{
-    matches!(item, Item::Load { .. } | Item::Store { .. })
-}
-
-/// Whether an item is a print, read or more.
-fn is_effect(item: Item) -> bool
-    ensures { result ≡ is_effect item }
-{
-    matches!(
-        item,
-        Item::Print { .. } | Item::Read { .. } | Item::More { .. }
-    )
-}
 
 /// Whether an operand is the register that is written, if any.
 fn is_dest(operand: Operand, dest: Option<u32>) -> bool
@@ -125,8 +97,8 @@ fn is_loaded_by(x: Item, y: Item) -> bool
 fn hangs_on(x: Item, y: Item) -> bool
     ensures { result ≡ hangs_on x y }
 {
-    let dest = dest_of(y);
-    reads_dest(x, dest) || writes_both(dest, dest_of(x))
+    let dest = y.dest();
+    reads_dest(x, dest) || writes_both(dest, x.dest())
 }
 
 /// Whether `x` comes after `y`, which stands on the path to the row of `x`.
@@ -140,14 +112,14 @@ pub(crate) fn comes_after(x: Item, y: Item) -> bool
 fn are_effects(x: Item, y: Item) -> bool
     ensures { result ≡ (is_effect x && is_effect y) }
 {
-    is_effect(x) && is_effect(y)
+    x.is_effect() && y.is_effect()
 }
 
 /// Whether `x` may not come before `y`, another item of its row.
 pub(crate) fn is_awaited_by(x: Item, y: Item) -> bool
     ensures { result ≡ is_awaited_by x y }
 {
-    reads_dest(y, dest_of(x)) || is_loaded_by(x, y)
+    reads_dest(y, x.dest()) || is_loaded_by(x, y)
 }
 
 /// Whether an item comes after some of these.
@@ -168,5 +140,5 @@ pub(crate) fn is_awaited_by_some(x: Item, items: &[Item]) -> bool
 pub(crate) fn is_tested(x: Item, on: Operand) -> bool
     ensures { result ≡ is_dest on (dest_of x) }
 {
-    is_dest(on, dest_of(x))
+    is_dest(on, x.dest())
 }

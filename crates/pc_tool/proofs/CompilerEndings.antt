@@ -18,19 +18,18 @@ use Rattle.pc_report.specs.declared.fault.ToolFault.TheVariants as fault
 use Rattle.pc_report.specs.Report.{PassCount, report_lines}
 use Rattle.pc_tool.specs.Compilation.{Compiled, report_on}
 use Rattle.pc_tool.specs.Compiler.{CompilerEnds, Done, Misused, Unread, Refused, Unwritten, Unreported, Lacking, CompilerLacks, Early, Writing, Reporting, CompilerPromise}
-use Rattle.pc_tool.specs.Due.{Told}
-use Rattle.pc_program.specs.Files.{HoldsText}
+use Rattle.pc_driver.specs.Due.{Told}
+use Rattle.pc_driver.specs.Files.{HoldsText}
 use Rattle.pc_tool.specs.Files.{HasSource, HoldsSource}
-use Rattle.pc_program.specs.Streams.{Streamed}
-use Rattle.pc_tool.specs.Outside.{Outside}
+use Rattle.pc_driver.specs.Streams.{Streamed}
+use Rattle.pc_driver.specs.Outside.{Outside}
 use Rattle.pc_tool.specs.Source.{IsSomeSource}
 use Rattle.pc_tool.specs.SourceFaults.{HasFault, Long}
 use Rattle.pc_tool.specs.declared.translation.Translation.{Translation}
 use Rattle.pc_tool.specs.models.Compiling.{FailsToRead, Not_read, Too_long, No_memory, HasTranslation, reported, ReportEnds, Unasked, Sent, Broken_off, Unmade}
-use Rattle.pc_program.proofs.Files.{held_map}
-use Rattle.pc_program.proofs.Streams.{sends_part}
+use Rattle.pc_driver.proofs.Files.{held_map}
+use Rattle.pc_driver.proofs.Streams.{sends_part, sends_none}
 use Rattle.pc_tool.proofs.Files.{has_holds, same_keeps}
-use Rattle.pc_tool.proofs.Streams.{sends_none}
 
 -- ---- behind a read
 

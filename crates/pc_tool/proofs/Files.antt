@@ -1,7 +1,5 @@
--- What a read of a file tells of its text.
-use Rattle.std.proofs.Common.{◌≡◌, ◌≢◌, Bool, true, false, cond, ℕ, ◌+◌, ◌<◌, ◌≤◌, List, length, take, Option, Some, None, refl, sym, ◌∙◌, ap, subst, arith, length-take}
-use Rattle.std.specs.Prelude.{min}
-use Rattle.std.proofs.lemmas.List.{take_all}
+-- What a shelf tells of a source, and of a file that was written.
+use Rattle.std.proofs.Common.{◌≡◌, ◌≢◌, Bool, true, false, cond, ℕ, List, Option, Some, None, refl, sym, ◌∙◌, ap, subst, arith}
 use Rattle.std.specs.FinMap.{get, insert, get-insert}
 use Rattle.std.specs.Str.{bytes_eq}
 use Rattle.std.specs.Cmp.Lexicographic.{nat_list_cmp_total}
@@ -11,22 +9,8 @@ use Rattle.pc_outside.specs.Shelf.{Files, Shelved, ReadKeeps, OnlyFileDiffers, H
 use Rattle.pc_command.specs.Requests.{SourcePlace, OfFile, OfSample}
 use Rattle.pc_sample.specs.SampleText.{sample_text}
 use Rattle.pc_tool.specs.CompilerLaws.{IsTold}
-use Rattle.pc_program.proofs.Files.{holds, held_map, told_holds, told_text}
+use Rattle.pc_driver.proofs.Files.{holds, held_map, told_holds, told_text}
 use Rattle.pc_tool.specs.Files.{HasSource, HoldsSource}
-
--- ---- the text that a read gives
-
-pub whole_of : (most : ℕ) (text bytes : List ℕ) → take (most + 1) text ≡ bytes → length bytes ≤ most → take (most + 1) text ≡ text
-whole_of most text bytes cut small =
-    let n : length (take (most + 1) text) ≡ min (most + 1) (length text) = length-take (most + 1) text in
-    let same : length (take (most + 1) text) ≡ length bytes = ap length cut in
-    take_all (most + 1) text (omega arith)
-
-pub longer_of : (most : ℕ) (text bytes : List ℕ) → take (most + 1) text ≡ bytes → most < length bytes → most < length text
-longer_of most text bytes cut big =
-    let n : length (take (most + 1) text) ≡ min (most + 1) (length text) = length-take (most + 1) text in
-    let same : length (take (most + 1) text) ≡ length bytes = ap length cut in
-    omega arith
 
 -- ---- what is told
 

@@ -2,10 +2,5 @@ pub mod CompilerEndings
 pub mod CompilerStatuses
 pub mod Files
 pub mod FrontEnd
-pub mod Simulations
-pub mod SimulatorEndings
-pub mod SimulatorStatuses
 pub mod Sources
-pub mod Statuses
-pub mod Streams
 pub mod Translations

@@ -18,13 +18,11 @@ use Rattle.pc_check.specs.declared.error.CheckError.{CheckError}
 use Rattle.pc_check.specs.Faults.{faults}
 use Rattle.pc_check.specs.Sizes.{size}
 use Rattle.pc_report.specs.declared.fault.SourceFault.{SourceFault}
+use Rattle.pc_driver.proofs.Results.{ok_same}
 use Rattle.pc_tool.specs.Source.{IsRead, IsNoSource}
 use Rattle.pc_tool.specs.SourceFaults.{HasFault, Long, Uncut, Unread, Nested, Faulty, Large}
 
 -- ---- one program
-
-pub ok_same : {X E : Type 0} (x y : X) (r : Result X E) → r ≡ Ok x → r ≡ Ok y → x ≡ y
-ok_same x y r d e = let both : Ok x ≡ Ok y = sym d ∙ e in cc
 
 -- a text is read as one program
 pub read_once : (text : List ℕ) (one other : SourceProgram) → IsRead text one → IsRead text other → one ≡ other

@@ -11,7 +11,7 @@ use Rattle.pc_check.specs.Sizes.{size, resolved_size}
 use Rattle.pc_check.proofs.ResolvedSizes.{size-resolved}
 use Rattle.pc_flow.specs.FlowGraph.{FlowGraph}
 use Rattle.pc_table.specs.Table.{Table}
-use Rattle.pc_choose.specs.declared.choice.Choice.{Choice}
+use Rattle.pc_compile.specs.declared.choice.Choice.{Choice}
 use Rattle.pc_compile.specs.Compiled.{IsCompiled, IsUncompiled}
 use Rattle.pc_compile.specs.declared.error.CompileError.{CompileError}
 use Rattle.pc_compile.specs.declared.error.CompileError.TheVariants.{TooLarge, Memory}

@@ -14,8 +14,8 @@ use Rattle.pc_command.specs.Requests.{CompileRequest}
 use Rattle.pc_report.specs.Report.{PassCount, Report, report_lines}
 use Rattle.pc_tool.specs.Files.{HasSource}
 use Rattle.pc_tool.specs.Meaning.{Same}
-use Rattle.pc_program.specs.Objects.{Loads}
-use Rattle.pc_program.specs.Streams.{Streamed}
+use Rattle.pc_driver.specs.Objects.{Loads}
+use Rattle.pc_driver.specs.Streams.{Streamed}
 use Rattle.pc_tool.specs.Scheduled.{IsScheduled}
 use Rattle.pc_tool.specs.Source.{IsSource}
 

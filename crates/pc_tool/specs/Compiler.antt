@@ -13,10 +13,10 @@ use Rattle.pc_report.specs.declared.fault.ToolFault.{ToolFault}
 use Rattle.pc_report.specs.declared.fault.ToolFault.TheVariants as fault
 use Rattle.pc_report.specs.Report.{PassCount, report_lines}
 use Rattle.pc_tool.specs.Compilation.{Compiled, Reports, report_on}
-use Rattle.pc_tool.specs.Due.{Told}
+use Rattle.pc_driver.specs.Due.{Told}
 use Rattle.pc_tool.specs.Files.{HoldsSource}
-use Rattle.pc_program.specs.Streams.{Streamed, SendsFront}
-use Rattle.pc_tool.specs.Outside.{Outside}
+use Rattle.pc_driver.specs.Streams.{Streamed, SendsFront}
+use Rattle.pc_driver.specs.Outside.{Outside}
 use Rattle.pc_tool.specs.Source.{IsSomeSource}
 use Rattle.pc_tool.specs.SourceFaults.{HasFault}
 

@@ -12,7 +12,7 @@ use Rattle.pc_sample.specs.SampleText.{sample_text}
 use Rattle.pc_tool.specs.Compilation.{Compiled, Reports, report_on}
 use Rattle.pc_tool.specs.Compiler.{CompilerLacks, CompilerPromise}
 use Rattle.pc_tool.specs.Files.{HoldsSource}
-use Rattle.pc_tool.specs.Outside.{Outside}
+use Rattle.pc_driver.specs.Outside.{Outside, HasErrorFault}
 use Rattle.pc_tool.specs.Source.{IsSomeSource, IsNoSource}
 
 -- the object at OBJ does what the source does, the report was sent where it is asked for, and nothing was told
@@ -33,10 +33,6 @@ pub record HasReadFault (old new : Outside) (request : CompileRequest) : Type 0 
 abbrev pub HasWriteFault : Outside → Outside → CompileRequest → Type 0
 HasWriteFault old new request =
     WriteFaultOf old.shelf new.shelf request.object ⊎ ((request.report ≡ true) × Rose old.out.faults new.out.faults)
-
--- the error output failed
-abbrev pub HasErrorFault : Outside → Outside → Type 0
-HasErrorFault old new = Rose old.err.faults new.err.faults
 
 -- no file but OBJ differs, and without a command none does
 abbrev pub KeepsOthers : Option CompileRequest → Outside → Outside → Type 0

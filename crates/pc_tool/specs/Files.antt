@@ -1,7 +1,7 @@
 -- What is said of a source, which is a file or a sample.
 use Rattle.std.specs.Prelude.{◌≡◌, ℕ, List, Option}
 use Rattle.pc_outside.specs.Shelf.{Files}
-use Rattle.pc_program.specs.Files.{HasText, HoldsText}
+use Rattle.pc_driver.specs.Files.{HasText, HoldsText}
 use Rattle.pc_command.specs.Requests.{SourcePlace, OfFile, OfSample}
 use Rattle.pc_sample.specs.SampleText.{sample_text}
 

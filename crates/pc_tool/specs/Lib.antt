@@ -3,12 +3,7 @@ pub mod Scheduled
 pub mod Compilation
 pub mod Compiler
 pub mod CompilerLaws
-pub mod Due
 pub mod Files
 pub mod Meaning
-pub mod Outside
-pub mod Simulation
-pub mod Simulator
-pub mod SimulatorLaws
 pub mod Source
 pub mod SourceFaults

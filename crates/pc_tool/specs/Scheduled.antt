@@ -6,7 +6,7 @@ use Rattle.pc_syntax.specs.Source.{ResolvedProgram}
 use Rattle.pc_flow.specs.FlowGraph.{FlowGraph}
 use Rattle.pc_table.specs.Table.{Table}
 use Rattle.pc_object.specs.ObjectText.{CodeWithNotes}
-use Rattle.pc_choose.specs.declared.choice.Choice.{Choice}
+use Rattle.pc_compile.specs.declared.choice.Choice.{Choice}
 use Rattle.pc_compile.specs.Compiled.{IsCompiled}
 
 -- the object is what is compiled of a program within these limits and this extent, over some graph that shows what the program's own

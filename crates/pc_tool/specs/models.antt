@@ -1,4 +1,3 @@
 pub mod Compiling
 pub mod Refusals
-pub mod Simulating
 pub mod Translating

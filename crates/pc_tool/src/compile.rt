@@ -3,9 +3,10 @@ ghost use Rattle.std.specs.Prelude.{◌≡◌, ◌≤◌, length, map, true, IfO
 ghost use Rattle.pc_command.specs.Requests.{compile_command_of, compile_request, source_place};
 ghost use Rattle.pc_command.specs.Words.{spelled};
 ghost use Rattle.pc_tool.specs.Compilation.{counts_of};
-ghost use Rattle.pc_tool.specs.Compiler.{CompilerEnds};
+ghost use Rattle.pc_tool.specs.Compiler.{CompilerEnds, CompilerPromise};
 ghost use Rattle.pc_tool.specs.Files.{HasSource};
-ghost use Rattle.pc_program.specs.Streams.{streamed};
+ghost use Rattle.pc_driver.specs.Outside.{outside_of};
+ghost use Rattle.pc_driver.specs.Streams.{Streamed, streamed};
 ghost use Rattle.std.specs.List.{AllByRecursion};
 ghost use Rattle.pc_object.specs.ObjectText.{IsChoice};
 ghost use Rattle.pc_pass.specs.Pass.{EachRose};
@@ -18,14 +19,35 @@ use crate::refusal::Refusal;
 use crate::source::read_source;
 use crate::translation::{Translation, translate};
 use pc_command::{CommandError, CompileCommand, compile_command};
+use pc_driver::tell;
 use pc_outside::{Shelf, ShelfError, Sink, send};
 use pc_pass::Pass;
 use pc_report::{PassFact, ReportError, ReportFacts, Speaker, ToolFault, report_text};
 use std::alloc::{AllocError, Global};
 
+/// Compiles as the words say, and tells what is due then. An input is not touched.
+pub(crate) fn compiler<P: Pass, H: Shelf, O: Sink, E: Sink>(
+    alloc: Global,
+    words: &[String],
+    passes: &mut Vec<P>,
+    shelf: &mut H,
+    out: &mut O,
+    err: &mut E,
+) -> u8
+    ensures promise { (input : Streamed) → CompilerPromise (compile_command_of (spelled words.now)) (counts_of P.label P.changed passes.new.items)
+        (outside_of (H.state shelf.old) input (streamed (O.taken out.old) (O.faults out.old)) (streamed (E.taken err.old) (E.faults err.old)))
+        (outside_of (H.state shelf.new) input (streamed (O.taken out.new) (O.faults out.new)) (streamed (E.taken err.new) (E.faults err.new)))
+        result }
+    ensures named { map P.label passes.new.items ≡ map P.label passes.old.items }
+    ensures ran { result ≡ 0 → EachRose (map P.runs passes.old.items) (map P.runs passes.new.items) }
+{
+    let due = run_compiler(alloc, words, passes, shelf, out);
+    tell(alloc, Speaker::Pcc, due, err)
+}
+
 /// Compiles as the words say, and gives what is due then.
 #[tactic(auto, using(crate::proofs::CompilerEndings::compiler_endings))]
-pub(crate) fn run_compiler<'a, P: Pass, H: Shelf, O: Sink>(
+fn run_compiler<'a, P: Pass, H: Shelf, O: Sink>(
     alloc: Global,
     words: &'a [String],
     passes: &mut Vec<P>,

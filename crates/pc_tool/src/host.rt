@@ -2,10 +2,9 @@
 //! standard output and standard error.
 
 use crate::program::{Status, Who, tool};
-use crate::telling::tell;
+use pc_driver::{read_words, tell};
 use pc_outside::{DirShelf, StdSink, StdSource};
 use pc_pass::Pass;
-use pc_program::read_words;
 use pc_report::{Speaker, ToolFault};
 use std::process::ExitCode;
 

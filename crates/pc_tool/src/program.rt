@@ -6,16 +6,14 @@ ghost use Rattle.pc_tool.specs.declared.program.Who.TheVariants.{Pcc, Pvm};
 ghost use Rattle.pc_pass.specs.Pass.{EachRose};
 ghost use Rattle.pc_tool.specs.Compilation.{counts_of};
 ghost use Rattle.pc_tool.specs.Compiler.{CompilerPromise};
-ghost use Rattle.pc_program.specs.Streams.{streamed};
-ghost use Rattle.pc_tool.specs.Outside.{outside_of};
-ghost use Rattle.pc_tool.specs.Simulator.{SimulatorPromise};
+ghost use Rattle.pc_driver.specs.Streams.{streamed};
+ghost use Rattle.pc_driver.specs.Outside.{outside_of};
+ghost use Rattle.pc_simulator.specs.Simulator.{SimulatorPromise};
 
-use crate::compile::run_compiler;
-use crate::simulate::run_simulator;
-use crate::telling::tell;
+use crate::compile::compiler;
 use pc_outside::{Shelf, Sink, Source};
 use pc_pass::Pass;
-use pc_report::Speaker;
+use pc_simulator::simulator;
 use std::alloc::Global;
 
 /// Which program is called.
@@ -95,14 +93,8 @@ pub fn tool<H: Shelf, I: Source, O: Sink, E: Sink>(
     ensures passes_kept { who ≡ Pvm → passes.new ≡ passes.old }
 {
     let code = match who {
-        Who::Pcc => {
-            let due = run_compiler(alloc, words, passes, shelf, out);
-            tell(alloc, Speaker::Pcc, due, err)
-        }
-        Who::Pvm => {
-            let due = run_simulator(alloc, words, shelf, input, out);
-            tell(alloc, Speaker::Pvm, due, err)
-        }
+        Who::Pcc => compiler(alloc, words, passes, shelf, out, err),
+        Who::Pvm => simulator(alloc, words, shelf, input, out, err),
     };
     Status { code }
 }

@@ -6,9 +6,9 @@ ghost use Rattle.pc_tool.specs.declared.refusal.Refusal.TheVariants.{Memory};
 use pc_check::CheckError;
 use pc_compile::CompileError;
 use pc_lexer::LexError;
-use pc_object::EncodeError;
 use pc_parser::ParseError;
 use pc_report::{LineFault, SourceFault};
+use pc_word::OutOfMemory;
 use std::alloc::AllocError;
 use thiserror::Error;
 
@@ -94,12 +94,12 @@ impl From<CompileError> for Refusal {
     }
 }
 
-impl From<EncodeError> for Refusal {
+impl From<OutOfMemory> for Refusal {
     ghost from_gives = { λ _ given. given ≡ Memory };
 
-    fn from(error: EncodeError) -> Refusal {
+    fn from(error: OutOfMemory) -> Refusal {
         match error {
-            EncodeError::Memory => Refusal::Memory,
+            OutOfMemory::Memory => Refusal::Memory,
         }
     }
 }

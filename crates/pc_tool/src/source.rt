@@ -10,8 +10,8 @@ ghost use Rattle.pc_tool.specs.models.Compiling.{FailsToRead};
 ghost use Rattle.pc_word.specs.SourceLimits.{most_source};
 
 use pc_command::SourceName;
+use pc_driver::{FileError, read_whole};
 use pc_outside::Shelf;
-use pc_program::{FileError, read_whole};
 use pc_report::{SourceFault, Speaker, ToolFault};
 use pc_sample::{SampleError, sample};
 use pc_word::MOST_SOURCE;

@@ -24,7 +24,7 @@ use Rattle.pc_moveop.specs.declared.error.MoveError.TheVariants.{Depends}
 use Rattle.pc_moveop.specs.NodeTree.{NodeTree, Item_node, Test_node, Leads_to, Leads_out, nodes_in, whole_tree, node_front, node_size, leaf_count, child_at, led_on, node_at}
 use Rattle.pc_moveop.specs.Taking.{leaf_to}
 use Rattle.pc_moveop.specs.Moving.{KeepsWalk}
-use Rattle.pc_moveop.proofs.Fronts.{SameItems, Same_item, Same_test, Same_leaf, same_counts, same_independent}
+use Rattle.pc_moveop.proofs.Fronts.{SameItems, Same_item, Same_test, Same_leaf, same_counts, same_independent, same_front}
 use Rattle.pc_moveop.proofs.Moved.{node_window, walk_kept}
 use Rattle.pc_moveop.proofs.Paths.{tree_same, whole_front}
 use Rattle.pc_moveop.proofs.Rising.{leaf_front}
@@ -219,12 +219,6 @@ no_more place (Test_node t o on p q) =
     ]
 no_more place (Leads_to below) = as_many (Unfinished (whole_tree below))
 no_more place (Leads_out out) = as_many (Unfinished out)
-
-same_front : (t : NodeTree) → SameItems (node_front t) (node_front t)
-same_front (Item_node t o x rest) = Same_item t o x _ _ (same_front rest)
-same_front (Test_node t o on p q) = Same_test t o on _ _ _ _ (same_front p) (same_front q)
-same_front (Leads_to below) = Same_leaf _ _
-same_front (Leads_out out) = Same_leaf _ _
 
 front_closed : (leaf : ℕ) (f : NodeTree → NodeTree) (t : NodeTree) → SameItems (node_front t) (node_front (child_closed leaf f t))
 front_closed leaf f (Item_node t o x rest) = Same_item t o x _ _ (front_closed leaf f rest)

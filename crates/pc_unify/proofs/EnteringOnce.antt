@@ -9,7 +9,6 @@ use Rattle.pc_linear.specs.Form.{Form}
 use Rattle.pc_window.specs.Tree.{Tree, Front, Issued, Split, Unfinished}
 use Rattle.pc_window.specs.Names.{IsNew, ReadsKnown, Unwritten, NotWritten}
 use Rattle.pc_window.specs.Jump.{GivesForm, Rises, EntersFront, Lands_once, Behind_item, On_yes, On_no}
-use Rattle.pc_window.specs.Rename.{with_dest}
 use Rattle.pc_window.proofs.Readiness.{alike, dest_named, not_written_named}
 use Rattle.pc_moveop.specs.NodeTree.{NodeTree, Item_node, Test_node, Leads_to, whole_tree, node_front, leaf_count}
 use Rattle.pc_moveop.specs.Climbing.{Passed_item, Mover, passing, mover_in, mover_at, crosses_test}
@@ -19,6 +18,7 @@ use Rattle.pc_moveop.proofs.Rising.{leaf_front, RisesNamed, rises_named}
 use Rattle.pc_moveop.proofs.Paths.{whole_front}
 use Rattle.pc_unify.specs.Unifying.{joined, joint_of}
 use Rattle.pc_unify.proofs.TwoSides.{Sides, Here, Behind, Within_yes, Within_no}
+use Rattle.pc_word.specs.Naming.{with_dest}
 
 module _ (forms forms' : ℕ → Form) (base : ℕ → Bool) (n : ℕ) where
   -- of two items that are found: they enter as one

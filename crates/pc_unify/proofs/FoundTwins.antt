@@ -9,9 +9,9 @@ use Rattle.pc_moveop.specs.NodeTree.{NodeTree, nodes_in, node_at}
 use Rattle.pc_moveop.specs.Climbing.{Passed, Mover, passing, mover_at}
 use Rattle.pc_moveop.specs.Refusing.{IsWhyNot}
 use Rattle.pc_unify.specs.declared.twins.Standing.{Standing}
-use Rattle.pc_alike.specs.Alike.{AreAlike}
 use Rattle.pc_unify.specs.Unifying.{are_sides, TwinsBehind, AreThere, IsWhyNotUnify, Not_there, As_on_yes, As_on_no}
 use Rattle.pc_unify.specs.models.Twins.{IsStanding, FindsItem, FindsTwins}
+use Rattle.pc_word.specs.Naming.{AreAlike}
 
 -- ---- one item
 

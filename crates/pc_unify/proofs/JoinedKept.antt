@@ -6,17 +6,15 @@ use Rattle.pc_word.specs.declared.item.Limits.{Limits}
 use Rattle.pc_word.specs.declared.item.Operand.{Operand}
 use Rattle.pc_word.specs.Items.{dest_of}
 use Rattle.pc_linear.specs.Form.{Form}
-use Rattle.pc_linear.specs.Combine.{variable_form}
 use Rattle.pc_window.specs.declared.window.Window.{Window as StoredWindow}
 use Rattle.pc_window.specs.StoredWindow.{tree_in, forms_in, supply_in, window_in}
 use Rattle.pc_window.specs.Tree.{Tree, whole}
 use Rattle.pc_window.specs.Names.{IsKnown, IsNew, Scoped, Unwritten, uses}
-use Rattle.pc_window.specs.Opening.{Supply, TreeBelow, FormsBelow, with_name, changed}
+use Rattle.pc_window.specs.Opening.{Supply, TreeBelow, FormsBelow}
 use Rattle.pc_window.specs.WindowRun.{Window}
 use Rattle.pc_window.specs.Filled.{given_supply, IsNext, HasSpace, IsWindow, WithinLimits, Independent}
-use Rattle.pc_window.specs.Jump.{combined, NewForm, Without, GivesForm, EntersFront}
+use Rattle.pc_window.specs.Jump.{EntersFront}
 use Rattle.pc_window.specs.Move.{Moves, Into_node}
-use Rattle.pc_window.specs.Rename.{with_dest}
 use Rattle.pc_window.specs.Steps.{IsProper}
 use Rattle.pc_window.proofs.Fronts.{SameKnownForms, independent_entered, within_entered}
 use Rattle.pc_window.proofs.Moving.{scoped_moved}
@@ -39,22 +37,8 @@ use Rattle.pc_unify.specs.Unifying.{AreTwins, TwinsBehind, AreThere, IsWhyNotUni
 use Rattle.pc_unify.proofs.EnteringOnce.{EnterOnce, enter_once}
 use Rattle.pc_unify.proofs.Retagged.{stays_new}
 use Rattle.pc_unify.proofs.TwoSides.{sides_told}
-
--- ---- the form of the next name
-
-gives_next : (names : Supply) → ((y : ℕ) → Without names.next_variable (names.forms y)) → (x : Item) → dest_of x ≡ Some names.next
-    → GivesForm names.forms (given_supply names (Some names.next) (Some x)).forms x (Some names.next)
-gives_next names without x e = by_form (combined names.forms x)
-  where
-    by_form : (c : Option Form) → (form : Form) × NewForm names.forms c form × ((with_name names c).forms ≡ changed names.forms names.next form)
-    by_form (Some given) = (given, refl, refl)
-    by_form None = (variable_form names.next_variable, (names.next_variable, refl, without), refl)
-
-gives_named : (names : Supply) → ((y : ℕ) → Without names.next_variable (names.forms y)) → (x : Item)
-    → GivesForm names.forms (given_supply names (dest_of (with_dest names.next x)) (Some (with_dest names.next x))).forms (with_dest names.next x) (dest_of (with_dest names.next x))
-gives_named names without x =
-    let z = with_dest names.next x in
-    dest_named names.next x (λ d. dest_of z ≡ d → GivesForm names.forms (given_supply names d (Some z)).forms z d) (λ e. gives_next names without z e) (λ e. refl) refl
+use Rattle.pc_word.specs.Naming.{with_dest}
+use Rattle.pc_moveop.proofs.Comes.{gives_named}
 
 -- ---- what enters a node moves the window, whatever its tags
 

@@ -1,21 +1,21 @@
 -- Where two items become one there is one item less, and no node becomes empty.
-use Rattle.std.proofs.Common.{◌≡◌, ℕ, suc, ◌+◌, Bool, true, false, List, [], ◌∷◌, Option, Some, None, length, refl, sym, ◌∙◌, ap, subst, arith}
+use Rattle.std.proofs.Common.{◌≡◌, ℕ, suc, ◌+◌, Bool, true, false, List, [], ◌∷◌, Option, Some, None, length, sym, ◌∙◌, ap, subst, arith}
 use Rattle.std.specs.Prelude.{◌-◌, if◌then◌else◌, nat_eq, nat_lt}
 use Rattle.pc_word.specs.declared.item.Item.{Item}
 use Rattle.pc_word.specs.declared.item.Operand.{Operand}
 use Rattle.pc_word.specs.Items.{dest_of}
 use Rattle.pc_window.specs.declared.window.Window.{Window as StoredWindow}
 use Rattle.pc_window.specs.StoredWindow.{tree_in}
-use Rattle.pc_window.specs.Tree.{Tree, Pending, Undecided, Exit, Stop_exit, Trap_exit, tree_size}
-use Rattle.pc_window.specs.Rename.{mapped, renamed}
+use Rattle.pc_window.specs.Tree.{Tree, tree_size}
 use Rattle.pc_moveop.specs.NodeTree.{NodeTree, Item_node, Test_node, Leads_to, Leads_out, nodes_in, whole_tree, node_size}
 use Rattle.pc_moveop.specs.NodeTree.{leaf_count, child_at, led_on, node_at, child_changed, with_node, HasRoot, NoEmptyNode}
 use Rattle.pc_moveop.specs.Climbing.{Passed, Passed_item, Passed_test, Mover, passing, mover_in, mover_at}
 use Rattle.pc_moveop.specs.Taking.{nodes_mapped, node_without, leaf_to, leaf_without, Coming}
 use Rattle.pc_moveop.proofs.Paths.{tree_same}
-use Rattle.pc_moveop.proofs.Shapes.{leaf_size, leaf_nodes, changed_nodes}
+use Rattle.pc_moveop.proofs.Shapes.{leaf_size, leaf_nodes, changed_nodes, mapped_size, mapped_nodes}
 use Rattle.pc_unify.specs.Unifying.{AreTwins, TwinsBehind, joined, joint_of, HaveJoined}
 use Rattle.pc_unify.proofs.TwoSides.{Sides, Here, Behind, Within_yes, Within_no, sides_told}
+use Rattle.pc_word.specs.Naming.{renamed}
 
 -- ---- an item that is taken out
 
@@ -32,31 +32,6 @@ below_yes t o on p p' q h = record { size = let e = h.size in omega (arith, e); 
 
 below_no : (t o : ℕ) (on : Operand) (p q q' : NodeTree) → Shrinks q q' → Shrinks (Test_node t o on p q) (Test_node t o on p q')
 below_no t o on p q q' h = record { size = let e = h.size in omega (arith, e); nodes = λ n. (n.0, h.nodes n.1) }
-
-tree_mapped_size : (f : Operand → Operand) (t : Tree) → tree_size (mapped f t) ≡ tree_size t
-tree_mapped_size f (Pending t o x rest) = ap suc (tree_mapped_size f rest)
-tree_mapped_size f (Undecided t o on p q) = λ i. suc (tree_mapped_size f p i + tree_mapped_size f q i)
-tree_mapped_size f (Exit region tag homes) = refl
-tree_mapped_size f Stop_exit = refl
-tree_mapped_size f (Trap_exit kind line) = refl
-
-mapped_size : (f : Operand → Operand) (t : NodeTree) → tree_size (whole_tree (nodes_mapped f t)) ≡ tree_size (whole_tree t)
-mapped_size f (Item_node t o x rest) = ap suc (mapped_size f rest)
-mapped_size f (Test_node t o on p q) = λ i. suc (mapped_size f p i + mapped_size f q i)
-mapped_size f (Leads_to below) = mapped_size f below
-mapped_size f (Leads_out out) = tree_mapped_size f out
-
-mapped_root : (f : Operand → Operand) (t : NodeTree) → HasRoot t → HasRoot (nodes_mapped f t)
-mapped_root f (Item_node t o x rest) h = tt
-mapped_root f (Test_node t o on p q) h = tt
-mapped_root f (Leads_to below) h = h
-mapped_root f (Leads_out out) h = h
-
-mapped_nodes : (f : Operand → Operand) (t : NodeTree) → NoEmptyNode t → NoEmptyNode (nodes_mapped f t)
-mapped_nodes f (Item_node t o x rest) h = mapped_nodes f rest h
-mapped_nodes f (Test_node t o on p q) h = (mapped_nodes f p h.0, mapped_nodes f q h.1)
-mapped_nodes f (Leads_to below) h = (mapped_root f below h.0, mapped_nodes f below h.1)
-mapped_nodes f (Leads_out out) h = tt
 
 -- where an item is found
 abbrev IfFound : Option Mover → Type 0 → Type 0

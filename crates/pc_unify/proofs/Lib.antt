@@ -1,7 +1,5 @@
 pub mod Marked
 pub mod Tidied
-pub mod DeadStepKept
-pub mod Deleted
 pub mod DeletedKept
 pub mod FoundTwins
 pub mod TwoSides
@@ -9,4 +7,3 @@ pub mod EnteringOnce
 pub mod Retagged
 pub mod JoinedKept
 pub mod JoinedShapes
-pub mod EqualSumsKept

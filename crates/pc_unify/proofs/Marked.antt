@@ -1,18 +1,20 @@
 -- Marks of names.
 use Rattle.std.proofs.Common.{◌≡◌, ◌≢◌, ◌⊎◌, inl, inr, ℕ, zero, suc, ◌+◌, ◌<◌, List, [], ◌∷◌, Option, Some, None, length, refl, sym, ◌∙◌, ap, subst, arith}
 use Rattle.std.specs.Prelude.{Bool, true, false, not, ◌||◌, ◌&&◌, nat_eq, slice_set, slice_index_or, take}
+use Rattle.std.specs.List.{list_any}
 use Rattle.std.proofs.lemmas.List.{length-set, get_or-set_same, get_or-set_other}
 use Rattle.std.proofs.lemmas.Bool.Decides.{eqb_tells}
 use Rattle.pc_word.specs.declared.item.Item.{Item}
-use Rattle.pc_word.specs.declared.item.Item.TheVariants.{Bin, Copy, Load, Store, Print, Read, More}
-use Rattle.pc_word.specs.declared.item.OpCode.{OpCode}
 use Rattle.pc_word.specs.declared.item.Operand.{Operand}
-use Rattle.pc_word.specs.Items.{dest_of}
+use Rattle.pc_word.specs.declared.item.Operands.{Operands}
+use Rattle.pc_word.specs.declared.item.Operands.TheVariants as listed
+use Rattle.pc_word.specs.Items.{operands_of, operand_list, dest_of, reads, reads_name}
+use Rattle.pc_word.proofs.Items.{reads_operands}
 use Rattle.pc_word.specs.Commit.{writes}
-use Rattle.pc_table.specs.TableKeeps.{reads, reads_name}
 use Rattle.pc_window.specs.declared.home.Home.{Home}
 use Rattle.pc_window.specs.Names.{homes_use}
-use Rattle.pc_window.specs.Opening.{OperandBelow, ItemBelow, StubBelow}
+use Rattle.pc_window.specs.Opening.{OperandBelow, OperandsBelow, ItemBelow, StubBelow}
+use Rattle.pc_window.proofs.Walked.{dest_below, operands_below}
 use Rattle.pc_unify.specs.models.Marks.{is_marked, Marks, PassesItem}
 
 -- ---- or
@@ -75,30 +77,43 @@ then_more old mid new f g h first second is = record {
 }
 
 -- what an item reads
-pub bin_read : (old mid new : List Bool) (op : OpCode) (dest : ℕ) (left right : Operand) → Marks old mid (reads_name left) → Marks mid new (reads_name right)
-    → Marks old new (reads (Bin op dest left right))
-bin_read old mid new op dest left right first second = then_more old mid new (reads_name left) (reads_name right) (reads (Bin op dest left right)) first second (λ name. refl)
+module _ (item : Item) (operands : Operands) (are : operand_list operands ≡ operands_of item) where
+  reads_are : (these : List Operand) → operand_list operands ≡ these → (name : ℕ) → reads item name ≡ list_any (λ o. reads_name o name) these
+  reads_are these is name = reads_operands item name ∙ ap (list_any (λ o. reads_name o name)) (sym are ∙ is)
 
-pub store_read : (old mid new : List Bool) (array : ℕ) (index value : Operand) → Marks old mid (reads_name index) → Marks mid new (reads_name value)
-    → Marks old new (reads (Store array index value))
-store_read old mid new array index value first second = then_more old mid new (reads_name index) (reads_name value) (reads (Store array index value)) first second (λ name. refl)
+  pub none_read : (marks : List Bool) → operands ≡ listed.None → Marks marks marks (reads item)
+  none_read marks is = none_more marks (reads item) (reads_are [] (ap operand_list is))
 
-pub copy_read : (old new : List Bool) (dest : ℕ) (from : Operand) → Marks old new (reads_name from) → Marks old new (reads (Copy dest from))
-copy_read old new dest from h = record { as_many = h.as_many; marked = h.marked }
+  pub one_read : (old new : List Bool) (one : Operand) → operands ≡ listed.One one → Marks old new (reads_name one) → Marks old new (reads item)
+  one_read old new one is h = record {
+    as_many = h.as_many;
+    marked = λ name.
+        h.marked name
+        ∙ ap (λ (b : Bool). is_marked old name || b) (right_false (reads_name one name) ∙ sym (reads_are (one ∷ []) (ap operand_list is) name));
+  }
 
-pub load_read : (old new : List Bool) (dest array : ℕ) (index : Operand) → Marks old new (reads_name index) → Marks old new (reads (Load dest array index))
-load_read old new dest array index h = record { as_many = h.as_many; marked = h.marked }
+  pub two_read : (old mid new : List Bool) (one other : Operand) → operands ≡ listed.Two one other → Marks old mid (reads_name one) → Marks mid new (reads_name other)
+      → Marks old new (reads item)
+  two_read old mid new one other is first second =
+      then_more old mid new (reads_name one) (reads_name other) (reads item) first second
+      (λ name. reads_are (one ∷ other ∷ []) (ap operand_list is) name ∙ ap (λ (b : Bool). reads_name one name || b) (sym (right_false (reads_name other name))))
 
-pub print_read : (old new : List Bool) (value : Operand) → Marks old new (reads_name value) → Marks old new (reads (Print value))
-print_read old new value h = record { as_many = h.as_many; marked = h.marked }
+  -- their names are below the number of marks
+  pub one_below : (marks : List Bool) (one : Operand) → operands ≡ listed.One one → ItemBelow (length marks) item → OperandBelow (length marks) one
+  one_below marks one is h =
+      subst (λ (these : List Operand). OperandsBelow (length marks) these) (sym are ∙ ap operand_list is) (operands_below (length marks) item h)
 
-pub read_read : (marks : List Bool) (dest : ℕ) → Marks marks marks (reads (Read dest))
-read_read marks dest = none_more marks (reads (Read dest)) (λ name. refl)
+  pub first_below : (marks : List Bool) (one other : Operand) → operands ≡ listed.Two one other → ItemBelow (length marks) item → OperandBelow (length marks) one
+  first_below marks one other is h =
+      (subst (λ (these : List Operand). OperandsBelow (length marks) these) (sym are ∙ ap operand_list is) (operands_below (length marks) item h)).0
 
-pub more_read : (marks : List Bool) (dest : ℕ) → Marks marks marks (reads (More dest))
-more_read marks dest = none_more marks (reads (More dest)) (λ name. refl)
+  pub second_below : (old mid : List Bool) (more : ℕ → Bool) (one other : Operand) → operands ≡ listed.Two one other → ItemBelow (length old) item → Marks old mid more
+      → OperandBelow (length mid) other
+  second_below old mid more one other is h marked =
+      subst (λ (n : ℕ). OperandBelow n other) (sym marked.as_many)
+      (subst (λ (these : List Operand). OperandsBelow (length old) these) (sym are ∙ ap operand_list is) (operands_below (length old) item h)).1
 
-pub ruleset marks = (none_more, one_more, bin_read, store_read, copy_read, load_read, print_read, read_read, more_read)
+pub ruleset marks = (none_more, one_more, none_read, one_read, two_read, one_below, first_below, second_below)
 
 -- ---- homes
 
@@ -132,16 +147,6 @@ module _ (default : Home) where
 pub ruleset homes = (home_below, home_more)
 
 -- ---- past an item
-
--- the name that an item writes is below a number, as all its names are
-pub dest_below : (n : ℕ) (item : Item) (dest : ℕ) → ItemBelow n item → dest_of item ≡ Some dest → dest < n
-dest_below n (Bin op d left right) dest h is = let same : d ≡ dest = (cc) in subst (λ (x : ℕ). x < n) same h.0
-dest_below n (Copy d from) dest h is = let same : d ≡ dest = (cc) in subst (λ (x : ℕ). x < n) same h.0
-dest_below n (Load d array index) dest h is = let same : d ≡ dest = (cc) in subst (λ (x : ℕ). x < n) same h.0
-dest_below n (Store array index value) dest h is = absurd (cc)
-dest_below n (Print value) dest h is = absurd (cc)
-dest_below n (Read d) dest h is = let same : d ≡ dest = (cc) in subst (λ (x : ℕ). x < n) same h
-dest_below n (More d) dest h is = let same : d ≡ dest = (cc) in subst (λ (x : ℕ). x < n) same h
 
 -- its own name is no longer marked, and then what it reads is
 pub past_writing : (old new : List Bool) (item : Item) (dest : ℕ) → ItemBelow (length old) item → dest_of item ≡ Some dest

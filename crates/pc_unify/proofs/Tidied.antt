@@ -1,5 +1,5 @@
 -- Tidied trees, with marks for what they use.
-use Rattle.std.proofs.Common.{◌≡◌, ℕ, zero, suc, ◌≤◌, List, [], Option, Some, None, length, refl, sym, ◌∙◌, ap, subst, arith}
+use Rattle.std.proofs.Common.{◌≡◌, ℕ, suc, ◌≤◌, List, [], Option, Some, None, length, refl, sym, ◌∙◌, ap, subst, arith}
 use Rattle.std.specs.Prelude.{Bool, true, false, ◌||◌, if◌then◌else◌, replicate}
 use Rattle.pc_word.specs.declared.item.Item.{Item}
 use Rattle.pc_word.specs.declared.item.Item.TheVariants.{Bin, Copy, Load, Store, Print, Read, More}
@@ -18,6 +18,7 @@ use Rattle.pc_window.proofs.Tidying.{tidied_tidy}
 use Rattle.pc_window.proofs.Parameters.{parameters_known}
 use Rattle.pc_window.proofs.WindowsStored.{single_window, whole_in}
 use Rattle.pc_unify.specs.models.Marks.{is_marked, is_needed, Marks, WritesNone, SidesApart}
+use Rattle.pc_window.proofs.Listed.{none_marked}
 
 -- ---- items
 
@@ -117,12 +118,6 @@ module _ (tree : WindowTree) (names : NameTable) (limits : Limits) (inside : Opt
       single_window later names limits inside (record { tree = tidied (whole (front_in tree)); names = supply_in names })
       (λ i. record { tree = (is ∙ ap tidied (sym (whole_in tree))) i; names = supply_in names }) single
 
--- no name is marked at first
-none_marked : (n name : ℕ) → is_marked (replicate n false) name ≡ false
-none_marked zero name = refl
-none_marked (suc n) zero = refl
-none_marked (suc n) (suc name) = none_marked n name
-
 pub unmarked_first : (n : ℕ) (marks : List Bool) (tree : Tree) → marks ≡ replicate n false → WritesNone (is_marked marks) tree
 unmarked_first n marks tree is = by tree
   where
@@ -145,7 +140,7 @@ above_size tag origin item rest = by (is_needed (uses rest) item) refl
     by true is = let same : tree_size (above tag origin item rest) ≡ suc (tree_size rest) = ap tree_size (above_kept tag origin item rest is) in omega arith
     by false is = let same : tree_size (above tag origin item rest) ≡ tree_size rest = ap tree_size (above_gone tag origin item rest is) in omega arith
 
-tidied_size : (tree : Tree) → tree_size (tidied tree) ≤ tree_size tree
+pub tidied_size : (tree : Tree) → tree_size (tidied tree) ≤ tree_size tree
 tidied_size (Pending tag origin item rest) =
     let one = above_size tag origin item (tidied rest) in
     let other = tidied_size rest in

@@ -2,8 +2,6 @@
 use Rattle.std.specs.Prelude.{ℕ, ◌<◌, ◌+◌, ◌-◌, ◌^◌, ◌≡◌, Bool, true, false, ◌&&◌, if◌then◌else◌, nat_eq, nat_lt, List, length, Option, Some, None}
 use Rattle.pc_word.specs.declared.item.Item.{Item}
 use Rattle.pc_word.specs.Items.{dest_of}
-use Rattle.pc_window.specs.Rename.{with_dest}
-use Rattle.pc_alike.specs.Alike.{AreAlike}
 use Rattle.pc_window.specs.Filled.{given_supply}
 use Rattle.pc_window.specs.declared.window.Window.{Window as StoredWindow}
 use Rattle.pc_window.specs.StoredWindow.{supply_in}
@@ -14,6 +12,7 @@ use Rattle.pc_moveop.specs.Climbing.{Mover, mover_at}
 use Rattle.pc_moveop.specs.Taking.{Coming, leaf_without}
 use Rattle.pc_moveop.specs.Refusing.{mover_of, IsWhyNot}
 use Rattle.pc_moveop.specs.Moving.{NodeChanges, SameBounds}
+use Rattle.pc_word.specs.Naming.{with_dest, AreAlike}
 
 -- ---- the two leaves
 

@@ -1,4 +1,2 @@
 pub mod Marks
-pub mod DeadStep
 pub mod Twins
-pub mod EqualSums

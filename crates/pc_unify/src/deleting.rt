@@ -1,10 +1,7 @@
 //! Deleting one item.
-ghost use Rattle.std.specs.Prelude.{◌≡◌, ◌<◌, ◌^◌, ◌||◌, ◌+◌, Some, None, List, OnOk, OnErr, IfErr, if◌then◌else◌};
-ghost use Rattle.pc_word.specs.Items.{dest_of};
-ghost use Rattle.pc_word.specs.Commit.{writes};
-ghost use Rattle.pc_table.specs.TableKeeps.{reads, reads_name};
+ghost use Rattle.std.specs.Prelude.{◌≡◌, ◌<◌, ◌^◌, ◌+◌, Some, None, List, OnOk, OnErr, IfErr, if◌then◌else◌};
 ghost use Rattle.pc_window.specs.Tree.{tree_size};
-ghost use Rattle.pc_window.specs.Names.{uses, homes_use};
+ghost use Rattle.pc_window.specs.Names.{uses};
 ghost use Rattle.pc_window.specs.Steps.{IsProper};
 ghost use Rattle.pc_window.specs.StoredWindow.{tree_in, window_in};
 ghost use Rattle.pc_moveop.specs.NodeTree.{nodes_in, whole_tree};
@@ -13,66 +10,8 @@ ghost use Rattle.pc_moveop.specs.declared.error.MoveError.TheVariants.{Depends};
 ghost use Rattle.pc_unify.specs.Deleting.{refusal_of_item, closed, refusal_of_standing, standing_at, IsWhyNotDelete, node_deleted, child_closed, item_deleted, IsDeleted};
 
 use pc_moveop::{MoveError, leaf_count, leaf_to, node_at, node_size};
-use pc_window::{Home, Window, WindowTree};
-use pc_word::{Item, Operand};
-
-/// Whether an operand reads a name.
-fn reads_name(operand: Operand, name: u32) -> bool
-    ensures { result ≡ reads_name operand name }
-{
-    match operand {
-        Operand::Name(read) => read == name,
-        Operand::Lit(_) => false,
-    }
-}
-
-/// Whether one of two operands reads a name.
-fn either_reads(one: Operand, other: Operand, name: u32) -> bool
-    ensures { result ≡ (reads_name one name || reads_name other name) }
-{
-    if reads_name(one, name) {
-        return true;
-    }
-    reads_name(other, name)
-}
-
-/// Whether an item reads a name.
-fn reads(item: Item, name: u32) -> bool
-    ensures { result ≡ reads item name }
-{
-    match item {
-        Item::Bin { left, right, .. } => either_reads(left, right, name),
-        Item::Copy { from, .. } => reads_name(from, name),
-        Item::Load { index, .. } => reads_name(index, name),
-        Item::Store { index, value, .. } => either_reads(index, value, name),
-        Item::Print { value } => reads_name(value, name),
-        Item::Read { .. } => false,
-        Item::More { .. } => false,
-    }
-}
-
-/// Whether an item writes a name.
-fn writes(item: Item, name: u32) -> bool
-    ensures { result ≡ writes (dest_of item) name }
-{
-    match pc_moveop::dest_of(item) {
-        Some(dest) => dest == name,
-        None => false,
-    }
-}
-
-/// Whether homes read a name.
-#[tactic(auto, using(crate::proofs::Deleted::homes))]
-fn homes_use(homes: &[Home], name: u32) -> bool
-    ensures { result ≡ homes_use homes.now name }
-{
-    for at in 0..homes.len() {
-        if reads_name(homes[at].value, name) {
-            return true;
-        }
-    }
-    false
-}
+use pc_window::{Window, WindowTree, homes_use};
+use pc_word::Item;
 
 /// Whether a name is used in a tree, and not defined above.
 fn uses(tree: &WindowTree, name: u32) -> bool
@@ -80,16 +19,16 @@ fn uses(tree: &WindowTree, name: u32) -> bool
 {
     match tree {
         WindowTree::Step { item, rest, .. } => {
-            if reads(*item, name) {
+            if item.reads(name) {
                 return true;
             }
-            if writes(*item, name) {
+            if item.writes(name) {
                 return false;
             }
             uses(rest, name)
         }
         WindowTree::Test { on, yes, no, .. } => {
-            if reads_name(*on, name) {
+            if on.is_name(name) {
                 return true;
             }
             if uses(yes, name) {
@@ -119,13 +58,10 @@ fn refusal_of_item(item: Item, rest: &WindowTree) -> Option<MoveError>
     ensures { result ≡ refusal_of_item item (whole_tree (nodes_in rest.now)) }
 {
     match item {
-        Item::Bin { dest, .. } => used_below(dest, rest),
-        Item::Copy { .. } => Some(MoveError::NotThere),
-        Item::Load { dest, .. } => used_below(dest, rest),
-        Item::Store { .. } => Some(MoveError::NotThere),
-        Item::Print { .. } => Some(MoveError::NotThere),
-        Item::Read { .. } => Some(MoveError::NotThere),
-        Item::More { dest } => used_below(dest, rest),
+        Item::Bin { dest, .. } | Item::Load { dest, .. } | Item::More { dest } => {
+            used_below(dest, rest)
+        }
+        _ => Some(MoveError::NotThere),
     }
 }
 

@@ -8,7 +8,7 @@ ghost use Rattle.pc_unify.specs.Unifying.{joined};
 ghost use Rattle.pc_unify.specs.models.Twins.{coming_in};
 
 use crate::twins::{Standing, is_yes_leaf};
-use pc_moveop::{dest_of, leaf_count, leaf_without};
+use pc_moveop::{leaf_count, leaf_without};
 use pc_window::WindowTree;
 
 /// Takes the item at a place of the node behind a leaf out, where what it writes gets this name.
@@ -51,8 +51,8 @@ pub(crate) fn join(
         WindowTree::Step { rest, .. } => join(rest, leaf, yes_place, no_place, joint, spare),
         WindowTree::Test { yes, no, .. } => {
             if is_yes_leaf(leaf, yes, no) {
-                take_behind(yes, yes_place, dest_of(joint.item));
-                take_behind(no, no_place, dest_of(joint.item));
+                take_behind(yes, yes_place, joint.item.dest());
+                take_behind(no, no_place, joint.item.dest());
                 put_above(tree, joint, spare);
                 return;
             }

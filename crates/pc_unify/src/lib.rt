@@ -5,8 +5,6 @@
 mod deleting;
 mod joining;
 mod marks;
-#[cfg(test)]
-mod tests;
 mod tidying;
 mod twins;
 mod unifying;

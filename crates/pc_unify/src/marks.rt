@@ -1,14 +1,13 @@
 //! The names that are used below a place.
 ghost use Rattle.std.specs.Prelude.{◌≡◌, ◌||◌, ◌&&◌, not, false, true, length, slice_set, slice_index_or};
-ghost use Rattle.pc_word.specs.Items.{dest_of};
+ghost use Rattle.pc_word.specs.Items.{dest_of, reads, reads_name};
 ghost use Rattle.pc_word.specs.Commit.{writes};
-ghost use Rattle.pc_table.specs.TableKeeps.{reads, reads_name};
 ghost use Rattle.pc_window.specs.Opening.{OperandBelow, ItemBelow, StubBelow};
 ghost use Rattle.pc_window.specs.Names.{homes_use};
 ghost use Rattle.pc_unify.specs.models.Marks.{is_marked, is_needed, Marks, PassesItem};
 
 use pc_window::Home;
-use pc_word::{Item, Operand};
+use pc_word::{Item, Operand, Operands};
 
 /// Marks the name that an operand reads.
 #[tactic(auto, using(crate::proofs::Marked::marks))]
@@ -27,20 +26,13 @@ pub(crate) fn mark_read(marks: &mut [bool], item: Item)
     requires { ItemBelow (length marks.old) item }
     ensures { Marks marks.old marks.new (reads item) }
 {
-    match item {
-        Item::Bin { left, right, .. } => {
-            mark(marks, left);
-            mark(marks, right);
+    match item.operands() {
+        Operands::None => {}
+        Operands::One(one) => mark(marks, one),
+        Operands::Two(one, other) => {
+            mark(marks, one);
+            mark(marks, other);
         }
-        Item::Copy { from, .. } => mark(marks, from),
-        Item::Load { index, .. } => mark(marks, index),
-        Item::Store { index, value, .. } => {
-            mark(marks, index);
-            mark(marks, value);
-        }
-        Item::Print { value } => mark(marks, value),
-        Item::Read { .. } => {}
-        Item::More { .. } => {}
     }
 }
 
@@ -61,25 +53,10 @@ pub(crate) fn mark_item(marks: &mut [bool], item: Item)
     requires { ItemBelow (length marks.old) item }
     ensures { PassesItem marks.old marks.new item }
 {
-    if let Some(dest) = written_by(item) {
+    if let Some(dest) = item.dest() {
         marks[dest as usize] = false;
     }
     mark_read(marks, item);
-}
-
-/// The name that an item writes.
-fn written_by(item: Item) -> Option<u32>
-    ensures { result ≡ dest_of item }
-{
-    match item {
-        Item::Bin { dest, .. } => Some(dest),
-        Item::Copy { dest, .. } => Some(dest),
-        Item::Load { dest, .. } => Some(dest),
-        Item::Store { .. } => None,
-        Item::Print { .. } => None,
-        Item::Read { dest } => Some(dest),
-        Item::More { dest } => Some(dest),
-    }
 }
 
 /// Whether an item may not go: it does more than to write a name, or its name is marked.
@@ -88,12 +65,9 @@ pub(crate) fn is_needed(marks: &[bool], item: Item) -> bool
     ensures { result ≡ is_needed (is_marked marks.now) item }
 {
     match item {
-        Item::Bin { dest, .. } => marks[dest as usize],
-        Item::Copy { .. } => true,
-        Item::Load { dest, .. } => marks[dest as usize],
-        Item::Store { .. } => true,
-        Item::Print { .. } => true,
-        Item::Read { .. } => true,
-        Item::More { dest } => marks[dest as usize],
+        Item::Bin { dest, .. } | Item::Load { dest, .. } | Item::More { dest } => {
+            marks[dest as usize]
+        }
+        _ => true,
     }
 }

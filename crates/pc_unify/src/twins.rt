@@ -7,7 +7,6 @@ ghost use Rattle.pc_moveop.specs.Climbing.{mover_in, mover_at};
 ghost use Rattle.pc_unify.specs.Unifying.{leads_on, is_yes_leaf, are_sides};
 ghost use Rattle.pc_unify.specs.models.Twins.{FindsItem, FindsTwins};
 
-use pc_alike::are_alike;
 use pc_moveop::{leaf_count, node_at, node_size};
 use pc_window::{Window, WindowTree};
 use pc_word::Item;
@@ -156,7 +155,7 @@ fn twins_at(node: &WindowTree, leaf: u16, yes_place: u16, no_place: u16) -> Opti
     let Some(on_no) = item_at(node, leaf as u32 + 1, no_place as u32) else {
         return None;
     };
-    if !are_alike(on_yes.item, on_no.item) {
+    if !on_yes.item.is_alike(on_no.item) {
         return None;
     }
     Some(on_yes)

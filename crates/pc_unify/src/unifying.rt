@@ -10,7 +10,7 @@ ghost use Rattle.pc_unify.specs.models.Twins.{FindsTwins, coming_in};
 
 use crate::joining::join;
 use crate::twins::{Standing, find};
-use pc_moveop::{MoveError, give_name, swap_node, why_not};
+use pc_moveop::{MoveError, swap_node, why_not};
 use pc_window::{Window, WindowTree};
 use std::alloc::{AllocError, Global};
 
@@ -122,7 +122,7 @@ fn carry(
     ensures variables { OnOk result (window.new.names.next_variable ≤ window.old.names.next_variable + 1) }
 {
     let spare = spare_box(alloc)?;
-    let item = give_name(&mut window.names, on_yes.item)?;
+    let item = window.names.give_name(on_yes.item)?;
     let joint = Standing { item, ..on_yes };
     bring(
         &mut window.tree,

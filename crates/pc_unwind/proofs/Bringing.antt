@@ -13,8 +13,9 @@ use Rattle.pc_window.specs.Tree.{Tree, Pending, Undecided, Exit, Stop_exit, Trap
 use Rattle.pc_window.specs.Opening.{Supply, with_name, stub_tag, homes_at, graft}
 use Rattle.pc_unwind.specs.models.Named.{TagsAtMost, ArraysAreThere, StubsAreThere}
 use Rattle.pc_window.specs.Unwinding.{lesser_tag, least_tag}
+use Rattle.pc_window.specs.models.Ranks.{rank}
 use Rattle.pc_window.proofs.There.{homes_live}
-use Rattle.pc_unwind.specs.models.Ranks.{rank, tree_steps, stub_steps}
+use Rattle.pc_unwind.specs.models.Remaining.{tree_steps, stub_steps}
 use Rattle.pc_unwind.specs.models.Walking.{brought_size, AtMostLeast, RootStaysAtMost}
 
 -- names and form variables grow by at most so many

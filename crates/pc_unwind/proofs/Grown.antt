@@ -1,5 +1,5 @@
 -- What a window that was unwound has, by what it had.
-use Rattle.std.proofs.Common.{◌≡◌, ℕ, ◌+◌, ◌≤◌, Option, length, refl, sym, subst, arith}
+use Rattle.std.proofs.Common.{◌≡◌, ℕ, ◌+◌, ◌≤◌, Option, length, sym, subst, arith}
 use Rattle.std.specs.Prelude.{max}
 use Rattle.pc_table.specs.Table.{Table}
 use Rattle.pc_table.specs.TableKeeps.{TableKeeps}
@@ -16,14 +16,7 @@ use Rattle.pc_unwind.proofs.Replaced.{replaced_at, arrays_kept, stubs_kept, name
 use Rattle.pc_unwind.proofs.TagWalks.{lesser_most, tags_stay}
 use Rattle.pc_window.specs.There.{PartsAreThere}
 use Rattle.pc_unwind.proofs.PartsThere.{tags_of, arrays_of, stubs_of, parts_there, higher}
-
--- the front of a tree and what stands behind it are the tree
-pub whole_front : (tree : Tree) → whole (front_of tree) ≡ tree
-whole_front (Pending t o item rest) = refl
-whole_front (Undecided t o on one other) = refl
-whole_front (Exit region t homes) = refl
-whole_front Stop_exit = refl
-whole_front (Trap_exit kind line) = refl
+use Rattle.pc_window.proofs.CutRows.{whole_front_of}
 
 front_stays : (table : Table) (most : ℕ) (tree : Tree) → RootStaysAtMost table most tree → front_tag tree ≤ most
 front_stays table most (Pending t o item rest) h = let le = lesser_most t (least_tag rest) in omega arith
@@ -88,7 +81,7 @@ has_grown table keeps number w v to =
     })
   where
     same : whole (front_of to.unwound.tree) ≡ to.unwound.tree
-    same = whole_front to.unwound.tree
+    same = whole_front_of to.unwound.tree
 
     all_tags : (most : ℕ) → TagsAtMost most (whole w.front) → StubsAreThere table (whole w.front) → TagsAtMost (most + (length table.regions + number)) to.unwound.tree
     all_tags most tags there =

@@ -1,5 +1,4 @@
 pub mod TableRegions
-pub mod Ranking
 pub mod Bringing
 pub mod Parts
 pub mod PartsThere

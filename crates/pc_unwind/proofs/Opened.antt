@@ -11,7 +11,7 @@ use Rattle.pc_unwind.specs.Laws.{OpenedWindowsCanUnwind}
 use Rattle.pc_unwind.proofs.Bringing.{graft_brings, brought_is, brought_few, brought_names}
 use Rattle.pc_window.proofs.There.{opened_there}
 use Rattle.pc_unwind.proofs.PartsThere.{parts_higher}
-use Rattle.pc_unwind.proofs.Grown.{whole_front}
+use Rattle.pc_window.proofs.CutRows.{whole_front_of}
 
 few_units : (table : Table) → TableKeeps table → (region : ℕ) → units (region_tree table region) ≤ most_region_nodes
 few_units table keeps region = by_region (slice_get table.regions region) refl
@@ -25,7 +25,7 @@ opened_unwinds table keeps limits region there =
     let loop = loop_of table region in
     let g : Grafted = opened table loop region in
     let brings = graft_brings table loop 0 (region_tree table region) first_supply first_home in
-    let same : whole (front_of g.tree) ≡ g.tree = whole_front g.tree in
+    let same : whole (front_of g.tree) ≡ g.tree = whole_front_of g.tree in
     let size : tree_size g.tree ≡ brought_size (region_tree table region) = brought_is table loop 0 brings in
     let fewer = brought_few (region_tree table region) in
     let few = few_units table keeps region in

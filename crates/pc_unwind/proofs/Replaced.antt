@@ -9,12 +9,12 @@ use Rattle.pc_window.specs.declared.home.Home.{Home}
 use Rattle.pc_window.specs.Tree.{Tree, Pending, Undecided, Exit, Stop_exit, Trap_exit, tree_size, home_of}
 use Rattle.pc_window.specs.Opening.{Supply, Grafted, below_item, under_item, under_test, unwound_at, is_inside}
 use Rattle.pc_window.specs.Unwinding.{lesser_tag, least_inside, least_tag}
+use Rattle.pc_window.specs.models.Ranks.{rank}
 use Rattle.pc_unwind.specs.models.Named.{TagsAtMost, ArraysAreThere, StubsAreThere}
-use Rattle.pc_unwind.specs.models.Ranks.{rank}
 use Rattle.pc_unwind.specs.models.Walking.{replacement, AtMostLeast, RootAtMost, RootStaysAtMost}
-use Rattle.pc_unwind.proofs.Ranking.{rank_falls}
 use Rattle.pc_unwind.proofs.Bringing.{Brings, graft_brings, brought_names, brought_tags, brought_least, brought_root, brought_there, brought_arrays, least_of_two}
 use Rattle.pc_window.proofs.There.{tree_there}
+use Rattle.pc_window.proofs.Ranking.{rank_falls}
 
 -- in a tree a stub of this tag inside the loop is replaced by what its region brings
 pub data Replaced (table : Table) (loop : Option ℕ) (tag : ℕ) (old new : Supply) : Tree → Tree → Type 0 where

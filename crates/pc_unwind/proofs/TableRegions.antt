@@ -1,10 +1,9 @@
 -- Regions of a table in memory.
-use Rattle.std.proofs.Common.{◌≡◌, ℕ, Some, suc, List, [], ◌∷◌, map, length, ◌<◌, ◌≤◌, refl, sym, ◌∙◌, ap, subst, arith}
+use Rattle.std.proofs.Common.{◌≡◌, ℕ, Some, List, [], ◌∷◌, length, ◌<◌, ◌≤◌, sym, ◌∙◌, ap, subst, arith}
 use Rattle.std.specs.Prelude.{true, nat_eq, slice_get, option_map}
 use Rattle.std.specs.List.{AllByRecursion, list_any}
 use Rattle.pc_word.proofs.Lists.{all_of_map}
 use Rattle.pc_window.specs.Opening.{first_new}
-use Rattle.pc_window.proofs.Live.{or_first, or_second}
 use Rattle.pc_window.proofs.Grafts.{nat_eq-same}
 use Rattle.std.proofs.lemmas.Option.{slice_get-map}
 use Rattle.pc_table.specs.declared.table.Region.{Region}
@@ -13,11 +12,8 @@ use Rattle.pc_table.specs.Table.{tree_of, table_tree, table_region, Table, table
 use Rattle.pc_table.specs.TableKeeps.{TreeIsThere, TableKeeps, units, most_region_nodes}
 use Rattle.pc_window.specs.declared.home.Home.{Home}
 use Rattle.pc_window.specs.There.{StubIsThere}
-
--- as many regions in memory as in the table
-pub as_many : (regions : List Region) → length (map table_region regions) ≡ length regions
-as_many [] = refl
-as_many (r ∷ regions) = ap suc (as_many regions)
+use Rattle.pc_word.proofs.Truth.{or_first, or_second}
+use Rattle.pc_window.proofs.WindowsStored.{as_many}
 
 -- a region of a table in memory
 pub table_at : (table : RegionTable) (number : ℕ) (r : Region) → slice_get table.regions number ≡ Some r → slice_get (table_of table).regions number ≡ Some (table_region r)

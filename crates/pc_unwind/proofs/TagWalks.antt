@@ -9,10 +9,10 @@ use Rattle.pc_window.specs.Tree.{Tree, Pending, Undecided, Exit, Stop_exit, Trap
 use Rattle.pc_window.specs.Opening.{Supply, Grafted, is_inside}
 use Rattle.pc_window.specs.Unwinding.{lesser_tag, least_inside, least_tag, or_zero, front_tag, Unwinds, unwinds_no_more}
 use Rattle.pc_window.specs.StoredWindow.{tree_in, supply_in}
+use Rattle.pc_window.proofs.Ranking.{rank_most}
 use Rattle.pc_unwind.specs.declared.growth.Growth.{Growth}
 use Rattle.pc_unwind.specs.models.Named.{TagsAtMost}
 use Rattle.pc_unwind.specs.models.Walking.{with_growth, Replaces, MayReplace, Replacements, replaces_no_more, replaces_once, Walks, AtMostLeast, RootAtMost, RootStaysAtMost, tags_from}
-use Rattle.pc_unwind.proofs.Ranking.{rank_most}
 use Rattle.pc_unwind.proofs.Replaced.{replaced_at, inside_kept, root_kept}
 use Rattle.pc_unwind.proofs.Reaching.{replaces_unwind, done_high, done_full, none_rises}
 use Rattle.pc_unwind.proofs.Walks.{unwound_stub, too_large}

@@ -17,7 +17,7 @@ use Rattle.pc_unwind.specs.declared.growth.Growth.{Growth}
 use Rattle.pc_unwind.specs.models.Named.{TagsAtMost, StubsAreThere}
 use Rattle.pc_unwind.specs.Unwindable.{CanUnwind}
 use Rattle.pc_unwind.specs.models.Walking.{with_growth, HasRoom, RootStaysAtMost, most_root_tag}
-use Rattle.pc_unwind.proofs.TableRegions.{as_many}
+use Rattle.pc_window.proofs.WindowsStored.{as_many}
 use Rattle.pc_unwind.proofs.PartsThere.{tags_of, stubs_of}
 use Rattle.pc_unwind.proofs.TagWalks.{tags_stay, root_stays}
 

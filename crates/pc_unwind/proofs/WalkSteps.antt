@@ -14,12 +14,13 @@ use Rattle.pc_window.specs.StoredWindow.{tree_in, supply_in, InNodes}
 use Rattle.pc_unwind.specs.declared.growth.Growth.{Growth}
 use Rattle.pc_unwind.specs.models.Named.{StubsAreThere}
 use Rattle.pc_window.specs.There.{StubIsThere}
-use Rattle.pc_unwind.specs.models.Ranks.{rank, stub_steps, tree_steps, node_steps, walk_steps}
+use Rattle.pc_window.specs.models.Ranks.{rank}
+use Rattle.pc_unwind.specs.models.Remaining.{stub_steps, tree_steps, node_steps, walk_steps}
 use Rattle.pc_unwind.specs.models.Walking.{HasRoom, Replaces, RootStaysAtMost, Walks}
-use Rattle.pc_unwind.proofs.TableRegions.{as_many}
-use Rattle.pc_unwind.proofs.Ranking.{rank_falls, rank_most}
+use Rattle.pc_window.proofs.WindowsStored.{as_many}
 use Rattle.pc_unwind.proofs.Bringing.{Brings, graft_brings, brought_names, brought_there, brought_root, brought_steps, brought_stub_steps}
 use Rattle.pc_window.proofs.There.{tree_there}
+use Rattle.pc_window.proofs.Ranking.{rank_falls, rank_most}
 
 one_node : (tree : WindowTree) → node_steps tree ≤ 1
 one_node (stored.Step' tag origin item p rest) = omega arith

@@ -1,4 +1,3 @@
 pub mod Named
 pub mod Walking
-pub mod Ranks
-pub mod Looping
+pub mod Remaining

@@ -9,8 +9,6 @@ mod nodes;
 mod regions;
 mod replacing;
 mod tags;
-#[cfg(test)]
-mod tests;
 mod unwinding;
 mod walking;
 

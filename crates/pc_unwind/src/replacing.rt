@@ -10,9 +10,9 @@ ghost use Rattle.pc_unwind.specs.models.Walking.{HasRoom, MayReplace, MayReplace
 use crate::growth::Growth;
 use crate::homes::homes_by_variable;
 use crate::nodes::placed;
-use crate::regions::{brought_size, region_at};
+use crate::regions::brought_size;
 use pc_table::RegionTable;
-use pc_window::{Home, WindowTree, graft};
+use pc_window::{Home, WindowTree, graft, region_at};
 use std::alloc::{AllocError, Global};
 
 /// The items and tests that a window may have after unwinding.

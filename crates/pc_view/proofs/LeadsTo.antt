@@ -10,6 +10,7 @@ use Rattle.pc_machine.specs.MachineCode.{Leaf, Leads_to, Ends, Traps, CodeRow, i
 use Rattle.pc_machine.specs.Reachable.{HasLeafTo}
 use Rattle.pc_view.specs.Leading.{leads_to, rows_leading_to}
 use Rattle.pc_view.specs.Laws.{LeadTo, Rise}
+use Rattle.pc_word.proofs.Truth.{or_second}
 
 -- ---- elements
 
@@ -42,10 +43,6 @@ has_leaf target (Leads_to row ∷ rest) e = by (nat_eq row target) refl e (has_l
 has_leaf target (Ends ∷ rest) e = contains_later Ends (Leads_to target) rest (has_leaf target rest e)
 has_leaf target (Traps kind line ∷ rest) e = contains_later (Traps kind line) (Leads_to target) rest (has_leaf target rest e)
 
-or_true : (b c : Bool) → c ≡ true → (b || c) ≡ true
-or_true true c e = refl
-or_true false c e = e
-
 -- and the test finds one that is there
 finds_leaf : (target : ℕ) (leaves : List Leaf) → Contains leaves (Leads_to target) → list_any (is_goto target) leaves ≡ true
 finds_leaf target [] h = absurd (contains_none (Leads_to target) h)
@@ -57,7 +54,7 @@ finds_leaf target (leaf ∷ rest) h = by (contains_either leaf (Leads_to target)
     by : (leaf ≡ Leads_to target) ⊎ Contains rest (Leads_to target) → (Contains rest (Leads_to target) → list_any (is_goto target) rest ≡ true)
         → list_any (is_goto target) (leaf ∷ rest) ≡ true
     by (inl same) f = rw (same, here) refl
-    by (inr later) f = or_true (is_goto target leaf) (list_any (is_goto target) rest) (f later)
+    by (inr later) f = or_second (is_goto target leaf) (list_any (is_goto target) rest) (f later)
 
 -- ---- the rows
 

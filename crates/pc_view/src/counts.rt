@@ -1,11 +1,9 @@
 //! How many items, tests, and loads and stores a row has.
 ghost use Rattle.std.specs.Prelude.{◌≡◌, ◌≤◌};
-ghost use Rattle.pc_word.specs.Items.{is_memory};
 ghost use Rattle.pc_machine.specs.MachineCode.{row_of};
 ghost use Rattle.pc_view.specs.models.Counted.{counted, HasFew};
 
 use pc_machine::{Counts, Tree};
-use pc_word::Item;
 
 /// How many items, tests, and loads and stores a row has, over its whole tree.
 pub(crate) fn count(row: &Tree) -> Counts
@@ -18,7 +16,7 @@ pub(crate) fn count(row: &Tree) -> Counts
             Counts {
                 ops: below.ops + 1,
                 tests: below.tests,
-                mem: below.mem + u8::from(is_memory(*item)),
+                mem: below.mem + u8::from(item.is_memory()),
             }
         }
         Tree::Test { yes, no, .. } => {
@@ -31,11 +29,4 @@ pub(crate) fn count(row: &Tree) -> Counts
         }
         Tree::Goto { .. } | Tree::Stop | Tree::Trap { .. } => Counts::none(),
     }
-}
-
-/// Whether an item is a load or store.
-fn is_memory(item: Item) -> bool
-    ensures { result ≡ is_memory item }
-{
-    matches!(item, Item::Load { .. } | Item::Store { .. })
 }

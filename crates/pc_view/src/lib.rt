@@ -7,8 +7,6 @@ mod laws;
 mod leading;
 mod listing;
 mod rows;
-#[cfg(test)]
-mod tests;
 mod words;
 
 pub use graph::graph_text;

@@ -15,11 +15,11 @@ use Rattle.pc_outside.specs.Stream.{AppendsPart}
 use Rattle.pc_command.specs.Requests.{ViewRequest}
 use Rattle.pc_report.specs.declared.fault.ObjectFault.{ObjectFault}
 use Rattle.pc_report.specs.declared.fault.ObjectFault.TheVariants as object
-use Rattle.pc_program.specs.Files.{HasText, HoldsText}
-use Rattle.pc_program.specs.Objects.{HasObjectFault, Long_object, Unread_object, told_of_object}
-use Rattle.pc_program.specs.Streams.{Streamed}
-use Rattle.pc_program.proofs.Files.{holds, held_map}
-use Rattle.pc_program.proofs.Streams.{sends_all, sends_part}
+use Rattle.pc_driver.specs.Files.{HasText, HoldsText}
+use Rattle.pc_driver.specs.Objects.{HasObjectFault, Long_object, Unread_object, told_of_object}
+use Rattle.pc_driver.specs.Streams.{Streamed}
+use Rattle.pc_driver.proofs.Files.{holds, held_map}
+use Rattle.pc_driver.proofs.Streams.{sends_all, sends_part}
 use Rattle.pc_viewer.specs.Outside.{Surroundings}
 use Rattle.pc_viewer.specs.Told.{Told}
 use Rattle.pc_viewer.specs.Viewer.{ViewerEnds, Viewed, Misused, Unread, Refused, Broke, Lacking, ViewerLacks, Early, Sending, ViewerPromise}

@@ -8,12 +8,12 @@ use Rattle.pc_object.proofs.ReadingLaws.{one_object}
 use Rattle.pc_outside.specs.Shelf.{ReadFaultOf}
 use Rattle.pc_command.specs.Requests.{ViewRequest}
 use Rattle.pc_viewer.specs.Laws.{SendsText, BreaksOff, HasViewed, HasBroken, HasReadFault, HasErrorFault, IsToldObject, ViewerStatuses}
-use Rattle.pc_program.specs.Files.{HoldsText}
-use Rattle.pc_program.specs.Objects.{HasObjectFault, Holds, IsNoObject, IsTextOf}
-use Rattle.pc_program.specs.Streams.{Streamed}
-use Rattle.pc_program.proofs.Choices.{either_first, third_first, last_first}
-use Rattle.pc_program.proofs.Files.{held_map, told_holds, told_text}
-use Rattle.pc_program.proofs.Objects.{faulty_object}
+use Rattle.pc_driver.specs.Files.{HoldsText}
+use Rattle.pc_driver.specs.Objects.{HasObjectFault, Holds, IsNoObject, IsTextOf}
+use Rattle.pc_driver.specs.Streams.{Streamed}
+use Rattle.pc_driver.proofs.Choices.{either_first, third_first, last_first}
+use Rattle.pc_driver.proofs.Files.{held_map, told_holds, told_text}
+use Rattle.pc_driver.proofs.Objects.{faulty_object}
 use Rattle.pc_viewer.specs.Outside.{Surroundings}
 use Rattle.pc_viewer.specs.Told.{Told, view_status}
 use Rattle.pc_viewer.specs.Viewer.{ViewerEnds, Viewed, Misused, Unread, Refused, Broke, Lacking, ViewerLacks, ViewerPromise}

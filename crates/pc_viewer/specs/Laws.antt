@@ -7,9 +7,9 @@ use Rattle.pc_object.specs.ObjectText.{CodeWithNotes}
 use Rattle.pc_outside.specs.Shelf.{ReadFaultOf}
 use Rattle.pc_outside.specs.Stream.{AppendsPart}
 use Rattle.pc_command.specs.Requests.{ViewRequest}
-use Rattle.pc_program.specs.Files.{HoldsText}
-use Rattle.pc_program.specs.ToldFile.{IsToldFile}
-use Rattle.pc_program.specs.Objects.{Holds, IsNoObject, IsTextOf}
+use Rattle.pc_driver.specs.Files.{HoldsText}
+use Rattle.pc_driver.specs.ToldFile.{IsToldFile}
+use Rattle.pc_driver.specs.Objects.{Holds, IsNoObject, IsTextOf}
 use Rattle.pc_viewer.specs.Outside.{Surroundings}
 use Rattle.pc_viewer.specs.Viewer.{ViewerLacks, ViewerPromise, view_text}
 

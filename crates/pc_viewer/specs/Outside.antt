@@ -1,6 +1,6 @@
 -- The outside as the viewer sees it: the shelf of files, its output and its error output. It has no input.
 use Rattle.pc_outside.specs.Shelf.{Shelved}
-use Rattle.pc_program.specs.Streams.{Streamed}
+use Rattle.pc_driver.specs.Streams.{Streamed}
 
 -- all that is outside
 pub record Surroundings : Type 0 where

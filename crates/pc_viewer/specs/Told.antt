@@ -4,8 +4,8 @@ use Rattle.pc_report.specs.declared.fault.Speaker.TheVariants.{Pview}
 use Rattle.pc_report.specs.declared.fault.ToolFault.{ToolFault}
 use Rattle.pc_report.specs.declared.fault.ToolFault.TheVariants as tool
 use Rattle.pc_report.specs.FaultLine.{fault_line}
-use Rattle.pc_program.specs.Streams.{Streamed}
-use Rattle.pc_program.specs.Telling.{TellsLine}
+use Rattle.pc_driver.specs.Streams.{Streamed}
+use Rattle.pc_driver.specs.Telling.{TellsLine}
 use Rattle.pc_viewer.specs.declared.fault.ViewFault.{ViewFault}
 use Rattle.pc_viewer.specs.declared.fault.ViewFault.TheVariants.{NoMemory, Usage, ReadObject, Object, WriteOutput}
 

@@ -10,9 +10,9 @@ use Rattle.pc_command.specs.Requests.{ViewRequest}
 use Rattle.pc_report.specs.declared.fault.ObjectFault.{ObjectFault}
 use Rattle.pc_view.specs.Graph.{graph_text}
 use Rattle.pc_view.specs.Listing.{listing_text}
-use Rattle.pc_program.specs.Files.{HoldsText}
-use Rattle.pc_program.specs.Objects.{HasObjectFault, Holds}
-use Rattle.pc_program.specs.Streams.{SendsFront, Streamed}
+use Rattle.pc_driver.specs.Files.{HoldsText}
+use Rattle.pc_driver.specs.Objects.{HasObjectFault, Holds}
+use Rattle.pc_driver.specs.Streams.{SendsFront, Streamed}
 use Rattle.pc_viewer.specs.Outside.{Surroundings}
 use Rattle.pc_viewer.specs.Told.{Told}
 use Rattle.pc_viewer.specs.declared.fault.ViewFault.{ViewFault}

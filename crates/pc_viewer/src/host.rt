@@ -4,8 +4,8 @@
 use crate::fault::ViewFault;
 use crate::telling::tell;
 use crate::viewer::view;
+use pc_driver::read_words;
 use pc_outside::{DirShelf, StdSink};
-use pc_program::read_words;
 use std::process::ExitCode;
 
 /// Runs the viewer, and gives the status that it ends with.

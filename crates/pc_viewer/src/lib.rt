@@ -6,8 +6,6 @@ mod host;
 mod laws;
 mod loading;
 mod telling;
-#[cfg(test)]
-mod tests;
 mod viewer;
 
 pub use fault::ViewFault;

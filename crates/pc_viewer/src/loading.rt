@@ -3,17 +3,17 @@ ghost use Rattle.std.specs.Prelude.{◌≡◌, ◌≤◌, length, MatchResult, I
 ghost use Rattle.pc_command.specs.Requests.{view_request};
 ghost use Rattle.pc_object.specs.ObjectText.{object_of, IsObject};
 ghost use Rattle.pc_outside.specs.Shelf.{ReadKeeps};
-ghost use Rattle.pc_program.specs.Files.{HasText};
-ghost use Rattle.pc_program.specs.Objects.{Holds};
+ghost use Rattle.pc_driver.specs.Files.{HasText};
+ghost use Rattle.pc_driver.specs.Objects.{Holds};
 ghost use Rattle.pc_viewer.specs.Viewer.{view_text};
 ghost use Rattle.pc_viewer.specs.models.Steps.{StopsAt, ShowsObject};
 ghost use Rattle.pc_word.specs.MachineLimits.{most_object};
 
 use crate::fault::{ViewFault, fault_of_object};
 use pc_command::ViewCommand;
+use pc_driver::{FileError, read_whole};
 use pc_object::{Object, decode};
 use pc_outside::Shelf;
-use pc_program::{FileError, read_whole};
 use pc_report::ObjectFault;
 use pc_view::{graph_text, listing_text};
 use pc_word::MOST_OBJECT;

@@ -1,12 +1,12 @@
 //! The end of the viewer: its line on the error output, and its status.
 ghost use Rattle.std.specs.Prelude.{◌≡◌, ◌⊎◌, IsSome, Some};
 ghost use Rattle.pc_viewer.specs.declared.fault.ViewFault.TheVariants.{NoMemory};
-ghost use Rattle.pc_program.specs.Streams.{streamed};
+ghost use Rattle.pc_driver.specs.Streams.{streamed};
 ghost use Rattle.pc_viewer.specs.Told.{Told};
 
 use crate::fault::{ViewFault, fault_told, view_status};
+use pc_driver::send_line;
 use pc_outside::Sink;
-use pc_program::send_line;
 use pc_report::{Speaker, fault_text, out_of_memory_line};
 use std::alloc::Global;
 

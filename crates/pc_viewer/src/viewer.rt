@@ -3,7 +3,7 @@ ghost use Rattle.std.specs.Prelude.{◌≡◌, Some};
 ghost use Rattle.pc_command.specs.Requests.{view_command_of, view_request};
 ghost use Rattle.pc_command.specs.Words.{spelled};
 ghost use Rattle.pc_outside.specs.Shelf.{ReadKeeps};
-ghost use Rattle.pc_program.specs.Streams.{streamed};
+ghost use Rattle.pc_driver.specs.Streams.{streamed};
 ghost use Rattle.pc_viewer.specs.Outside.{surroundings};
 ghost use Rattle.pc_viewer.specs.Viewer.{ViewerEnds, ViewerPromise};
 ghost use Rattle.pc_viewer.specs.models.Steps.{SendsAll};

@@ -40,11 +40,6 @@ get_or-write {X} xs i j x d within =
       | inr t ↦ get_or-set_other xs i j x d (λ e. t.1 (sym e)) ∙ sym (choose_other i j x (get_or xs j d) t.1)
     ]
 
--- what holds of each element of two lists holds of each of the first
-pub all_front : {X : Type 0} (P : X → Type 0) (xs ys : List X) → AllByRecursion P (xs ++ ys) → AllByRecursion P xs
-all_front P [] ys h = tt
-all_front P (x ∷ xs) ys h = (h.0, all_front P xs ys h.1)
-
 -- and of the last
 pub all_last : {X : Type 0} (P : X → Type 0) (xs : List X) (x : X) → AllByRecursion P (xs ++ x ∷ []) → P x
 all_last P [] x h = h.0

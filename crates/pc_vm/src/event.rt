@@ -1,9 +1,6 @@
 //! What a machine's calls answer.
-ghost use Rattle.std.specs.Prelude.{◌≡◌};
-ghost use Rattle.pc_vm.specs.declared.event.MachineError.TheVariants as machine;
 
-use pc_word::End;
-use std::alloc::AllocError;
+use pc_word::{End, OutOfMemory};
 use thiserror::Error;
 
 /// What one cycle did: the number that it printed, if any, and the end, if it came.
@@ -29,17 +26,6 @@ pub enum RunError {
 }
 
 /// Why a machine could not be made.
-#[derive(Clone, Copy, Debug, PartialEq, Eq, Error)]
-pub enum MachineError {
-    /// There was no memory for what a run needs.
-    #[error("out of memory")]
-    Memory,
-}
-
-impl From<AllocError> for MachineError {
-    ghost from_gives = { λ _ e. e ≡ machine.Memory };
-
-    fn from(_error: AllocError) -> MachineError {
-        MachineError::Memory
-    }
-}
+///
+/// There was no memory for what a run needs.
+pub type MachineError = OutOfMemory;

@@ -8,8 +8,6 @@ mod event;
 mod machine;
 mod pending;
 mod row;
-#[cfg(test)]
-mod tests;
 mod values;
 
 pub use event::{Event, MachineError, Outcome, RunError};

@@ -1,6 +1,6 @@
 -- The front as a row: where it does not hang on itself, its row does at once what the walk does on its path.
 use Rattle.std.proofs.Common.{◌≡◌, ℕ, Bool, true, false, List, [], ◌∷◌, ◌++◌, Option, Some, None, refl, sym, ◌∙◌, ap, subst, append_assoc, length}
-use Rattle.std.specs.Prelude.{ℤ, ◌||◌, if◌then◌else◌}
+use Rattle.std.specs.Prelude.{ℤ, if◌then◌else◌}
 use Rattle.std.specs.List.{AllByRecursion}
 use Rattle.pc_word.specs.declared.item.Item.{Item}
 use Rattle.pc_word.specs.declared.item.Operand.{Operand}
@@ -22,9 +22,10 @@ use Rattle.pc_window.specs.Filled.{AllItems, Independent}
 use Rattle.pc_window.proofs.Undisturbed.{unmoved, name-after}
 use Rattle.pc_window.proofs.Exchange.{stores_apart}
 use Rattle.pc_window.proofs.Renaming.{if_same}
-use Rattle.pc_window.proofs.Rising.{known_forms_after, whole_below, dests_apart}
+use Rattle.pc_window.proofs.Rising.{known_forms_after, whole_below, dests_apart, new_to_either}
 use Rattle.pc_window.proofs.Entering.{Within, reads_within}
 use Rattle.pc_window.proofs.Rows.{Behind_in_row, AllBehind, state-behind, prints-all, no-fault-behind}
+use Rattle.pc_word.proofs.Truth.{or_second}
 
 -- ---- the path that is taken
 
@@ -99,14 +100,6 @@ path_reads forms base (Split t o on p q) names h =
     on_path (ReadsKnown base) (holds (operand_value names on)) (front_path names p) (front_path names q) (path_reads forms base p names h.1) (path_reads forms base q names h.2)
 path_reads forms base (Unfinished rest) names h = tt
 
-or_neither : (a b : Bool) → (a || b) ≡ false → (a ≡ false) × (b ≡ false)
-or_neither false b e = (refl, e)
-or_neither true b e = absurd (cc)
-
-new_to_either : (known : ℕ → Bool) (y : Item) (d : Option ℕ) → IsNew (and_dest known y) d → IsNew known d × IsNew (writes (dest_of y)) d
-new_to_either known y (Some e) h = let k = or_neither (writes (dest_of y) e) (known e) h in (k.1, k.0)
-new_to_either known y None h = (tt, tt)
-
 -- each name that a path writes is new
 path_new : (front : Front) (known : ℕ → Bool) (names : ℕ → ℤ) → Scoped known (whole front) → AllByRecursion (λ y. IsNew known (dest_of y)) (front_path names front)
 path_new (Issued t o y rest) known names h = (
@@ -151,10 +144,6 @@ printing_nothing : (w : Walked) → w ≡ printing [] w
 printing_nothing (Leaves p region t) = refl
 printing_nothing (Finishes p end) = refl
 
-or_comes : (a b : Bool) → b ≡ true → (a || b) ≡ true
-or_comes true b e = refl
-or_comes false b e = e
-
 -- one item more in front
 cut_item : (lengths : List ℕ) (known : ℕ → Bool) (σ : ℕ → ℤ) (forms : ℕ
     → Form) (s : State) (x : Item) (walked : Walked) (path : List Item) (rest : Tree) (length : ℕ) (prints : ℕ → List ℤ)
@@ -197,7 +186,7 @@ cut lengths base σ forms (Issued t o x rest) known s within independent scoped 
     let h : Cut lengths (and_dest known x) σ forms (after_item lengths x s) (walk lengths (whole rest) (after_item lengths x s))
     (front_path (after_item lengths x s).names rest) (rest_of (after_item lengths x s).names rest) (behind_length lengths rest (after_item lengths x s))
     (front_shown lengths rest (after_item lengths x s)) =
-    cut lengths base σ forms rest (and_dest known x) (after_item lengths x s) (λ z is. or_comes (writes (dest_of x) z) (known z) (within z is)) independent.2 scoped.2
+    cut lengths base σ forms rest (and_dest known x) (after_item lengths x s) (λ z is. or_second (writes (dest_of x) z) (known z) (within z is)) independent.2 scoped.2
     (known_forms_after lengths known σ forms x s holds defines.0) defines.1
     (whole_below (fault_of lengths s (x ∷ [])) (prints_of s (x ∷ [])) (walk lengths (whole rest) (after_item lengths x s)) ok) in
     let same = path_same forms base rest s.names (after_item lengths x s).names independent.2 (λ z is. name-after lengths known x s z scoped.1 (within z is)) in

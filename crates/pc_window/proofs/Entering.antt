@@ -1,6 +1,6 @@
 -- An item or test that comes into the front keeps the walk and its forms.
 use Rattle.std.proofs.Common.{◌≡◌, ℕ, Bool, true, false, List, [], ◌∷◌, ◌++◌, Option, Some, None, refl, sym, ◌∙◌, ap, subst, arith}
-use Rattle.std.specs.Prelude.{IfSome, ℤ, ◌+ℤ◌, ◌*ℤ◌, ◌||◌, if◌then◌else◌, nat_eq}
+use Rattle.std.specs.Prelude.{IfSome, ℤ, ◌+ℤ◌, ◌*ℤ◌, if◌then◌else◌, nat_eq}
 use Rattle.std.specs.List.{AllByRecursion}
 use Rattle.std.specs.Int.{w32, int_wrap}
 use Rattle.std.proofs.lemmas.Bool.{eq-eqb}
@@ -13,7 +13,7 @@ use Rattle.pc_word.specs.Word.{holds, word_apply}
 use Rattle.pc_word.specs.Run.{Begins}
 use Rattle.pc_word.proofs.Runs.{Begins-refl, Begins-after}
 use Rattle.pc_word.specs.State.{State}
-use Rattle.pc_word.specs.Items.{operand_value, dest_of, value_of, operands_of}
+use Rattle.pc_word.specs.Items.{operand_value, dest_of, value_of, operands_of, reads}
 use Rattle.pc_word.specs.Commit.{prints_of, fault_of, writes}
 use Rattle.pc_word.proofs.Lists.{all_imply}
 use Rattle.pc_window.specs.Tree.{Tree, Pending, Undecided, Front, Split, Unfinished, whole}
@@ -24,13 +24,13 @@ use Rattle.pc_linear.specs.Form.{Form, says, sum_of, Means}
 use Rattle.pc_linear.specs.Combine.{variable_form}
 use Rattle.pc_window.specs.Hold.{operand_form, DefinedMeans, Side, DefinedHold, KnownHold}
 use Rattle.pc_window.specs.Names.{IsKnown, ReadsKnown, IsNew, and_dest, Scoped, NotWritten}
-use Rattle.pc_window.specs.Rename.{with_dest}
 use Rattle.pc_window.specs.Jump.{combined, Without, NewForm, GivesForm, MayComeBehind, EntersFront, Lands, Lands_renamed, Lands_test, Lands_once, Behind_item, On_yes, On_no}
 use Rattle.pc_window.specs.Opening.{changed}
 use Rattle.pc_linear.proofs.Forms.{combine_means, variable_means}
 use Rattle.pc_window.proofs.Undisturbed.{operand-form, operand-after}
 use Rattle.pc_window.proofs.Rising.{SameForms, SameBut, Still, still_at_test, writes_carried, forms_carried, known_forms_after, new_to_both, whole_below, risen, kept_form, divided}
-use Rattle.pc_table.specs.TableKeeps.{reads}
+use Rattle.pc_word.specs.Naming.{with_dest}
+use Rattle.pc_word.proofs.Truth.{or_second}
 
 -- ---- the form of a new name
 
@@ -123,10 +123,6 @@ known_within base known within (Lit value) is = tt
 
 pub reads_within : (base known : ℕ → Bool) → Within base known → (x : Item) → ReadsKnown base x → ReadsKnown known x
 reads_within base known within x h = all_imply (IsKnown base) (IsKnown known) (operands_of x) (known_within base known within) h
-
-or_comes : (a b : Bool) → b ≡ true → (a || b) ≡ true
-or_comes true b e = refl
-or_comes false b e = e
 
 -- what comes writes a name that is not known
 abbrev pub NewTo : (ℕ → Bool) → Option Item → Type 0
@@ -332,7 +328,7 @@ entered lengths base σ forms forms' new known comes from to s (Behind_item t o 
     let w : Entered lengths σ forms forms' new rest rest' (after_item lengths y s) =
     entered lengths base σ forms forms' new (and_dest known y) c rest rest' (after_item lengths y s) enters
     (record {
-      within = λ x is. or_comes (writes (dest_of y) x) (known x) (h.within x is);
+      within = λ x is. or_second (writes (dest_of y) x) (known x) (h.within x is);
       scoped = h.scoped.2;
       new = new_below forms known y c may h.new;
       of_known = known_forms_after lengths known σ forms y s h.of_known h.defines.0;

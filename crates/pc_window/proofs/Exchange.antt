@@ -1,6 +1,6 @@
 -- Two items that do not conflict may be exchanged in a walk.
 use Rattle.std.proofs.Common.{◌≡◌, ℕ, Bool, true, false, List, [], ◌∷◌, ◌++◌, Option, Some, None, refl, sym, ◌∙◌, ap, subst, drop, ◌⊎◌, inl, inr}
-use Rattle.std.specs.Prelude.{ℤ, ◌||◌, ◌&&◌, if◌then◌else◌, nat_eq, slice_index}
+use Rattle.std.specs.Prelude.{ℤ, ◌&&◌, if◌then◌else◌, nat_eq, slice_index}
 use Rattle.std.specs.List.{AllByRecursion}
 use Rattle.std.proofs.lemmas.Bool.{eqb-true}
 use Rattle.pc_word.specs.declared.item.Item.{Item}
@@ -15,18 +15,12 @@ use Rattle.pc_window.proofs.Shown.{shown}
 use Rattle.pc_linear.specs.Form.{Form}
 use Rattle.pc_window.specs.Hold.{KnownHold}
 use Rattle.pc_window.specs.Names.{ReadsKnown}
-use Rattle.pc_window.specs.Conflict.{Touch, touch_of, NoDependence, NoStoreDependence, NoConflict, MayFollow}
+use Rattle.pc_window.specs.declared.conflict.Touch.{Touch}
+use Rattle.pc_window.specs.Conflict.{touch_of, NoDependence, NoStoreDependence, NoConflict, MayFollow}
 use Rattle.pc_window.proofs.Undisturbed.{Unmoved, forms-differ, place_in-same}
+use Rattle.pc_word.proofs.Truth.{or_second, or_first}
 
 -- ---- conflicts go both ways
-
-or_comes : (a b : Bool) → b ≡ true → (a || b) ≡ true
-or_comes true b e = refl
-or_comes false b e = e
-
-or_first : (a b : Bool) → a ≡ true → (a || b) ≡ true
-or_first true b e = refl
-or_first false b e = absurd (cc)
 
 and_turned : (a b : Bool) → (a && b) ≡ false → (b && a) ≡ false
 and_turned false false e = refl
@@ -40,7 +34,7 @@ store_dependence_first forms (Some a) None h = tt
 store_dependence_first forms None b h = tt
 
 store_dependence_second : (forms : ℕ → Form) (a b : Option Touch) → NoDependence forms a b → NoStoreDependence forms b a
-store_dependence_second forms (Some a) (Some b) h = λ same stores σ equal. h (sym same) (or_comes a.stores b.stores stores) σ (sym equal)
+store_dependence_second forms (Some a) (Some b) h = λ same stores σ equal. h (sym same) (or_second a.stores b.stores stores) σ (sym equal)
 store_dependence_second forms (Some a) None h = tt
 store_dependence_second forms None (Some b) h = tt
 store_dependence_second forms None None h = tt

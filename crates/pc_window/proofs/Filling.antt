@@ -8,7 +8,6 @@ use Rattle.pc_word.proofs.Runs.{Begins-refl, Begins-trans}
 use Rattle.pc_word.specs.State.{State}
 use Rattle.pc_linear.specs.Form.{Form}
 use Rattle.pc_table.specs.Table.{Table}
-use Rattle.pc_table.specs.TableKeeps.{reads}
 use Rattle.pc_window.specs.Tree.{Tree, Front, whole}
 use Rattle.pc_window.specs.Names.{uses, IsNew}
 use Rattle.pc_window.specs.Walk.{IsWhole, walk}
@@ -26,6 +25,7 @@ use Rattle.pc_window.proofs.Scopes.{scoped_entered, enters_new}
 use Rattle.pc_window.proofs.Fronts.{independent_entered, within_entered}
 use Rattle.pc_window.proofs.Parameters.{parameters_known}
 use Rattle.pc_window.proofs.Units.{never_whole, NoSlower, NoSlower-pace, NoSlower-back}
+use Rattle.pc_word.specs.Items.{reads}
 
 -- ---- jumps
 
@@ -99,17 +99,17 @@ filling_limits known w v (Goes_on w' v' u jump first filled) = filling_limits kn
 
 -- ---- nothing comes out of a window without items and tests
 
-rises_bare : (forms : ℕ → Form) (tag origin : ℕ) (stood x : Item) (crosses : Bool) (from left : Tree) → Rises forms tag origin stood x crosses from left → IsBare from → ⊥
+pub rises_bare : (forms : ℕ → Form) (tag origin : ℕ) (stood x : Item) (crosses : Bool) (from left : Tree) → Rises forms tag origin stood x crosses from left → IsBare from → ⊥
 rises_bare forms tag origin stood x crosses from left (Root rest unwritten) bare = bare
 rises_bare forms tag origin stood x crosses from left (Past_item t o y c rest left' clear apart rises) bare = bare
 rises_bare forms tag origin stood x crosses from left (Past_yes t o on c p q left' is unwritten rises) bare = bare
 rises_bare forms tag origin stood x crosses from left (Past_no t o on c p q left' is unwritten rises) bare = bare
 
-divides_bare : (tag origin : ℕ) (on : Operand) (from p q : Tree) → DividesTree tag origin on from p q → IsBare from → ⊥
+pub divides_bare : (tag origin : ℕ) (on : Operand) (from p q : Tree) → DividesTree tag origin on from p q → IsBare from → ⊥
 divides_bare tag origin on from p q (Root_test p' q') bare = bare
 divides_bare tag origin on from p q (Past t o y rest p' q' divides) bare = bare
 
-enters_bare : (known : ℕ → Bool) (forms forms' : ℕ → Form) (new : Option ℕ) (comes : Option Item) (from to : Front)
+pub enters_bare : (known : ℕ → Bool) (forms forms' : ℕ → Form) (new : Option ℕ) (comes : Option Item) (from to : Front)
     → EntersFront known forms forms' new comes from to → IsBare (whole from) → ⊥
 enters_bare known forms forms' new comes from to (Lands tag origin x t left reads isnew none same rises) bare = rises_bare forms tag origin x x false t left rises bare
 enters_bare known forms forms' new comes from to (Lands_renamed tag origin name stood t left reads isnew is gives rises) bare = rises_bare forms tag origin stood _ true t left rises bare

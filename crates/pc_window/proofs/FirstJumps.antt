@@ -12,10 +12,11 @@ use Rattle.pc_window.specs.Opening.{Grafted}
 use Rattle.pc_window.specs.Unwinding.{Unwinds, unwinds_no_more, unwinds_once}
 use Rattle.pc_linear.specs.Form.{Form}
 use Rattle.pc_window.specs.Tree.{Tree, Pending, Undecided, Front, Issued, Split, Unfinished, whole, tree_size}
-use Rattle.pc_window.specs.Rename.{mapped, renamed, with_dest}
+use Rattle.pc_window.specs.Rename.{mapped}
 use Rattle.pc_window.specs.WindowRun.{Window, supply_of}
 use Rattle.pc_window.specs.Jump.{Rises, Root, Past_item, Past_yes, Past_no, DividesTree, Root_test, Past, EntersFront, Lands, Lands_renamed, Lands_test, Lands_once, Behind_item, On_yes, On_no}
 use Rattle.pc_window.specs.Filled.{Priority, risen_place, divided_place, priority_of, InOrder, given_supply, IsNext, Jump, IsFirstJump, Filled, Full, Goes_on}
+use Rattle.pc_word.specs.Naming.{renamed, with_dest}
 
 -- ---- places
 

@@ -19,10 +19,10 @@ use Rattle.pc_window.specs.Tree.{Tree, Pending, Undecided, home_of, state_at}
 use Rattle.pc_window.specs.Walk.{Walked, done_first, walk}
 use Rattle.pc_window.specs.WindowRun.{follow}
 use Rattle.pc_window.specs.Opening.{Supply, changed, with_name, at_home, Brought, Moves_home, Gets_name, Stays_plain, brought, Grafted, graft_item, homes_at, graft}
-use Rattle.pc_window.proofs.Items.{Alike-prints, Alike-fault}
-use Rattle.pc_window.proofs.Live.{run_same}
+use Rattle.pc_table.proofs.Live.{run_same}
 use Rattle.pc_window.proofs.Grafts.{HomesBelow, Does_same, brought_same, Extends, Extends-refl, Extends-trans, with_name-extends, HomesBelow-later, HomesBelow-changed}
 use Rattle.pc_window.proofs.Grafts.{HomesBelow-new, at_home_below, after_gives, after_plain, after_copy, stepped, one_more, at_home_value}
+use Rattle.pc_word.proofs.Evaluated.{Alike-prints, Alike-fault}
 
 -- the home of a live variable is among the homes of a stub
 pub home_of-homes_at : (homes : ℕ → Operand) (vs : List ℕ) (x : ℕ) → list_any (nat_eq x) vs ≡ true → home_of (homes_at homes vs) x ≡ homes x

@@ -6,19 +6,19 @@ use Rattle.pc_word.specs.declared.item.Item.TheVariants.{Bin, Copy, Load, Store,
 use Rattle.pc_word.specs.declared.item.Limits.{Limits}
 use Rattle.pc_word.specs.declared.item.Operand.{Operand}
 use Rattle.pc_word.specs.declared.item.Operand.TheVariants.{Name, Lit}
-use Rattle.pc_word.specs.Items.{is_memory}
+use Rattle.pc_word.specs.Items.{is_memory, reads}
 use Rattle.pc_window.specs.Tree.{Front, Issued, Split, Unfinished}
 use Rattle.pc_linear.specs.Form.{Form}
 use Rattle.pc_linear.specs.Equality.{NeverEqual}
 use Rattle.pc_window.specs.Hold.{operand_form}
 use Rattle.pc_window.specs.Names.{IsKnown, ReadsKnown}
-use Rattle.pc_window.specs.Conflict.{Touch, touch_of, NoStoreDependence, MayFollow}
+use Rattle.pc_window.specs.declared.conflict.Touch.{Touch}
+use Rattle.pc_window.specs.Conflict.{touch_of, NoStoreDependence, MayFollow}
 use Rattle.pc_window.specs.Jump.{MayComeBehind, EntersFront, Lands, Lands_renamed, Lands_test, Lands_once, Behind_item, On_yes, On_no}
 use Rattle.pc_window.specs.Filled.{AllItems, Independent, item_count, memory_count, test_count, HasSpace, WithinLimits}
 use Rattle.pc_window.proofs.Undisturbed.{new-known}
 use Rattle.pc_window.proofs.Entering.{entered_forms}
 use Rattle.pc_window.proofs.Scopes.{enters_new}
-use Rattle.pc_table.specs.TableKeeps.{reads}
 
 -- ---- the front does not hang on itself
 
@@ -26,7 +26,7 @@ use Rattle.pc_table.specs.TableKeeps.{reads}
 abbrev pub SameKnownForms : (ℕ → Bool) → (ℕ → Form) → (ℕ → Form) → Type 0
 SameKnownForms known forms forms' = (x : ℕ) → known x ≡ true → forms' x ≡ forms x
 
-operand_form_same : (known : ℕ → Bool) (forms forms' : ℕ → Form) → SameKnownForms known forms forms' → (o : Operand) → IsKnown known o → operand_form forms' o ≡ operand_form forms o
+pub operand_form_same : (known : ℕ → Bool) (forms forms' : ℕ → Form) → SameKnownForms known forms forms' → (o : Operand) → IsKnown known o → operand_form forms' o ≡ operand_form forms o
 operand_form_same known forms forms' same (Name x) is = same x is
 operand_form_same known forms forms' same (Lit value) is = refl
 
@@ -35,7 +35,7 @@ abbrev pub TouchKnown : (ℕ → Bool) → Option Touch → Type 0
 TouchKnown known (Some touch) = IsKnown known touch.index
 TouchKnown known None = Unit {0}
 
-touch_known : (known : ℕ → Bool) (x : Item) → ReadsKnown known x → TouchKnown known (touch_of x)
+pub touch_known : (known : ℕ → Bool) (x : Item) → ReadsKnown known x → TouchKnown known (touch_of x)
 touch_known known (Bin op d l r) h = tt
 touch_known known (Copy d f) h = tt
 touch_known known (Load d a i) h = h.0
@@ -44,7 +44,7 @@ touch_known known (Print v) h = tt
 touch_known known (Read d) h = tt
 touch_known known (More d) h = tt
 
-store_dependence_same : (known : ℕ → Bool) (forms forms' : ℕ → Form) → SameKnownForms known forms forms' → (a b : Option Touch) → TouchKnown known a → TouchKnown known b
+pub store_dependence_same : (known : ℕ → Bool) (forms forms' : ℕ → Form) → SameKnownForms known forms forms' → (a b : Option Touch) → TouchKnown known a → TouchKnown known b
     → NoStoreDependence forms a b → NoStoreDependence forms' a b
 store_dependence_same known forms forms' same (Some a) (Some b) ha hb h = λ arrays stores.
     subst (λ (f : Form). NeverEqual f (operand_form forms' b.index)) (sym (operand_form_same known forms forms' same a.index ha))

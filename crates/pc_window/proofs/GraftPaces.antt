@@ -19,12 +19,12 @@ use Rattle.pc_table.specs.TableKeeps.{TableKeeps}
 use Rattle.pc_window.specs.Tree.{Tree, Pending, home_of, state_at}
 use Rattle.pc_window.specs.WindowRun.{enter, window_step, tree_run}
 use Rattle.pc_window.specs.Opening.{Supply, changed, with_name, at_home, Brought, Moves_home, Gets_name, Stays_plain, brought, graft_item, homes_at, graft}
-use Rattle.pc_window.proofs.Items.{Alike-fault, Alike-prints}
-use Rattle.pc_window.proofs.Live.{run_same}
+use Rattle.pc_table.proofs.Live.{run_same}
 use Rattle.pc_window.proofs.Grafts.{HomesBelow, HomesBelow-later, HomesBelow-changed, HomesBelow-new, at_home_below, at_home_value, Does_same, brought_same, after_copy, after_gives, after_plain}
 use Rattle.pc_window.proofs.Follows.{home_of-homes_at, graft-extends}
 use Rattle.pc_window.proofs.Paces.{answer_of_answer}
 use Rattle.pc_window.proofs.Units.{beyond_is_region}
+use Rattle.pc_word.proofs.Evaluated.{Alike-fault, Alike-prints}
 
 -- n units of the tree show what n units of the region show
 abbrev pub PacedAt : Table → TableTree → State → Tree → State → ℕ → Type 0

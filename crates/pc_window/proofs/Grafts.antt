@@ -19,7 +19,7 @@ use Rattle.pc_window.specs.Walk.{Walked, Leaves, Finishes, printing, done_first}
 use Rattle.pc_window.specs.Tree.{state_at}
 use Rattle.pc_window.specs.WindowRun.{follow}
 use Rattle.pc_window.specs.Opening.{Supply, changed, with_name, at_home, Brought, Moves_home, Gets_name, Stays_plain, brought, OperandBelow}
-use Rattle.pc_window.proofs.Items.{Alike, Alike-value, Alike-after, states_equal}
+use Rattle.pc_word.proofs.Evaluated.{Alike, Alike-value, Alike-after, states_equal}
 
 -- all homes are names below a number, or literals
 unfoldable pub HomesBelow : ℕ → (ℕ → Operand) → Type 0

@@ -16,6 +16,7 @@ use Rattle.pc_word.specs.Row.{Row, items_of, tests_of, paths_of}
 use Rattle.pc_window.specs.Kept.{Left}
 use Rattle.pc_window.specs.Steps.{left_of, left_at_root, front_row, cut_row}
 use Rattle.pc_window.specs.Laws.{IsLegal, RowsAreLegal}
+use Rattle.pc_word.proofs.Truth.{or_false}
 
 -- ---- the row is legal
 
@@ -55,18 +56,14 @@ pub record Writes_new (known : ℕ → Bool) (path : List Item) : Type 0 where
   pub new : AllByRecursion (λ d. known d ≡ false) (filter_map dest_of path)
   pub once : IsDistinct nat_eq (filter_map dest_of path)
 
-or_neither : (a b : Bool) → (a || b) ≡ false → (a ≡ false) × (b ≡ false)
-or_neither false b e = (refl, e)
-or_neither true b e = absurd (cc)
-
 writes_one_more : (known : ℕ → Bool) (dest : Option ℕ) (dests : List ℕ) → IsNew known dest
     → AllByRecursion (λ d. (writes dest d || known d) ≡ false) dests → IsDistinct nat_eq dests
     → AllByRecursion (λ d. known d ≡ false) (cons_option dest dests) × IsDistinct nat_eq (cons_option dest dests)
 unfolding IsDistinct
 writes_one_more known None dests new all once = (all, once)
 writes_one_more known (Some e) dests new all once = (
-  (new, all_imply (λ d. (nat_eq e d || known d) ≡ false) (λ d. known d ≡ false) dests (λ d h. (or_neither (nat_eq e d) (known d) h).1) all),
-  (all_imply (λ d. (nat_eq e d || known d) ≡ false) (λ d. nat_eq e d ≡ false) dests (λ d h. (or_neither (nat_eq e d) (known d) h).0) all, once),
+  (new, all_imply (λ d. (nat_eq e d || known d) ≡ false) (λ d. known d ≡ false) dests (λ d h. (or_false (nat_eq e d) (known d) h).1) all),
+  (all_imply (λ d. (nat_eq e d || known d) ≡ false) (λ d. nat_eq e d ≡ false) dests (λ d h. (or_false (nat_eq e d) (known d) h).0) all, once),
 )
 
 paths_write_once : (left : Tree → Left) (front : Front) (known : ℕ → Bool) → Scoped known (whole front) → AllPaths (Writes_new known) left front

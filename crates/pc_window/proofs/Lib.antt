@@ -1,13 +1,12 @@
 pub mod NamesStored
-pub mod Printed
 pub mod WindowsStored
 pub mod GraftsStored
 pub mod HomesStored
+pub mod HomesMapped
+pub mod Touching
 pub mod Once
 pub mod Shown
 pub mod Forms
-pub mod Items
-pub mod Live
 pub mod Uses
 pub mod Grafts
 pub mod Follows
@@ -45,3 +44,7 @@ pub mod FilledRows
 pub mod LegalRows
 pub mod There
 pub mod Bare
+pub mod Ranking
+pub mod Walked
+pub mod Listed
+pub mod MarkedNames

@@ -18,7 +18,7 @@ use Rattle.pc_window.specs.Walk.{walk}
 use Rattle.pc_window.specs.WindowRun.{free_run}
 use Rattle.pc_window.specs.Hold.{TreeHolds}
 use Rattle.pc_linear.proofs.Forms.{variable_means}
-use Rattle.pc_window.proofs.Live.{run_same}
+use Rattle.pc_table.proofs.Live.{run_same}
 use Rattle.pc_window.proofs.Grafts.{HomesBelow, Extends-refl}
 use Rattle.pc_window.proofs.Follows.{Later, FollowsRun, followed, graft-extends}
 use Rattle.pc_window.proofs.GraftForms.{HomesMean, HomesMean-later, GraftHolds, graft_holds, OperandMeans}

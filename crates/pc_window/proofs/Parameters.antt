@@ -6,7 +6,7 @@ use Rattle.pc_word.specs.declared.item.Item.{Item}
 use Rattle.pc_word.specs.declared.item.Item.TheVariants.{Bin, Copy, Load, Store, Print, Read, More}
 use Rattle.pc_word.specs.declared.item.Operand.{Operand}
 use Rattle.pc_word.specs.declared.item.Operand.TheVariants.{Name, Lit}
-use Rattle.pc_word.specs.Items.{dest_of}
+use Rattle.pc_word.specs.Items.{dest_of, reads, reads_name}
 use Rattle.pc_word.specs.Commit.{writes}
 use Rattle.pc_linear.specs.Form.{Form}
 use Rattle.pc_window.specs.declared.home.Home.{Home}
@@ -14,24 +14,12 @@ use Rattle.pc_window.specs.Tree.{Tree, Pending, Undecided, Exit, Stop_exit, Trap
 use Rattle.pc_window.specs.Filled.{Independent}
 use Rattle.pc_window.proofs.Undisturbed.{new-known}
 use Rattle.pc_window.specs.Names.{IsKnown, ReadsKnown, IsNew, and_dest, HomesKnown, Scoped, homes_use, uses}
-use Rattle.pc_table.specs.TableKeeps.{reads, reads_name}
-
-or_comes : (a b : Bool) → b ≡ true → (a || b) ≡ true
-or_comes true b e = refl
-or_comes false b e = e
-
-or_first : (a b : Bool) → a ≡ true → (a || b) ≡ true
-or_first true b e = refl
-or_first false b e = absurd (cc)
+use Rattle.pc_word.proofs.Truth.{or_second, or_first, and_true}
 
 -- one of two holds
 or_cases : (a b : Bool) (P : Type 0) → (a || b) ≡ true → (a ≡ true → P) → (b ≡ true → P) → P
 or_cases true b P e f g = f refl
 or_cases false b P e f g = g e
-
-and_both : (a b : Bool) → (a && b) ≡ true → (a ≡ true) × (b ≡ true)
-and_both true b e = (refl, e)
-and_both false b e = absurd (cc)
 
 -- fewer known names, among them all that are read
 abbrev pub Fewer : (ℕ → Bool) → (ℕ → Bool) → Type 0
@@ -63,7 +51,7 @@ pub parameters_known : (tree : Tree) (known : ℕ → Bool) → Scoped known tre
 parameters_known (Pending t o x rest) known h z e =
     or_cases (reads x z) (not (writes (dest_of x) z) && uses rest z) (known z ≡ true) e
     (λ k. item_known known x z k h.0)
-    (λ k. (let b = and_both (not (writes (dest_of x) z)) (uses rest z) k in
+    (λ k. (let b = and_true (not (writes (dest_of x) z)) (uses rest z) k in
     other (writes (dest_of x) z) (known z) b.0 (parameters_known rest (and_dest known x) h.2 z b.1)))
   where
     other : (a b : Bool) → not a ≡ true → (a || b) ≡ true → b ≡ true
@@ -83,13 +71,13 @@ known_read known' (Lit value) f = tt
 pub known_reads : (known' : ℕ → Bool) (x : Item) → ((z : ℕ) → reads x z ≡ true → known' z ≡ true) → ReadsKnown known' x
 known_reads known' (Bin op d l r) f = (
   known_read known' l (λ z e. f z (or_first (reads_name l z) (reads_name r z) e)),
-  (known_read known' r (λ z e. f z (or_comes (reads_name l z) (reads_name r z) e)), tt),
+  (known_read known' r (λ z e. f z (or_second (reads_name l z) (reads_name r z) e)), tt),
 )
 known_reads known' (Copy d from) f = (known_read known' from f, tt)
 known_reads known' (Load d a i) f = (known_read known' i f, tt)
 known_reads known' (Store a i v) f = (
   known_read known' i (λ z e. f z (or_first (reads_name i z) (reads_name v z) e)),
-  (known_read known' v (λ z e. f z (or_comes (reads_name i z) (reads_name v z) e)), tt),
+  (known_read known' v (λ z e. f z (or_second (reads_name i z) (reads_name v z) e)), tt),
 )
 known_reads known' (Print v) f = (known_read known' v f, tt)
 known_reads known' (Read d) f = tt
@@ -99,7 +87,7 @@ pub known_homes : (known' : ℕ → Bool) (homes : List Home) → ((z : ℕ) →
 known_homes known' [] f = tt
 known_homes known' (home ∷ homes) f = (
   known_read known' home.value (λ z e. f z (or_first (reads_name home.value z) (homes_use homes z) e)),
-  known_homes known' homes (λ z e. f z (or_comes (reads_name home.value z) (homes_use homes z) e)),
+  known_homes known' homes (λ z e. f z (or_second (reads_name home.value z) (homes_use homes z) e)),
 )
 
 new_fewer : (known' known : ℕ → Bool) → Fewer known' known → (d : Option ℕ) → IsNew known d → IsNew known' d
@@ -116,17 +104,17 @@ scoped_fewer (Pending t o x rest) known' known fewer enough h = (
   new_fewer known' known fewer (dest_of x) h.1,
   scoped_fewer rest (and_dest known' x) (and_dest known x)
       (λ z e. or_cases (writes (dest_of x) z) (known' z) (and_dest known x z ≡ true) e
-      (λ k. or_first (writes (dest_of x) z) (known z) k) (λ k. or_comes (writes (dest_of x) z) (known z) (fewer z k)))
+      (λ k. or_first (writes (dest_of x) z) (known z) k) (λ k. or_second (writes (dest_of x) z) (known z) (fewer z k)))
       (λ z e. below z (writes (dest_of x) z) refl e) h.2,
 )
   where
     below : (z : ℕ) (b : Bool) → writes (dest_of x) z ≡ b → uses rest z ≡ true → (b || known' z) ≡ true
     below z true w e = refl
-    below z false w e = enough z (or_comes (reads x z) _ (rw (w, e) refl))
+    below z false w e = enough z (or_second (reads x z) _ (rw (w, e) refl))
 scoped_fewer (Undecided t o on p q) known' known fewer enough h = (
   known_read known' on (λ z e. enough z (or_first (reads_name on z) _ e)),
-  scoped_fewer p known' known fewer (λ z e. enough z (or_comes (reads_name on z) _ (or_first (uses p z) (uses q z) e))) h.1,
-  scoped_fewer q known' known fewer (λ z e. enough z (or_comes (reads_name on z) _ (or_comes (uses p z) (uses q z) e))) h.2,
+  scoped_fewer p known' known fewer (λ z e. enough z (or_second (reads_name on z) _ (or_first (uses p z) (uses q z) e))) h.1,
+  scoped_fewer q known' known fewer (λ z e. enough z (or_second (reads_name on z) _ (or_second (uses p z) (uses q z) e))) h.2,
 )
 scoped_fewer (Exit region tag homes) known' known fewer enough h = known_homes known' homes enough
 scoped_fewer Stop_exit known' known fewer enough h = tt
@@ -144,13 +132,13 @@ independent_by : (forms : ℕ → Form) (known base base' : ℕ → Bool) (front
 independent_by forms known base base' (Issued t o x rest) within enough scoped independent = (
   known_reads base' x (λ z e. enough z (item_known base x z e independent.0) (or_first (reads x z) _ e)),
   independent.1,
-  independent_by forms (and_dest known x) base base' rest (λ z e. or_comes (writes (dest_of x) z) (known z) (within z e))
-      (λ z b u. enough z b (or_comes (reads x z) _ (let w = new-known known (dest_of x) z scoped.1 (within z b) in rw (w, u) refl))) scoped.2 independent.2,
+  independent_by forms (and_dest known x) base base' rest (λ z e. or_second (writes (dest_of x) z) (known z) (within z e))
+      (λ z b u. enough z b (or_second (reads x z) _ (let w = new-known known (dest_of x) z scoped.1 (within z b) in rw (w, u) refl))) scoped.2 independent.2,
 )
 independent_by forms known base base' (Split t o on p q) within enough scoped independent = (
   known_read base' on (λ z e. enough z (read_known base on z e independent.0) (or_first (reads_name on z) _ e)),
-  independent_by forms known base base' p within (λ z b u. enough z b (or_comes (reads_name on z) _ (or_first (uses (whole p) z) (uses (whole q) z) u))) scoped.1 independent.1,
-  independent_by forms known base base' q within (λ z b u. enough z b (or_comes (reads_name on z) _ (or_comes (uses (whole p) z) (uses (whole q) z) u))) scoped.2 independent.2,
+  independent_by forms known base base' p within (λ z b u. enough z b (or_second (reads_name on z) _ (or_first (uses (whole p) z) (uses (whole q) z) u))) scoped.1 independent.1,
+  independent_by forms known base base' q within (λ z b u. enough z b (or_second (reads_name on z) _ (or_second (uses (whole p) z) (uses (whole q) z) u))) scoped.2 independent.2,
 )
 independent_by forms known base base' (Unfinished rest) within enough scoped independent = tt
 

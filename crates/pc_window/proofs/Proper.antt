@@ -6,7 +6,7 @@ use Rattle.pc_word.specs.declared.item.Item.TheVariants.{Bin, Copy, Load, Store,
 use Rattle.pc_word.specs.declared.item.Operand.{Operand}
 use Rattle.pc_word.specs.declared.item.Operand.TheVariants.{Name, Lit}
 use Rattle.pc_word.specs.declared.item.Limits.{Limits}
-use Rattle.pc_word.specs.Items.{dest_of, is_memory}
+use Rattle.pc_word.specs.Items.{dest_of, is_memory, reads, reads_name}
 use Rattle.pc_word.specs.Commit.{writes}
 use Rattle.pc_window.specs.Opening.{Supply, with_name, OperandBelow, ItemBelow, StubBelow, Grafted, opened, is_inside, TreeBelow, FormsBelow, FormBelow, TermsBelow}
 use Rattle.pc_window.specs.Filled.{given_supply, IsNext, Jump, Full, Goes_on, WithinLimits, Filled, Independent}
@@ -17,7 +17,7 @@ use Rattle.pc_window.proofs.Tidying.{tidied_sound, not_true}
 use Rattle.pc_linear.specs.Form.{Form}
 use Rattle.pc_linear.specs.declared.term.Term.{Term}
 use Rattle.pc_window.specs.Hold.{operand_form}
-use Rattle.pc_window.specs.Rename.{map_operands, map_homes, mapped, renamed, with_dest}
+use Rattle.pc_window.specs.Rename.{map_homes, mapped}
 use Rattle.pc_window.proofs.Once.{Sound, defines, Undefined, OncePerPath}
 use Rattle.pc_window.proofs.Forms.{combine-below}
 use Rattle.pc_window.specs.Names.{Unwritten, uses, IsNew, and_dest, Scoped}
@@ -27,7 +27,6 @@ use Rattle.pc_window.proofs.Soundness.{TreeBelow-later, opened-sound}
 use Rattle.pc_window.proofs.Unwinding.{used_below}
 use Rattle.pc_window.proofs.Rebasing.{rebased-kept}
 use Rattle.pc_table.specs.Table.{Table}
-use Rattle.pc_table.specs.TableKeeps.{reads, reads_name}
 use Rattle.pc_window.specs.declared.home.Home.{Home}
 use Rattle.pc_window.specs.Tree.{Tree, Pending, Undecided, Exit, Stop_exit, Trap_exit, Front, Issued, Split, Unfinished, whole, front_of}
 use Rattle.pc_window.specs.WindowRun.{Window, supply_of}
@@ -37,19 +36,17 @@ use Rattle.pc_window.specs.Steps.{Positive, IsProper, LeftIs, EachLeft, window_o
 use Rattle.pc_window.specs.Rebasing.{rebased}
 use Rattle.pc_word.specs.Row.{Row}
 use Rattle.pc_window.proofs.Undisturbed.{new-known}
-use Rattle.pc_window.proofs.Uses.{or_is, nat_eq-tells}
-use Rattle.pc_window.proofs.Live.{or_first, or_second, needed_above}
+use Rattle.pc_window.proofs.Uses.{nat_eq-tells}
+use Rattle.pc_table.proofs.Tests.{needed_above}
 use Rattle.pc_window.proofs.Parameters.{known_read, known_reads, known_homes, scoped_parameters, independent_parameters}
 use Rattle.pc_window.proofs.Repeated.{unwinds-sound}
 use Rattle.pc_window.proofs.Filling.{filling_window, filling_limits}
 use Rattle.pc_window.proofs.CutRows.{whole_front_of}
 use Rattle.std.specs.List.{AllByRecursion}
+use Rattle.pc_word.specs.Naming.{map_operands, renamed, with_dest}
+use Rattle.pc_word.proofs.Truth.{or_true, or_first, or_second, or_false, or_made_false}
 
 -- ---- names once per path, in two ways
-
-or_neither : (a b : Bool) → (a || b) ≡ false → (a ≡ false) × (b ≡ false)
-or_neither false b e = (refl, e)
-or_neither true b e = absurd (cc)
 
 -- what is known is defined nowhere in a tree
 abbrev Elsewhere : (ℕ → Bool) → Tree → Type 0
@@ -64,7 +61,7 @@ new_of known (Some d) h = by_known (known d) refl
     by_known false e = refl
 
 below_known : (known : ℕ → Bool) (x : Item) (rest : Tree) → ((z : ℕ) → known z ≡ true → defines rest z ≡ false) → Undefined (dest_of x) rest → Elsewhere (and_dest known x) rest
-below_known known x rest other new z h = by_dest (dest_of x) new (or_is (writes (dest_of x) z) (known z) h)
+below_known known x rest other new z h = by_dest (dest_of x) new (or_true (writes (dest_of x) z) (known z) h)
   where
     by_dest : (d : Option ℕ) → Undefined d rest → (writes d z ≡ true) ⊎ (known z ≡ true) → defines rest z ≡ false
     by_dest d new (inr k) = other z k
@@ -75,9 +72,9 @@ below_known known x rest other new z h = by_dest (dest_of x) new (or_is (writes 
 once_scoped : (tree : Tree) (known : ℕ → Bool) → ((z : ℕ) → uses tree z ≡ true → known z ≡ true) → Elsewhere known tree → OncePerPath tree → Scoped known tree
 once_scoped (Pending t o x rest) known enough other once = (
   known_reads known x (λ z e. enough z (or_first (reads x z) _ e)),
-  new_of known (dest_of x) (λ z k. (or_neither (writes (dest_of x) z) (defines rest z) (other z k)).0),
+  new_of known (dest_of x) (λ z k. (or_false (writes (dest_of x) z) (defines rest z) (other z k)).0),
   once_scoped rest (and_dest known x) (λ z u. below z (writes (dest_of x) z) refl u)
-      (below_known known x rest (λ z k. (or_neither (writes (dest_of x) z) (defines rest z) (other z k)).1) once.0) once.1,
+      (below_known known x rest (λ z k. (or_false (writes (dest_of x) z) (defines rest z) (other z k)).1) once.0) once.1,
 )
   where
     below : (z : ℕ) (b : Bool) → writes (dest_of x) z ≡ b → uses rest z ≡ true → (b || known z) ≡ true
@@ -85,8 +82,8 @@ once_scoped (Pending t o x rest) known enough other once = (
     below z false w u = enough z (needed_above (reads x z) (writes (dest_of x) z) (uses rest z) w u)
 once_scoped (Undecided t o on p q) known enough other once = (
   known_read known on (λ z e. enough z (or_first (reads_name on z) _ e)),
-  once_scoped p known (λ z u. enough z (or_second (reads_name on z) _ (or_first (uses p z) (uses q z) u))) (λ z k. (or_neither (defines p z) (defines q z) (other z k)).0) once.0,
-  once_scoped q known (λ z u. enough z (or_second (reads_name on z) _ (or_second (uses p z) (uses q z) u))) (λ z k. (or_neither (defines p z) (defines q z) (other z k)).1) once.1,
+  once_scoped p known (λ z u. enough z (or_second (reads_name on z) _ (or_first (uses p z) (uses q z) u))) (λ z k. (or_false (defines p z) (defines q z) (other z k)).0) once.0,
+  once_scoped q known (λ z u. enough z (or_second (reads_name on z) _ (or_second (uses p z) (uses q z) u))) (λ z k. (or_false (defines p z) (defines q z) (other z k)).1) once.1,
 )
 once_scoped (Exit region tag homes) known enough other once = known_homes known homes enough
 once_scoped Stop_exit known enough other once = tt
@@ -96,10 +93,6 @@ undefined_of : (d : Option ℕ) (known : ℕ → Bool) (rest : Tree) → Elsewhe
 undefined_of None known rest h = tt
 undefined_of (Some d) known rest h = h d (or_first (nat_eq d d) (known d) (nat_eq-same d))
 
-or_both : (a b : Bool) → a ≡ false → b ≡ false → (a || b) ≡ false
-or_both false b p q = q
-or_both true b p q = absurd (cc)
-
 not_written : (known : ℕ → Bool) (d : Option ℕ) (z : ℕ) → IsNew known d → known z ≡ true → writes d z ≡ false
 not_written known d z new k = new-known known d z new k
 
@@ -107,13 +100,13 @@ not_written known d z new k = new-known known d z new k
 scoped_once : (tree : Tree) (known : ℕ → Bool) → Scoped known tree → Elsewhere known tree × OncePerPath tree
 scoped_once (Pending t o x rest) known h =
     let b = scoped_once rest (and_dest known x) h.2 in (
-      λ z k. or_both (writes (dest_of x) z) (defines rest z) (not_written known (dest_of x) z h.1 k) (b.0 z (or_second (writes (dest_of x) z) (known z) k)),
+      λ z k. or_made_false (writes (dest_of x) z) (defines rest z) (not_written known (dest_of x) z h.1 k) (b.0 z (or_second (writes (dest_of x) z) (known z) k)),
       (undefined_of (dest_of x) known rest b.0, b.1),
     )
 scoped_once (Undecided t o on p q) known h =
     let a = scoped_once p known h.1 in
     let b = scoped_once q known h.2 in
-    (λ z k. or_both (defines p z) (defines q z) (a.0 z k) (b.0 z k), (a.1, b.1))
+    (λ z k. or_made_false (defines p z) (defines q z) (a.0 z k) (b.0 z k), (a.1, b.1))
 scoped_once (Exit region tag homes) known h = (λ z k. refl, tt)
 scoped_once Stop_exit known h = (λ z k. refl, tt)
 scoped_once (Trap_exit kind line) known h = (λ z k. refl, tt)

@@ -7,7 +7,7 @@ use Rattle.pc_word.specs.declared.item.Item.{Item}
 use Rattle.pc_word.specs.declared.item.Item.TheVariants.{Bin, Copy, Load, Store, Print, Read, More}
 use Rattle.pc_word.specs.declared.item.Limits.{Limits}
 use Rattle.pc_word.specs.declared.item.Operand.{Operand}
-use Rattle.pc_word.specs.Items.{dest_of, is_effect, is_memory, operands_of}
+use Rattle.pc_word.specs.Items.{dest_of, is_effect, is_memory, operands_of, only_computes, reads}
 use Rattle.pc_word.specs.Commit.{writes}
 use Rattle.pc_window.specs.Filled.{given_supply, IsNext, HasSpace, TwinsAlike, risen_place, divided_place, priority_of, Priority, InOrder}
 use Rattle.pc_window.specs.Opening.{with_name, changed}
@@ -16,16 +16,17 @@ use Rattle.pc_window.specs.Tree.{Tree, Pending, Undecided, Exit, Stop_exit, Trap
 use Rattle.pc_linear.specs.Form.{Form}
 use Rattle.pc_linear.specs.Combine.{variable_form}
 use Rattle.pc_window.specs.Names.{IsKnown, IsNew, ReadsKnown, and_dest, Scoped, Unwritten, NotWritten}
-use Rattle.pc_window.specs.Rename.{with_dest, mapped, renamed}
-use Rattle.pc_window.specs.Conflict.{Touch, touch_of, NoDependence, NoStoreDependence, NoConflict, MayFollow}
-use Rattle.pc_window.specs.Jump.{combined, Without, NewForm, is_quiet, Rises, Root, Past_item, Past_yes, Past_no, DividesTree, Root_test, Past, MayComeBehind, EntersFront, Lands}
+use Rattle.pc_window.specs.Rename.{mapped}
+use Rattle.pc_window.specs.declared.conflict.Touch.{Touch}
+use Rattle.pc_window.specs.Conflict.{touch_of, NoDependence, NoStoreDependence, NoConflict, MayFollow}
+use Rattle.pc_window.specs.Jump.{combined, Without, NewForm, Rises, Root, Past_item, Past_yes, Past_no, DividesTree, Root_test, Past, MayComeBehind, EntersFront, Lands}
 use Rattle.pc_window.specs.Jump.{Lands_renamed, Lands_test, Lands_once, Behind_item, On_yes, On_no}
 use Rattle.pc_window.specs.Ready.{CanRise, Stands_here, Stands_below, Stands_on_yes, Stands_on_no, CanDivide, Divides_here, Divides_below, MayStandBehind, IsReadyAt, Item_ready}
 use Rattle.pc_window.specs.Ready.{Test_ready, Ready_below, Ready_on_yes, Ready_on_no, NotBehind}
 use Rattle.pc_window.specs.Laws.{ReadyJumps, JumpsWereReady, FirstJumpsAreFirst}
-use Rattle.pc_window.proofs.Rising.{SameBut}
+use Rattle.pc_window.proofs.Rising.{SameBut, new_to_either}
 use Rattle.pc_window.proofs.Entering.{same_as}
-use Rattle.pc_table.specs.TableKeeps.{reads}
+use Rattle.pc_word.specs.Naming.{with_dest, renamed}
 
 -- ---- another name changes nothing but the name
 
@@ -35,7 +36,7 @@ pub record Alike (x y : Item) : Type 0 where
   pub touch : touch_of y ≡ touch_of x
   pub effect : is_effect y ≡ is_effect x
   pub memory : is_memory y ≡ is_memory x
-  pub quiet : is_quiet y ≡ is_quiet x
+  pub quiet : only_computes y ≡ only_computes x
 
 pub alike : (n : ℕ) (x : Item) → Alike x (with_dest n x)
 alike n (Bin op d l r) = record { operands = refl; touch = refl; effect = refl; memory = refl; quiet = refl }
@@ -62,7 +63,7 @@ clear_alike forms y x z a h = record {
   one_effect = ap (λ (b : Bool). is_effect y && b) a.effect ∙ h.one_effect;
 }
 
-follows_alike : (forms : ℕ → Form) (y x z : Item) → Alike x z → MayFollow forms y x → MayFollow forms y z
+pub follows_alike : (forms : ℕ → Form) (y x z : Item) → Alike x z → MayFollow forms y x → MayFollow forms y z
 follows_alike forms y x z a h = record {
   no_store_dependence = subst (λ (t : Option Touch). NoStoreDependence forms (touch_of y) t) (sym a.touch) h.no_store_dependence;
   one_effect = ap (λ (b : Bool). is_effect y && b) a.effect ∙ h.one_effect;
@@ -71,7 +72,7 @@ follows_alike forms y x z a h = record {
 alike_turned : (x z : Item) → Alike x z → Alike z x
 alike_turned x z a = record { operands = sym a.operands; touch = sym a.touch; effect = sym a.effect; memory = sym a.memory; quiet = sym a.quiet }
 
-reads_alike : (known : ℕ → Bool) (x z : Item) → Alike x z → ReadsKnown known x → ReadsKnown known z
+pub reads_alike : (known : ℕ → Bool) (x z : Item) → Alike x z → ReadsKnown known x → ReadsKnown known z
 reads_alike known x z a h = subst (λ (l : List Operand). AllByRecursion (IsKnown known) l) (sym a.operands) h
 
 room_alike : (limits : Limits) (front : Front) (x z : Item) → Alike x z → HasSpace limits (Some x) front → HasSpace limits (Some z) front
@@ -80,7 +81,7 @@ room_alike limits front x z a h = (h.0, λ is. h.1 (sym a.memory ∙ is))
 -- ---- names
 
 -- a known name is written nowhere
-known_unwritten : (tree : Tree) (known : ℕ → Bool) (d : ℕ) → known d ≡ true → Scoped known tree → Unwritten d tree
+pub known_unwritten : (tree : Tree) (known : ℕ → Bool) (d : ℕ) → known d ≡ true → Scoped known tree → Unwritten d tree
 known_unwritten (Pending t o x rest) known d is h = (here (dest_of x) h.1, known_unwritten rest (and_dest known x) d (or_comes (writes (dest_of x) d) (known d) is) h.2)
   where
     or_comes : (a b : Bool) → b ≡ true → (a || b) ≡ true
@@ -98,26 +99,19 @@ known_unwritten (Exit region tag homes) known d is h = tt
 known_unwritten Stop_exit known d is h = tt
 known_unwritten (Trap_exit kind line) known d is h = tt
 
-not_written_known : (x : Item) (rest : Tree) (known : ℕ → Bool) → Scoped (and_dest known x) rest → NotWritten (dest_of x) rest
+pub not_written_known : (x : Item) (rest : Tree) (known : ℕ → Bool) → Scoped (and_dest known x) rest → NotWritten (dest_of x) rest
 not_written_known x rest known h = by_dest (dest_of x) refl
   where
     by_dest : (d : Option ℕ) → dest_of x ≡ d → NotWritten d rest
     by_dest None e = tt
     by_dest (Some d) e = known_unwritten rest (and_dest known x) d (ap (λ (o : Option ℕ). writes o d || known d) e ∙ (rw (eq-eqb d d refl) refl)) h
 
-new_first : (known : ℕ → Bool) (y : Item) (d : Option ℕ) → IsNew (and_dest known y) d → IsNew known d × IsNew (writes (dest_of y)) d
-new_first known y None h = (tt, tt)
-new_first known y (Some e) h = let k = neither (writes (dest_of y) e) (known e) h in (k.1, k.0)
-  where
-    neither : (a b : Bool) → (a || b) ≡ false → (a ≡ false) × (b ≡ false)
-    neither false b e = (refl, e)
-    neither true b e = absurd (cc)
-
 -- an item before which no test stands writes a new name
 rise_new : (forms : ℕ → Form) (x : Item) (tag origin place : ℕ) (crosses : Bool) (from : Tree) (known : ℕ → Bool) → CanRise forms x tag origin place crosses from
     → crosses ≡ false → Scoped known from → IsNew known (dest_of x)
 rise_new forms x tag origin place crosses from known (Stands_here rest) e h = h.1
-rise_new forms x tag origin place crosses from known (Stands_below t o y p c rest clear can) e h = (new_first known y (dest_of x) (rise_new forms x tag origin p c rest (and_dest known y) can e h.2)).0
+rise_new forms x tag origin place crosses from known (Stands_below t o y p c rest clear can) e h =
+    (new_to_either known y (dest_of x) (rise_new forms x tag origin p c rest (and_dest known y) can e h.2)).0
 rise_new forms x tag origin place crosses from known (Stands_on_yes t o on n c p q is can) e h = absurd (cc)
 rise_new forms x tag origin place crosses from known (Stands_on_no t o on n c p q is can) e h = absurd (cc)
 
@@ -139,7 +133,7 @@ rise_kept forms x tag origin place crosses from known (Stands_below t o y p c re
     record {
       at = ap suc k.at;
       left = Pending t o y k.left;
-      rises = Past_item t o y c rest k.left clear (new_first known y (dest_of x) (rise_new forms x tag origin p c rest (and_dest known y) can e h.2)).1 k.rises;
+      rises = Past_item t o y c rest k.left clear (new_to_either known y (dest_of x) (rise_new forms x tag origin p c rest (and_dest known y) can e h.2)).1 k.rises;
     }
 rise_kept forms x tag origin place crosses from known (Stands_on_yes t o on n c p q is can) e h = absurd (cc)
 rise_kept forms x tag origin place crosses from known (Stands_on_no t o on n c p q is can) e h = absurd (cc)
@@ -231,7 +225,7 @@ pub record Comes (base known : ℕ → Bool) (forms : ℕ → Form) (n variable 
   pub given : forms_after ≡ (given_supply (record { forms = forms; next = n; next_variable = variable }) new comes).forms
 
 -- the form of a new name
-gives_next : (forms : ℕ → Form) (n variable : ℕ) (c : Option Form) → ((y : ℕ) → Without variable (forms y))
+pub gives_next : (forms : ℕ → Form) (n variable : ℕ) (c : Option Form) → ((y : ℕ) → Without variable (forms y))
     → (form : Form) × NewForm forms c form × ((with_name (record { forms = forms; next = n; next_variable = variable }) c).forms ≡ changed forms n form)
 gives_next forms n variable (Some given) without = (given, refl, refl)
 gives_next forms n variable None without = (variable_form variable, (variable, refl, without), refl)
@@ -244,12 +238,12 @@ new_down base known within (Some d) h = elim (base d) as (λ b. base d ≡ b →
 ] refl
 
 new_below_all : (known : ℕ → Bool) (y : Item) (comes : Option Item) → NewToAll (and_dest known y) comes → NewToAll known comes
-new_below_all known y (Some x) h = (new_first known y (dest_of x) h).0
+new_below_all known y (Some x) h = (new_to_either known y (dest_of x) h).0
 new_below_all known y None h = tt
 
 may_come : (known : ℕ → Bool) (forms : ℕ → Form) (y : Item) (what comes : Option Item) → SameThing what comes → MayStandBehind forms y what
     → NewToAll (and_dest known y) comes → MayComeBehind forms y comes
-may_come known forms y (Some x) (Some z) same may new = (follows_alike forms y x z same may, (new_first known y (dest_of z) new).1)
+may_come known forms y (Some x) (Some z) same may new = (follows_alike forms y x z same may, (new_to_either known y (dest_of z) new).1)
 may_come known forms y None None same may new = tt
 may_come known forms y (Some x) None same may new = absurd same
 may_come known forms y None (Some z) same may new = absurd same

@@ -12,7 +12,7 @@ use Rattle.pc_word.specs.declared.item.MachineFault.TheVariants.{StoreOutOfRange
 use Rattle.pc_word.specs.Word.{holds, word_apply}
 use Rattle.pc_word.specs.State.{State}
 use Rattle.pc_word.specs.Commit.{Stored, stores_of, prints_of, reads_of, fault_of, writes, cells_after}
-use Rattle.pc_word.specs.Items.{operand_value, place_in, element_at, dest_of, value_of, operands_of}
+use Rattle.pc_word.specs.Items.{operand_value, place_in, element_at, dest_of, value_of, operands_of, reads}
 use Rattle.pc_word.proofs.Lists.{all_imply}
 use Rattle.pc_window.specs.declared.home.Home.{Home}
 use Rattle.pc_window.specs.Tree.{Tree, Pending, Undecided, Exit, Stop_exit, Trap_exit, home_of, home_state}
@@ -21,9 +21,9 @@ use Rattle.pc_window.proofs.Shown.{walk_length, shown}
 use Rattle.pc_linear.specs.Form.{Form}
 use Rattle.pc_window.specs.Hold.{DefinedMeans, Side, DefinedHold}
 use Rattle.pc_window.specs.Names.{IsKnown, ReadsKnown, IsNew, and_dest, HomesKnown, Scoped, Unwritten}
-use Rattle.pc_window.specs.Rename.{map_operands, map_homes, mapped}
+use Rattle.pc_window.specs.Rename.{map_homes, mapped}
 use Rattle.pc_window.proofs.Exchange.{state_equal}
-use Rattle.pc_table.specs.TableKeeps.{reads}
+use Rattle.pc_word.specs.Naming.{map_operands}
 
 -- ---- one item
 

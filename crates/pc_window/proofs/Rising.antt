@@ -12,7 +12,7 @@ use Rattle.pc_word.specs.Word.{holds}
 use Rattle.pc_word.specs.Run.{Begins}
 use Rattle.pc_word.proofs.Runs.{Begins-refl, Begins-after}
 use Rattle.pc_word.specs.State.{State}
-use Rattle.pc_word.specs.Items.{operand_value, dest_of, value_of, operands_of}
+use Rattle.pc_word.specs.Items.{operand_value, dest_of, value_of, operands_of, only_computes, reads}
 use Rattle.pc_word.specs.Commit.{stores_of, prints_of, reads_of, fault_of, writes, cells_after}
 use Rattle.pc_word.proofs.Lists.{all_imply}
 use Rattle.pc_window.specs.Tree.{Tree, Pending, Undecided, Exit, Stop_exit, Trap_exit}
@@ -21,13 +21,14 @@ use Rattle.pc_window.proofs.Shown.{walk_length, shown}
 use Rattle.pc_linear.specs.Form.{Form, Means}
 use Rattle.pc_window.specs.Hold.{DefinedMeans, Side, DefinedHold, KnownHold}
 use Rattle.pc_window.specs.Names.{IsKnown, ReadsKnown, IsNew, and_dest, Scoped, Unwritten, NotWritten}
-use Rattle.pc_window.specs.Rename.{mapped, renamed, with_dest}
+use Rattle.pc_window.specs.Rename.{mapped}
 use Rattle.pc_window.specs.Conflict.{NoConflict}
-use Rattle.pc_window.specs.Jump.{is_quiet, Rises, Root, Past_item, Past_yes, Past_no, DividesTree, Root_test, Past}
+use Rattle.pc_window.specs.Jump.{Rises, Root, Past_item, Past_yes, Past_no, DividesTree, Root_test, Past}
 use Rattle.pc_window.proofs.Undisturbed.{unmoved, operand-after}
 use Rattle.pc_window.proofs.Exchange.{follows_first, follows_second, stores_apart, Exchangeable, states-exchanged, walk-exchanged, shown-exchanged}
 use Rattle.pc_window.proofs.Renaming.{Carries, WindowKeeps, SameWalk, side_same, mapped-walks, agreed-walks}
-use Rattle.pc_table.specs.TableKeeps.{reads}
+use Rattle.pc_word.specs.Naming.{renamed, with_dest}
+use Rattle.pc_word.proofs.Truth.{or_second, or_false}
 
 -- ---- names that are written apart
 
@@ -70,13 +71,13 @@ pub new_to_both : (known : ℕ → Bool) (y : Item) (dest : Option ℕ) → IsNe
 new_to_both known y (Some n) h k = rw (k, h) refl
 new_to_both known y None h k = tt
 
-or_comes : (a b : Bool) → b ≡ true → (a || b) ≡ true
-or_comes true b e = refl
-or_comes false b e = e
+pub new_to_either : (known : ℕ → Bool) (y : Item) (dest : Option ℕ) → IsNew (and_dest known y) dest → IsNew known dest × IsNew (writes (dest_of y)) dest
+new_to_either known y (Some n) h = let k = or_false (writes (dest_of y) n) (known n) h in (k.1, k.0)
+new_to_either known y None h = (tt, tt)
 
 -- what is known stays known
 pub still_known : (known : ℕ → Bool) (y : Item) (o : Operand) → IsKnown known o → IsKnown (and_dest known y) o
-still_known known y (Name x) is = or_comes (writes (dest_of y) x) (known x) is
+still_known known y (Name x) is = or_second (writes (dest_of y) x) (known x) is
 still_known known y (Lit value) is = tt
 
 pub still_reads : (known : ℕ → Bool) (y x : Item) → ReadsKnown known x → ReadsKnown (and_dest known y) x
@@ -179,7 +180,7 @@ pub record DoesNothing (lengths : List ℕ) (s : State) (x : Item) : Type 0 wher
   pub stores : stores_of lengths s (x ∷ []) ≡ []
   pub reads : reads_of (x ∷ []) ≡ 0
 
-pub quiet : (lengths : List ℕ) (s : State) (x : Item) → is_quiet x ≡ true → DoesNothing lengths s x
+pub quiet : (lengths : List ℕ) (s : State) (x : Item) → only_computes x ≡ true → DoesNothing lengths s x
 quiet lengths s (Bin op d l r) is = record { fault = refl; prints = refl; stores = refl; reads = refl }
 quiet lengths s (Copy d f) is = record { fault = refl; prints = refl; stores = refl; reads = refl }
 quiet lengths s (Load d a i) is = record { fault = refl; prints = refl; stores = refl; reads = refl }
@@ -193,14 +194,14 @@ printing_nothing (Leaves printed region s) = refl
 printing_nothing (Finishes printed end) = refl
 
 -- it adds nothing to what is printed
-pub quiet_shown : (lengths : List ℕ) (s : State) (x : Item) → is_quiet x ≡ true → (xs ys : List ℤ) → Begins xs (prints_of s (x ∷ []) ++ ys) → Begins xs ys
+pub quiet_shown : (lengths : List ℕ) (s : State) (x : Item) → only_computes x ≡ true → (xs ys : List ℤ) → Begins xs (prints_of s (x ∷ []) ++ ys) → Begins xs ys
 quiet_shown lengths s x is xs ys h = subst (λ (p : List ℤ). Begins xs (p ++ ys)) (quiet lengths s x is).prints h
 
-pub shown_quiet : (lengths : List ℕ) (s : State) (x : Item) → is_quiet x ≡ true → (xs ys : List ℤ) → Begins xs ys → Begins xs (prints_of s (x ∷ []) ++ ys)
+pub shown_quiet : (lengths : List ℕ) (s : State) (x : Item) → only_computes x ≡ true → (xs ys : List ℤ) → Begins xs ys → Begins xs (prints_of s (x ∷ []) ++ ys)
 shown_quiet lengths s x is xs ys h = subst (λ (p : List ℤ). Begins xs (p ++ ys)) (sym (quiet lengths s x is).prints) h
 
 -- a quiet item at the root
-pub quiet_walk : (lengths : List ℕ) (t o : ℕ) (x : Item) (tree : Tree) (s : State) → is_quiet x ≡ true → walk lengths (Pending t o x tree) s ≡ walk lengths tree (after_item lengths x s)
+pub quiet_walk : (lengths : List ℕ) (t o : ℕ) (x : Item) (tree : Tree) (s : State) → only_computes x ≡ true → walk lengths (Pending t o x tree) s ≡ walk lengths tree (after_item lengths x s)
 quiet_walk lengths t o x tree s is =
     let q = quiet lengths s x is in
     ap (λ (f : Option MachineFault). unless_fault f (printing (prints_of s (x ∷ [])) (walk lengths tree (after_item lengths x s)))) q.fault
@@ -208,7 +209,7 @@ quiet_walk lengths t o x tree s is =
     ∙ printing_nothing (walk lengths tree (after_item lengths x s))
 
 -- known names have the same values behind a quiet item
-pub quiet_carries : (lengths : List ℕ) (known : ℕ → Bool) (x : Item) (s : State) → is_quiet x ≡ true → IsNew known (dest_of x) → Carries (λ o. o) known s (after_item lengths x s)
+pub quiet_carries : (lengths : List ℕ) (known : ℕ → Bool) (x : Item) (s : State) → only_computes x ≡ true → IsNew known (dest_of x) → Carries (λ o. o) known s (after_item lengths x s)
 quiet_carries lengths known x s is new =
     let q = quiet lengths s x is in
     record {

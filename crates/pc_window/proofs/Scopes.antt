@@ -6,18 +6,19 @@ use Rattle.pc_word.specs.declared.item.Item.{Item}
 use Rattle.pc_word.specs.declared.item.Item.TheVariants.{Bin, Copy, Load, Store, Print, Read, More}
 use Rattle.pc_word.specs.declared.item.Operand.{Operand}
 use Rattle.pc_word.specs.declared.item.Operand.TheVariants.{Name, Lit}
-use Rattle.pc_word.specs.Items.{dest_of}
+use Rattle.pc_word.specs.Items.{dest_of, reads}
 use Rattle.pc_word.specs.Commit.{writes}
 use Rattle.pc_window.specs.declared.home.Home.{Home}
 use Rattle.pc_window.specs.Tree.{Tree, Pending, Undecided, Exit, Stop_exit, Trap_exit, Front, whole}
 use Rattle.pc_linear.specs.Form.{Form}
 use Rattle.pc_window.specs.Names.{IsKnown, ReadsKnown, IsNew, and_dest, HomesKnown, Scoped, Unwritten, NotWritten}
-use Rattle.pc_window.specs.Rename.{map_operands, map_homes, mapped, renamed, with_dest}
+use Rattle.pc_window.specs.Rename.{map_homes, mapped}
 use Rattle.pc_window.specs.Jump.{Rises, Root, Past_item, Past_yes, Past_no, DividesTree, Root_test, Past, EntersFront, Lands, Lands_renamed, Lands_test, Lands_once, Behind_item, On_yes, On_no}
 use Rattle.pc_window.proofs.Renaming.{WindowKeeps, known-after, keeps_below, mapped-same}
 use Rattle.pc_window.proofs.Rising.{SameBut, apart_turned, new_to_both, still_known, still_reads, renamed-keeps}
 use Rattle.pc_window.proofs.Entering.{Within, NewTo, new_below, known_within, reads_within, same_as}
-use Rattle.pc_table.specs.TableKeeps.{reads}
+use Rattle.pc_word.specs.Naming.{map_operands, renamed, with_dest}
+use Rattle.pc_word.proofs.Truth.{or_second, or_first, or_false}
 
 -- ---- mapped trees
 
@@ -50,17 +51,9 @@ homes_mapped : (f : Operand → Operand) (known known' : ℕ → Bool) (homes : 
 homes_mapped f known known' [] stays h = tt
 homes_mapped f known known' (home ∷ homes) stays h = (stays home.value h.0, homes_mapped f known known' homes stays h.1)
 
-or_neither : (a b : Bool) → (a || b) ≡ false → (a ≡ false) × (b ≡ false)
-or_neither false b e = (refl, e)
-or_neither true b e = absurd (cc)
-
 written : (dest : Option ℕ) (e : ℕ) → dest ≡ Some e → writes dest e ≡ true
 written (Some d) e is = let same : d ≡ e = cc in eq-eqb d e same
 written None e is = absurd (cc)
-
-or_first : (a b : Bool) → a ≡ true → (a || b) ≡ true
-or_first true b e = refl
-or_first false b e = absurd (cc)
 
 new_dest : (known : ℕ → Bool) (dest : Option ℕ) (e : ℕ) → IsNew known dest → dest ≡ Some e → known e ≡ false
 new_dest known (Some d) e new is = let same : d ≡ e = cc in sym (ap known same) ∙ new
@@ -86,7 +79,7 @@ scoped_mapped f (Pending t o x rest) known known' scoped stays new keeps =
           (λ u. absurd (let h : writes (dest_of x) there.0 ≡ true = written (dest_of x) there.0 there.1 in let k : writes (dest_of x) there.0 ≡ false = u.0 in cc))).0))
           (or_first (writes (dest_of x) there.0) (known' there.0) (written (dest_of x) there.0 there.1))
     ])
-    (λ e k w. let h = or_neither (writes (dest_of x) e) (known e) k in let n : known' e ≡ false = new e h.1 (λ u. w u.1) in let m : writes (dest_of x) e ≡ false = h.0 in rw (m, n) refl)
+    (λ e k w. let h = or_false (writes (dest_of x) e) (known e) k in let n : known' e ≡ false = new e h.1 (λ u. w u.1) in let m : writes (dest_of x) e ≡ false = h.0 in rw (m, n) refl)
     (keeps_below f known t o x rest keeps) in (
       reads_mapped f known known' x stays scoped.0,
       subst (IsNew known') (sym dest) (stays_new known known' t o x rest scoped.1 new),
@@ -119,7 +112,7 @@ scoped_more known x tree unwritten scoped =
 
 -- ---- what rises
 
-or_exchange : (a b c : Bool) → (a || (b || c)) ≡ (b || (a || c))
+pub or_exchange : (a b c : Bool) → (a || (b || c)) ≡ (b || (a || c))
 or_exchange true true c = refl
 or_exchange true false c = refl
 or_exchange false true c = refl
@@ -133,12 +126,12 @@ renamed_known known stood x same = subst (λ (y : Item). StaysKnown (renamed (de
     one d (Lit value) is = tt
     one d (Name z) is = elim (nat_eq d z) as (λ b. (b || known z) ≡ true → (nat_eq same.name (if b then same.name else z) || known (if b then same.name else z)) ≡ true) [
       | true ↦ λ k. or_first (nat_eq same.name same.name) (known same.name) (eq-eqb same.name same.name refl)
-      | false ↦ λ k. or_comes (nat_eq same.name z) (known z) k
+      | false ↦ λ k. or_second (nat_eq same.name z) (known z) k
     ] is
       where
-        or_comes : (a b : Bool) → b ≡ true → (a || b) ≡ true
-        or_comes true b e = refl
-        or_comes false b e = e
+        or_second : (a b : Bool) → b ≡ true → (a || b) ≡ true
+        or_second true b e = refl
+        or_second false b e = e
 
     by_item : (stood : Item) → StaysKnown (renamed (dest_of stood) (dest_of (with_dest same.name stood))) (and_dest known stood) (and_dest known (with_dest same.name stood))
     by_item (Bin op d l r) = one d
@@ -153,7 +146,7 @@ pub scoped_risen : (forms : ℕ → Form) (tag origin : ℕ) (stood x : Item) (c
     → Rises forms tag origin stood x crosses from left → SameBut stood x → Scoped known from → IsNew known (dest_of x) → Scoped (and_dest known x) left
 scoped_risen forms tag origin stood x crosses from left known (Root rest unwritten) same scoped new =
     scoped_mapped (renamed (dest_of stood) (dest_of x)) rest (and_dest known stood) (and_dest known x) scoped.2 (renamed_known known stood x same)
-    (λ e k w. let h = or_neither (writes (dest_of stood) e) (known e) k in not_written_new known x rest unwritten e h.1 w) (renamed-keeps known stood x rest unwritten)
+    (λ e k w. let h = or_false (writes (dest_of stood) e) (known e) k in not_written_new known x rest unwritten e h.1 w) (renamed-keeps known stood x rest unwritten)
 scoped_risen forms tag origin stood x crosses from left known (Past_item t o y c rest left' clear apart rises) same scoped new = (
   still_reads known x y scoped.0,
   new_to_both known x (dest_of y) scoped.1 (apart_turned (dest_of y) (dest_of x) apart),
@@ -172,10 +165,6 @@ scoped_divided tag origin on from p q known (Past t o y rest p' q' divides) scop
     ((scoped.0, scoped.1, h.0), (scoped.0, scoped.1, h.1))
 
 -- ---- the front
-
-or_comes : (a b : Bool) → b ≡ true → (a || b) ≡ true
-or_comes true b e = refl
-or_comes false b e = e
 
 pub scoped_entered : (base : ℕ → Bool) (forms forms' : ℕ → Form) (new : Option ℕ) (known : ℕ → Bool) (comes : Option Item) (from to : Front)
     → EntersFront base forms forms' new comes from to → Within base known → NewTo known comes → Scoped known (whole from) → Scoped known (whole to)
@@ -201,7 +190,7 @@ scoped_entered base forms forms' new known comes from to (Lands_once t o on tag 
 scoped_entered base forms forms' new known comes from to (Behind_item t o y c rest rest' may apart enters) within isnew' scoped = (
   scoped.0,
   scoped.1,
-  scoped_entered base forms forms' new (and_dest known y) c rest rest' enters (λ z is. or_comes (writes (dest_of y) z) (known z) (within z is))
+  scoped_entered base forms forms' new (and_dest known y) c rest rest' enters (λ z is. or_second (writes (dest_of y) z) (known z) (within z is))
       (new_below forms known y c may isnew') scoped.2,
 )
 scoped_entered base forms forms' new known comes from to (On_yes t o on c p q p' apart enters) within isnew' scoped =

@@ -9,7 +9,7 @@ use Rattle.pc_word.specs.State.{State}
 use Rattle.pc_linear.specs.Form.{Form}
 use Rattle.pc_table.specs.Table.{Table, Next}
 use Rattle.pc_table.specs.RegionRun.{region_run}
-use Rattle.pc_table.specs.TableKeeps.{TableKeeps, reads}
+use Rattle.pc_table.specs.TableKeeps.{TableKeeps}
 use Rattle.pc_window.specs.Tree.{Tree, Pending, Undecided, Exit, Stop_exit, Trap_exit, Front, Issued, Split, Unfinished, whole, front_of}
 use Rattle.pc_window.specs.Hold.{TreeHolds}
 use Rattle.pc_window.specs.WindowRun.{Window, supply_of, tree_run, window_run, free_run}
@@ -37,6 +37,7 @@ use Rattle.pc_window.proofs.UnwoundPaces.{unwound_pace}
 use Rattle.pc_window.specs.Names.{uses}
 use Rattle.pc_window.proofs.CutRows.{whole_front_of}
 use Rattle.pc_window.proofs.Proper.{proper_sound}
+use Rattle.pc_word.specs.Items.{reads}
 
 -- a tree that becomes a window keeps what it keeps as a tree
 becomes_kept : (table : Table) (w : Window) (tree : Tree) (names : Supply) (limits : Limits) (inside : Option ℕ) (s : State)

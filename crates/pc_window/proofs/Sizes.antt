@@ -9,9 +9,9 @@ use Rattle.pc_window.specs.Jump.{Rises, Root, Past_item, Past_yes, Past_no, Divi
 use Rattle.pc_window.specs.Filled.{item_count, test_count, Full, Goes_on, MostBehind, front_size}
 use Rattle.pc_window.specs.Laws.{JumpsFillTheFront, FillingIsBounded}
 use Rattle.pc_window.proofs.Fronts.{one_item, one_test, counted}
-use Rattle.pc_table.specs.TableKeeps.{reads}
+use Rattle.pc_word.specs.Items.{reads}
 
-size_mapped : (f : Operand → Operand) (tree : Tree) → tree_size (mapped f tree) ≡ tree_size tree
+pub size_mapped : (f : Operand → Operand) (tree : Tree) → tree_size (mapped f tree) ≡ tree_size tree
 size_mapped f (Pending t o x rest) = ap suc (size_mapped f rest)
 size_mapped f (Undecided t o on p q) = let a = size_mapped f p in let b = size_mapped f q in omega arith
 size_mapped f (Exit region tag homes) = refl
@@ -25,11 +25,11 @@ size_risen forms tag origin stood x crosses from left (Past_item t o y c rest le
 size_risen forms tag origin stood x crosses from left (Past_yes t o on c p q left' is unwritten rises) = let a = size_risen forms tag origin stood x c p left' rises in omega arith
 size_risen forms tag origin stood x crosses from left (Past_no t o on c p q left' is unwritten rises) = let a = size_risen forms tag origin stood x c q left' rises in omega arith
 
-size_divided : (tag origin : ℕ) (on : Operand) (from p q : Tree) → DividesTree tag origin on from p q → (tree_size p < tree_size from) × (tree_size q < tree_size from)
+pub size_divided : (tag origin : ℕ) (on : Operand) (from p q : Tree) → DividesTree tag origin on from p q → (tree_size p < tree_size from) × (tree_size q < tree_size from)
 size_divided tag origin on from p q (Root_test p' q') = (omega arith, omega arith)
 size_divided tag origin on from p q (Past t o y rest p' q' divides) = let a = size_divided tag origin on rest p' q' divides in let b = a.0 in let c = a.1 in (omega arith, omega arith)
 
-most_entered : (known : ℕ → Bool) (forms forms' : ℕ → Form) (new : Option ℕ) (n : ℕ) (comes : Option Item) (from to : Front)
+pub most_entered : (known : ℕ → Bool) (forms forms' : ℕ → Form) (new : Option ℕ) (n : ℕ) (comes : Option Item) (from to : Front)
     → EntersFront known forms forms' new comes from to → MostBehind n from → MostBehind n to
 most_entered known forms forms' new n comes from to (Lands tag origin x t left reads isnew none same rises) h = let a = size_risen forms tag origin x x _ t left rises in omega arith
 most_entered known forms forms' new n comes from to (Lands_renamed tag origin name stood t left reads isnew is gives rises) h =

@@ -15,12 +15,12 @@ use Rattle.pc_window.specs.Opening.{ItemBelow, StubBelow, TreeBelow, FormsBelow,
 use Rattle.pc_window.proofs.Grafts.{HomesBelow, HomesBelow-later, HomesBelow-new, HomesBelow-changed, at_home_below, OperandBelow-later}
 use Rattle.pc_window.proofs.Follows.{graft-extends}
 use Rattle.pc_window.proofs.GraftForms.{graft-below}
-use Rattle.pc_window.proofs.Live.{or_first, or_second}
-use Rattle.pc_window.proofs.Uses.{or_is, nat_eq-tells, graft-uses}
+use Rattle.pc_window.proofs.Uses.{nat_eq-tells, graft-uses}
 use Rattle.pc_window.proofs.Openings.{first_home-below, first_names-below}
 use Rattle.pc_window.proofs.Unwinding.{unwound-uses, used_below, Unwound, at_stub, below, at_yes, at_no, unwound_is, IsUnwound, unwound-extends, homes-below}
 use Rattle.pc_word.specs.Items.{dest_of}
 use Rattle.pc_word.specs.Commit.{writes}
+use Rattle.pc_word.proofs.Truth.{or_first, or_second, or_true}
 
 -- names that are below a number are below greater ones
 ItemBelow-later : (m n : ℕ) (item : Item) → m ≤ n → ItemBelow m item → ItemBelow n item
@@ -163,12 +163,12 @@ module _ (table : Table) (loop : Option ℕ) (tag : ℕ) where
       let names' = with_name names form in
       let homes' = changed homes variable (Name names.next) in
       let e = next_is names form in
-      elim (or_is (writes (dest_of given) x) (defines (graft table loop tag rest names' homes').tree x) h) [
+      elim (or_true (writes (dest_of given) x) (defines (graft table loop tag rest names' homes').tree x) h) [
         | inl p ↦ let q = written_new (dest_of given) names.next x w p in omega arith
         | inr p ↦ let q = next names' homes' p in omega arith
       ]
   graft_item-defines origin (Stays_plain given) names homes rest x w next h =
-      elim (or_is (writes (dest_of given) x) (defines (graft table loop tag rest names homes).tree x) h) [
+      elim (or_true (writes (dest_of given) x) (defines (graft table loop tag rest names homes).tree x) h) [
         | inl p ↦ let q : writes None x ≡ true = sym (ap (λ (d : Option ℕ). writes d x) w) ∙ p in absurd (cc)
         | inr p ↦ next names homes p
       ]
@@ -180,7 +180,7 @@ module _ (table : Table) (loop : Option ℕ) (tag : ℕ) where
   graft-defines (Asks origin on on_yes on_no) names homes x h =
       let one = graft table loop tag on_yes names homes in
       let more = (graft-extends table loop tag on_yes names homes).next in
-      elim (or_is (defines one.tree x) (defines (graft table loop tag on_no one.names homes).tree x) h) [
+      elim (or_true (defines one.tree x) (defines (graft table loop tag on_no one.names homes).tree x) h) [
         | inl p ↦ graft-defines on_yes names homes x p
         | inr p ↦ let q = graft-defines on_no one.names homes x p in omega arith
       ]
@@ -248,15 +248,15 @@ module _ (table : Table) (loop : Option ℕ) (names after : Supply) (fb : FormsB
   unwound-defines : {t u : Tree} → Unwound table loop names after t u → (x : ℕ) → defines u x ≡ true → (defines t x ≡ true) ⊎ (names.next ≤ x)
   unwound-defines (at_stub region tag homes tree is kept) x h =
       inr (graft-defines table loop tag (region_tree table region) names (home_of homes) x (ap (λ (t : Tree). defines t x) is ∙ h))
-  unwound-defines (below tag origin item {rest = rest} {new = new} u) x h = elim (or_is (writes (dest_of item) x) (defines new x) h) [
+  unwound-defines (below tag origin item {rest = rest} {new = new} u) x h = elim (or_true (writes (dest_of item) x) (defines new x) h) [
     | inl p ↦ inl (or_first (writes (dest_of item) x) (defines rest x) p)
     | inr p ↦ elim (unwound-defines u x p) [ inl q ↦ inl (or_second (writes (dest_of item) x) (defines rest x) q) | inr q ↦ inr q ]
   ]
-  unwound-defines (at_yes tag origin on {one = one} {new = new} other u) x h = elim (or_is (defines new x) (defines other x) h) [
+  unwound-defines (at_yes tag origin on {one = one} {new = new} other u) x h = elim (or_true (defines new x) (defines other x) h) [
     | inl p ↦ elim (unwound-defines u x p) [ inl q ↦ inl (or_first (defines one x) (defines other x) q) | inr q ↦ inr q ]
     | inr p ↦ inl (or_second (defines one x) (defines other x) p)
   ]
-  unwound-defines (at_no tag origin on one {other = other} {new = new} u) x h = elim (or_is (defines one x) (defines new x) h) [
+  unwound-defines (at_no tag origin on one {other = other} {new = new} u) x h = elim (or_true (defines one x) (defines new x) h) [
     | inl p ↦ inl (or_first (defines one x) (defines other x) p)
     | inr p ↦ elim (unwound-defines u x p) [ inl q ↦ inl (or_second (defines one x) (defines other x) q) | inr q ↦ inr q ]
   ]

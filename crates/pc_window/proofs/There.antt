@@ -17,7 +17,7 @@ use Rattle.pc_window.specs.Names.{uses}
 use Rattle.pc_window.specs.Opening.{Supply, Brought, Moves_home, Gets_name, Stays_plain, brought, Grafted, graft_item, homes_at, graft, opened}
 use Rattle.pc_window.specs.Opening.{first_new, first_home, first_supply, is_inside}
 use Rattle.pc_window.specs.Tidying.{tidied}
-use Rattle.pc_window.specs.Rename.{map_operands, map_homes, mapped, with_dest}
+use Rattle.pc_window.specs.Rename.{map_homes, mapped}
 use Rattle.pc_window.specs.Jump.{Rises, Root, Past_item, Past_yes, Past_no, DividesTree, Root_test, Past, EntersFront, Lands, Lands_renamed, Lands_test}
 use Rattle.pc_window.specs.Jump.{Lands_once, Behind_item, On_yes, On_no}
 use Rattle.pc_window.specs.Filled.{Filled, Full, Goes_on}
@@ -29,6 +29,7 @@ use Rattle.pc_window.specs.Laws.{OpenedPartsAreThere, OpenedParametersAreLive, T
 use Rattle.pc_window.proofs.CutRows.{whole_front_of}
 use Rattle.pc_window.proofs.Tidying.{tidied_tidy}
 use Rattle.pc_window.proofs.Uses.{graft-uses}
+use Rattle.pc_word.specs.Naming.{map_operands, with_dest}
 
 -- ---- opening
 

@@ -8,10 +8,9 @@ use Rattle.pc_word.specs.Word.{holds}
 use Rattle.pc_word.specs.Run.{Begins}
 use Rattle.pc_word.proofs.Runs.{Begins-refl, Begins-trans, Begins-after}
 use Rattle.pc_word.specs.State.{State}
-use Rattle.pc_word.specs.Items.{operand_value, dest_of, value_of}
+use Rattle.pc_word.specs.Items.{operand_value, dest_of, value_of, reads, reads_name}
 use Rattle.pc_word.specs.Commit.{prints_of, fault_of, state_after, writes}
 use Rattle.pc_linear.specs.Form.{Form}
-use Rattle.pc_table.specs.TableKeeps.{reads, reads_name}
 use Rattle.pc_table.specs.RegionRun.{side_of}
 use Rattle.pc_window.specs.Tree.{Tree, Pending, Undecided, Exit, Stop_exit, Trap_exit, home_of, state_at}
 use Rattle.pc_window.specs.Walk.{Walked, Leaves, Finishes, printing, done_first, walk}
@@ -22,10 +21,12 @@ use Rattle.pc_window.specs.Opening.{Supply, TreeBelow}
 use Rattle.pc_window.specs.Tidying.{kept_if_used, above, tidied, IsNeeded, IsTidy}
 use Rattle.pc_window.proofs.Shown.{walk_length, shown}
 use Rattle.pc_window.proofs.Rising.{Begins-none, shown-grows}
-use Rattle.pc_window.proofs.Items.{bare, Alike, Alike-fault, Alike-prints, Alike-value, Alike-after, same_evaluated, same_operand, states_equal}
-use Rattle.pc_window.proofs.Live.{pick_same, or_first, or_second, needed_above}
-use Rattle.pc_window.proofs.Uses.{or_is, unwritten, nat_eq-tells, reads_is}
+use Rattle.pc_table.proofs.Live.{pick_same}
+use Rattle.pc_table.proofs.Tests.{needed_above}
+use Rattle.pc_window.proofs.Uses.{unwritten, nat_eq-tells, reads_is}
 use Rattle.pc_window.proofs.Unwinding.{home_of-used, Side-map}
+use Rattle.pc_word.proofs.Evaluated.{bare, Alike, Alike-fault, Alike-prints, Alike-value, Alike-after, same_evaluated, same_operand, states_equal}
+use Rattle.pc_word.proofs.Truth.{or_first, or_second, or_true}
 
 -- ---- walks from states that agree on what is used
 
@@ -165,13 +166,13 @@ Tidy-keeps lengths tag origin item new old t = record {
   walks = λ s. ap (λ (w : Walked). done_first (fault_of lengths s (item ∷ [])) (prints_of s (item ∷ [])) w) (t.walks (state_after lengths s (item ∷ [])));
   no_longer = λ s. let l = t.no_longer (state_after lengths s (item ∷ [])) in omega arith;
   no_later = later;
-  fewer = λ x h. elim (or_is (reads item x) (not (writes (dest_of item) x) && uses new x) h) [
+  fewer = λ x h. elim (or_true (reads item x) (not (writes (dest_of item) x) && uses new x) h) [
     | inl e ↦ or_first (reads item x) (not (writes (dest_of item) x) && uses old x) e
     | inr e ↦ let p = unwritten (writes (dest_of item) x) (uses new x) e in needed_above (reads item x) (writes (dest_of item) x) (uses old x) p.0 (t.fewer x p.1)
   ];
   still_holds = λ σ forms s h. (h.0, t.still_holds σ forms (state_after lengths s (item ∷ [])) h.1);
   below = λ n h. (h.0, t.below n h.1);
-  defines_less = λ x h. elim (or_is (writes (dest_of item) x) (defines new x) h) [
+  defines_less = λ x h. elim (or_true (writes (dest_of item) x) (defines new x) h) [
     | inl e ↦ or_first (writes (dest_of item) x) (defines old x) e
     | inr e ↦ or_second (writes (dest_of item) x) (defines old x) (t.defines_less x e)
   ];
@@ -265,9 +266,9 @@ Tidy-test lengths tag origin on one one' other other' p q = record {
   walks = λ s. (λ i. side_of (operand_value s.names on) (p.walks s i) (q.walks s i));
   no_longer = λ s. no_longer (holds (operand_value s.names on)) _ _ _ _ (p.no_longer s) (q.no_longer s);
   no_later = later;
-  fewer = λ x h. elim (or_is (reads_name on x) (uses one x || uses other x) h) [
+  fewer = λ x h. elim (or_true (reads_name on x) (uses one x || uses other x) h) [
     | inl e ↦ or_first (reads_name on x) (uses one' x || uses other' x) e
-    | inr e ↦ or_second (reads_name on x) (uses one' x || uses other' x) (elim (or_is (uses one x) (uses other x) e) [
+    | inr e ↦ or_second (reads_name on x) (uses one' x || uses other' x) (elim (or_true (uses one x) (uses other x) e) [
       | inl d ↦ or_first (uses one' x) (uses other' x) (p.fewer x d)
       | inr d ↦ or_second (uses one' x) (uses other' x) (q.fewer x d)
     ])
@@ -277,7 +278,7 @@ Tidy-test lengths tag origin on one one' other other' p q = record {
       (DefinedHold σ forms lengths one s) (DefinedHold σ forms lengths other s)
       (λ d. p.still_holds σ forms s d) (λ d. q.still_holds σ forms s d) h;
   below = λ n h. (h.0, p.below n h.1, q.below n h.2);
-  defines_less = λ x h. elim (or_is (defines one x) (defines other x) h) [
+  defines_less = λ x h. elim (or_true (defines one x) (defines other x) h) [
     | inl e ↦ or_first (defines one' x) (defines other' x) (p.defines_less x e)
     | inr e ↦ or_second (defines one' x) (defines other' x) (q.defines_less x e)
   ];

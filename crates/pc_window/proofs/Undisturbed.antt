@@ -13,14 +13,13 @@ use Rattle.pc_word.specs.declared.item.MachineFault.TheVariants.{StoreOutOfRange
 use Rattle.pc_word.proofs.Lists.{all_imply}
 use Rattle.pc_word.specs.State.{State}
 use Rattle.pc_word.specs.Commit.{Stored, stores_of, prints_of, fault_of, writes}
-use Rattle.pc_word.specs.Items.{operand_value, place_in, element_at, next_input, some_left, dest_of, value_of, is_effect, operands_of}
+use Rattle.pc_word.specs.Items.{operand_value, place_in, element_at, next_input, some_left, dest_of, value_of, is_effect, operands_of, reads}
 use Rattle.pc_window.specs.Walk.{after_item}
 use Rattle.pc_linear.specs.Form.{Form, Means}
 use Rattle.pc_linear.specs.Equality.{NeverEqual}
 use Rattle.pc_window.specs.Hold.{operand_form, KnownHold}
 use Rattle.pc_window.specs.Names.{IsKnown, ReadsKnown, IsNew}
 use Rattle.pc_window.specs.Conflict.{touch_of, NoStoreDependence, MayFollow}
-use Rattle.pc_table.specs.TableKeeps.{reads}
 
 -- what an item does is the same in two states
 pub record Unmoved (lengths : List ℕ) (s t : State) (item : Item) : Type 0 where

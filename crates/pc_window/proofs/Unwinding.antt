@@ -10,12 +10,12 @@ use Rattle.pc_word.specs.Word.{holds}
 use Rattle.pc_word.specs.Run.{Agree, Grows, Seen, after_printing}
 use Rattle.pc_word.proofs.Runs.{Begins-refl, Begins-after, run_from-grows}
 use Rattle.pc_word.specs.State.{State}
-use Rattle.pc_word.specs.Items.{operand_value, dest_of, value_of}
+use Rattle.pc_word.specs.Items.{operand_value, dest_of, value_of, reads, reads_name}
 use Rattle.pc_word.specs.Commit.{prints_of, fault_of, state_after, writes}
 use Rattle.pc_linear.specs.Form.{Form, Means}
 use Rattle.pc_table.specs.Table.{Next, Table, region_tree}
 use Rattle.pc_table.specs.RegionRun.{place_at, region_step, region_run}
-use Rattle.pc_table.specs.TableKeeps.{reads, reads_name, TableKeeps}
+use Rattle.pc_table.specs.TableKeeps.{TableKeeps}
 use Rattle.pc_window.specs.declared.home.Home.{Home}
 use Rattle.pc_window.specs.Tree.{Tree, Pending, Undecided, Exit, Stop_exit, Trap_exit, home_of}
 use Rattle.pc_window.specs.Walk.{Walked, Leaves, Finishes, printing, done_first, walk}
@@ -24,12 +24,13 @@ use Rattle.pc_window.specs.Names.{uses, homes_use}
 use Rattle.pc_window.specs.Hold.{DefinedMeans, DefinedHold, ParametersHold, HoldUnder, TreeHolds, Side}
 use Rattle.pc_window.specs.Opening.{Supply, Grafted, below_item, under_item, under_test, unwound_at, is_inside, graft, OperandBelow, ItemBelow, StubBelow, TreeBelow, FormsBelow}
 use Rattle.pc_window.proofs.Forms.{Means-agree}
-use Rattle.pc_window.proofs.Live.{or_first, or_second, needed_above}
+use Rattle.pc_table.proofs.Tests.{needed_above}
 use Rattle.pc_window.proofs.Grafts.{follow-after, HomesBelow, Extends, Extends-refl, nat_eq-same}
 use Rattle.pc_window.proofs.Follows.{graft-extends}
 use Rattle.pc_window.proofs.GraftForms.{HomesMean, OperandMeans, GoesOn, Held, GraftHolds, graft_holds}
-use Rattle.pc_window.proofs.Uses.{or_is, unwritten, nat_eq-tells, graft-uses}
+use Rattle.pc_window.proofs.Uses.{unwritten, nat_eq-tells, graft-uses}
 use Rattle.pc_window.proofs.Openings.{Agree-later, grafted_region}
+use Rattle.pc_word.proofs.Truth.{or_first, or_second, or_true}
 
 -- ---- a stub's homes
 
@@ -179,7 +180,7 @@ operand_below n (Name y) x b h = let e = nat_eq-tells y x h in omega arith
 operand_below n (Lit value) x b h = absurd (cc)
 
 two_below : (n : ℕ) (l r : Operand) (x : ℕ) → OperandBelow n l → OperandBelow n r → (reads_name l x || reads_name r x) ≡ true → x < n
-two_below n l r x p q h = elim (or_is (reads_name l x) (reads_name r x) h) [ inl e ↦ operand_below n l x p e | inr e ↦ operand_below n r x q e ]
+two_below n l r x p q h = elim (or_true (reads_name l x) (reads_name r x) h) [ inl e ↦ operand_below n l x p e | inr e ↦ operand_below n r x q e ]
 
 read_below : (n : ℕ) (item : Item) (x : ℕ) → ItemBelow n item → reads item x ≡ true → x < n
 read_below n (Bin op dest left right) x b h = two_below n left right x b.1 b.2 h
@@ -192,16 +193,16 @@ read_below n (More dest) x b h = absurd (cc)
 
 homes_read_below : (n : ℕ) (homes : List Home) (x : ℕ) → StubBelow n homes → homes_use homes x ≡ true → x < n
 homes_read_below n [] x b h = absurd (cc)
-homes_read_below n (home ∷ homes) x b h = elim (or_is (reads_name home.value x) (homes_use homes x) h) [ inl e ↦ operand_below n home.value x b.0 e | inr e ↦ homes_read_below n homes x b.1 e ]
+homes_read_below n (home ∷ homes) x b h = elim (or_true (reads_name home.value x) (homes_use homes x) h) [ inl e ↦ operand_below n home.value x b.0 e | inr e ↦ homes_read_below n homes x b.1 e ]
 
 pub used_below : (n : ℕ) (t : Tree) (x : ℕ) → TreeBelow n t → uses t x ≡ true → x < n
-used_below n (Pending tag origin item rest) x b h = elim (or_is (reads item x) (not (writes (dest_of item) x) && uses rest x) h) [
+used_below n (Pending tag origin item rest) x b h = elim (or_true (reads item x) (not (writes (dest_of item) x) && uses rest x) h) [
   | inl e ↦ read_below n item x b.0 e
   | inr e ↦ used_below n rest x b.1 (unwritten (writes (dest_of item) x) (uses rest x) e).1
 ]
-used_below n (Undecided tag origin on one other) x b h = elim (or_is (reads_name on x) (uses one x || uses other x) h) [
+used_below n (Undecided tag origin on one other) x b h = elim (or_true (reads_name on x) (uses one x || uses other x) h) [
   | inl e ↦ operand_below n on x b.0 e
-  | inr e ↦ elim (or_is (uses one x) (uses other x) e) [ inl p ↦ used_below n one x b.1 p | inr p ↦ used_below n other x b.2 p ]
+  | inr e ↦ elim (or_true (uses one x) (uses other x) e) [ inl p ↦ used_below n one x b.1 p | inr p ↦ used_below n other x b.2 p ]
 ]
 used_below n (Exit region tag homes) x b h = homes_read_below n homes x b h
 used_below n Stop_exit x b h = absurd (cc)
@@ -301,20 +302,20 @@ module _ (table : Table) (loop : Option ℕ) (names after : Supply) (fb : FormsB
   unwound-uses (at_stub region tag homes tree is kept) x h =
       let home = graft-uses table loop tag (region_tree table region) names (home_of homes) x (ap (λ (t : Tree). uses t x) is ∙ h) in
       home_of-used homes home.variable x home.is
-  unwound-uses (below tag origin item {rest = rest} {new = new} u) x h = elim (or_is (reads item x) (not (writes (dest_of item) x) && uses new x) h) [
+  unwound-uses (below tag origin item {rest = rest} {new = new} u) x h = elim (or_true (reads item x) (not (writes (dest_of item) x) && uses new x) h) [
     | inl e ↦ or_first (reads item x) (not (writes (dest_of item) x) && uses rest x) e
     | inr e ↦ let p = unwritten (writes (dest_of item) x) (uses new x) e in needed_above (reads item x) (writes (dest_of item) x) (uses rest x) p.0 (unwound-uses u x p.1)
   ]
-  unwound-uses (at_yes tag origin on {one = one} {new = new} other u) x h = elim (or_is (reads_name on x) (uses new x || uses other x) h) [
+  unwound-uses (at_yes tag origin on {one = one} {new = new} other u) x h = elim (or_true (reads_name on x) (uses new x || uses other x) h) [
     | inl e ↦ or_first (reads_name on x) (uses one x || uses other x) e
-    | inr e ↦ or_second (reads_name on x) (uses one x || uses other x) (elim (or_is (uses new x) (uses other x) e) [
+    | inr e ↦ or_second (reads_name on x) (uses one x || uses other x) (elim (or_true (uses new x) (uses other x) e) [
       | inl p ↦ or_first (uses one x) (uses other x) (unwound-uses u x p)
       | inr p ↦ or_second (uses one x) (uses other x) p
     ])
   ]
-  unwound-uses (at_no tag origin on one {other = other} {new = new} u) x h = elim (or_is (reads_name on x) (uses one x || uses new x) h) [
+  unwound-uses (at_no tag origin on one {other = other} {new = new} u) x h = elim (or_true (reads_name on x) (uses one x || uses new x) h) [
     | inl e ↦ or_first (reads_name on x) (uses one x || uses other x) e
-    | inr e ↦ or_second (reads_name on x) (uses one x || uses other x) (elim (or_is (uses one x) (uses new x) e) [
+    | inr e ↦ or_second (reads_name on x) (uses one x || uses other x) (elim (or_true (uses one x) (uses new x) e) [
       | inl p ↦ or_first (uses one x) (uses other x) p
       | inr p ↦ or_second (uses one x) (uses other x) (unwound-uses u x p)
     ])

@@ -6,19 +6,15 @@ use Rattle.pc_word.specs.declared.item.Item.{Item}
 use Rattle.pc_word.specs.declared.item.Item.TheVariants.{Bin, Copy, Load, Store, Print, Read, More}
 use Rattle.pc_word.specs.declared.item.Operand.{Operand}
 use Rattle.pc_word.specs.declared.item.Operand.TheVariants.{Name, Lit}
-use Rattle.pc_word.specs.Items.{dest_of}
+use Rattle.pc_word.specs.Items.{dest_of, reads, reads_name}
 use Rattle.pc_word.specs.Commit.{writes}
 use Rattle.pc_table.specs.Table.{TableTree, Does, Asks, Next, Stops_here, Traps_here, Table, region_live}
-use Rattle.pc_table.specs.TableKeeps.{reads, reads_name, needs}
+use Rattle.pc_table.specs.TableKeeps.{needs}
 use Rattle.pc_window.specs.Names.{uses, homes_use}
-use Rattle.pc_window.proofs.Live.{or_first, or_second, needed_above}
+use Rattle.pc_table.proofs.Tests.{needed_above}
 use Rattle.pc_window.proofs.Grafts.{nat_eq-same}
 use Rattle.pc_window.specs.Opening.{Supply, changed, with_name, at_home, Brought, Moves_home, Gets_name, Stays_plain, brought, Grafted, graft_item, homes_at, graft}
-
--- a test with || that is true, and one with &&
-pub or_is : (a b : Bool) → (a || b) ≡ true → (a ≡ true) ⊎ (b ≡ true)
-or_is true b h = inl refl
-or_is false b h = inr h
+use Rattle.pc_word.proofs.Truth.{or_first, or_second, or_true}
 
 pub unwritten : (w b : Bool) → (not w && b) ≡ true → (w ≡ false) × (b ≡ true)
 unwritten true b h = absurd (cc)
@@ -51,7 +47,7 @@ at_home_reads homes o x h = at_home_is homes o x (reads_is (at_home homes o) x h
 
 either_reads : (homes : ℕ → Operand) (l r : Operand) (x : ℕ) → (reads_name (at_home homes l) x || reads_name (at_home homes r) x) ≡ true
     → IsHome (λ v. reads_name l v || reads_name r v) homes x
-either_reads homes l r x h = elim (or_is (reads_name (at_home homes l) x) (reads_name (at_home homes r) x) h) [
+either_reads homes l r x h = elim (or_true (reads_name (at_home homes l) x) (reads_name (at_home homes r) x) h) [
   | inl p ↦ wider (reads_name l) (λ v. reads_name l v || reads_name r v) homes x (λ v. or_first (reads_name l v) (reads_name r v)) (at_home_reads homes l x p)
   | inr p ↦ wider (reads_name r) (λ v. reads_name l v || reads_name r v) homes x (λ v. or_second (reads_name l v) (reads_name r v)) (at_home_reads homes r x p)
 ]
@@ -84,7 +80,7 @@ not_itself n x o p q r =
 
 homes_at_use : (homes : ℕ → Operand) (vs : List ℕ) (x : ℕ) → homes_use (homes_at homes vs) x ≡ true → IsHome (λ v. list_any (nat_eq v) vs) homes x
 homes_at_use homes [] x h = absurd (cc)
-homes_at_use homes (v ∷ vs) x h = elim (or_is (reads_name (homes v) x) (homes_use (homes_at homes vs) x) h) [
+homes_at_use homes (v ∷ vs) x h = elim (or_true (reads_name (homes v) x) (homes_use (homes_at homes vs) x) h) [
   | inl p ↦ record { variable = v; needed = or_first (nat_eq v v) (list_any (nat_eq v) vs) (nat_eq-same v); is = reads_is (homes v) x p }
   | inr p ↦ wider (λ w. list_any (nat_eq w) vs) (λ w. list_any (nat_eq w) (v ∷ vs)) homes x
       (λ w. or_second (nat_eq w v) (list_any (nat_eq w) vs)) (homes_at_use homes vs x p)
@@ -117,7 +113,7 @@ module _ (table : Table) (loop : Option ℕ) (tag : ℕ) where
         ]
     graft_item-uses (Gets_name variable given form) names homes rest x r next h =
         let g = rest (with_name names form) (changed homes variable (Name names.next)) in
-        elim (or_is (reads given x) (not (writes (dest_of given) x) && uses g.tree x) h) [
+        elim (or_true (reads given x) (not (writes (dest_of given) x) && uses g.tree x) h) [
           | inl p ↦ read_first homes x (r.0 x p)
           | inr p ↦
               let q = unwritten (writes (dest_of given) x) (uses g.tree x) p in
@@ -130,7 +126,7 @@ module _ (table : Table) (loop : Option ℕ) (tag : ℕ) where
         ]
     graft_item-uses (Stays_plain given) names homes rest x r next h =
         let g = rest names homes in
-        elim (or_is (reads given x) (not (writes (dest_of given) x) && uses g.tree x) h) [
+        elim (or_true (reads given x) (not (writes (dest_of given) x) && uses g.tree x) h) [
           | inl p ↦ read_first homes x (r.0 x p)
           | inr p ↦
               let used = next names homes (unwritten (writes (dest_of given) x) (uses g.tree x) p).1 in
@@ -146,9 +142,9 @@ module _ (table : Table) (loop : Option ℕ) (tag : ℕ) where
       let one = graft table loop tag on_yes names homes in
       let other = graft table loop tag on_no one.names homes in
       let all = needs table (Asks origin on on_yes on_no) in
-      elim (or_is (reads_name (at_home homes on) x) (uses one.tree x || uses other.tree x) h) [
+      elim (or_true (reads_name (at_home homes on) x) (uses one.tree x || uses other.tree x) h) [
         | inl p ↦ wider (reads_name on) all homes x (λ v. or_first (reads_name on v) (needs table on_yes v || needs table on_no v)) (at_home_reads homes on x p)
-        | inr p ↦ elim (or_is (uses one.tree x) (uses other.tree x) p) [
+        | inr p ↦ elim (or_true (uses one.tree x) (uses other.tree x) p) [
           | inl q ↦ wider (needs table on_yes) all homes x
               (λ v n. or_second (reads_name on v) (needs table on_yes v || needs table on_no v) (or_first (needs table on_yes v) (needs table on_no v) n)) (graft-uses on_yes names homes x q)
           | inr q ↦ wider (needs table on_no) all homes x

@@ -20,7 +20,7 @@ use Rattle.pc_window.specs.Opening.{Supply, Grafted, first_supply, first_home, o
 use Rattle.pc_window.specs.Steps.{window_of, loop_of, opened_window, IsProper}
 use Rattle.pc_word.specs.Ranges.{AreLimits}
 use Rattle.pc_window.proofs.Proper.{opens_proper}
-use Rattle.pc_window.specs.StoredWindow.{InNodes, IsJustOpened, window_in, tree_in, front_in, supply_in, homes_in}
+use Rattle.pc_window.specs.StoredWindow.{InNodes, NodesBehind, IsJustOpened, window_in, tree_in, front_in, supply_in, homes_in}
 
 -- below an item or test that is a node of its own nothing is finished
 pub below_unfinished : (tree : WindowTree) → InNodes false tree → front_in tree ≡ Unfinished (tree_in tree)
@@ -30,6 +30,23 @@ below_unfinished (stored.Node' p below) h = refl
 below_unfinished (stored.Exit region tag homes) h = refl
 below_unfinished stored.Stop h = refl
 below_unfinished (stored.Trap kind line) h = refl
+
+-- a tree whose nodes are single has single nodes behind its root
+pub below_behind : (tree : WindowTree) → InNodes false tree → NodesBehind tree
+below_behind (stored.Step' tag origin item p rest) h = absurd h
+below_behind (stored.Test' tag origin on p on_yes q on_no) h = absurd h
+below_behind (stored.Node' p below) h = h
+below_behind (stored.Exit region tag homes) h = tt
+below_behind stored.Stop h = tt
+below_behind (stored.Trap kind line) h = tt
+
+pub in_nodes_behind : (tree : WindowTree) → InNodes true tree → NodesBehind tree
+in_nodes_behind (stored.Step' tag origin item p rest) h = below_behind rest h
+in_nodes_behind (stored.Test' tag origin on p on_yes q on_no) h = (below_behind on_yes h.0, below_behind on_no h.1)
+in_nodes_behind (stored.Node' p below) h = absurd h
+in_nodes_behind (stored.Exit region tag homes) h = tt
+in_nodes_behind stored.Stop h = tt
+in_nodes_behind (stored.Trap kind line) h = tt
 
 -- the front is the first item or test
 first_front : (tree : WindowTree) → InNodes true tree → front_in tree ≡ front_of (tree_in tree)
@@ -92,7 +109,7 @@ pub ruleset sized = (whole_size)
 
 -- ---- opening
 
-as_many : (regions : List Region) → length (map table_region regions) ≡ length regions
+pub as_many : (regions : List Region) → length (map table_region regions) ≡ length regions
 as_many [] = refl
 as_many (r ∷ regions) = ap suc (as_many regions)
 

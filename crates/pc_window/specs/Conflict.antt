@@ -1,28 +1,18 @@
 -- When two items conflict, by the forms of their indexes.
-use Rattle.std.specs.Prelude.{ℕ, ◌≡◌, Bool, true, false, ◌&&◌, ◌||◌, Option, Some, None}
+use Rattle.std.specs.Prelude.{ℕ, ◌≡◌, true, false, ◌&&◌, ◌||◌, Option, Some, None}
 use Rattle.pc_word.specs.declared.item.Item.{Item}
-use Rattle.pc_word.specs.declared.item.Item.TheVariants.{Bin, Copy, Load, Store, Print, Read, More}
-use Rattle.pc_word.specs.declared.item.Operand.{Operand}
+use Rattle.pc_word.specs.declared.item.Item.TheVariants.{Load, Store}
 use Rattle.pc_word.specs.Items.{is_effect}
 use Rattle.pc_linear.specs.Form.{Form}
 use Rattle.pc_linear.specs.Equality.{NeverEqual}
+use Rattle.pc_window.specs.declared.conflict.Touch.{Touch}
 use Rattle.pc_window.specs.Hold.{operand_form}
-
--- the element that a load or store touches, and whether it stores
-pub record Touch : Type 0 where
-  pub array : ℕ
-  pub index : Operand
-  pub stores : Bool
 
 -- what an item touches: nothing, unless it is a load or store
 abbrev pub touch_of : Item → Option Touch
-touch_of (Bin op dest left right) = None
-touch_of (Copy dest from) = None
 touch_of (Load dest array index) = Some (record { array = array; index = index; stores = false })
 touch_of (Store array index value) = Some (record { array = array; index = index; stores = true })
-touch_of (Print value) = None
-touch_of (Read dest) = None
-touch_of (More dest) = None
+touch_of _ = None
 
 -- the two may be exchanged: where they touch one array and one of them stores, the forms of their indexes are never equal
 abbrev pub NoDependence : (ℕ → Form) → Option Touch → Option Touch → Type 0

@@ -3,7 +3,7 @@ use Rattle.std.specs.Prelude.{ℕ, suc, ◌+◌, ◌<◌, ◌≤◌, ◌≡◌, 
 use Rattle.pc_word.specs.declared.item.Item.{Item}
 use Rattle.pc_word.specs.declared.item.Operand.{Operand}
 use Rattle.pc_word.specs.declared.item.Limits.{Limits}
-use Rattle.pc_word.specs.Items.{is_memory}
+use Rattle.pc_word.specs.Items.{is_memory, reads}
 use Rattle.pc_window.specs.Tree.{Tree, Front, Issued, Split, Unfinished, whole, tree_size}
 use Rattle.pc_linear.specs.Form.{Form}
 use Rattle.pc_window.specs.Names.{Scoped, IsKnown, ReadsKnown}
@@ -12,7 +12,6 @@ use Rattle.pc_window.specs.Jump.{On_yes, On_no, combined}
 use Rattle.pc_window.specs.WindowRun.{Window, supply_of}
 use Rattle.pc_window.specs.Opening.{Supply, with_name}
 use Rattle.pc_window.specs.Conflict.{MayFollow}
-use Rattle.pc_table.specs.TableKeeps.{reads}
 
 -- ---- a front that does not hang on itself
 

@@ -2,9 +2,9 @@
 use Rattle.std.specs.Prelude.{ℕ, ◌≡◌, Bool, true, false, nat_eq, Option, Some, None}
 use Rattle.std.specs.List.{AllByRecursion}
 use Rattle.pc_word.specs.declared.item.Item.{Item}
-use Rattle.pc_word.specs.declared.item.Item.TheVariants.{Bin, Copy, Load, Store, Print, Read, More}
+use Rattle.pc_word.specs.declared.item.Item.TheVariants.{Bin}
 use Rattle.pc_word.specs.declared.item.Operand.{Operand}
-use Rattle.pc_word.specs.Items.{dest_of}
+use Rattle.pc_word.specs.Items.{dest_of, only_computes}
 use Rattle.pc_word.specs.Commit.{writes}
 use Rattle.pc_window.specs.Tree.{Tree, Pending, Undecided, Front, Issued, Split, Unfinished, whole}
 use Rattle.pc_linear.specs.Form.{Form}
@@ -13,7 +13,8 @@ use Rattle.pc_window.specs.Hold.{operand_form}
 use Rattle.pc_window.specs.Opening.{changed}
 use Rattle.pc_window.specs.Names.{IsKnown, ReadsKnown, IsNew, NotWritten}
 use Rattle.pc_window.specs.Conflict.{NoConflict, MayFollow}
-use Rattle.pc_window.specs.Rename.{mapped, renamed, with_dest}
+use Rattle.pc_window.specs.Rename.{mapped}
+use Rattle.pc_word.specs.Naming.{renamed, with_dest}
 
 -- ---- new forms
 
@@ -33,16 +34,6 @@ NewForm forms None form = (variable : ℕ) × (form ≡ variable_form variable) 
 
 -- ---- an item rises to the root of what stands behind a leaf
 
--- items whose effect is their name alone; they may rise above a test
-abbrev pub is_quiet : Item → Bool
-is_quiet (Bin op dest left right) = true
-is_quiet (Copy dest from) = true
-is_quiet (Load dest array index) = true
-is_quiet (Store array index value) = false
-is_quiet (Print value) = false
-is_quiet (Read dest) = false
-is_quiet (More dest) = false
-
 -- an item that stands in a tree rises to its root, there with the name that x writes: it conflicts with no item that it
 -- passes; it passes a test only where it is quiet; what it leaves has its uses renamed. `crosses` tells whether it passes
 -- a test.
@@ -51,9 +42,9 @@ pub data Rises (forms : ℕ → Form) (tag origin : ℕ) (stood x : Item) : Bool
       → Rises forms tag origin stood x false (Pending tag origin stood rest) (mapped (renamed (dest_of stood) (dest_of x)) rest)
   Past_item : (t o : ℕ) (y : Item) (crosses : Bool) (rest left : Tree) → NoConflict forms y x → IsNew (writes (dest_of y)) (dest_of x)
       → Rises forms tag origin stood x crosses rest left → Rises forms tag origin stood x crosses (Pending t o y rest) (Pending t o y left)
-  Past_yes : (t o : ℕ) (on : Operand) (crosses : Bool) (on_yes on_no left : Tree) → is_quiet x ≡ true → NotWritten (dest_of x) on_no
+  Past_yes : (t o : ℕ) (on : Operand) (crosses : Bool) (on_yes on_no left : Tree) → only_computes x ≡ true → NotWritten (dest_of x) on_no
       → Rises forms tag origin stood x crosses on_yes left → Rises forms tag origin stood x true (Undecided t o on on_yes on_no) (Undecided t o on left on_no)
-  Past_no : (t o : ℕ) (on : Operand) (crosses : Bool) (on_yes on_no left : Tree) → is_quiet x ≡ true → NotWritten (dest_of x) on_yes
+  Past_no : (t o : ℕ) (on : Operand) (crosses : Bool) (on_yes on_no left : Tree) → only_computes x ≡ true → NotWritten (dest_of x) on_yes
       → Rises forms tag origin stood x crosses on_no left → Rises forms tag origin stood x true (Undecided t o on on_yes on_no) (Undecided t o on on_yes left)
 
 -- a test that stands behind items alone divides a tree: the items before it then stand on both sides

@@ -1,13 +1,11 @@
 -- Names: what a tree uses and defines; and when each name is known before it is read, and written once on a path.
 use Rattle.std.specs.Prelude.{◌≡◌, ℕ, Bool, true, false, not, ◌&&◌, ◌||◌, if◌then◌else◌, List, [], ◌∷◌, ◌++◌, Option, Some, None}
-use Rattle.std.specs.List.{AllByRecursion}
+use Rattle.std.specs.List.{list_any, AllByRecursion}
 use Rattle.pc_word.specs.declared.item.Item.{Item}
-use Rattle.pc_word.specs.declared.item.Item.TheVariants.{Bin, Copy, Load, Store, Print, Read, More}
 use Rattle.pc_word.specs.declared.item.Operand.{Operand}
 use Rattle.pc_word.specs.declared.item.Operand.TheVariants.{Name, Lit}
-use Rattle.pc_word.specs.Items.{dest_of, operands_of}
+use Rattle.pc_word.specs.Items.{dest_of, operands_of, reads, reads_name}
 use Rattle.pc_word.specs.Commit.{writes}
-use Rattle.pc_table.specs.TableKeeps.{reads, reads_name}
 use Rattle.pc_window.specs.declared.home.Home.{Home}
 use Rattle.pc_window.specs.Tree.{Tree, Pending, Undecided, Exit, Stop_exit, Trap_exit}
 
@@ -15,8 +13,7 @@ use Rattle.pc_window.specs.Tree.{Tree, Pending, Undecided, Exit, Stop_exit, Trap
 
 -- whether a home reads a name
 abbrev pub homes_use : List Home → ℕ → Bool
-homes_use [] x = false
-homes_use (home ∷ homes) x = reads_name home.value x || homes_use homes x
+homes_use homes x = list_any (λ home. reads_name home.value x) homes
 
 -- whether a name is used and not defined above: the parameters of a tree
 abbrev pub uses : Tree → ℕ → Bool
@@ -78,15 +75,15 @@ abbrev pub name_in : Operand → List ℕ
 name_in (Name x) = x ∷ []
 name_in (Lit value) = []
 
+-- the names that operands read, in order
+abbrev pub names_among : List Operand → List ℕ
+names_among [] = []
+names_among (o ∷ []) = name_in o
+names_among (o ∷ p ∷ operands) = name_in o ++ names_among (p ∷ operands)
+
 -- the names that an item reads, in order
 abbrev pub names_read : Item → List ℕ
-names_read (Bin op dest left right) = name_in left ++ name_in right
-names_read (Copy dest from) = name_in from
-names_read (Load dest array index) = name_in index
-names_read (Store array index value) = name_in index ++ name_in value
-names_read (Print value) = name_in value
-names_read (Read dest) = []
-names_read (More dest) = []
+names_read item = names_among (operands_of item)
 
 -- the names that homes read, in order
 abbrev pub names_in_homes : List Home → List ℕ

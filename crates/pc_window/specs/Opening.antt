@@ -5,6 +5,7 @@ use Rattle.pc_word.specs.declared.item.Item.{Item}
 use Rattle.pc_word.specs.declared.item.Item.TheVariants.{Bin, Copy, Load, Store, Print, Read, More}
 use Rattle.pc_word.specs.declared.item.Operand.{Operand}
 use Rattle.pc_word.specs.declared.item.Operand.TheVariants.{Name, Lit}
+use Rattle.pc_word.specs.Items.{dest_of, operands_of}
 use Rattle.pc_linear.specs.declared.term.Term.{Term}
 use Rattle.pc_linear.specs.Form.{Form}
 use Rattle.pc_linear.specs.Combine.{combine, constant_form, variable_form}
@@ -180,15 +181,22 @@ abbrev pub OperandBelow : ℕ → Operand → Type 0
 OperandBelow n (Name x) = x < n
 OperandBelow n (Lit value) = Unit
 
+-- the names that operands read are below a number
+abbrev pub OperandsBelow : ℕ → List Operand → Type 0
+OperandsBelow n [] = Unit
+OperandsBelow n (o ∷ []) = OperandBelow n o
+OperandsBelow n (o ∷ p ∷ operands) = OperandBelow n o × OperandsBelow n (p ∷ operands)
+
+-- the name that is written, if any is, and those that operands read are below a number
+abbrev pub NamesBelow : ℕ → Option ℕ → List Operand → Type 0
+NamesBelow n None operands = OperandsBelow n operands
+NamesBelow n (Some dest) [] = dest < n
+NamesBelow n (Some dest) (o ∷ []) = (dest < n) × OperandBelow n o
+NamesBelow n (Some dest) (o ∷ p ∷ operands) = (dest < n) × OperandBelow n o × OperandsBelow n (p ∷ operands)
+
 -- the names that an item reads and writes are below a number
 abbrev pub ItemBelow : ℕ → Item → Type 0
-ItemBelow n (Bin op dest left right) = (dest < n) × OperandBelow n left × OperandBelow n right
-ItemBelow n (Copy dest from) = (dest < n) × OperandBelow n from
-ItemBelow n (Load dest array index) = (dest < n) × OperandBelow n index
-ItemBelow n (Store array index value) = OperandBelow n index × OperandBelow n value
-ItemBelow n (Print value) = OperandBelow n value
-ItemBelow n (Read dest) = dest < n
-ItemBelow n (More dest) = dest < n
+ItemBelow n item = NamesBelow n (dest_of item) (operands_of item)
 
 -- the names that the homes of a stub read are below a number
 abbrev pub StubBelow : ℕ → List Home → Type 0

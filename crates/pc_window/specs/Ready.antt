@@ -6,9 +6,10 @@ use Rattle.pc_window.specs.Tree.{Tree, Pending, Undecided, Front, Issued, Split,
 use Rattle.pc_linear.specs.Form.{Form}
 use Rattle.pc_window.specs.Names.{IsKnown, ReadsKnown, Unwritten}
 use Rattle.pc_window.specs.Conflict.{NoConflict, MayFollow}
-use Rattle.pc_window.specs.Jump.{is_quiet, Without}
+use Rattle.pc_window.specs.Jump.{Without}
 use Rattle.pc_window.specs.WindowRun.{Window}
 use Rattle.pc_window.specs.Filled.{HasSpace, Jump, priority_of}
+use Rattle.pc_word.specs.Items.{only_computes}
 
 -- an item of this tag and origin stands at a preorder place of a tree; no item before it conflicts with it; and a test stands
 -- before it (the Bool) only where it is quiet
@@ -16,9 +17,9 @@ pub data CanRise (forms : ℕ → Form) (x : Item) (tag origin : ℕ) : (place :
   Stands_here : (rest : Tree) → CanRise forms x tag origin 0 false (Pending tag origin x rest)
   Stands_below : (t o : ℕ) (y : Item) (place : ℕ) (crosses : Bool) (rest : Tree) → NoConflict forms y x
       → CanRise forms x tag origin place crosses rest → CanRise forms x tag origin (suc place) crosses (Pending t o y rest)
-  Stands_on_yes : (t o : ℕ) (on : Operand) (place : ℕ) (crosses : Bool) (on_yes on_no : Tree) → is_quiet x ≡ true
+  Stands_on_yes : (t o : ℕ) (on : Operand) (place : ℕ) (crosses : Bool) (on_yes on_no : Tree) → only_computes x ≡ true
       → CanRise forms x tag origin place crosses on_yes → CanRise forms x tag origin (suc place) true (Undecided t o on on_yes on_no)
-  Stands_on_no : (t o : ℕ) (on : Operand) (place : ℕ) (crosses : Bool) (on_yes on_no : Tree) → is_quiet x ≡ true
+  Stands_on_no : (t o : ℕ) (on : Operand) (place : ℕ) (crosses : Bool) (on_yes on_no : Tree) → only_computes x ≡ true
       → CanRise forms x tag origin place crosses on_no → CanRise forms x tag origin (suc (tree_size on_yes + place)) true (Undecided t o on on_yes on_no)
 
 -- a test stands at a place of a tree, and no test before it

@@ -1,2 +1,3 @@
 pub mod Stored
-pub mod Printed
+pub mod Ranks
+pub mod Listing

@@ -47,65 +47,19 @@ pub(crate) fn bring(names: &NameTable, homes: &[Operand], item: Item) -> Brought
     requires { length names.now.forms < 2 ^ 31 }
     ensures { brought_in result ≡ brought (supply_in names.now) (homes_in homes.now) item }
 {
-    let name = names.forms.len() as u32;
-    match item {
-        Item::Bin {
-            op,
-            dest,
-            left,
-            right,
-        } => {
-            let left = at_home(homes, left);
-            let right = at_home(homes, right);
-            Brought::GetsName {
-                variable: dest,
-                item: Item::Bin {
-                    op,
-                    dest: name,
-                    left,
-                    right,
-                },
-                form: LinForm::combine(op, &names.form(left), &names.form(right)),
-            }
-        }
-        Item::Copy { dest, from } => Brought::MovesHome {
+    let item = item.map_operands(|operand| at_home(homes, operand));
+    if let Item::Copy { dest, from } = item {
+        return Brought::MovesHome {
             variable: dest,
-            from: at_home(homes, from),
+            from,
+        };
+    }
+    match item.dest() {
+        Some(variable) => Brought::GetsName {
+            variable,
+            item: item.with_dest(names.forms.len() as u32),
+            form: names.combined(item),
         },
-        Item::Load { dest, array, index } => Brought::GetsName {
-            variable: dest,
-            item: Item::Load {
-                dest: name,
-                array,
-                index: at_home(homes, index),
-            },
-            form: None,
-        },
-        Item::Store {
-            array,
-            index,
-            value,
-        } => Brought::StaysPlain {
-            item: Item::Store {
-                array,
-                index: at_home(homes, index),
-                value: at_home(homes, value),
-            },
-        },
-        Item::Print { value } => Brought::StaysPlain {
-            item: Item::Print {
-                value: at_home(homes, value),
-            },
-        },
-        Item::Read { dest } => Brought::GetsName {
-            variable: dest,
-            item: Item::Read { dest: name },
-            form: None,
-        },
-        Item::More { dest } => Brought::GetsName {
-            variable: dest,
-            item: Item::More { dest: name },
-            form: None,
-        },
+        None => Brought::StaysPlain { item },
     }
 }

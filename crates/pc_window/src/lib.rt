@@ -3,32 +3,39 @@
 #![tactic(auto)]
 
 mod bring;
+mod conflict;
 mod error;
 mod grafting;
 mod home;
 mod laws;
+mod listed_names;
+mod listing;
 mod loops;
 mod names;
 mod nodes;
-#[cfg(test)]
-mod tests;
 mod tree;
 mod window;
 
+pub use conflict::Touch;
 pub use error::WindowError;
 pub use grafting::{VARIABLES, graft};
-pub use home::Home;
+pub use home::{Home, homes_use, map_homes};
 pub use laws::{
     laws_of_cutting, laws_of_filling, laws_of_moves, laws_of_opening, laws_of_settling,
     laws_of_tables,
 };
-pub use loops::is_inside;
+pub use listed_names::is_in;
+pub use listing::{all_names, parameters_of};
+pub use loops::{is_inside, same_loop};
 pub use names::NameTable;
 pub use nodes::{in_node, is_leaf};
 use pc_linear::LinForm;
 use pc_word::Seq;
 pub use tree::WindowTree;
-pub use window::Window;
+pub use window::{Window, region_at};
+
+/// Numbers of names or of form variables.
+pub type NumberList = Seq<u32>;
 
 /// Homes of variables.
 pub type HomeList = Seq<Home>;

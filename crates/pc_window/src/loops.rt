@@ -17,7 +17,7 @@ pub fn is_inside(table: &RegionTable, inside: Option<u16>, region: u32) -> bool
 }
 
 /// Whether two loops are there and the same.
-pub(crate) fn same_loop(one: Option<u16>, other: Option<u16>) -> bool
+pub fn same_loop(one: Option<u16>, other: Option<u16>) -> bool
     ensures { result ≡ same_loop one other }
 {
     match (one, other) {

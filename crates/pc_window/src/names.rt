@@ -1,12 +1,16 @@
 //! The names of a window, and their forms.
-ghost use Rattle.std.specs.Prelude.{◌≡◌, ◌<◌, ◌≤◌, ◌+◌, ◌^◌, length, IfOk};
+ghost use Rattle.std.specs.Prelude.{◌≡◌, ◌<◌, ◌≤◌, ◌+◌, ◌^◌, Some, length, IfOk};
+ghost use Rattle.pc_word.specs.Items.{dest_of};
+ghost use Rattle.pc_word.specs.Naming.{with_dest};
 ghost use Rattle.pc_window.specs.Hold.{operand_form};
+ghost use Rattle.pc_window.specs.Filled.{given_supply};
+ghost use Rattle.pc_window.specs.Jump.{combined};
 ghost use Rattle.pc_window.specs.Opening.{with_name, first_supply};
-ghost use Rattle.pc_window.specs.StoredWindow.{supply_in};
+ghost use Rattle.pc_window.specs.StoredWindow.{forms_in, supply_in};
 
 use crate::FormList;
 use pc_linear::LinForm;
-use pc_word::{MOST_SCALARS, MOST_TEMPORARIES, Operand};
+use pc_word::{Item, MOST_SCALARS, MOST_TEMPORARIES, Operand};
 use std::alloc::{AllocError, Global};
 
 /// The form of each name, and the number from which on form variables are new.
@@ -45,6 +49,21 @@ impl NameTable {
         }
     }
 
+    /// The form of what an item gives, where it is linear.
+    pub fn combined(&self, item: Item) -> Option<LinForm>
+        ensures { result ≡ combined (forms_in self.now.forms) item }
+    {
+        match item {
+            Item::Bin {
+                op,
+                left,
+                right,
+                ..
+            } => LinForm::combine(op, &self.form(left), &self.form(right)),
+            _ => None,
+        }
+    }
+
     /// One more name, with this form, or with a new form variable where there is none.
     #[tactic(auto, using(crate::proofs::NamesStored::names))]
     pub fn add(&mut self, form: Option<LinForm>) -> Result<u32, AllocError>
@@ -64,5 +83,24 @@ impl NameTable {
             }
         }
         Ok(name)
+    }
+
+    /// An item with the next name, where it writes one. The name's form is what the item gives, or
+    /// else a new form variable.
+    pub fn give_name(&mut self, item: Item) -> Result<Item, AllocError>
+        requires names { length self.old.forms < 2 ^ 31 }
+        requires variables { self.old.next_variable < 2 ^ 31 }
+        ensures item { IfOk result (λ it. it ≡ with_dest (length self.old.forms) item) }
+        ensures names { IfOk result (λ it. supply_in self.new
+            ≡ given_supply (supply_in self.old) (dest_of (with_dest (length self.old.forms) item)) (Some (with_dest (length self.old.forms) item))) }
+        ensures count { IfOk result (λ it. length self.new.forms ≤ length self.old.forms + 1) }
+        ensures variables { IfOk result (λ it. self.new.next_variable ≤ self.old.next_variable + 1) }
+    {
+        let named = item.with_dest(self.forms.len() as u32);
+        if named.dest().is_some() {
+            let form = self.combined(named);
+            self.add(form)?;
+        }
+        Ok(named)
     }
 }

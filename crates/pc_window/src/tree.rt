@@ -1,4 +1,8 @@
 //! The trees of windows.
+ghost use Rattle.std.specs.Prelude.{◌≡◌, ◌<◌, ◌^◌};
+ghost use Rattle.pc_window.specs.Tree.{tree_size};
+ghost use Rattle.pc_window.specs.StoredWindow.{tree_in};
+
 use crate::HomeList;
 use pc_word::{Item, Operand, TrapKind};
 
@@ -39,4 +43,19 @@ pub enum WindowTree {
         kind: TrapKind,
         line: u32,
     },
+}
+
+impl WindowTree {
+    /// The number of its items and tests.
+    pub fn size(&self) -> u32
+        requires { tree_size (tree_in self.now) < 2 ^ 31 }
+        ensures { result ≡ tree_size (tree_in self.now) }
+    {
+        match self {
+            WindowTree::Step { rest, .. } => 1 + rest.size(),
+            WindowTree::Test { yes, no, .. } => 1 + yes.size() + no.size(),
+            WindowTree::Node { below } => below.size(),
+            WindowTree::Exit { .. } | WindowTree::Stop | WindowTree::Trap { .. } => 0,
+        }
+    }
 }

@@ -76,22 +76,7 @@ impl Window {
         requires { tree_size (whole (window_in self.now).front) < 2 ^ 31 }
         ensures { result ≡ tree_size (whole (window_in self.now).front) }
     {
-        size(&self.tree)
-    }
-}
-
-/// The number of items and tests of a tree.
-fn size(tree: &WindowTree) -> u32
-    requires { tree_size (tree_in tree.now) < 2 ^ 31 }
-    ensures { result ≡ tree_size (tree_in tree.now) }
-{
-    match tree {
-        WindowTree::Step { rest, .. } => 1 + size(rest),
-        WindowTree::Test { yes, no, .. } => 1 + size(yes) + size(no),
-        WindowTree::Node { below } => size(below),
-        WindowTree::Exit { .. } => 0,
-        WindowTree::Stop => 0,
-        WindowTree::Trap { .. } => 0,
+        self.tree.size()
     }
 }
 
@@ -108,7 +93,7 @@ fn first_homes() -> [Operand; VARIABLES]
 }
 
 /// A region of a table.
-fn region_at(table: &RegionTable, number: u32) -> &Region
+pub fn region_at(table: &RegionTable, number: u32) -> &Region
     requires { number < length table.now.regions }
     ensures { slice_get table.now.regions number ≡ Some result.now }
 {

@@ -1,7 +1,10 @@
+pub mod Evaluated
 pub mod Items
 pub mod Lists
 pub mod NumberTexts
+pub mod Places
 pub mod ReadsBack
 pub mod Runs
+pub mod Signatures
 pub mod Truth
 pub mod Words

@@ -1,11 +1,35 @@
 -- Items: what each reads, writes and gives, and which kind it is of.
-use Rattle.std.specs.Prelude.{ℕ, ℤ, pos, negsuc, Bool, true, false, if◌then◌else◌, nat_lt, List, [], ◌∷◌, Option, Some, None, slice_index}
+use Rattle.std.specs.Prelude.{ℕ, ℤ, pos, negsuc, Bool, true, false, if◌then◌else◌, ◌||◌, nat_eq, nat_lt, List, [], ◌∷◌, Option, Some, None, slice_index}
 use Rattle.pc_word.specs.declared.item.Item.{Item}
 use Rattle.pc_word.specs.declared.item.Item.TheVariants.{Bin, Copy, Load, Store, Print, Read, More}
+use Rattle.pc_word.specs.declared.item.OpCode.{OpCode}
+use Rattle.pc_word.specs.declared.item.OpCode.TheVariants.{Add, Sub, Mul, Div, Rem, Shl, Shr, And, Or, Xor, Less, LessEq, Equal, Unequal, Below}
 use Rattle.pc_word.specs.declared.item.Operand.{Operand}
 use Rattle.pc_word.specs.declared.item.Operand.TheVariants.{Name, Lit}
+use Rattle.pc_word.specs.declared.item.Operands.{Operands}
+use Rattle.pc_word.specs.declared.item.Operands.TheVariants as listed
 use Rattle.pc_word.specs.Word.{word_of_test, word_apply}
 use Rattle.pc_word.specs.State.{State}
+
+-- ---- operators
+
+-- the number of an operator
+abbrev pub op_number : OpCode → ℕ
+op_number Add = 0
+op_number Sub = 1
+op_number Mul = 2
+op_number Div = 3
+op_number Rem = 4
+op_number Shl = 5
+op_number Shr = 6
+op_number And = 7
+op_number Or = 8
+op_number Xor = 9
+op_number Less = 10
+op_number LessEq = 11
+op_number Equal = 12
+op_number Unequal = 13
+op_number Below = 14
 
 -- ---- operands, elements, input
 
@@ -46,6 +70,12 @@ operands_of (Print value) = value ∷ []
 operands_of (Read dest) = []
 operands_of (More dest) = []
 
+-- the operands of a list of at most two
+abbrev pub operand_list : Operands → List Operand
+operand_list listed.None = []
+operand_list (listed.One one) = one ∷ []
+operand_list (listed.Two one other) = one ∷ other ∷ []
+
 -- the name that it writes
 abbrev pub dest_of : Item → Option ℕ
 dest_of (Bin op dest left right) = Some dest
@@ -85,3 +115,30 @@ is_effect (Print value) = true
 is_effect (Read dest) = true
 is_effect (More dest) = true
 is_effect _ = false
+
+-- whether all that it does is to give its name a word
+abbrev pub only_computes : Item → Bool
+only_computes (Bin op dest left right) = true
+only_computes (Copy dest from) = true
+only_computes (Load dest array index) = true
+only_computes (Store array index value) = false
+only_computes (Print value) = false
+only_computes (Read dest) = false
+only_computes (More dest) = false
+
+-- ---- the names that are read
+
+-- whether an operand reads a name
+abbrev pub reads_name : Operand → ℕ → Bool
+reads_name (Name y) x = nat_eq y x
+reads_name (Lit value) x = false
+
+-- whether an item does
+abbrev pub reads : Item → ℕ → Bool
+reads (Bin op dest left right) x = reads_name left x || reads_name right x
+reads (Copy dest from) x = reads_name from x
+reads (Load dest array index) x = reads_name index x
+reads (Store array index value) x = reads_name index x || reads_name value x
+reads (Print value) x = reads_name value x
+reads (Read dest) x = false
+reads (More dest) x = false

@@ -1,17 +1,18 @@
 //! The vocabulary that every other crate speaks: words, operands, items, lists.
 #![tactic(auto)]
 
+mod alike;
 mod item;
 mod laws;
 mod limits;
 mod loop_mark;
 mod number_text;
+mod out_of_memory;
+mod row_tree;
 mod seq;
-#[cfg(test)]
-mod tests;
 mod word;
 
-pub use item::{End, Extent, Item, Limits, MachineFault, OpCode, Operand, TrapKind};
+pub use item::{End, Extent, Item, Limits, MachineFault, OpCode, Operand, Operands, TrapKind};
 pub use laws::{law_of_single_items, laws_of_agreement, laws_of_number_texts, laws_of_words};
 pub use limits::{
     MOST_ARRAYS, MOST_CYCLES, MOST_ELEMENTS, MOST_HEIGHT, MOST_INPUT, MOST_LENGTH, MOST_MEM,
@@ -20,6 +21,8 @@ pub use limits::{
 };
 pub use loop_mark::LoopMark;
 pub use number_text::{NumberLine, NumbersError, read_numbers};
+pub use out_of_memory::OutOfMemory;
+pub use row_tree::RowTree;
 pub use seq::Seq;
 pub use word::{
     add, and, apply, below, div, equal, less, less_eq, mul, or, rem, shl, shr, sub, unequal, xor,

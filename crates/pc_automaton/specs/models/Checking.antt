@@ -4,6 +4,7 @@ use Rattle.std.specs.List.{list_all}
 use Rattle.pc_word.specs.declared.item.Operand.{Operand}
 use Rattle.pc_word.specs.declared.item.Operand.TheVariants.{Name, Lit}
 use Rattle.pc_word.specs.Items.{operands_of, dest_of}
+use Rattle.pc_word.specs.Commit.{writes}
 use Rattle.pc_word.specs.Row.{Row, Then, Either, At_leaf}
 use Rattle.pc_window.specs.Names.{and_dest}
 use Rattle.pc_window.specs.Rebasing.{is_in}
@@ -50,14 +51,9 @@ knows_leaves known (At_leaf leaf) = knows_leaf known leaf
 
 -- ---- each name once
 
--- whether a name is the one that is written, if any is
-abbrev pub is_written : ℕ → Option ℕ → Bool
-is_written x (Some dest) = nat_eq x dest
-is_written x None = false
-
 -- whether a row writes a name
 abbrev pub writes_in : Row AutomatonLeaf → ℕ → Bool
-writes_in (Then item rest) x = is_written x (dest_of item) || writes_in rest x
+writes_in (Then item rest) x = writes (dest_of item) x || writes_in rest x
 writes_in (Either on on_yes on_no) x = writes_in on_yes x || writes_in on_no x
 writes_in (At_leaf leaf) x = false
 

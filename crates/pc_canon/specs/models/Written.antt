@@ -3,8 +3,9 @@ use Rattle.std.specs.Prelude.{ℕ, ◌+◌, ◌-◌, min, ℤ, pos, List, [], �
 use Rattle.pc_word.specs.Items.{dest_of}
 use Rattle.pc_linear.specs.Form.{Form}
 use Rattle.pc_window.specs.Tree.{Tree, Pending, Undecided, Exit, Stop_exit, Trap_exit}
-use Rattle.pc_canon.specs.Canonical.{placed, placed_item, placed_homes, constant_in, columns_of}
+use Rattle.pc_canon.specs.Canonical.{placed_item, placed_homes, constant_in, columns_of}
 use Rattle.pc_canon.specs.Key.{list_numbers, operand_numbers, item_numbers, home_numbers, trap_number, constant_numbers, column_numbers}
+use Rattle.pc_word.specs.Naming.{map_name}
 
 -- ---- levels
 
@@ -36,7 +37,7 @@ written first depth levels (Pending tag origin item rest) =
     ∷ (item_numbers (placed_item (place_at levels depth) item) ++ written first (deeper (dest_of item) depth) (leveled (dest_of item) depth levels) rest)
 written first depth levels (Undecided tag origin on on_yes on_no) =
     pos 1 ∷ pos (tag - first) ∷ pos origin
-    ∷ (operand_numbers (placed (place_at levels depth) on) ++ (written first depth levels on_yes ++ written first depth levels on_no))
+    ∷ (operand_numbers (map_name (place_at levels depth) on) ++ (written first depth levels on_yes ++ written first depth levels on_no))
 written first depth levels (Exit region tag homes) =
     pos 2 ∷ pos region ∷ pos (tag - first) ∷ list_numbers home_numbers (placed_homes (place_at levels depth) homes)
 written first depth levels Stop_exit = pos 3 ∷ []

@@ -3,7 +3,7 @@ use Rattle.std.specs.Prelude.{◌≡◌, ℕ, suc, ◌<◌, List, [], ◌∷◌,
 use Rattle.pc_word.specs.declared.loop_mark.LoopMark.{LoopMark}
 use Rattle.pc_table.specs.Table.{Table}
 use Rattle.pc_window.specs.Opening.{headed_loop}
-use Rattle.pc_choose.specs.declared.choice.Choice.{Choice}
+use Rattle.pc_compile.specs.declared.choice.Choice.{Choice}
 use Rattle.pc_object.specs.declared.object.Note.{Note}
 use Rattle.pc_compile.specs.Notes.{choice_notes}
 

@@ -11,7 +11,7 @@ use Rattle.pc_machine.specs.MachineCode.{Leaf, Leads_to, Ends, Traps, CodeRow}
 use Rattle.pc_emit.specs.Registers.{register_of}
 use Rattle.pc_emit.specs.declared.form.RegionForm.{RegionForm as StoredForm}
 use Rattle.pc_emit.specs.declared.form.RegionForm.TheVariants as stored
-use Rattle.pc_emit.specs.Emitted.{RegionForm, Plain, Packed, Emission, root_leaf}
+use Rattle.pc_emit.specs.Emitted.{RegionForm, Plain, ByAutomaton, Emission, root_leaf}
 use Rattle.pc_emit.specs.Emitting.{form_in, region_forms, emission_of, AreForms}
 use Rattle.pc_emit.specs.declared.plan.Plan.{Plan}
 use Rattle.pc_emit.specs.declared.packed.PackedSite.{PackedSite}
@@ -22,7 +22,7 @@ use Rattle.pc_emit.specs.declared.packed.PackedSite.{PackedSite}
 abbrev pub rows_in : TableTree → Option RegionForm → ℕ
 rows_in tree None = zero
 rows_in tree (Some Plain) = units tree
-rows_in tree (Some (Packed states registers)) = length states
+rows_in tree (Some (ByAutomaton states registers)) = length states
 
 -- the row in front of all others, where region 0 is plain and a stop or a trap: that leaf alone
 abbrev pub leaf_alone : TableTree → List CodeRow
@@ -35,7 +35,7 @@ leaf_alone (Traps_here kind line) = At_leaf (Traps kind line) ∷ []
 abbrev pub front_rows : TableTree → Option RegionForm → List CodeRow
 front_rows tree None = []
 front_rows tree (Some Plain) = leaf_alone tree
-front_rows tree (Some (Packed states registers)) = []
+front_rows tree (Some (ByAutomaton states registers)) = []
 
 -- the rows of all regions
 abbrev pub all_rows : List Region → List (Option StoredForm) → ℕ
@@ -84,7 +84,7 @@ pub record IsPlan (plan : Plan) : Type 0 where
 abbrev pub leaf_in : (row : ℕ) → TableTree → Option StoredForm → Leaf
 leaf_in row tree None = Ends
 leaf_in row tree (Some stored.Plain) = root_leaf row tree
-leaf_in row tree (Some (stored.Packed automaton registers)) = Leads_to row
+leaf_in row tree (Some (stored.ByAutomaton automaton registers)) = Leads_to row
 
 -- ---- packed regions
 
@@ -102,5 +102,5 @@ names_at site number = register_of (registers_at site number)
 -- the region begins at its entry, has this form, and ends before the end
 pub record IsSite (plan : Plan) (site : PackedSite) : Type 0 where
   pub begins : site.first ≡ slice_index plan.entries.now site.region
-  pub form : forms_at plan site.region ≡ Some (Packed (states_at site) (registers_at site))
+  pub form : forms_at plan site.region ≡ Some (ByAutomaton (states_at site) (registers_at site))
   pub few : site.first + length site.automaton.now ≤ rows_end plan

@@ -5,12 +5,13 @@ use Rattle.pc_machine.specs.MachineCode.{Leaf, Leads_to, CodeRow}
 use Rattle.pc_machine.specs.WellFormed.{IsLeaf, IsRow}
 use Rattle.pc_machine.specs.Reachable.{IsReachable}
 use Rattle.pc_object.specs.ObjectText.{leaf_text}
-use Rattle.pc_emit.specs.Bytes.{goto_bytes, tree_bytes, states_bytes}
-use Rattle.pc_emit.specs.Emitted.{RegionForm, Plain, Packed, TreeStands, RegionStands}
+use Rattle.pc_emit.specs.Bytes.{tree_bytes, states_bytes}
+use Rattle.pc_emit.specs.Emitted.{RegionForm, Plain, ByAutomaton, TreeStands, RegionStands}
 use Rattle.pc_emit.specs.declared.output.Output.{Output}
 use Rattle.pc_emit.specs.declared.plan.Plan.{Plan}
 use Rattle.pc_emit.specs.models.Output.{Stays}
 use Rattle.pc_emit.specs.models.Layout.{forms_at, emission_in, rows_end}
+use Rattle.pc_object.specs.Sizes.{goto_bytes}
 
 -- ---- what copies lead to, and what leads to them
 
@@ -38,7 +39,7 @@ pub record IsOnTheWay (plan : Plan) (Reached : List CodeRow → Type 0) (final :
 abbrev pub bytes_in : TableTree → Option RegionForm → ℕ
 bytes_in tree None = zero
 bytes_in tree (Some Plain) = tree_bytes tree
-bytes_in tree (Some (Packed states registers)) = states_bytes states
+bytes_in tree (Some (ByAutomaton states registers)) = states_bytes states
 
 -- the rows of a tree stand from this one on, whatever will be made
 pub record TreeMade (plan : Plan) (output : Output) (row : ℕ) (tree : TableTree) : Type 0 where

@@ -6,7 +6,6 @@ use Rattle.pc_word.specs.Items.{dest_of, operands_of}
 use Rattle.pc_linear.specs.Form.{Form}
 use Rattle.pc_window.specs.Hold.{Side}
 use Rattle.pc_window.specs.Tree.{Tree, Pending, Undecided, Exit, Stop_exit, Trap_exit, Front, Issued, Split, Unfinished, whole, tree_size}
-use Rattle.pc_window.specs.Rename.{with_dest}
 use Rattle.pc_window.specs.Opening.{Supply}
 use Rattle.pc_window.specs.WindowRun.{Window, supply_of}
 use Rattle.pc_window.specs.Filled.{given_supply}
@@ -14,6 +13,7 @@ use Rattle.pc_fill.specs.declared.landing.Coming.{Coming}
 use Rattle.pc_fill.specs.declared.first.ReadyNode.{ReadyNode}
 use Rattle.pc_fill.specs.models.Places.{nodes_of, MayRise}
 use Rattle.pc_fill.specs.models.Taking.{taken_out, divided_on, divided_yes, divided_no}
+use Rattle.pc_word.specs.Naming.{with_dest}
 
 -- ---- where it lands
 

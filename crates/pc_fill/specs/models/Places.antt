@@ -3,13 +3,12 @@ use Rattle.std.specs.Prelude.{◌≡◌, ℕ, ◌-◌, Bool, true, List, [], ◌
 use Rattle.std.specs.List.{AllByRecursion}
 use Rattle.pc_word.specs.declared.item.Item.{Item}
 use Rattle.pc_word.specs.declared.item.Operand.{Operand}
-use Rattle.pc_word.specs.Items.{operands_of}
+use Rattle.pc_word.specs.Items.{operands_of, only_computes}
 use Rattle.pc_linear.specs.Form.{Form}
 use Rattle.pc_window.specs.Hold.{Side}
 use Rattle.pc_window.specs.Tree.{Tree, Pending, Undecided, Exit, Stop_exit, Trap_exit, Front, Issued, Split, Unfinished, whole, tree_size}
 use Rattle.pc_window.specs.Names.{IsKnown}
 use Rattle.pc_window.specs.Conflict.{NoConflict}
-use Rattle.pc_window.specs.Jump.{is_quiet}
 use Rattle.pc_window.specs.Ready.{MayStandBehind}
 use Rattle.pc_window.specs.WindowRun.{Window}
 use Rattle.pc_window.specs.Filled.{HasSpace}
@@ -38,7 +37,7 @@ MayPass forms y None = Unit {0}
 
 -- a quiet item may rise past a test
 abbrev pub MayCross : Option Item → Type 0
-MayCross (Some x) = is_quiet x ≡ true
+MayCross (Some x) = only_computes x ≡ true
 MayCross None = ⊥
 
 -- from a place of a tree it may rise to the root

@@ -4,7 +4,8 @@ use Rattle.pc_word.specs.declared.item.Operand.{Operand}
 use Rattle.pc_word.specs.declared.item.Operand.TheVariants.{Lit}
 use Rattle.pc_word.specs.Items.{dest_of}
 use Rattle.pc_window.specs.Tree.{Tree, Pending, Undecided, Exit, Stop_exit, Trap_exit, tree_size}
-use Rattle.pc_window.specs.Rename.{mapped, renamed}
+use Rattle.pc_window.specs.Rename.{mapped}
+use Rattle.pc_word.specs.Naming.{renamed}
 
 -- the item at a place of a tree is gone; below it, its name is this one
 abbrev pub taken_out : Option ℕ → Tree → ℕ → Tree

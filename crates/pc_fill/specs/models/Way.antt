@@ -4,11 +4,12 @@ use Rattle.std.specs.Prelude.{ℕ, suc, ◌+◌, ◌-◌, Bool, true, false, Lis
 use Rattle.pc_word.specs.declared.item.Item.{Item}
 use Rattle.pc_word.specs.declared.item.Operand.{Operand}
 use Rattle.pc_word.specs.Items.{dest_of}
-use Rattle.pc_window.specs.Rename.{mapped, renamed}
+use Rattle.pc_window.specs.Rename.{mapped}
 use Rattle.pc_window.specs.Tree.{Tree, Pending, Undecided, Exit, Stop_exit, Trap_exit, Front, Issued, Split, Unfinished, whole, tree_size}
 use Rattle.pc_fill.specs.declared.landing.Coming.{Coming}
 use Rattle.pc_fill.specs.models.Taking.{taken_out, divided_on, divided_yes, divided_no}
 use Rattle.pc_fill.specs.models.Landing.{joins, place_or_root}
+use Rattle.pc_word.specs.Naming.{renamed}
 
 -- ---- where ways lead
 

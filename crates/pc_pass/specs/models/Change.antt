@@ -8,14 +8,13 @@ use Rattle.pc_word.specs.declared.item.TrapKind.{TrapKind}
 use Rattle.pc_word.specs.Word.{IsWord}
 use Rattle.pc_word.specs.Run.{Goes}
 use Rattle.pc_word.specs.State.{State, start_state}
-use Rattle.pc_word.specs.Items.{operand_value, operands_of, dest_of}
+use Rattle.pc_word.specs.Items.{operand_value, operands_of, dest_of, reads_name}
 use Rattle.pc_word.specs.Commit.{writes}
 use Rattle.pc_word.specs.Row.{Commits, item_step}
 use Rattle.pc_flow.specs.declared.node.FlowNode.{FlowNode}
 use Rattle.pc_flow.specs.declared.node.FlowNode.TheVariants.{Op, Test, Stop, Trap}
 use Rattle.pc_flow.specs.FlowGraph.{FlowGraph, IsFlow}
 use Rattle.pc_flow.specs.FlowRun.{FlowState, flow_step}
-use Rattle.pc_live.specs.Live.{is_variable}
 use Rattle.pc_flow.specs.Reachable.{IsReachableNode}
 
 -- a graph, the one that is made of it, and what their nodes are compared by
@@ -62,7 +61,7 @@ pub record ItemBecomes (change : Change) (at : ℕ) (item other : Item) (to onwa
   pub leads : LeadsPast change.Skips to onward
   pub same_dest : dest_of other ≡ dest_of item
   pub does_same : (s : State) → change.Knows at s → item_step change.old.arrays other to s ≡ item_step change.old.arrays item to s
-  pub reads : (x : ℕ) → list_any (λ operand. is_variable operand x) (operands_of other) ≡ true → change.Matters at x
+  pub reads : (x : ℕ) → list_any (λ operand. reads_name operand x) (operands_of other) ≡ true → change.Matters at x
   pub passes : (x : ℕ) → writes (dest_of item) x ≡ false → change.Matters to x → change.Matters at x
   pub knows : (s after : State) (printed : List ℤ) → change.Knows at s → item_step change.old.arrays item to s ≡ Commits printed after to
       → change.Knows to after
@@ -76,7 +75,7 @@ pub record SideBecomes (change : Change) (at to onward : ℕ) : Type 0 where
 -- an operand that is tested in the place of another
 pub record OperandBecomes (change : Change) (at : ℕ) (on other : Operand) : Type 0 where
   pub same_value : (s : State) → change.Knows at s → operand_value s.names other ≡ operand_value s.names on
-  pub reads : (x : ℕ) → is_variable other x ≡ true → change.Matters at x
+  pub reads : (x : ℕ) → reads_name other x ≡ true → change.Matters at x
 
 -- a node in the place of another
 pub data Becomes (change : Change) (at : ℕ) : FlowNode → FlowNode → Type 0 where

@@ -12,7 +12,6 @@ use Rattle.pc_window.specs.declared.home.Home.{Home}
 use Rattle.pc_window.specs.Tree.{whole, tree_size}
 use Rattle.pc_window.specs.Opening.{first_new}
 use Rattle.pc_window.specs.Names.{parameters_of}
-use Rattle.pc_window.specs.Rename.{with_dest}
 use Rattle.pc_window.specs.WindowRun.{Window}
 use Rattle.pc_window.specs.Kept.{Left, Rest, Gone, Finished, Trapped_at}
 use Rattle.pc_window.specs.Steps.{FillsTo, Cuts, opened_window}
@@ -29,6 +28,7 @@ use Rattle.pc_pattern.specs.Searches.{Rules, Settles, BringsOn, bare_leaf}
 use Rattle.pc_pattern.specs.Pattern.{rules_for}
 use Rattle.pc_pattern.specs.models.Pools.{Pool, keys_in, IsNowhere, IsNumbered}
 use Rattle.pc_pattern.specs.models.Renaming.{renamed_homes, renamed_bare, arguments_for}
+use Rattle.pc_word.specs.Naming.{with_dest}
 
 -- the rules of a search within these bounds
 abbrev pub rules_within : Table → Bounds → Rules

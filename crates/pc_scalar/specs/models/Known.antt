@@ -4,14 +4,13 @@ use Rattle.std.specs.Ordering.{int_eq}
 use Rattle.pc_word.specs.declared.item.Item.{Item}
 use Rattle.pc_word.specs.declared.item.Item.TheVariants.{Bin, Copy, Load, Store, Print, Read, More}
 use Rattle.pc_word.specs.declared.item.OpCode.{OpCode}
-use Rattle.pc_word.specs.declared.item.OpCode.TheVariants.{Add, Sub, Mul, Div, Rem, Shl, Shr, And, Or, Xor, Less, LessEq, Equal, Unequal, Below}
 use Rattle.pc_word.specs.declared.item.Operand.{Operand}
 use Rattle.pc_word.specs.declared.item.Operand.TheVariants.{Name, Lit}
-use Rattle.pc_word.specs.Items.{dest_of}
+use Rattle.pc_word.specs.Naming.{map_operands}
+use Rattle.pc_word.specs.Items.{dest_of, reads_name, op_number}
 use Rattle.pc_flow.specs.declared.node.FlowNode.{FlowNode}
 use Rattle.pc_flow.specs.declared.node.FlowNode.TheVariants.{Op, Test, Stop, Trap}
 use Rattle.pc_flow.specs.FlowGraph.{FlowGraph, variables}
-use Rattle.pc_live.specs.Live.{is_variable}
 use Rattle.pc_scalar.specs.declared.rule.Rule.{Rule}
 use Rattle.pc_scalar.specs.declared.rule.Rule.TheVariants.{CopiedNames, KnownValues}
 use Rattle.pc_scalar.specs.Chain.{touches, FollowsAlone}
@@ -25,8 +24,8 @@ kept name (Some item) = if touches item name then None else Some item
 
 -- whether an item computes or copies a value that its own write leaves as it is
 abbrev pub stays_true : Item → Bool
-stays_true (Bin op dest left right) = not (is_variable left dest) && not (is_variable right dest)
-stays_true (Copy dest from) = not (is_variable from dest)
+stays_true (Bin op dest left right) = not (reads_name left dest) && not (reads_name right dest)
+stays_true (Copy dest from) = not (reads_name from dest)
 stays_true (Load dest array index) = false
 stays_true (Store array index value) = false
 stays_true (Print value) = false
@@ -60,34 +59,7 @@ abbrev pub copied : List (Option Item) → Operand → Operand
 copied known (Name name) = source (slice_get known name) name
 copied known (Lit value) = Lit value
 
-abbrev pub copied_item : List (Option Item) → Item → Item
-copied_item known (Bin op dest left right) = Bin op dest (copied known left) (copied known right)
-copied_item known (Copy dest from) = Copy dest (copied known from)
-copied_item known (Load dest array index) = Load dest array (copied known index)
-copied_item known (Store array index value) = Store array (copied known index) (copied known value)
-copied_item known (Print value) = Print (copied known value)
-copied_item known (Read dest) = Read dest
-copied_item known (More dest) = More dest
-
 -- ---- values
-
--- the number of an operator
-abbrev pub op_number : OpCode → ℕ
-op_number Add = 0
-op_number Sub = 1
-op_number Mul = 2
-op_number Div = 3
-op_number Rem = 4
-op_number Shl = 5
-op_number Shr = 6
-op_number And = 7
-op_number Or = 8
-op_number Xor = 9
-op_number Less = 10
-op_number LessEq = 11
-op_number Equal = 12
-op_number Unequal = 13
-op_number Below = 14
 
 -- whether two operands are the same
 abbrev pub same_operand : Operand → Operand → Bool
@@ -119,7 +91,7 @@ valued_item known item = item
 -- ---- nodes
 
 abbrev pub rewritten_item : Rule → List (Option Item) → Item → Item
-rewritten_item CopiedNames known item = copied_item known item
+rewritten_item CopiedNames known item = map_operands (copied known) item
 rewritten_item KnownValues known item = valued_item known item
 
 abbrev pub rewritten_operand : Rule → List (Option Item) → Operand → Operand

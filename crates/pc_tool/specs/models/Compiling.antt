@@ -12,7 +12,7 @@ use Rattle.pc_report.specs.declared.fault.ToolFault.{ToolFault}
 use Rattle.pc_report.specs.declared.fault.ToolFault.TheVariants as fault
 use Rattle.pc_report.specs.Report.{PassCount, Report}
 use Rattle.pc_tool.specs.Files.{HasSource, HoldsSource}
-use Rattle.pc_program.specs.Streams.{Streamed}
+use Rattle.pc_driver.specs.Streams.{Streamed}
 use Rattle.pc_tool.specs.SourceFaults.{HasFault}
 use Rattle.pc_tool.specs.declared.translation.Translation.{Translation}
 use Rattle.pc_tool.specs.models.Translating.{IsTranslation}

@@ -10,8 +10,8 @@ use Rattle.pc_window.specs.Tree.{Tree, Pending, Undecided, Exit, Stop_exit, Trap
 use Rattle.pc_window.specs.Opening.{Supply, Grafted, graft, unwound_at}
 use Rattle.pc_window.specs.Unwinding.{most_unwound}
 use Rattle.pc_window.specs.StoredWindow.{tree_in, supply_in, InNodes}
+use Rattle.pc_window.specs.models.Ranks.{rank}
 use Rattle.pc_unwind.specs.declared.growth.Growth.{Growth}
-use Rattle.pc_unwind.specs.models.Ranks.{rank}
 
 -- items and tests that a region's tree brings: a copy brings none
 abbrev pub brought_size : TableTree → ℕ

@@ -11,9 +11,9 @@ use Rattle.pc_outside.specs.Stream.{AppendsPart}
 use Rattle.pc_command.specs.Requests.{ViewRequest}
 use Rattle.pc_report.specs.declared.fault.ObjectFault.{ObjectFault}
 use Rattle.pc_report.specs.declared.fault.ObjectFault.TheVariants as object
-use Rattle.pc_program.specs.Files.{HoldsText}
-use Rattle.pc_program.specs.Objects.{HasObjectFault, Holds}
-use Rattle.pc_program.specs.Streams.{Streamed}
+use Rattle.pc_driver.specs.Files.{HoldsText}
+use Rattle.pc_driver.specs.Objects.{HasObjectFault, Holds}
+use Rattle.pc_driver.specs.Streams.{Streamed}
 use Rattle.pc_viewer.specs.Viewer.{view_text}
 use Rattle.pc_viewer.specs.declared.fault.ViewFault.{ViewFault}
 use Rattle.pc_viewer.specs.declared.fault.ViewFault.TheVariants.{NoMemory, ReadObject, Object, WriteOutput}

@@ -1,6 +1,5 @@
 use Rattle.std.proofs.Common.{arith, rules, ◌≡◌, ◌+◌, ◌++◌, ◌∷◌, suc, sym, ◌∙◌, ap, subst, length, List, Option, ℕ, [], Err, unwrap_or, Result}
 use Rattle.std.specs.Prelude.{slice_get, MatchResult}
-use Rattle.pc_automaton.specs.StoredRow.{row_in}
 use Rattle.pc_automaton.specs.Automaton.{state_in, states_in}
 use Rattle.pc_assign.specs.Pressure.{LowBefore}
 use Rattle.pc_assign.specs.Assigned.{IsAssigned}
@@ -12,6 +11,7 @@ use Rattle.pc_assign.specs.models.Passing.{noted, Notes}
 use Rattle.pc_assign.specs.models.Assigning.{AreGiven}
 use Rattle.pc_assign.proofs.AllGiven.{stored_at, stands_once, one_more_given, all_stored, refused, written_back}
 use Rattle.pc_assign.proofs.assigning.assign.Goals as goal
+use Rattle.pc_word.specs.StoredRow.{row_in}
 
 pub assign_state-requires-clause-once : goal.assign_state-requires-clause-once
 assign_state-requires-clause-once c =

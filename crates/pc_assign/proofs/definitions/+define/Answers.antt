@@ -1,12 +1,12 @@
 use Rattle.std.proofs.Common.{◌||◌, OnOk, sym, ◌∙◌, ap, subst}
 use Rattle.pc_window.specs.Rebasing.{is_in}
 use Rattle.pc_automaton.specs.declared.automaton.AutomatonLeaf.{AutomatonLeaf}
-use Rattle.pc_automaton.specs.declared.row_tree.RowTree.{RowTree}
-use Rattle.pc_automaton.specs.StoredRow.{row_in}
+use Rattle.pc_word.specs.declared.row_tree.RowTree.{RowTree}
 use Rattle.pc_assign.specs.Uses.{row_uses}
 use Rattle.pc_assign.specs.models.Choosing.{member, used_holds, IsChosen, AreChosen}
 use Rattle.pc_assign.proofs.Chosen.{leaf_given, none_given, one_given, sides_given}
 use Rattle.pc_assign.proofs.definitions.+define.Goals as goal
+use Rattle.pc_word.specs.StoredRow.{row_in}
 
 pub returns-in_ok-push-in-Some : goal.returns-in_ok-push-in-Some
 returns-in_ok-push-in-Some t c =
@@ -14,7 +14,7 @@ returns-in_ok-push-in-Some t c =
     let held = c.args.held.now.registers.now in
     one_given parameters held (member c.args.above) (member c.with.result) c.choose-register.result
     c.args.registers.now c.push.new.self c.define.new.registers c.define.result
-    (ap (row_in (λ leaf. leaf)) c.in-Step.is) (sym c.written_by.ensures ∙ c.in-Some.is)
+    (ap (row_in (λ leaf. leaf)) c.in-Step.is) (sym c.dest.ensures ∙ c.in-Some.is)
     (subst (λ (rest : RowTree AutomatonLeaf).
     IsChosen (λ other. is_in other held || member c.args.above other)
     (λ other. used_holds (row_uses (row_in (λ leaf. leaf) rest)) parameters held other || member c.args.above other) c.choose-register.result)
@@ -29,7 +29,7 @@ returns-in-None t c =
     let parameters = c.args.held.now.parameters.now in
     let held = c.args.held.now.registers.now in
     none_given parameters held (member c.args.above) c.args.registers.now c.define-in-None.new.registers c.define-in-None.result
-    (ap (row_in (λ leaf. leaf)) c.in-Step.is) (sym c.written_by.ensures ∙ c.in-None.is)
+    (ap (row_in (λ leaf. leaf)) c.in-Step.is) (sym c.dest.ensures ∙ c.in-None.is)
     (subst (λ (rest : RowTree AutomatonLeaf).
     OnOk c.define-in-None.result (AreChosen parameters held (member c.args.above)
     (row_in (λ leaf. leaf) rest) c.args.registers.now c.define-in-None.new.registers))

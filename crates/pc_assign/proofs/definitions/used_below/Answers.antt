@@ -1,11 +1,11 @@
 use Rattle.std.proofs.Common.{sym, ◌∙◌, ap}
-use Rattle.pc_automaton.specs.StoredRow.{row_in}
 use Rattle.pc_assign.specs.Uses.{row_uses}
 use Rattle.pc_assign.specs.models.Choosing.{member}
 use Rattle.pc_assign.proofs.Held.{used_then, used_else}
 use Rattle.pc_assign.proofs.UsedSets.{used_there}
 use Rattle.pc_assign.proofs.definitions.used_below.Goals.{then-contains, else-contains}
 use Rattle.pc_assign.proofs.definitions.used_below.Goals as goal
+use Rattle.pc_word.specs.StoredRow.{row_in}
 
 pub loop-at-preserved : goal.loop-at-preserved
 loop-at-preserved c = elim c.if-contains.branch [

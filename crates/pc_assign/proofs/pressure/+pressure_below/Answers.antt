@@ -1,14 +1,14 @@
 use Rattle.std.proofs.Common.{arith, ◌≡◌, ◌+◌, suc, refl, sym, ◌∙◌, ap, subst}
 use Rattle.std.specs.Prelude.{count_by}
 use Rattle.pc_automaton.specs.declared.automaton.AutomatonLeaf.{AutomatonLeaf}
-use Rattle.pc_automaton.specs.declared.row_tree.RowTree.{RowTree}
-use Rattle.pc_automaton.specs.StoredRow.{row_in}
+use Rattle.pc_word.specs.declared.row_tree.RowTree.{RowTree}
 use Rattle.pc_assign.specs.Uses.{row_uses}
 use Rattle.pc_assign.specs.Pressure.{row_pressure}
 use Rattle.pc_assign.specs.models.Choosing.{IsUsedSet}
 use Rattle.pc_assign.proofs.Pressures.{defining_pressure}
 use Rattle.pc_assign.proofs.UsedSets.{set_either, used_count}
 use Rattle.pc_assign.proofs.pressure.+pressure_below.Goals as goal
+use Rattle.pc_word.specs.StoredRow.{row_in}
 
 pub returns-in-Some-clause-live : goal.returns-in-Some-clause-live
 returns-in-Some-clause-live t c =
@@ -26,7 +26,7 @@ returns-in-Some-clause-live t c =
     let here : c.args.above + 1 + c.from.result ≡ suc c.args.above + count_by (row_uses rest) parameters = omega (arith, c.from.ensures, counted) in
     defining_pressure parameters c.args.above (row_in (λ leaf. leaf) c.args.row.now) rest c.in-Step.item c.in-Some.field-0 (c.args.above + 1)
     (c.args.above + 1 + c.from.result) c.pressure_below-below.result.live c.max.result (ap (row_in (λ leaf. leaf)) c.in-Step.is)
-    (sym c.written_by.ensures ∙ c.in-Some.is) refl here below c.max.ensures
+    (sym c.dest.ensures ∙ c.in-Some.is) refl here below c.max.ensures
 
 pub returns-in-Test-clause-used : goal.returns-in-Test-clause-used
 returns-in-Test-clause-used t c =

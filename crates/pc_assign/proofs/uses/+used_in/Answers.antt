@@ -1,11 +1,11 @@
 use Rattle.std.proofs.Common.{ap, subst}
 use Rattle.pc_automaton.specs.declared.automaton.AutomatonLeaf.{AutomatonLeaf}
-use Rattle.pc_automaton.specs.declared.row_tree.RowTree.{RowTree}
-use Rattle.pc_automaton.specs.StoredRow.{row_in}
+use Rattle.pc_word.specs.declared.row_tree.RowTree.{RowTree}
 use Rattle.pc_assign.specs.Uses.{row_uses}
 use Rattle.pc_assign.specs.models.Choosing.{IsUsedSet}
 use Rattle.pc_assign.proofs.UsedSets.{set_either}
 use Rattle.pc_assign.proofs.uses.+used_in.Goals as goal
+use Rattle.pc_word.specs.StoredRow.{row_in}
 
 pub returns-in-Test : goal.returns-in-Test
 returns-in-Test t c =

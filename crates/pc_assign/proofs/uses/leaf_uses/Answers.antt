@@ -1,8 +1,8 @@
 use Rattle.std.proofs.Common.{◌∙◌, ap}
 use Rattle.std.specs.List.{list_any}
-use Rattle.pc_table.specs.TableKeeps.{reads_name}
 use Rattle.pc_assign.proofs.Held.{out_uses}
 use Rattle.pc_assign.proofs.uses.leaf_uses.Goals as goal
+use Rattle.pc_word.specs.Items.{reads_name}
 
 pub returns-in-Out : goal.returns-in-Out
 returns-in-Out c =

@@ -6,7 +6,7 @@ use Rattle.pc_window.specs.Names.{definitions_of, parameters_of}
 use Rattle.pc_window.specs.Opening.{TreeBelow}
 use Rattle.pc_window.specs.StoredWindow.{tree_in, front_in, forms_in, window_in}
 use Rattle.pc_window.proofs.WindowsStored.{whole_in}
-use Rattle.pc_rebase.proofs.Listed.{parameters-below}
+use Rattle.pc_window.proofs.Listed.{parameters-below}
 use Rattle.pc_canon.specs.Bytes.{bytes_of}
 use Rattle.pc_canon.specs.Canonical.{tags_of, first_tag}
 use Rattle.pc_canon.specs.Key.{shape_numbers, limit_numbers, loop_numbers}

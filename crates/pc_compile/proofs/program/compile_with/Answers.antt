@@ -5,7 +5,7 @@ use Rattle.pc_object.specs.ObjectText.{object_of}
 use Rattle.pc_machine.specs.WellFormed.{AreArrays}
 use Rattle.pc_table.specs.Table.{table_region, table_of}
 use Rattle.pc_emit.specs.Emitting.{region_forms}
-use Rattle.pc_choose.proofs.Emittable.{are_forms}
+use Rattle.pc_compile.proofs.Emittable.{are_forms}
 use Rattle.pc_compile.proofs.Compilations.{are_arrays, all_plain_is_short, few_regions_in_all, is_compiled}
 use Rattle.pc_compile.proofs.program.compile_with.Goals as goal
 

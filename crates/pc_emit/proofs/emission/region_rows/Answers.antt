@@ -3,7 +3,7 @@ use Rattle.std.proofs.lemmas.Result.{on_ok_weaker}
 use Rattle.pc_table.specs.Table.{table_tree}
 use Rattle.pc_automaton.specs.Automaton.{states_in}
 use Rattle.pc_assign.specs.Stored.{registers_in}
-use Rattle.pc_emit.specs.Emitted.{Plain, Packed}
+use Rattle.pc_emit.specs.Emitted.{Plain, ByAutomaton}
 use Rattle.pc_emit.specs.models.Layout.{forms_at}
 use Rattle.pc_emit.proofs.Results.{on_ok_all}
 use Rattle.pc_emit.proofs.Regions.{plain_made, plain_rows, plain_short, plain_names, plain_few, packed_site, packed_made}
@@ -21,7 +21,7 @@ tree_rows-requires-clause-few c =
 
 pub state_rows-requires-clause-site : goal.state_rows-requires-clause-site
 state_rows-requires-clause-site c =
-    let has : forms_at c.args.plan.now c.args.region ≡ Some (Packed (states_in c.in-Some-Packed.automaton) (registers_in c.in-Some-Packed.registers)) = search rules in
+    let has : forms_at c.args.plan.now c.args.region ≡ Some (ByAutomaton (states_in c.in-Some-ByAutomaton.automaton) (registers_in c.in-Some-ByAutomaton.registers)) = search rules in
     packed_site c.args.plan.now c.args.region _ refl has c.requires.plan refl
 
 pub returns-in-Some-Plain-clause-count : goal.returns-in-Some-Plain-clause-count
@@ -44,7 +44,7 @@ returns-in-Some-Plain-clause-short c =
     (plain_short c.args.plan.now c.args.region c.args.output.now c.tree_rows.new.output (table_tree c.tree_of.result.now) has c.tree_of.ensures)
     c.tree_rows.ensures.copies c.tree_rows.ensures.short
 
-pub returns-in-Some-Packed-clause-made : goal.returns-in-Some-Packed-clause-made
-returns-in-Some-Packed-clause-made c =
-    let has : forms_at c.args.plan.now c.args.region ≡ Some (Packed (states_in c.in-Some-Packed.automaton) (registers_in c.in-Some-Packed.registers)) = search rules in
+pub returns-in-Some-ByAutomaton-clause-made : goal.returns-in-Some-ByAutomaton-clause-made
+returns-in-Some-ByAutomaton-clause-made c =
+    let has : forms_at c.args.plan.now c.args.region ≡ Some (ByAutomaton (states_in c.in-Some-ByAutomaton.automaton) (registers_in c.in-Some-ByAutomaton.registers)) = search rules in
     on_ok_weaker c.state_rows.result (packed_made c.args.plan.now c.args.region _ refl has c.state_rows.new.output) c.state_rows.ensures.made

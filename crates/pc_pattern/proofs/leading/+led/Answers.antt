@@ -1,13 +1,14 @@
 use Rattle.std.proofs.Common.{ap}
 use Rattle.pc_table.specs.Table.{table_of}
-use Rattle.pc_automaton.specs.declared.row_tree.RowTree.{RowTree}
+use Rattle.pc_word.specs.declared.row_tree.RowTree.{RowTree}
 use Rattle.pc_automaton.specs.declared.left.Left.{Left}
-use Rattle.pc_automaton.specs.StoredRow.{row_in, left_in}
+use Rattle.pc_automaton.specs.StoredLeft.{left_in}
 use Rattle.pc_pattern.specs.models.Renaming.{pairs_in}
 use Rattle.pc_pattern.specs.models.Pools.{pool_in}
 use Rattle.pc_pattern.specs.models.Leading.{rules_within}
 use Rattle.pc_pattern.proofs.Steps.{row_plain, row_written}
 use Rattle.pc_pattern.proofs.leading.+led.Goals as goal
+use Rattle.pc_word.specs.StoredRow.{row_in}
 
 pub returns-in_ok-step-in-None-clause-leads : goal.returns-in_ok-step-in-None-clause-leads
 returns-in_ok-step-in-None-clause-leads t c =

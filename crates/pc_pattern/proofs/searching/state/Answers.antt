@@ -1,9 +1,10 @@
 use Rattle.pc_table.specs.Table.{table_of}
-use Rattle.pc_automaton.specs.StoredRow.{row_in, left_in}
+use Rattle.pc_automaton.specs.StoredLeft.{left_in}
 use Rattle.pc_pattern.specs.models.Pools.{pool_in}
 use Rattle.pc_pattern.specs.models.Leading.{rules_within}
 use Rattle.pc_pattern.proofs.States.{fillable_of, made_of}
 use Rattle.pc_pattern.proofs.searching.state.Goals as goal
+use Rattle.pc_word.specs.StoredRow.{row_in}
 
 pub fill-requires-clause-fillable : goal.fill-requires-clause-fillable
 fill-requires-clause-fillable c = fillable_of (table_of c.args.table.now) c.args.window c.requires.settled c.requires.small

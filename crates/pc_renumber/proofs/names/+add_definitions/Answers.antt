@@ -2,8 +2,8 @@ use Rattle.std.proofs.Common.{rules, ◌≡◌, sym, ap, subst}
 use Rattle.pc_window.specs.Tree.{Tree, Undecided}
 use Rattle.pc_window.specs.Names.{definitions_of}
 use Rattle.pc_window.specs.StoredWindow.{tree_in}
-use Rattle.pc_rebase.specs.models.Listing.{and_names}
-use Rattle.pc_rebase.proofs.Walked.{sides_define}
+use Rattle.pc_window.specs.models.Listing.{and_names}
+use Rattle.pc_window.proofs.Walked.{sides_define}
 use Rattle.pc_renumber.proofs.names.+add_definitions.Goals as goal
 
 pub returns-in_ok-add_definitions-in-Test-2-clause-names : goal.returns-in_ok-add_definitions-in-Test-2-clause-names

@@ -1,5 +1,5 @@
 use Rattle.std.proofs.Common.{◌≡◌, drop, length}
-use Rattle.pc_rebase.specs.models.Listing.{and_names}
+use Rattle.pc_window.specs.models.Listing.{and_names}
 use Rattle.pc_renumber.specs.models.Numbering.{AreNumbers}
 use Rattle.pc_renumber.proofs.names.add_parameters.Given as goal
 

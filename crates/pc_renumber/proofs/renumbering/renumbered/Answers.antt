@@ -4,7 +4,7 @@ use Rattle.std.specs.List.{AllByRecursion}
 use Rattle.pc_window.specs.Opening.{TreeBelow}
 use Rattle.pc_window.specs.Rebasing.{all_names}
 use Rattle.pc_window.specs.StoredWindow.{tree_in, forms_in, supply_in, InNodes}
-use Rattle.pc_rebase.proofs.Listed.{parameters-below}
+use Rattle.pc_window.proofs.Listed.{parameters-below}
 use Rattle.pc_renumber.specs.Renumbering.{renumbered_tree, renumbered_supply}
 use Rattle.pc_renumber.specs.models.Numbering.{number_in, AreNumbers}
 use Rattle.pc_renumber.proofs.RenumberedWindows.{names_below, is_renumbered}

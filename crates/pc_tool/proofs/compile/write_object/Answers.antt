@@ -4,7 +4,7 @@ use Rattle.std.specs.Prelude.{Err}
 use Rattle.pc_command.specs.Requests.{compile_request}
 use Rattle.pc_outside.specs.Shelf.{HoldsFile}
 use Rattle.pc_tool.specs.Compilation.{counts_of}
-use Rattle.pc_program.specs.Streams.{streamed}
+use Rattle.pc_driver.specs.Streams.{streamed}
 use Rattle.pc_tool.proofs.CompilerEndings.{report_ends, unwritten_ends, unwritten_lacks}
 use Rattle.pc_tool.proofs.compile.write_object.Goals as goal
 

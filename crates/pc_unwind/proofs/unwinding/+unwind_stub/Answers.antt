@@ -8,7 +8,7 @@ use Rattle.pc_window.specs.Unwinding.{least_inside, Unwinds}
 use Rattle.pc_window.specs.StoredWindow.{tree_in}
 use Rattle.pc_unwind.specs.models.Named.{StubsAreThere}
 use Rattle.pc_window.specs.There.{StubIsThere}
-use Rattle.pc_unwind.specs.models.Ranks.{stub_steps}
+use Rattle.pc_unwind.specs.models.Remaining.{stub_steps}
 use Rattle.pc_unwind.specs.models.Walking.{most_root_tag, with_growth, MayReplace, ReplacesStub, MayReplaceStub, RootStaysAtMost}
 use Rattle.pc_window.specs.declared.tree.WindowTree.TheVariants as stored
 use Rattle.pc_unwind.proofs.WalkSteps.{replaced_there, replaced_room, replaced_steps, replaced_root}

@@ -3,7 +3,7 @@ use Rattle.std.proofs.lemmas.Result.{IfOk-weaker}
 use Rattle.pc_table.specs.Table.{table_of}
 use Rattle.pc_window.specs.Tree.{Tree, Pending, Undecided, Exit, tree_size}
 use Rattle.pc_window.specs.StoredWindow.{tree_in}
-use Rattle.pc_unwind.specs.models.Ranks.{walk_steps}
+use Rattle.pc_unwind.specs.models.Remaining.{walk_steps}
 use Rattle.pc_window.specs.declared.tree.WindowTree.TheVariants as stored
 use Rattle.pc_unwind.specs.models.Walking.{MayReplaceStub, ReplacesStub, Walks}
 use Rattle.pc_unwind.specs.models.Named.{StubsAreThere}

@@ -1,6 +1,6 @@
 use Rattle.std.proofs.Common.{◌+◌, ◌-◌, ◌*◌, ◌^◌}
 use Rattle.pc_table.specs.Table.{table_of}
-use Rattle.pc_unwind.specs.models.Ranks.{walk_steps}
+use Rattle.pc_unwind.specs.models.Remaining.{walk_steps}
 use Rattle.pc_unwind.proofs.walking.+walk.Given as goal
 
 abbrev pub decreases-walk : goal.decreases-walk

@@ -1,6 +1,6 @@
 use Rattle.std.proofs.Common.{inr, List, ℕ, subst}
-use Rattle.pc_program.specs.Streams.{streamed}
-use Rattle.pc_program.specs.Telling.{TellsLine}
+use Rattle.pc_driver.specs.Streams.{streamed}
+use Rattle.pc_driver.specs.Telling.{TellsLine}
 use Rattle.pc_viewer.proofs.telling.tell_fault.Goals as goal
 
 -- there is no memory for the line

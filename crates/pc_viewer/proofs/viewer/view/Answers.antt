@@ -1,7 +1,7 @@
 -- What the viewer came to is what it promises, once it is told.
 use Rattle.pc_command.specs.Requests.{view_command_of}
 use Rattle.pc_command.specs.Words.{spelled}
-use Rattle.pc_program.specs.Streams.{streamed}
+use Rattle.pc_driver.specs.Streams.{streamed}
 use Rattle.pc_viewer.specs.Outside.{surroundings}
 use Rattle.pc_viewer.proofs.Endings.{viewer_promise}
 use Rattle.pc_viewer.proofs.viewer.view.Goals as goal

@@ -5,8 +5,8 @@ use Rattle.pc_vm.specs.Contents.{Contents}
 use Rattle.pc_vm.specs.models.Made.{lengths_of}
 use Rattle.pc_vm.specs.models.Planned.{stored, IsInside}
 use Rattle.pc_vm.proofs.Plans.{stored-last, lengths-with_element}
-use Rattle.pc_vm.proofs.Lists.{all_front}
 use Rattle.pc_vm.proofs.pending.store_all.Goals as goal
+use Rattle.pc_word.proofs.Lists.{all_front}
 
 pub loop-store-preserved : goal.loop-store-preserved
 loop-store-preserved c =

@@ -4,8 +4,8 @@ use Rattle.pc_vm.specs.declared.pending.PendingWrite.{PendingWrite}
 use Rattle.pc_vm.specs.Contents.{Contents}
 use Rattle.pc_vm.specs.models.Planned.{written, IsRegister}
 use Rattle.pc_vm.proofs.Plans.{written-last}
-use Rattle.pc_vm.proofs.Lists.{all_front}
 use Rattle.pc_vm.proofs.pending.write_all.Goals as goal
+use Rattle.pc_word.proofs.Lists.{all_front}
 
 pub loop-write-preserved : goal.loop-write-preserved
 loop-write-preserved c =

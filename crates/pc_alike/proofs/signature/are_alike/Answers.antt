@@ -1,5 +1,0 @@
-use Rattle.pc_alike.proofs.Signatures.{alike_items}
-use Rattle.pc_alike.proofs.signature.are_alike.Goals as goal
-
-pub returns : goal.returns
-returns c = alike_items c.args.one c.args.other c.signature_of.result c.signature_of-2.result c.is_same.result c.signature_of.ensures c.signature_of-2.ensures c.is_same.ensures

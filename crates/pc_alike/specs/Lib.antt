@@ -1,2 +1,0 @@
-pub mod models
-pub mod Alike

@@ -1,7 +1,0 @@
-use Rattle.pc_choose.proofs.leading.find_behind.Goals as goal
-
-pub find_led_out-requires-clause-count : goal.find_led_out-requires-clause-count
-find_led_out-requires-clause-count c = rw c.in-Packed.is at c.requires.numbers
-
-pub find_led_out-requires-clause-there : goal.find_led_out-requires-clause-there
-find_led_out-requires-clause-there c = rw c.in-Packed.is at c.requires.there

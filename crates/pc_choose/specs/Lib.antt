@@ -1,3 +1,0 @@
-pub mod models
-pub mod Choosing
-pub mod Laws

@@ -1,6 +1,0 @@
-pub mod Leaves
-pub mod Marked
-pub mod Counting
-pub mod Giving
-pub mod Progress
-pub mod Summing

@@ -1,0 +1,123 @@
+-- The schedule of a table's regions in their forms: a row of an automaton at a time in a region that has one, an item or test at a
+-- time in a plain one; and how many cycles it may cost.
+use Rattle.std.specs.Prelude.{ℕ, zero, suc, ◌+◌, ◌*◌, ℤ, if◌then◌else◌, nat_le, List, [], length, Option, Some, None, slice_get}
+use Rattle.pc_word.specs.declared.item.End.TheVariants.{Ended, Trapped, Fault}
+use Rattle.pc_word.specs.Run.{Run, Step, Goes, Stops, run_from}
+use Rattle.pc_word.specs.State.{State, start_state}
+use Rattle.pc_word.specs.Items.{operand_value}
+use Rattle.pc_word.specs.Row.{RowOutcome, Faults, Commits, item_step, row_step}
+use Rattle.pc_table.specs.Table.{TableTree, Does, Asks, Next, Stops_here, Traps_here, Table, region_tree}
+use Rattle.pc_table.specs.RegionRun.{lead_on, side_of}
+use Rattle.pc_window.specs.Tree.{home_state}
+use Rattle.pc_automaton.specs.declared.automaton.AutomatonLeaf.{AutomatonLeaf}
+use Rattle.pc_automaton.specs.declared.automaton.AutomatonLeaf.TheVariants.{To, Out, Stop, Trap}
+use Rattle.pc_automaton.specs.Automaton.{AutomatonState}
+use Rattle.pc_automaton.specs.AutomatonRun.{passed_state, state_parameters}
+use Rattle.pc_emit.specs.Emitted.{RegionForm, Plain, ByAutomaton}
+
+-- where a schedule is: before a plain region, at what is left of a plain region's tree, or in a state of a region's automaton
+pub data SchedulePlace : Type 0 where
+  Before : (region : ℕ) → (state : State) → SchedulePlace
+  At_tree : (tree : TableTree) → (state : State) → SchedulePlace
+  At_state : (region : ℕ) → (states : List AutomatonState) → (number : ℕ) → (state : State) → SchedulePlace
+
+-- where a region in this form begins
+abbrev pub begins_in : (region : ℕ) → Option RegionForm → State → SchedulePlace
+begins_in region None s = Before region s
+begins_in region (Some Plain) s = Before region s
+begins_in region (Some (ByAutomaton states registers)) s = At_state region states 0 s
+
+-- where a region begins, with these values of the variables
+abbrev pub begins_at : (forms : ℕ → Option RegionForm) → (region : ℕ) → State → SchedulePlace
+begins_at forms region s = begins_in region (forms region) s
+
+-- what stands behind an item or test of a plain region: the rest of its tree, or the region that follows
+abbrev pub behind : (forms : ℕ → Option RegionForm) → TableTree → State → SchedulePlace
+behind forms (Does origin item rest) s = At_tree (Does origin item rest) s
+behind forms (Asks origin on on_yes on_no) s = At_tree (Asks origin on on_yes on_no) s
+behind forms (Next region) s = begins_at forms region s
+behind forms Stops_here s = At_tree Stops_here s
+behind forms (Traps_here kind line) s = At_tree (Traps_here kind line) s
+
+-- one item or test of a plain region, or the stop or trap at its end
+abbrev pub tree_step : Table → (forms : ℕ → Option RegionForm) → TableTree → State → Step SchedulePlace
+tree_step table forms (Does origin item rest) s = lead_on (item_step table.arrays item rest s) (behind forms)
+tree_step table forms (Asks origin on on_yes on_no) s = Goes [] (behind forms (side_of (operand_value s.names on) on_yes on_no) s)
+tree_step table forms (Next region) s = Goes [] (begins_at forms region s)
+tree_step table forms Stops_here s = Stops [] Ended
+tree_step table forms (Traps_here kind line) s = Stops [] (Trapped kind line)
+
+-- where a leaf of a state leads
+abbrev pub schedule_leaf_step : (forms : ℕ → Option RegionForm) → (region : ℕ) → List AutomatonState → List ℤ → State → AutomatonLeaf → Step SchedulePlace
+schedule_leaf_step forms region states out new (To number arguments) =
+    Goes out (At_state region states number (passed_state new (state_parameters (slice_get states number)) arguments))
+schedule_leaf_step forms region states out new (Out to homes) = Goes out (begins_at forms to (home_state new homes))
+schedule_leaf_step forms region states out new Stop = Stops out Ended
+schedule_leaf_step forms region states out new (Trap kind line) = Stops out (Trapped kind line)
+
+-- a row that was done leads on, and a fault ends the run
+abbrev pub schedule_outcome_step : (forms : ℕ → Option RegionForm) → (region : ℕ) → List AutomatonState → RowOutcome AutomatonLeaf → Step SchedulePlace
+schedule_outcome_step forms region states (Faults fault) = Stops [] (Fault fault)
+schedule_outcome_step forms region states (Commits out new leaf) = schedule_leaf_step forms region states out new leaf
+
+-- the row of a state; a number that no state has, which no leaf of an automaton names, ends
+abbrev pub schedule_state_step : Table → (forms : ℕ → Option RegionForm) → (region : ℕ) → List AutomatonState → Option AutomatonState → State → Step SchedulePlace
+schedule_state_step table forms region states (Some state) s = schedule_outcome_step forms region states (row_step table.arrays state.row s)
+schedule_state_step table forms region states None s = Stops [] Ended
+
+-- one step of the schedule: a plain region is entered, an item or test of it is done, or a row
+abbrev pub schedule_step : Table → (forms : ℕ → Option RegionForm) → SchedulePlace → Step SchedulePlace
+schedule_step table forms (Before region s) = Goes [] (At_tree (region_tree table region) s)
+schedule_step table forms (At_tree tree s) = tree_step table forms tree s
+schedule_step table forms (At_state region states number s) = schedule_state_step table forms region states (slice_get states number) s
+
+-- the schedule's run: so many rows, items and tests of plain regions, and entries of these, from region 0 and with all variables
+-- and elements 0
+abbrev pub schedule_run : Table → (forms : ℕ → Option RegionForm) → List ℤ → Run
+schedule_run table forms input n = run_from (schedule_step table forms) n (begins_at forms 0 (start_state input))
+
+-- ---- cost
+
+-- the cycles of a row whose leaf passes so many values, where so many copies may stand in a row: its own; one more where all are
+-- copied in one row; else at most two rows of copies more for each value
+abbrev pub passing_cost : (ops passed : ℕ) → ℕ
+passing_cost ops zero = 1
+passing_cost ops (suc more) = if nat_le (suc more) ops then 2 else 1 + 2 * suc more
+
+-- the cycles of a row by the leaf that is taken
+abbrev pub leaf_cost : (ops : ℕ) → AutomatonLeaf → ℕ
+leaf_cost ops (To number arguments) = passing_cost ops (length arguments)
+leaf_cost ops (Out region homes) = passing_cost ops (length homes)
+leaf_cost ops Stop = 1
+leaf_cost ops (Trap kind line) = 1
+
+-- the cycles of a row by its outcome
+abbrev pub outcome_cost : (ops : ℕ) → RowOutcome AutomatonLeaf → ℕ
+outcome_cost ops (Faults fault) = 1
+outcome_cost ops (Commits out new leaf) = leaf_cost ops leaf
+
+-- the cycles of a state's row
+abbrev pub state_cost : (lengths : List ℕ) (ops : ℕ) → Option AutomatonState → State → ℕ
+state_cost lengths ops (Some state) s = outcome_cost ops (row_step lengths state.row s)
+state_cost lengths ops None s = 1
+
+-- the cycles of a step: in a plain region one for its entry and one for each item, test, stop and trap; else those of a row
+abbrev pub step_cost : (lengths : List ℕ) (ops : ℕ) → SchedulePlace → ℕ
+step_cost lengths ops (Before region s) = 1
+step_cost lengths ops (At_tree tree s) = 1
+step_cost lengths ops (At_state region states number s) = state_cost lengths ops (slice_get states number) s
+
+-- the cycles of the steps behind one
+abbrev pub cost_behind : {P : Type 0} → Step P → (P → ℕ) → ℕ
+cost_behind (Goes out next) cost = cost next
+cost_behind (Stops out end) cost = 0
+
+-- the cycles of at most so many steps
+abbrev pub cost_from : {P : Type 0} → (P → Step P) → (P → ℕ) → ℕ → P → ℕ
+cost_from step cost zero place = 0
+cost_from step cost (suc n) place = cost place + cost_behind (step place) (cost_from step cost n)
+
+-- what so many steps of the schedule may cost
+abbrev pub schedule_cost : Table → (ℕ → Option RegionForm) → (ops : ℕ) → List ℤ → ℕ → ℕ
+schedule_cost table forms ops input n =
+    cost_from (schedule_step table forms) (step_cost table.arrays ops) n (begins_at forms 0 (start_state input))

@@ -1,0 +1,4 @@
+pub mod ConflictsKept
+pub mod GuardedStoreKept
+pub mod DeadStepKept
+pub mod EqualSumsKept

@@ -1,0 +1,4 @@
+pub mod Conflicts
+pub mod GuardedStore
+pub mod DeadStep
+pub mod EqualSums

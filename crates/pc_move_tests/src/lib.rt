@@ -1,0 +1,15 @@
+//! Tests of what moves the items and tests of a window: filling, and the single moves.
+#![tactic(auto)]
+
+#[cfg(test)]
+mod fill;
+#[cfg(test)]
+mod movecj;
+#[cfg(test)]
+mod moveop;
+#[cfg(test)]
+mod tables;
+#[cfg(test)]
+mod trees;
+#[cfg(test)]
+mod unify;

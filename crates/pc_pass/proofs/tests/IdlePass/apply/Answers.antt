@@ -1,5 +1,0 @@
-use Rattle.pc_pass.proofs.Lists.{keeps_refl}
-use Rattle.pc_pass.proofs.tests.IdlePass.apply.Goals as goal
-
-pub returns-clause-keeps : goal.returns-clause-keeps
-returns-clause-keeps c = keeps_refl c.args._flow.now

@@ -1,4 +1,0 @@
-pub mod Choices
-pub mod Files
-pub mod Objects
-pub mod Streams

@@ -1,0 +1,5 @@
+pub mod JumpingTreesKept
+pub mod NamedThere
+pub mod Queues
+pub mod Unwound
+pub mod WorkedLoopKept

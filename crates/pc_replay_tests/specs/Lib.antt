@@ -1,0 +1,3 @@
+pub mod JumpingTrees
+pub mod Waiting
+pub mod WorkedLoop

@@ -1,8 +1,0 @@
-use Rattle.pc_schedule.proofs.Paces.{emitted_rows_keep_pace, tightened_codes_keep_pace}
-use Rattle.pc_schedule.proofs.laws.laws_of_pace.Goals as goal
-
-pub returns-clause-emitted : goal.returns-clause-emitted
-returns-clause-emitted c = emitted_rows_keep_pace
-
-pub returns-clause-tightened : goal.returns-clause-tightened
-returns-clause-tightened c = tightened_codes_keep_pace

@@ -1,3 +1,0 @@
-pub mod ScheduleRun
-pub mod Pace
-pub mod Laws

@@ -1,0 +1,331 @@
+-- What follows from the simulator's promise.
+use Rattle.std.proofs.Common.{◌≡◌, ℕ, ◌≤◌, ◌⊎◌, inl, inr, List, length, Option, Some, None, refl, sym, ◌∙◌, ap, subst, arith}
+use Rattle.std.specs.Prelude.{ℤ, Ok, Err, IfSome}
+use Rattle.std.specs.FinMap.{get}
+use Rattle.std.specs.Option.{IsSomeAnd}
+use Rattle.pc_word.specs.declared.item.End.{End}
+use Rattle.pc_word.specs.declared.item.End.TheVariants as end
+use Rattle.pc_word.specs.declared.item.TrapKind.{TrapKind}
+use Rattle.pc_word.specs.declared.item.TrapKind.TheVariants as trap
+use Rattle.pc_word.specs.MachineLimits.{most_input}
+use Rattle.pc_word.specs.NumberText.{numbers_in}
+use Rattle.pc_object.specs.ObjectText.{CodeWithNotes, object_text}
+use Rattle.pc_object.proofs.ReadingLaws.{one_object}
+use Rattle.pc_outside.specs.Shelf.{Files, ReadFaultOf}
+use Rattle.pc_command.specs.Requests.{SimulateRequest}
+use Rattle.pc_report.specs.declared.fault.InputFault.{InputFault}
+use Rattle.pc_report.specs.declared.fault.ToolFault.{ToolFault}
+use Rattle.pc_driver.specs.Due.{Told, trap_status}
+use Rattle.pc_driver.specs.Files.{HoldsText}
+use Rattle.pc_driver.specs.Objects.{IsTextOf, IsNoObject, Holds, HoldsObject, HasObjectFault}
+use Rattle.pc_driver.specs.Outside.{Outside, HasErrorFault}
+use Rattle.pc_simulator.specs.Simulation.{HasInputFault, Long_input, Misspelt_input}
+use Rattle.pc_simulator.specs.Simulation.{IsInputOf, IsNoInput, SpellsInput, Loaded, due_of, run_seen}
+use Rattle.pc_simulator.specs.Simulator.{SimulatorEnds, Ran, Misused, Unread, Refused, Untaken, Misspelt, Broke, Lacking, SimulatorLacks, SimulatorPromise}
+use Rattle.pc_simulator.specs.SimulatorLaws.{end_status, IsEndStatus, SendsRun, BreaksOff, HasRun, HasBroken, FailsToTake, RefusesBytes, IsToldObject, SimulatorStatuses}
+use Rattle.pc_driver.proofs.Choices.{either_first, third_first, last_first}
+use Rattle.pc_driver.proofs.Files.{held_map, told_holds, told_text}
+use Rattle.pc_driver.proofs.Objects.{faulty_object}
+use Rattle.pc_driver.proofs.Results.{ok_same}
+use Rattle.pc_driver.proofs.Statuses.{due_status, status_of}
+
+-- ---- bytes that are refused
+
+-- bytes with a fault are no input
+faulty_input : (bytes : List ℕ) (what : InputFault) → HasInputFault bytes what → IsNoInput bytes
+faulty_input bytes what (Long_input big) numbers is = let few : length bytes ≤ most_input = is.few_bytes in omega arith
+faulty_input bytes what (Misspelt_input {offset} few first) numbers is =
+    let ok : numbers_in bytes ≡ Ok numbers = is.read in
+    let err : numbers_in bytes ≡ Err offset = first in
+    cc
+
+if_some_map : (o : Option (List ℕ)) (P Q : List ℕ → Type 0) → ((x : List ℕ) → P x → Q x) → IfSome o P → IfSome o Q
+if_some_map None P Q f h = tt
+if_some_map (Some x) P Q f h = f x h
+
+-- what holds of an input that is told
+told_input : (o : Option (List ℕ)) (left : List ℕ) (P : List ℕ → Type 0) → o ≡ Some left → IfSome o P → P left
+told_input o left P e h = subst (λ (x : Option (List ℕ)). IfSome x P) e h
+
+-- ---- what was run
+
+-- the object that was loaded from a file that is told
+loaded_text : (held : Option Files) (files : Files) (name text : List ℕ) (object : CodeWithNotes) → held ≡ Some files → get files name ≡ Some text
+    → Holds held name object → IsTextOf text object
+loaded_text held files name text object e g h = record {
+  loads = h.loads;
+  text = sym (told_text held files name text (object_text object) e g h.text);
+}
+
+same_object : (text : List ℕ) (a b : CodeWithNotes) → IsTextOf text a → IsTextOf text b → a ≡ b
+same_object text a b p q = one_object a b p.loads.is_object q.loads.is_object p.loads.has_words q.loads.has_words (sym p.text ∙ q.text)
+
+-- the numbers of an input that is told
+given_input : (o : Option (List ℕ)) (left : List ℕ) (numbers : List ℤ) → o ≡ Some left → SpellsInput o numbers → IsInputOf left numbers
+given_input o left numbers e g =
+    let same : left ≡ g.bytes = told_input o left (λ all. all ≡ g.bytes) e g.given in
+    subst (λ bytes. IsInputOf bytes numbers) (sym same) g.input
+
+same_numbers : (left : List ℕ) (a b : List ℤ) → IsInputOf left a → IsInputOf left b → a ≡ b
+same_numbers left a b p q = ok_same a b (numbers_in left) p.read q.read
+
+-- ---- the statuses of ends
+
+due_is_end : (cycles : ℕ) (seen : Option End) → due_status (due_of cycles seen) ≡ end_status seen
+due_is_end cycles (Some end.Ended) = refl
+due_is_end cycles (Some (end.Trapped kind line)) = refl
+due_is_end cycles (Some (end.Fault fault)) = refl
+due_is_end cycles None = refl
+
+trap_is_high : (kind : TrapKind) → 6 ≤ trap_status kind
+trap_is_high trap.DivideByZero = omega arith
+trap_is_high trap.OutOfBounds = omega arith
+trap_is_high trap.EndOfInput = omega arith
+
+-- an end's status is 0 or above 5
+end_is : (seen : Option End) → (end_status seen ≡ 0) ⊎ (6 ≤ end_status seen)
+end_is None = inr (omega arith)
+end_is (Some end.Ended) = inl refl
+end_is (Some (end.Fault fault)) = inr (omega arith)
+end_is (Some (end.Trapped kind line)) = inr (trap_is_high kind)
+
+-- no status from 1 to 5 is that of an end
+no_end : (code : ℕ) → 1 ≤ code → code ≤ 5 → IsEndStatus code → ⊥
+no_end code low high (seen, e) = elim (end_is seen) [
+  | inl zero ↦ omega (arith, e, zero)
+  | inr high_end ↦ omega (arith, e, high_end)
+]
+
+-- ---- what is due, by how it ended
+
+module _ (old new : Outside) where
+  -- how it ended, with what was due
+  abbrev Ends : Option SimulateRequest → Option ToolFault → Type 0
+  Ends given due = SimulatorEnds old.shelf new.shelf old.input new.input old.out new.out given due
+
+  ran_of : (given : Option SimulateRequest) (due : Option ToolFault) → Ends given due → IsEndStatus (due_status due)
+      → IsSomeAnd given (HasRun old new (due_status due))
+  ran_of given due (Ran {request} {object} {numbers} loaded sent is) end = record {
+    object = object;
+    numbers = numbers;
+    loaded = loaded;
+    sent = sent;
+    ended = ap due_status is ∙ due_is_end request.cycles (run_seen request object numbers).end;
+  }
+  ran_of given due (Misused same quiet silent) end = absurd (no_end 2 (omega arith) (omega arith) end)
+  ran_of given due (Unread is failed quiet silent) end = absurd (no_end 3 (omega arith) (omega arith) end)
+  ran_of given due (Refused faulty quiet silent) end = absurd (no_end 4 (omega arith) (omega arith) end)
+  ran_of given due (Untaken object failed silent) end = absurd (no_end 3 (omega arith) (omega arith) end)
+  ran_of given due (Misspelt object faulty silent) end = absurd (no_end 4 (omega arith) (omega arith) end)
+  ran_of given due (Broke loaded rose part) end = absurd (no_end 5 (omega arith) (omega arith) end)
+  ran_of given due (Lacking lacks) end = absurd (no_end 1 (omega arith) (omega arith) end)
+
+  -- a run's end has no status from 1 to 5
+  module _ (request : SimulateRequest) (object : CodeWithNotes) (numbers : List ℤ) (due : Option ToolFault)
+      (is : due ≡ due_of request.cycles (run_seen request object numbers).end) where
+    run_is_end : IsEndStatus (due_status due)
+    run_is_end = ((run_seen request object numbers).end, ap due_status is ∙ due_is_end request.cycles (run_seen request object numbers).end)
+
+    not_between : 1 ≤ due_status due → due_status due ≤ 5 → ⊥
+    not_between low high = no_end (due_status due) low high run_is_end
+
+    not_this : (code : ℕ) → 1 ≤ code → code ≤ 5 → due_status due ≡ code → ⊥
+    not_this code low high e = no_end code low high (subst IsEndStatus e run_is_end)
+
+  lacking_of : (given : Option SimulateRequest) (due : Option ToolFault) → Ends given due → due_status due ≡ 1
+      → SimulatorLacks old.shelf new.shelf old.input new.input old.out new.out given
+  lacking_of given due (Ran {request} {object} {numbers} loaded sent is) e = absurd (not_this request object numbers due is 1 (omega arith) (omega arith) e)
+  lacking_of given due (Lacking lacks) e = lacks
+  lacking_of given due _ e = absurd cc
+
+  misused_of : (given : Option SimulateRequest) (due : Option ToolFault) → Ends given due → due_status due ≡ 2
+      → (given ≡ None) × (new.shelf ≡ old.shelf) × (new.input ≡ old.input)
+  misused_of given due (Ran {request} {object} {numbers} loaded sent is) e = absurd (not_this request object numbers due is 2 (omega arith) (omega arith) e)
+  misused_of given due (Misused same quiet silent) e = (refl, same, quiet)
+  misused_of given due _ e = absurd cc
+
+  unread_of : (given : Option SimulateRequest) (due : Option ToolFault) → Ends given due → due_status due ≡ 3 → IsSomeAnd given (FailsToTake old new)
+  unread_of given due (Ran {request} {object} {numbers} loaded sent is) e = absurd (not_this request object numbers due is 3 (omega arith) (omega arith) e)
+  unread_of given due (Unread {request} {name} is failed quiet silent) e =
+      inl (subst (λ name. ReadFaultOf old.shelf new.shelf name) (sym is) failed, quiet)
+  unread_of given due (Untaken object failed silent) e = inr (object, failed)
+  unread_of given due _ e = absurd cc
+
+  refused_of : (given : Option SimulateRequest) (due : Option ToolFault) → Ends given due → due_status due ≡ 4 → IsSomeAnd given (RefusesBytes old new)
+  refused_of given due (Ran {request} {object} {numbers} loaded sent is) e = absurd (not_this request object numbers due is 4 (omega arith) (omega arith) e)
+  refused_of given due (Refused {request} {what} faulty quiet silent) e =
+      inl (held_map old.shelf.held request.object (λ bytes. HasObjectFault bytes what) IsNoObject (λ bytes. faulty_object bytes what) faulty, quiet)
+  refused_of given due (Misspelt {request} {what} object faulty silent) e =
+      inr (object, if_some_map old.input.told (λ bytes. HasInputFault bytes what) IsNoInput (λ bytes. faulty_input bytes what) faulty)
+  refused_of given due _ e = absurd cc
+
+  broken : (request : SimulateRequest) (object : CodeWithNotes) (numbers : List ℤ) → Loaded request.object old.shelf.held old.input.told object numbers
+      → BreaksOff old new request object numbers → HasBroken old new request
+  broken request object numbers loaded breaks = record { object = object; numbers = numbers; loaded = loaded; breaks_off = breaks }
+
+  failed_of : (given : Option SimulateRequest) (due : Option ToolFault) → Ends given due → due_status due ≡ 5 → IsSomeAnd given (HasBroken old new)
+  failed_of given due (Ran {request} {object} {numbers} loaded sent is) e = absurd (not_this request object numbers due is 5 (omega arith) (omega arith) e)
+  failed_of given due (Broke {request} {object} {numbers} loaded rose part) e = broken request object numbers loaded (record { fault = rose; part = part })
+  failed_of given due _ e = absurd cc
+
+  known_of : (given : Option SimulateRequest) (due : Option ToolFault) → Ends given due → (due_status due ≤ 5) ⊎ IsEndStatus (due_status due)
+  known_of given due (Ran {request} {object} {numbers} loaded sent is) = inr (run_is_end request object numbers due is)
+  known_of given due (Misused same quiet silent) = inl (omega arith)
+  known_of given due (Unread is failed quiet silent) = inl (omega arith)
+  known_of given due (Refused faulty quiet silent) = inl (omega arith)
+  known_of given due (Untaken object failed silent) = inl (omega arith)
+  known_of given due (Misspelt object faulty silent) = inl (omega arith)
+  known_of given due (Broke loaded rose part) = inl (omega arith)
+  known_of given due (Lacking lacks) = inl (omega arith)
+
+  silent_of : (given : Option SimulateRequest) (due : Option ToolFault) → Ends given due → 2 ≤ due_status due → due_status due ≤ 4 → new.out ≡ old.out
+  silent_of given due (Ran {request} {object} {numbers} loaded sent is) low high =
+      absurd (not_between request object numbers due is (omega (arith, low)) (omega (arith, high)))
+  silent_of given due (Misused same quiet silent) low high = silent
+  silent_of given due (Unread is failed quiet silent) low high = silent
+  silent_of given due (Refused faulty quiet silent) low high = silent
+  silent_of given due (Untaken object failed silent) low high = silent
+  silent_of given due (Misspelt object faulty silent) low high = silent
+  silent_of given due (Broke loaded rose part) low high = absurd (omega arith)
+  silent_of given due (Lacking lacks) low high = absurd (omega arith)
+
+  usage_of : (due : Option ToolFault) → Ends None due → (due_status due ≡ 2) ⊎ (due_status due ≡ 1)
+  usage_of due (Misused same quiet silent) = inl refl
+  usage_of due (Lacking lacks) = inr refl
+
+  -- ---- an object and an input that are told
+
+  file_told : (request : SimulateRequest) (text : List ℕ) (P : List ℕ → Type 0) → IsToldObject old request text
+      → HoldsText old.shelf.held request.object P → P text
+  file_told request text P file h = told_holds old.shelf.held file.files request.object text P file.held file.here h
+
+  -- the file has the text of this object, and the input, which is told too, is one of these numbers
+  record ToldRun (request : SimulateRequest) (object : CodeWithNotes) (numbers : List ℤ) : Type 0 where
+    pub text : List ℕ
+    pub file : IsToldObject old request text
+    pub is : IsTextOf text object
+    pub left : List ℕ
+    pub rest : old.input.told ≡ Some left
+    pub input : IsInputOf left numbers
+
+  -- the object that was loaded is the one that is told, and so are the numbers
+  same_loaded : (request : SimulateRequest) (object : CodeWithNotes) (numbers : List ℤ) → ToldRun request object numbers
+      → (loaded : CodeWithNotes) → Holds old.shelf.held request.object loaded → loaded ≡ object
+  same_loaded request object numbers t loaded h =
+      same_object t.text loaded object (loaded_text old.shelf.held t.file.files request.object t.text loaded t.file.held t.file.here h) t.is
+
+  same_given : (request : SimulateRequest) (object : CodeWithNotes) (numbers : List ℤ) → ToldRun request object numbers
+      → (given : List ℤ) → SpellsInput old.input.told given → given ≡ numbers
+  same_given request object numbers t given s = same_numbers t.left given numbers (given_input old.input.told t.left given t.rest s) t.input
+
+  -- what holds of the object and the numbers that were loaded holds of those that are told
+  of_told : (P : CodeWithNotes → List ℤ → Type 0) (request : SimulateRequest) (object : CodeWithNotes) (numbers : List ℤ) → ToldRun request object numbers
+      → (loaded : CodeWithNotes) (given : List ℤ) → Loaded request.object old.shelf.held old.input.told loaded given → P loaded given → P object numbers
+  of_told P request object numbers t loaded given l p =
+      subst (λ (o : CodeWithNotes). P o numbers) (same_loaded request object numbers t loaded l.in_file)
+      (subst (λ (ns : List ℤ). P loaded ns) (same_given request object numbers t given l.in_input) p)
+
+  complete_of : (request : SimulateRequest) (object : CodeWithNotes) (numbers : List ℤ) (due : Option ToolFault) → ToldRun request object numbers
+      → Ends (Some request) due
+      → ((due_status due ≡ end_status (run_seen request object numbers).end) × SendsRun old new request object numbers)
+      ⊎ (due_status due ≡ 1) ⊎ ((due_status due ≡ 3) × FailsToTake old new request) ⊎ ((due_status due ≡ 5) × BreaksOff old new request object numbers)
+  complete_of request told_object told_numbers due t (Ran {object} {numbers} loaded sent is) =
+      inl (of_told (λ o ns. (due_status due ≡ end_status (run_seen request o ns).end) × SendsRun old new request o ns) request told_object told_numbers t object numbers loaded
+      (ap due_status is ∙ due_is_end request.cycles (run_seen request object numbers).end, sent))
+  complete_of request object numbers due t (Unread {name} is failed quiet silent) =
+      inr (inr (inl (refl, inl (subst (λ name. ReadFaultOf old.shelf new.shelf name) (sym is) failed, quiet))))
+  complete_of request object numbers due t (Refused {what} faulty quiet silent) =
+      absurd (faulty_object t.text what (file_told request t.text (λ bytes. HasObjectFault bytes what) t.file faulty) object t.is)
+  complete_of request object numbers due t (Untaken held failed silent) = inr (inr (inl (refl, inr (held, failed))))
+  complete_of request object numbers due t (Misspelt {what} held faulty silent) =
+      absurd (faulty_input t.left what (told_input old.input.told t.left (λ bytes. HasInputFault bytes what) t.rest faulty) numbers t.input)
+  complete_of request told_object told_numbers due t (Broke {object} {numbers} loaded rose part) =
+      let breaks : BreaksOff old new request object numbers = record { fault = rose; part = part } in
+      inr (inr (inr (refl, of_told (λ o ns. BreaksOff old new request o ns) request told_object told_numbers t object numbers loaded breaks)))
+  complete_of request object numbers due t (Lacking lacks) = inr (inl refl)
+
+  -- ---- a file that is no object, an input that is none
+
+  -- a file that is no object was not loaded
+  no_object : (request : SimulateRequest) (text : List ℕ) (object : CodeWithNotes) → IsToldObject old request text
+      → IsNoObject text → Holds old.shelf.held request.object object → ⊥
+  no_object request text object file none h =
+      none object (loaded_text old.shelf.held file.files request.object text object file.held file.here h)
+
+  no_held_object : (request : SimulateRequest) (text : List ℕ) → IsToldObject old request text → IsNoObject text → HoldsObject old.shelf.held request.object → ⊥
+  no_held_object request text file none h =
+      let held = file_told request text (λ bytes. (o : CodeWithNotes) × IsTextOf bytes o) file h in
+      none held.0 held.1
+
+  strict_object : (request : SimulateRequest) (text : List ℕ) (due : Option ToolFault) → IsToldObject old request text → IsNoObject text → Ends (Some request) due
+      → (due_status due ≡ 4) ⊎ (due_status due ≡ 1) ⊎ ((due_status due ≡ 3) × ReadFaultOf old.shelf new.shelf request.object)
+  strict_object request text due file none (Ran {object} loaded sent is) = absurd (no_object request text object file none loaded.in_file)
+  strict_object request text due file none (Unread {name} is failed quiet silent) =
+      inr (inr (refl, subst (λ name. ReadFaultOf old.shelf new.shelf name) (sym is) failed))
+  strict_object request text due file none (Refused faulty quiet silent) = inl refl
+  strict_object request text due file none (Untaken held failed silent) = absurd (no_held_object request text file none held)
+  strict_object request text due file none (Misspelt held faulty silent) = absurd (no_held_object request text file none held)
+  strict_object request text due file none (Broke {object} loaded rose part) = absurd (no_object request text object file none loaded.in_file)
+  strict_object request text due file none (Lacking lacks) = inr (inl refl)
+
+  -- an input that is none gave no numbers
+  no_numbers : (left : List ℕ) (numbers : List ℤ) → old.input.told ≡ Some left → IsNoInput left → SpellsInput old.input.told numbers → ⊥
+  no_numbers left numbers rest none s = none numbers (given_input old.input.told left numbers rest s)
+
+  strict_input : (request : SimulateRequest) (text left : List ℕ) (object : CodeWithNotes) (due : Option ToolFault) → IsToldObject old request text
+      → IsTextOf text object → old.input.told ≡ Some left → IsNoInput left → Ends (Some request) due
+      → (due_status due ≡ 4) ⊎ (due_status due ≡ 1) ⊎ ((due_status due ≡ 3) × FailsToTake old new request)
+  strict_input request text left object due file is rest none (Ran {numbers} loaded sent e) = absurd (no_numbers left numbers rest none loaded.in_input)
+  strict_input request text left object due file is rest none (Unread {name} e failed quiet silent) =
+      inr (inr (refl, inl (subst (λ name. ReadFaultOf old.shelf new.shelf name) (sym e) failed, quiet)))
+  strict_input request text left object due file is rest none (Refused faulty quiet silent) = inl refl
+  strict_input request text left object due file is rest none (Untaken held failed silent) = inr (inr (refl, inr (held, failed)))
+  strict_input request text left object due file is rest none (Misspelt held faulty silent) = inl refl
+  strict_input request text left object due file is rest none (Broke {numbers} loaded rose part) = absurd (no_numbers left numbers rest none loaded.in_input)
+  strict_input request text left object due file is rest none (Lacking lacks) = inr (inl refl)
+
+  -- ---- of the status itself, which is that of what was due, or 5 for a fault of the error output
+
+  module _ (given : Option SimulateRequest) (due : Option ToolFault) (code : ℕ) (ends : Ends given due) (told : Told due old.err new.err code) where
+    by_status : (P : ℕ → Type 0) → P (due_status due) → ((code ≡ 5) × HasErrorFault old new → P code) → P code
+    by_status P due_says broken = elim (status_of due old.err new.err code told) [
+      | inl same ↦ subst P (sym same) due_says
+      | inr part ↦ broken part
+    ]
+
+    to_some : (request : SimulateRequest) → given ≡ Some request → Ends (Some request) due
+    to_some request is = subst (λ (g : Option SimulateRequest). Ends g due) is ends
+
+    five : (P : Type 0) → (code ≡ 5) × HasErrorFault old new → IsEndStatus code → P
+    five P part end = absurd (no_end code (omega (arith, part.0)) (omega (arith, part.0)) end)
+
+    pub statuses : SimulatorStatuses given old new code
+    statuses = record {
+      ran = by_status (λ code. IsEndStatus code → IsSomeAnd given (HasRun old new code)) (ran_of given due ends) (λ part end. five (IsSomeAnd given (HasRun old new code)) part end);
+      lacking = by_status (λ code. code ≡ 1 → SimulatorLacks old.shelf new.shelf old.input new.input old.out new.out given)
+          (lacking_of given due ends) (λ part e. absurd (omega (arith, part.0, e)));
+      misused = by_status (λ code. code ≡ 2 → (given ≡ None) × (new.shelf ≡ old.shelf) × (new.input ≡ old.input))
+          (misused_of given due ends) (λ part e. absurd (omega (arith, part.0, e)));
+      unread = by_status (λ code. code ≡ 3 → IsSomeAnd given (FailsToTake old new)) (unread_of given due ends) (λ part e. absurd (omega (arith, part.0, e)));
+      refused = by_status (λ code. code ≡ 4 → IsSomeAnd given (RefusesBytes old new)) (refused_of given due ends) (λ part e. absurd (omega (arith, part.0, e)));
+      failed = by_status (λ code. code ≡ 5 → IsSomeAnd given (HasBroken old new) ⊎ HasErrorFault old new) (λ e. inl (failed_of given due ends e)) (λ part e. inr part.1);
+      known = by_status (λ code. (code ≤ 5) ⊎ IsEndStatus code) (known_of given due ends) (λ part. inl (omega (arith, part.0)));
+      silent = by_status (λ code. (2 ≤ code) → (code ≤ 4) → new.out ≡ old.out) (silent_of given due ends) (λ part low high. absurd (omega (arith, part.0, high)));
+      usage = λ none. by_status (λ code. (code ≡ 2) ⊎ (code ≡ 1) ⊎ ((code ≡ 5) × HasErrorFault old new))
+          (either_first (usage_of due (subst (λ (g : Option SimulateRequest). Ends g due) none ends))) (λ part. inr (inr part));
+      complete = λ request text left object numbers given_is file is rest input. by_status
+          (λ code. ((code ≡ end_status (run_seen request object numbers).end) × SendsRun old new request object numbers)
+          ⊎ (code ≡ 1) ⊎ ((code ≡ 3) × FailsToTake old new request) ⊎ ((code ≡ 5) × (BreaksOff old new request object numbers ⊎ HasErrorFault old new)))
+          (last_first (complete_of request object numbers due (record { text = text; file = file; is = is; left = left; rest = rest; input = input }) (to_some request given_is)))
+          (λ part. inr (inr (inr (part.0, inr part.1))));
+      strict_of_object = λ request text given_is file none. by_status
+          (λ code. (code ≡ 4) ⊎ (code ≡ 1) ⊎ ((code ≡ 3) × ReadFaultOf old.shelf new.shelf request.object) ⊎ ((code ≡ 5) × HasErrorFault old new))
+          (third_first (strict_object request text due file none (to_some request given_is))) (λ part. inr (inr (inr part)));
+      strict_of_input = λ request text left object given_is file is rest none. by_status
+          (λ code. (code ≡ 4) ⊎ (code ≡ 1) ⊎ ((code ≡ 3) × FailsToTake old new request) ⊎ ((code ≡ 5) × HasErrorFault old new))
+          (third_first (strict_input request text left object due file is rest none (to_some request given_is))) (λ part. inr (inr (inr part)));
+    }
+
+-- the promise says all this
+pub statuses_of : (given : Option SimulateRequest) (old new : Outside) (code : ℕ) → SimulatorPromise given old new code → SimulatorStatuses given old new code
+statuses_of given old new code promise = statuses old new given promise.due code promise.ends promise.told

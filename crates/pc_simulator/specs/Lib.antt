@@ -1,0 +1,4 @@
+pub mod models
+pub mod Simulation
+pub mod Simulator
+pub mod SimulatorLaws

@@ -1,0 +1,210 @@
+//! The texts of some objects, as another program makes them.
+
+use pc_object::decode;
+use pc_view::{graph_text, laws_of_graphs, laws_of_leading_rows, laws_of_listings, listing_text};
+use pc_word::MOST_OBJECT;
+use std::alloc::Global;
+use std::test::Fail;
+
+/// It prints 7.
+pub(crate) const SEVEN: [u8; 21] = [
+    0x50, 0x54, 0x56, 0x31, 0x08, 0x03, 0x02, 0x00, 0x00, 0x00, 0x00, 0x01, 0x24, 0x01, 0x00, 0x00,
+    0x00, 0x07, 0x02, 0x00, 0x00,
+];
+
+pub(crate) const SEVEN_LISTING: &str = "\
+limits of a row: 8 items, 3 tests, 2 loads and stores; arrays: none\n\
+row 0: 1 of 8 items, 0 of 3 tests, 0 of 2 loads and stores; from rows: none\n\
+\x20   print(7)\n\
+\x20   stop\n";
+
+pub(crate) const SEVEN_GRAPH: &str = "\
+digraph rows {\n\
+\x20   node [shape=record];\n\
+\x20   0 [label=\"{row 0|print(7)|<p> stop}\"];\n\
+}\n";
+
+/// It prints the sum of its input.
+const SUM: [u8; 49] = [
+    0x50, 0x54, 0x56, 0x31, 0x08, 0x03, 0x02, 0x00, 0x00, 0x00, 0x00, 0x03, 0x26, 0x01, 0x01, 0x00,
+    0x00, 0x00, 0x01, 0x10, 0x00, 0x01, 0x25, 0x00, 0x01, 0x00, 0x00, 0x00, 0x02, 0x24, 0x00, 0x02,
+    0x02, 0x20, 0x00, 0x02, 0x00, 0x02, 0x00, 0x00, 0x26, 0x01, 0x01, 0x00, 0x00, 0x00, 0x01, 0x00,
+    0x00,
+];
+
+const SUM_LISTING: &str = "\
+limits of a row: 8 items, 3 tests, 2 loads and stores; arrays: none\n\
+row 0: 1 of 8 items, 0 of 3 tests, 0 of 2 loads and stores; from rows: none\n\
+\x20   r1 = more()\n\
+\x20   goto row 1\n\
+row 1: 2 of 8 items, 1 of 3 tests, 0 of 2 loads and stores; from rows: 0, 2\n\
+\x20   if r1\n\
+\x20   yes r0 = read()\n\
+\x20   |   goto row 2\n\
+\x20   no  print(r2)\n\
+\x20       stop\n\
+row 2: 2 of 8 items, 0 of 3 tests, 0 of 2 loads and stores; from rows: 1\n\
+\x20   r2 = r2 + r0\n\
+\x20   r1 = more()\n\
+\x20   goto row 1\n";
+
+const SUM_GRAPH: &str = "\
+digraph rows {\n\
+\x20   node [shape=record];\n\
+\x20   0 [label=\"{row 0|r1 = more()|<p> goto row 1}\"];\n\
+\x20   0:p -> 1;\n\
+\x20   1 [label=\"{row 1|if r1|{{yes|r0 = read()|<py> goto row 2}|{no|print(r2)|<pn> stop}}}\"];\n\
+\x20   1:py -> 2;\n\
+\x20   2 [label=\"{row 2|r2 = r2 + r0|r1 = more()|<p> goto row 1}\"];\n\
+\x20   2:p -> 1;\n\
+}\n";
+
+/// A row with a tree of tests, and one that leads back to it.
+const TREE: [u8; 68] = [
+    0x50, 0x54, 0x56, 0x31, 0x04, 0x03, 0x01, 0x01, 0x00, 0x00, 0x00, 0x0A, 0x00, 0x00, 0x00, 0x02,
+    0x10, 0x00, 0x01, 0x10, 0x00, 0x02, 0x23, 0x00, 0x00, 0x02, 0x01, 0xFF, 0xFF, 0xFF, 0xFF, 0x01,
+    0x00, 0x00, 0x00, 0x01, 0x02, 0x20, 0x0A, 0x03, 0x00, 0x03, 0x01, 0x00, 0x00, 0x00, 0x0A, 0x10,
+    0x00, 0x04, 0x01, 0x00, 0x00, 0x00, 0x00, 0x03, 0x01, 0x00, 0x00, 0x00, 0x0C, 0x01, 0x00, 0x00,
+    0x00, 0x00, 0x00, 0x00,
+];
+
+const TREE_LISTING: &str = "\
+limits of a row: 4 items, 3 tests, 1 loads and stores; arrays: a0[10]\n\
+row 0: 2 of 4 items, 3 of 3 tests, 1 of 1 loads and stores; from rows: 0, 1\n\
+\x20   if r1\n\
+\x20   yes if r2\n\
+\x20   |   yes a0[r2] = -1\n\
+\x20   |   |   goto row 1\n\
+\x20   |   no  stop\n\
+\x20   no  r3 = r3 < 10\n\
+\x20       if r4\n\
+\x20       yes goto row 0\n\
+\x20       no  trap: out of bounds at line 12\n\
+row 1: 0 of 4 items, 0 of 3 tests, 0 of 1 loads and stores; from rows: 0\n\
+\x20   goto row 0\n";
+
+const TREE_GRAPH: &str = "\
+digraph rows {\n\
+\x20   node [shape=record];\n\
+\x20   0 [label=\"{row 0|if r1|{{yes|if r2|{{yes|a0[r2] = -1|<pyy> goto row 1}|{no|<pyn> stop}}}|{no|r3 = r3 \\< 10|if r4|{{yes|\
+<pny> goto row 0}|{no|<pnn> trap: out of bounds at line 12}}}}}\"];\n\
+\x20   0:pyy -> 1;\n\
+\x20   0:pny -> 0;\n\
+\x20   1 [label=\"{row 1|<p> goto row 0}\"];\n\
+\x20   1:p -> 0;\n\
+}\n";
+
+/// Each operator, item, leaf and choice of a note.
+const KINDS: [u8; 325] = [
+    0x50, 0x54, 0x56, 0x31, 0x20, 0x07, 0x20, 0x02, 0x00, 0x00, 0x00, 0x40, 0x00, 0x01, 0x00, 0x00,
+    0x00, 0x00, 0x00, 0x03, 0x20, 0x00, 0x00, 0x00, 0x01, 0x01, 0xFF, 0xFF, 0xFF, 0xF9, 0x20, 0x01,
+    0x01, 0x00, 0x02, 0x01, 0xFF, 0xFF, 0xFF, 0xFA, 0x20, 0x02, 0x02, 0x00, 0x03, 0x01, 0xFF, 0xFF,
+    0xFF, 0xFB, 0x20, 0x03, 0x03, 0x00, 0x04, 0x01, 0xFF, 0xFF, 0xFF, 0xFC, 0x20, 0x04, 0x04, 0x00,
+    0x05, 0x01, 0xFF, 0xFF, 0xFF, 0xFD, 0x20, 0x05, 0x05, 0x00, 0x06, 0x01, 0xFF, 0xFF, 0xFF, 0xFE,
+    0x20, 0x06, 0x06, 0x00, 0x07, 0x01, 0xFF, 0xFF, 0xFF, 0xFF, 0x20, 0x07, 0x07, 0x00, 0x08, 0x01,
+    0x00, 0x00, 0x00, 0x00, 0x20, 0x08, 0x08, 0x00, 0x09, 0x01, 0x00, 0x00, 0x00, 0x01, 0x20, 0x09,
+    0x09, 0x00, 0x0A, 0x01, 0x00, 0x00, 0x00, 0x02, 0x20, 0x0A, 0x0A, 0x00, 0x0B, 0x01, 0x00, 0x00,
+    0x00, 0x03, 0x20, 0x0B, 0x0B, 0x00, 0x0C, 0x01, 0x00, 0x00, 0x00, 0x04, 0x20, 0x0C, 0x0C, 0x00,
+    0x0D, 0x01, 0x00, 0x00, 0x00, 0x05, 0x20, 0x0D, 0x0D, 0x00, 0x0E, 0x01, 0x00, 0x00, 0x00, 0x06,
+    0x20, 0x0E, 0x0E, 0x00, 0x0F, 0x01, 0x00, 0x00, 0x00, 0x07, 0x21, 0x0F, 0x00, 0x7F, 0x22, 0x10,
+    0x01, 0x00, 0x00, 0x23, 0x00, 0x01, 0x00, 0x00, 0x00, 0x03, 0x00, 0x02, 0x24, 0x01, 0x80, 0x00,
+    0x00, 0x00, 0x01, 0x00, 0x00, 0x00, 0x01, 0x25, 0x00, 0x10, 0x00, 0x09, 0x03, 0x00, 0x00, 0x00,
+    0x00, 0x01, 0x03, 0x02, 0xFF, 0xFF, 0xFF, 0xFF, 0x26, 0x7F, 0x02, 0x00, 0x08, 0x00, 0x00, 0x00,
+    0x00, 0x02, 0x00, 0x00, 0x00, 0x64, 0x00, 0x00, 0x00, 0x5A, 0x01, 0x00, 0x00, 0x00, 0x03, 0x00,
+    0x00, 0x00, 0x65, 0x00, 0x00, 0x00, 0x5B, 0x02, 0x00, 0x00, 0x00, 0x04, 0x00, 0x00, 0x00, 0x66,
+    0x00, 0x00, 0x00, 0x5C, 0x03, 0x00, 0x00, 0x00, 0x05, 0x00, 0x00, 0x00, 0x67, 0x00, 0x00, 0x00,
+    0x5D, 0x04, 0x00, 0x00, 0x00, 0x06, 0x00, 0x00, 0x00, 0x68, 0x00, 0x00, 0x00, 0x5E, 0x05, 0x00,
+    0x00, 0x00, 0x07, 0x00, 0x00, 0x00, 0x69, 0x00, 0x00, 0x00, 0x5F, 0x06, 0x00, 0x00, 0x00, 0x08,
+    0x00, 0x00, 0x00, 0x6A, 0x00, 0x00, 0x00, 0x60, 0x07, 0x00, 0x00, 0x00, 0x09, 0x00, 0x00, 0x00,
+    0x6B, 0x00, 0x00, 0x00, 0x61,
+];
+
+const KINDS_LISTING: &str = "\
+limits of a row: 32 items, 7 tests, 32 loads and stores; arrays: a0[64], a1[65536]\n\
+row 0: 19 of 32 items, 0 of 7 tests, 2 of 32 loads and stores; from rows: none\n\
+\x20   r0 = r1 + -7\n\
+\x20   r1 = r2 - -6\n\
+\x20   r2 = r3 * -5\n\
+\x20   r3 = r4 / -4\n\
+\x20   r4 = r5 % -3\n\
+\x20   r5 = r6 << -2\n\
+\x20   r6 = r7 >> -1\n\
+\x20   r7 = r8 & 0\n\
+\x20   r8 = r9 | 1\n\
+\x20   r9 = r10 ^ 2\n\
+\x20   r10 = r11 < 3\n\
+\x20   r11 = r12 <= 4\n\
+\x20   r12 = r13 == 5\n\
+\x20   r13 = r14 != 6\n\
+\x20   r14 = r15 below 7\n\
+\x20   r15 = r127\n\
+\x20   r16 = a1[r0]\n\
+\x20   a0[3] = r2\n\
+\x20   print(-2147483648)\n\
+\x20   goto row 1\n\
+row 1: 1 of 32 items, 1 of 7 tests, 0 of 32 loads and stores; from rows: 0\n\
+\x20   r0 = read()\n\
+\x20   if r9\n\
+\x20   yes trap: divide by zero at line 1\n\
+\x20   no  trap: end of input at line 4294967295\n\
+row 2: 1 of 32 items, 0 of 7 tests, 0 of 32 loads and stores; from rows: none\n\
+\x20   r127 = more()\n\
+\x20   stop\n\
+loop 2: pipelined, rows 100 of 90\n\
+loop 3: packed, rows 101 of 91\n\
+loop 4: packed, live 102 of 92\n\
+loop 5: packed, bytes 103 of 93\n\
+loop 6: packed, window 104 of 94\n\
+loop 7: plain, rows 105 of 95\n\
+loop 8: plain, live 106 of 96\n\
+loop 9: plain, bytes 107 of 97\n";
+
+const KINDS_GRAPH: &str = "\
+digraph rows {\n\
+\x20   node [shape=record];\n\
+\x20   0 [label=\"{row 0|r0 = r1 + -7|r1 = r2 - -6|r2 = r3 * -5|r3 = r4 / -4|r4 = r5 % -3|r5 = r6 \\<\\< -2|r6 = r7 \\>\\> -1|\
+r7 = r8 & 0|r8 = r9 \\| 1|r9 = r10 ^ 2|r10 = r11 \\< 3|r11 = r12 \\<= 4|r12 = r13 == 5|r13 = r14 != 6|r14 = r15 below 7|\
+r15 = r127|r16 = a1[r0]|a0[3] = r2|print(-2147483648)|<p> goto row 1}\"];\n\
+\x20   0:p -> 1;\n\
+\x20   1 [label=\"{row 1|r0 = read()|if r9|{{yes|<py> trap: divide by zero at line 1}|{no|\
+<pn> trap: end of input at line 4294967295}}}\"];\n\
+\x20   2 [label=\"{row 2|r127 = more()|<p> stop}\"];\n\
+\x20   note0 [shape=box, style=filled, fillcolor=palegreen, label=\"loop 2: pipelined, rows 100 of 90\"];\n\
+\x20   note1 [shape=box, style=filled, fillcolor=khaki, label=\"loop 3: packed, rows 101 of 91\"];\n\
+\x20   note2 [shape=box, style=filled, fillcolor=khaki, label=\"loop 4: packed, live 102 of 92\"];\n\
+\x20   note3 [shape=box, style=filled, fillcolor=khaki, label=\"loop 5: packed, bytes 103 of 93\"];\n\
+\x20   note4 [shape=box, style=filled, fillcolor=khaki, label=\"loop 6: packed, window 104 of 94\"];\n\
+\x20   note5 [shape=box, style=filled, fillcolor=lightsalmon, label=\"loop 7: plain, rows 105 of 95\"];\n\
+\x20   note6 [shape=box, style=filled, fillcolor=lightsalmon, label=\"loop 8: plain, live 106 of 96\"];\n\
+\x20   note7 [shape=box, style=filled, fillcolor=lightsalmon, label=\"loop 9: plain, bytes 107 of 97\"];\n\
+}\n";
+
+/// Whether an object has these texts.
+fn shows(alloc: Global, bytes: &[u8], listing: &str, graph: &str) -> Result<bool, Fail> {
+    if bytes.len() > MOST_OBJECT {
+        return Ok(false);
+    }
+    let object = decode(alloc, bytes)?;
+    let listed = listing_text(alloc, &object)?;
+    let drawn = graph_text(alloc, &object)?;
+    Ok(listed.as_slice() == listing.as_bytes() && drawn.as_slice() == graph.as_bytes())
+}
+
+/// Objects, each with its listing and its graph.
+static OBJECTS: [(&[u8], &str, &str); 4] = [
+    (&SEVEN, SEVEN_LISTING, SEVEN_GRAPH),
+    (&SUM, SUM_LISTING, SUM_GRAPH),
+    (&TREE, TREE_LISTING, TREE_GRAPH),
+    (&KINDS, KINDS_LISTING, KINDS_GRAPH),
+];
+
+#[test]
+fn shows_objects(rt: HostRuntime) -> Result<(), Fail> {
+    for (bytes, listing, graph) in OBJECTS.iter() {
+        assert!(rt; shows(rt.alloc(), bytes, listing, graph)?, "{listing}");
+    }
+    laws_of_graphs();
+    laws_of_leading_rows();
+    laws_of_listings();
+    Ok(())
+}

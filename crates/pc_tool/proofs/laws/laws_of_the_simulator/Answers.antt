@@ -1,5 +1,0 @@
-use Rattle.pc_tool.proofs.SimulatorStatuses.{statuses_of}
-use Rattle.pc_tool.proofs.laws.laws_of_the_simulator.Goals as goal
-
-pub returns : goal.returns
-returns c = statuses_of

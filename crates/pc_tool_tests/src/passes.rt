@@ -1,0 +1,101 @@
+//! The compiler with passes over the flow graph.
+ghost use Rattle.std.specs.Prelude.{codes};
+
+use crate::bench::{NONE_FAILS, SILENCE, Wanted, answers, answers_with, shelf_with};
+use pc_flow::Flow;
+use pc_outside::MemoryShelf;
+use pc_pass::{Pass, PassMemory};
+use pc_scalar::{Copies, Dead, Fold, Values};
+use pc_tool::Who;
+use std::alloc::Global;
+use std::test::Fail;
+
+/// A sum of literals that is held twice.
+const FIVE: &[u8] = b"int main(void){int x=2+3;int y=x;print(y);}";
+
+/// Leaves each graph as it is, and counts how often it was applied.
+#[derive(Drop)]
+struct Counting {
+    applied: u64,
+}
+
+impl Pass for Counting {
+    ghost label = { λ it. codes "counting" };
+
+    ghost changed = { λ it. it.applied };
+
+    ghost runs = { λ it. it.applied };
+
+    fn name(&self) -> &str {
+        "counting"
+    }
+
+    fn changes(&self) -> u64 {
+        self.applied
+    }
+
+    fn apply(&mut self, _flow: &mut Flow) -> Result<(), PassMemory> {
+        self.applied = self.applied.saturating_add(1);
+        Ok(())
+    }
+}
+
+/// Whether the compiler with these passes reports this, and the object then prints 5.
+fn reports(alloc: Global, passes: &mut Vec<Box<dyn Pass>>, report: &[u8]) -> Result<bool, Fail> {
+    let mut shelf = shelf_with(alloc, "a.c", FIVE, 0)?;
+    reports_there(alloc, passes, report, &mut shelf)
+}
+
+/// The same over a shelf.
+fn reports_there(
+    alloc: Global,
+    passes: &mut Vec<Box<dyn Pass>>,
+    report: &[u8],
+    shelf: &mut MemoryShelf,
+) -> Result<bool, Fail> {
+    let line = "a.c -o b.tv --report";
+    let reported = Wanted {
+        out: report,
+        ..SILENCE
+    };
+    let printed = Wanted {
+        out: b"5\n",
+        ..SILENCE
+    };
+    Ok(
+        answers_with(
+            alloc,
+            Who::Pcc,
+            line,
+            passes,
+            shelf,
+            b"",
+            NONE_FAILS,
+            reported,
+        )? && answers(alloc, Who::Pvm, "b.tv", shelf, b"", NONE_FAILS, printed)?,
+    )
+}
+
+#[test]
+fn each_pass_is_applied_once(rt: HostRuntime) -> Result<(), Fail> {
+    let alloc = rt.alloc();
+    let mut passes: Vec<Box<dyn Pass>> = Vec::new(alloc);
+    passes.push(Box::new(alloc, Counting { applied: 0 })?)?;
+    passes.push(Box::new(alloc, Counting { applied: 7 })?)?;
+    let report = b"nodes 5\nrows 2\npass counting 1\npass counting 8\n";
+    assert!(rt; reports(alloc, &mut passes, report)?);
+    Ok(())
+}
+
+#[test]
+fn passes_fold_copy_and_clear(rt: HostRuntime) -> Result<(), Fail> {
+    let alloc = rt.alloc();
+    let mut passes: Vec<Box<dyn Pass>> = Vec::new(alloc);
+    passes.push(Box::new(alloc, Fold::new(alloc))?)?;
+    passes.push(Box::new(alloc, Copies::new(alloc))?)?;
+    passes.push(Box::new(alloc, Values::new(alloc))?)?;
+    passes.push(Box::new(alloc, Dead::new(alloc))?)?;
+    let report = b"nodes 5\nrows 1\npass fold 1\npass copies 3\npass values 0\npass dead 3\n";
+    assert!(rt; reports(alloc, &mut passes, report)?);
+    Ok(())
+}

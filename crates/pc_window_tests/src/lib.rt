@@ -1,0 +1,24 @@
+//! Tests of windows: of forms, of opening, rebasing, unwinding and cutting, of keys, and of the search for the
+//! automaton of a region.
+#![tactic(auto)]
+
+#[cfg(test)]
+mod automaton;
+#[cfg(test)]
+mod canon;
+#[cfg(test)]
+mod linear;
+#[cfg(test)]
+mod names;
+#[cfg(test)]
+mod pattern;
+#[cfg(test)]
+mod rebase;
+#[cfg(test)]
+mod renumber;
+#[cfg(test)]
+mod tables;
+#[cfg(test)]
+mod unwind;
+#[cfg(test)]
+mod window;
