@@ -26,7 +26,7 @@ pub enum MoveError {
     #[error("a load or store is in the way")]
     MemoryOrder { origin: u32 },
     /// A test stands before a store, print, read or more.
-    #[error("an effect may not pass a test")]
+    #[error("an effect may not pass the tests above it")]
     EffectAboveTest,
     /// Two prints, reads or mores would change places, or share a node.
     #[error("an effect may not pass another")]
