@@ -23,6 +23,7 @@ use Rattle.pc_assign.proofs.Gives.{GivesEach, one_has_is, used_has_is, gives_fro
 use Rattle.pc_assign.proofs.Gives.{beside_none}
 use Rattle.pc_assign.proofs.Held.{get_more}
 use Rattle.pc_assign.specs.Stored.{beside}
+use Rattle.pc_automaton.proofs.Checked.{sides_written}
 
 -- ---- the least
 
@@ -85,10 +86,6 @@ at_end (x ∷ xs) = ap (λ (ys : List ℕ). x ∷ ys) (at_end xs)
 pub length_both : (xs ys : List ℕ) → length (xs ++ ys) ≡ length xs + length ys
 length_both [] ys = omega arith
 length_both (x ∷ xs) ys = omega (arith, length_both xs ys)
-
-sides_written : (on_yes on_no : Row AutomatonLeaf) → filter_map dest_of
-    (items_of on_yes ++ items_of on_no) ≡ names_written on_yes ++ names_written on_no
-sides_written on_yes on_no = filter_map-append dest_of (items_of on_yes) (items_of on_no)
 
 module _ (parameters held : List ℕ) where
   pub chosen_added : (above : ℕ → Bool) (row : Row AutomatonLeaf) (old new : List ℕ) → AreChosen parameters held above row old new → Added row old new

@@ -9,7 +9,7 @@ use Rattle.pc_window.specs.Rebasing.{is_in}
 use Rattle.pc_assign.specs.Assigned.{is_register, one_has, used_has}
 use Rattle.pc_assign.specs.Stored.{beside}
 use Rattle.pc_assign.specs.models.Choosing.{used_holds}
-use Rattle.pc_word.proofs.Places.{other_way}
+use Rattle.pc_word.proofs.Places.{other_way, own_number}
 
 -- each name has the register beside it
 abbrev pub GivesEach : (ℕ → Option ℕ) → List ℕ → List ℕ → Type 0
@@ -74,9 +74,6 @@ gives_alike of other [] rs k h = tt
 gives_alike of other (x ∷ xs) [] k h = h
 gives_alike of other (x ∷ xs) (r ∷ rs) k h = (k.0 ∙ h.0, gives_alike of other xs rs k.1 h.1)
 
-itself : (x : ℕ) → nat_eq x x ≡ true
-itself x = grind (arith, nat_tests)
-
 past : (x r : ℕ) (xs rs ys : List ℕ) → AllByRecursion (λ y. nat_eq x y ≡ false) ys
     → AllByRecursion (λ y. beside (x ∷ xs) (r ∷ rs) y ≡ beside xs rs y) ys
 past x r xs rs [] h = tt
@@ -89,7 +86,7 @@ unfolding IsDistinct
 beside_gives [] registers h e = tt
 beside_gives (x ∷ xs) [] h e = absurd (omega (arith, e))
 beside_gives (x ∷ xs) (r ∷ rs) h e = (
-  ap (λ (b : Bool). if b then Some r else beside xs rs x) (itself x),
+  ap (λ (b : Bool). if b then Some r else beside xs rs x) (own_number x),
   gives_alike (beside xs rs) (beside (x ∷ xs) (r ∷ rs)) xs rs (past x r xs rs xs h.0) (beside_gives xs rs h.1 (omega (arith, e))),
 )
 

@@ -14,6 +14,7 @@ use Rattle.pc_assign.specs.Assigned.{passed_at}
 use Rattle.pc_assign.specs.declared.register_set.RegisterSet.{RegisterSet}
 use Rattle.pc_assign.specs.models.Choosing.{member, AreMost, IsParameterTaken, AreParameters, used_holds}
 use Rattle.pc_word.specs.Items.{reads_name}
+use Rattle.pc_window.proofs.Scopes.{or_exchange}
 
 -- ---- uses
 
@@ -29,16 +30,10 @@ out_uses leaf region homes name found is any = any ∙ homes_any homes name ∙ 
 
 -- ---- one more at the end
 
-swapped : (a b c : Bool) → (a || (b || c)) ≡ (b || (a || c))
-swapped true true c = refl
-swapped true false c = refl
-swapped false true c = refl
-swapped false false c = refl
-
 -- whether a number is in a list with one number more
 pub in_more : (x r : ℕ) (rs : List ℕ) → is_in x (rs ++ r ∷ []) ≡ (nat_eq x r || is_in x rs)
 in_more x r [] = refl
-in_more x r (s ∷ rs) = ap (λ (b : Bool). nat_eq x s || b) (in_more x r rs) ∙ swapped (nat_eq x s) (nat_eq x r) (is_in x rs)
+in_more x r (s ∷ rs) = ap (λ (b : Bool). nat_eq x s || b) (in_more x r rs) ∙ or_exchange (nat_eq x s) (nat_eq x r) (is_in x rs)
 
 -- what stands at a place of it
 pub get_more : (xs : List ℕ) (r k x : ℕ) → slice_get (xs ++ r ∷ []) k ≡ Some x
@@ -67,7 +62,7 @@ in_suc : (xs : List ℕ) (i x : ℕ) → i < length xs → is_in x (take (suc i)
 in_suc [] i x h = absurd (omega arith)
 in_suc (y ∷ xs) zero x h = refl
 in_suc (y ∷ xs) (suc i) x h =
-    ap (λ (b : Bool). nat_eq x y || b) (in_suc xs i x (omega arith)) ∙ swapped (nat_eq x y) (nat_eq x (get_or xs i 0)) (is_in x (take i xs))
+    ap (λ (b : Bool). nat_eq x y || b) (in_suc xs i x (omega arith)) ∙ or_exchange (nat_eq x y) (nat_eq x (get_or xs i 0)) (is_in x (take i xs))
 
 pub in_taken : (xs : List ℕ) (i j x : ℕ) → i < length xs → j ≡ i + 1 → is_in x (take j xs) ≡ (nat_eq x (get_or xs i 0) || is_in x (take i xs))
 in_taken xs i j x h is = let same : j ≡ suc i = omega (arith, is) in ap (λ (k : ℕ). is_in x (take k xs)) same ∙ in_suc xs i x h
@@ -81,7 +76,7 @@ used_suc used (name ∷ names) [] i x h k = absurd (omega arith)
 used_suc used (name ∷ names) (r ∷ held) zero x h k = refl
 used_suc used (name ∷ names) (r ∷ held) (suc i) x h k =
     ap (λ (b : Bool). (used name && nat_eq x r) || b) (used_suc used names held i x (omega arith) (omega arith))
-    ∙ swapped (used name && nat_eq x r) (used (get_or names i 0) && nat_eq x (get_or held i 0)) (used_holds used (take i names) (take i held) x)
+    ∙ or_exchange (used name && nat_eq x r) (used (get_or names i 0) && nat_eq x (get_or held i 0)) (used_holds used (take i names) (take i held) x)
 
 pub used_taken : (used : ℕ → Bool) (names held : List ℕ) (i j x : ℕ) → i < length names → length held ≡ length names → j ≡ i + 1
     → used_holds used (take j names) (take j held) x

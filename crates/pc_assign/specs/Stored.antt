@@ -22,7 +22,7 @@ register_in None name = None
 abbrev pub registers_in : Assigned → ℕ → ℕ → Option ℕ
 registers_in assigned number = register_in (slice_get assigned.states number)
 
--- when an automaton is refused: the first state with too high a pressure is told, with its pressure. Memory may run out at any time.
+-- when an automaton is refused: the first state with too high a pressure is named, with its pressure. Memory may run out at any time.
 abbrev pub Refuses : List AutomatonState → AssignError → Type 0
 Refuses states (Pressure number live) = IsFirstHigh states number live
 Refuses states Memory = Unit {0}

@@ -139,7 +139,7 @@ fn held_by(
     parameter_registers(alloc, parameters, passed)
 }
 
-/// These registers of parameters, and behind them those of the names that a row defines.
+/// These registers of parameters, and after them those of the names that a row defines.
 fn with_defined(
     alloc: Global,
     parameters: &[u32],

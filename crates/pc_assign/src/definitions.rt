@@ -20,7 +20,7 @@ pub(crate) struct Held<'a> {
     pub(crate) taken: RegisterSet,
 }
 
-/// Puts the registers of the names that a row defines behind others, in preorder. `above` has those
+/// Appends the registers of the names that a row defines to others, in preorder. `above` has those
 /// of the names that are defined above it.
 pub(crate) fn define(
     held: &Held,

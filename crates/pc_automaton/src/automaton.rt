@@ -18,7 +18,7 @@ pub enum AutomatonLeaf {
     Out { region: u32, homes: HomeList },
     /// The end of the program.
     Stop,
-    /// A trap, with the line that it is told by.
+    /// A trap, with its line in the source.
     Trap { kind: TrapKind, line: u32 },
 }
 

@@ -1,6 +1,6 @@
 //! Cutting: the front of a window as a row.
 ghost use Rattle.std.specs.Prelude.{◌≡◌, IfOk, true, slice_get};
-ghost use Rattle.pc_table.specs.Table.{table_of};
+ghost use Rattle.pc_table.specs.StoredTable.{table_of};
 ghost use Rattle.pc_window.specs.Kept.{CutKeeps};
 ghost use Rattle.pc_window.specs.Laws.{IsLegal};
 ghost use Rattle.pc_window.specs.Steps.{Cuts, left_of, left_at_root, front_row, with_tree, IsProper, EachLeft};
@@ -11,7 +11,7 @@ ghost use Rattle.pc_word.specs.StoredRow.{row_in, EachLeaf};
 
 use crate::left::Left;
 use pc_table::RegionTable;
-use pc_window::{FormList, NameTable, Window, WindowError, WindowTree, is_inside};
+use pc_window::{FormList, NameTable, Window, WindowError, WindowTree};
 use pc_word::{Limits, RowTree};
 use std::alloc::{AllocError, Global};
 
@@ -140,7 +140,7 @@ fn left(
         WindowTree::Stop => Ok(Left::Stop),
         WindowTree::Trap { kind, line } => Ok(Left::Trap { kind, line }),
         WindowTree::Exit { region, tag, homes } => {
-            if !is_inside(table, inside, region) {
+            if !table.is_inside(region, inside) {
                 return Ok(Left::Out { region, homes });
             }
             let stub = WindowTree::Exit { region, tag, homes };

@@ -10,6 +10,6 @@ pub enum Left {
     Out { region: u32, homes: HomeList },
     /// The end of the program.
     Stop,
-    /// A trap, with the line that it is told by.
+    /// A trap, with its line in the source.
     Trap { kind: TrapKind, line: u32 },
 }

@@ -12,6 +12,7 @@ use Rattle.pc_canon.specs.Canonical.{with_factor, column, with_occurring, column
 use Rattle.pc_canon.specs.models.Gathered.{column_in, and_term, and_terms, with_factors, and_forms}
 use Rattle.pc_canon.proofs.Codes.{joined}
 use Rattle.pc_canon.proofs.FactorColumns.{column-above}
+use Rattle.pc_word.proofs.Places.{number_apart}
 
 -- ---- a term at a time
 
@@ -19,20 +20,13 @@ append-none : (xs : List ℤ) → xs ++ [] ≡ xs
 append-none [] = refl
 append-none (x ∷ xs) = ap (λ (l : List ℤ). x ∷ l) (append-none xs)
 
-other_variable : (x y : ℕ) → x ≢ y → nat_eq x y ≡ false
-other_variable x y h = by (nat_eq x y) refl
-  where
-    by : (b : Bool) → nat_eq x y ≡ b → b ≡ false
-    by true e = absurd (h (eqb-true x y e))
-    by false e = refl
-
 -- below the first variable there is no factor
 factor-below : (terms : List Term) (least x : ℕ) → Rising least terms → x < least → factor_of terms x ≡ pos 0
 factor-below [] least x r h = refl
 factor-below (term ∷ terms) least x r h =
     let le = r.0 in
     let apart : x ≢ term.variable = omega (arith, le, h) in
-    (λ i. (if other_variable x term.variable apart i then term.factor else pos 0) +ℤ factor-below terms (suc term.variable) x r.1 (omega (arith, le, h)) i)
+    (λ i. (if number_apart x term.variable apart i then term.factor else pos 0) +ℤ factor-below terms (suc term.variable) x r.1 (omega (arith, le, h)) i)
 
 with_factor-some : (place : ℕ) (factor : ℤ) → factor ≢ pos 0 → with_factor place factor [] ≡ pos place ∷ factor ∷ []
 with_factor-some place (pos zero) h = absurd (h refl)

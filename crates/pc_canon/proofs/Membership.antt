@@ -5,6 +5,7 @@ use Rattle.std.specs.List.{AllByRecursion, IsDistinct}
 use Rattle.std.proofs.lemmas.Bool.{eqb-true, eq-eqb}
 use Rattle.pc_word.proofs.Truth.{or_false, or_made_false, same_test}
 use Rattle.pc_window.specs.Rebasing.{is_in}
+use Rattle.pc_window.proofs.Listed.{flipped}
 
 -- whether a number is in a list, asked of each element in turn
 abbrev pub has : List ℕ → ℕ → Bool
@@ -15,9 +16,6 @@ has (y ∷ ys) x = nat_eq y x || has ys x
 abbrev pub Distinct : List ℕ → Type 0
 Distinct [] = Unit {0}
 Distinct (y ∷ ys) = (has ys y ≡ false) × Distinct ys
-
-pub flipped : (x y : ℕ) → nat_eq x y ≡ nat_eq y x
-flipped x y = same_test (nat_eq x y) (nat_eq y x) (λ e. eq-eqb y x (sym (eqb-true x y e))) (λ e. eq-eqb x y (sym (eqb-true y x e)))
 
 pub has_is : (xs : List ℕ) (x : ℕ) → has xs x ≡ is_in x xs
 has_is [] x = refl

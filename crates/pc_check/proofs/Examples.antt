@@ -232,7 +232,7 @@ depth_behind_the_name : faults (program (array_at 1 a 1 ∷ assign_at 2 x (deep_
 unfolding deep_unknown expression_faults statement_faults names_behind need
 depth_behind_the_name = refl
 
--- of a `do` behind the body, of a `while` before it
+-- of a `do` after the body, of a `while` before it
 depth_of_do : faults (program (array_at 1 a 1 ∷ DoLoop 2 (set_at 3 x) (sum_over a 32) ∷ [])) ≡ fault.Undeclared 3 ∷ fault.TooDeep 2 ∷ []
 unfolding sum_over expression_faults statement_faults names_behind need
 depth_of_do = refl
@@ -241,7 +241,7 @@ depth_of_while : faults (program (array_at 1 a 1 ∷ WhileLoop 2 (sum_over a 32)
 unfolding sum_over expression_faults statement_faults names_behind need
 depth_of_while = refl
 
--- of a `for` behind the first part
+-- of a `for` after the first part
 depth_of_for : faults (program (array_at 1 a 1 ∷ ForLoop 2 (source_list (set_at 3 x ∷ [])) (sum_over a 32) (Present (set_at 4 x)) (set_at 5 x) ∷ []))
     ≡ fault.Undeclared 3 ∷ fault.TooDeep 2 ∷ fault.Undeclared 4 ∷ fault.Undeclared 5 ∷ []
 unfolding sum_over expression_faults statement_faults names_behind need

@@ -14,7 +14,7 @@ list_of-more items i item below read =
     ap list_of (take_more items i item below) ∙ ap (λ (x : Stmt). list_of (take i items ++ x ∷ [])) (sym read)
     ∙ list_of-push (take i items) item
 
--- the trees in front of a place, the tree there, and those behind it
+-- the trees in front of a place, the tree there, and those after it
 pub list_of-split : (items : List Stmt) (i : ℕ) (item : Stmt) → i < length items → item ≡ get_or items i item →
     list_of items ≡ appended (list_of (take i items)) (More (statement_of item) (list_of (drop (suc i) items)))
 unfolding list_of

@@ -10,7 +10,7 @@ use Rattle.pc_check.specs.models.View.{outwards}
 use Rattle.pc_check.proofs.FaultLaws.{IsFirst-front, IsFirst-rest, none_in_both}
 use Rattle.pc_check.proofs.NameLaws.{names_behind-outer, names_behind_optional-outer, names_behind_list-outer, outwards-left}
 
--- a block, whose names are left behind it
+-- a block, whose names are left after it
 pub Scope-resolves : (in_loop : Bool) (items out : SourceList) (before opened inside after : Names) → opened ≡ entered before →
     ListResolves in_loop items opened inside out → after ≡ outwards inside →
     StatementResolves in_loop (Scope items) before after (Scope out)
@@ -40,7 +40,7 @@ module _ (in_loop : Bool) (s : SourceStatement) (line : ℕ) (first : SourceList
       of_for e (IsFirst-front e _ _ (subst P opening refused))
 
   module _ (inside : Names) (first' : SourceList) (starts : ListResolves in_loop first opened inside first') where
-    -- the names behind the first part
+    -- the names after the first part
     begun : names_behind_list first (entered before) ≡ inside
     begun = ap (names_behind_list first) (sym opening) ∙ starts.behind
 
@@ -83,7 +83,7 @@ module _ (in_loop : Bool) (s : SourceStatement) (line : ℕ) (first : SourceList
             let P : Names → Type 0 = λ n. IsFirst e (statement_faults true body n) in
             of_for e (IsFirst-rest e _ _ clean (IsFirst-rest e _ _ tested (IsFirst-rest e _ _ stepping (subst P (sym behind_step) refused))))
 
-        -- a `for`, whose names are left behind it
+        -- a `for`, whose names are left after it
         pub For-resolves : (ended after : Names) (body' out : SourceStatement) → StatementResolves true body stepped ended body' →
             after ≡ outwards ended → out ≡ ForLoop line first' test' step' body' → StatementResolves in_loop s before after out
         unfolding statement_faults names_behind resolved_statement

@@ -18,7 +18,7 @@ pub ListResolves-none : (in_loop : Bool) (n : Names) → ListResolves in_loop No
 unfolding statement_faults names_behind resolved_statement
 ListResolves-none in_loop n = record { faultless = refl; behind = refl; is_resolved = refl }
 
--- a list, and a statement behind it
+-- a list, and a statement after it
 pub ListResolves-snoc : (in_loop : Bool) (front : SourceList) (s : SourceStatement) (before middle after : Names) (out : SourceList) (one : SourceStatement) →
     ListResolves in_loop front before middle out → StatementResolves in_loop s middle after one →
     ListResolves in_loop (appended front (More s No_more)) before after (appended out (More one No_more))
@@ -50,7 +50,7 @@ ListResolves-more in_loop items out longer i item one before middle after below 
     (subst Q (sym (ap list_of pushed ∙ list_of-push out one))
     (ListResolves-snoc in_loop (list_of (take i items)) (statement_of item) before middle after (list_of out) (statement_of one) some next))
 
--- the first fault of a list, behind statements without faults
+-- the first fault of a list, after statements without faults
 pub IsFirst-list : (e : CheckError) (in_loop : Bool) (items out : List Stmt) (i : ℕ) (item : Stmt) (before middle : Names) →
     i < length items → item ≡ get_or items i item →
     ListResolves in_loop (list_of (take i items)) before middle (list_of out) →

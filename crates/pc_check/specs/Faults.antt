@@ -1,5 +1,5 @@
 -- What is wrong with the names and limits of a program: its faults, in the order in which they are met. The first of them is
--- the answer of the check, so nothing is meant by what stands behind it.
+-- the answer of the check, so nothing is meant by what stands after it.
 use Rattle.std.specs.Prelude.{ℕ, ◌+◌, Bool, true, false, not, ◌||◌, Option, Some, None, List, [], ◌∷◌, ◌++◌, nat_eq, nat_lt, nat_le, sum, length}
 use Rattle.pc_word.specs.SourceLimits.{most_scalars, most_temporaries}
 use Rattle.pc_word.specs.MachineLimits.{most_arrays, most_length, most_elements}
@@ -20,7 +20,7 @@ abbrev pub fault_if : Bool → CheckError → List CheckError
 fault_if true e = e ∷ []
 fault_if false e = []
 
--- one fault where a test holds, and else those that come behind it
+-- one fault where a test holds, and else those that come after it
 abbrev pub fault_or : Bool → CheckError → List CheckError → List CheckError
 fault_or true e others = e ∷ []
 fault_or false e others = others
@@ -92,7 +92,7 @@ array_faults names symbol line at size =
     array_name_faults names symbol line ++ array_length_faults names at size
 
 unfoldable mutual
-  -- The names behind a statement without faults. What a block or a `for` declares is known inside it alone, but its slots
+  -- The names after a statement without faults. What a block or a `for` declares is known inside it alone, but its slots
   -- are used up.
   pub names_behind : SourceStatement → Names → Names
   names_behind (Scope items) names = left names (names_behind_list items (entered names))
@@ -111,12 +111,12 @@ unfoldable mutual
   names_behind (ReturnFrom line value) names = names
   names_behind Nothing names = names
 
-  -- the names behind a statement that may be left out
+  -- the names after a statement that may be left out
   pub names_behind_optional : OptionalStatement → Names → Names
   names_behind_optional Absent names = names
   names_behind_optional (Present statement) names = names_behind statement names
 
-  -- the names behind statements in order
+  -- the names after statements in order
   pub names_behind_list : SourceList → Names → Names
   names_behind_list No_more names = names
   names_behind_list (More first rest) names = names_behind_list rest (names_behind first names)

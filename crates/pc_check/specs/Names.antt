@@ -45,7 +45,7 @@ is_declared_here names symbol = is_some (declared_in names.innermost symbol)
 abbrev pub entered : Names → Names
 entered names = record names { innermost = []; outer = names.innermost ∷ names.outer }
 
--- behind a scope: no name of it is left, and no slot of it is used again
+-- after a scope: no name of it is left, and no slot of it is used again
 abbrev pub left : Names → Names → Names
 left before inside = record inside { innermost = before.innermost; outer = before.outer }
 

@@ -34,7 +34,7 @@ module _ (scratch : ℕ) (move : Move) (moves : List Move) (dest : IsNamed scrat
   more_sources zero other e = let same : move ≡ other = (cc) in subst (λ (m : Move). IsMoveSource scratch m.from) same from
   more_sources (suc at) other e = rest.sources at other e
 
-  -- no move behind it has its destination
+  -- no move after it has its destination
   behind_apart : (at : ℕ) (other third : Move) → slice_get (move ∷ moves) zero ≡ Some other → slice_get moves at ≡ Some third → other.dest ≢ third.dest
   behind_apart at other third e f same =
       let is : move ≡ other = (cc) in

@@ -1,12 +1,12 @@
 -- What the table of the tests keeps.
-use Rattle.std.proofs.Common.{◌≡◌, ℕ, zero, suc, ◌+◌, ◌<◌, ◌≤◌, [], ◌∷◌, Some, None, refl, subst, arith}
+use Rattle.std.proofs.Common.{◌≡◌, ℕ, zero, suc, ◌+◌, ◌<◌, ◌≤◌, [], ◌∷◌, Some, None, refl, sym, subst, arith}
 use Rattle.std.specs.Prelude.{Bool, true, false, nat_eq, not, ◌&&◌, ◌||◌, IfSome, slice_get}
 use Rattle.std.specs.List.{list_any}
 use Rattle.std.proofs.lemmas.Bool.Decides.{nat_tests}
 use Rattle.pc_word.specs.declared.loop_mark.LoopMark.{LoopMark}
 use Rattle.pc_word.specs.MachineLimits.{most_object}
 use Rattle.pc_table.specs.RegionRun.{arrive}
-use Rattle.pc_table.specs.Table.{TableRegion, region_tree, region_live}
+use Rattle.pc_table.specs.Table.{Table, TableRegion, region_tree, region_live}
 use Rattle.pc_table.specs.TableKeeps.{RegionKeeps, TableKeeps, ComesUntested, By_one, By_more, untested, needs}
 use Rattle.pc_emit.specs.Bytes.{object_bytes}
 use Rattle.pc_code_tests.specs.Summing.{zero_tree, sum_tree, summing_table}
@@ -125,7 +125,13 @@ summing_keeps = record {
     begins (suc zero) = refl
     begins (suc (suc region)) = refl
 
+-- and so does one that is equal to it
+pub summing_made : (table : Table) → table ≡ summing_table → TableKeeps table
+summing_made table is = subst TableKeeps (sym is) summing_keeps
+
 pub summing_short : object_bytes summing_table (λ region. None) ≤ most_object
 summing_short = omega arith
 
-pub ruleset kept = (summing_keeps, summing_short)
+pub ruleset kept = (summing_made)
+
+pub ruleset short = (summing_short)

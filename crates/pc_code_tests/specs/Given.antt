@@ -13,7 +13,7 @@ abbrev pub is_source : ℕ → Operand → Bool
 is_source scratch (Name register) = is_named scratch register
 is_source scratch (Lit value) = true
 
--- each names registers but scratch, and none writes what one behind it writes
+-- each names registers but scratch, and none writes what one after it writes
 abbrev pub are_given : ℕ → List Move → Bool
 are_given scratch [] = true
 are_given scratch (move ∷ moves) = (is_named scratch move.dest && is_source scratch move.from) && (is_none (source_in moves move.dest) && are_given scratch moves)

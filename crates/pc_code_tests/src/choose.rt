@@ -1,7 +1,8 @@
 //! The forms that the regions of a table get.
 ghost use Rattle.std.specs.Prelude.{◌≡◌, IfOk};
 ghost use Rattle.pc_word.specs.Ranges.{IsExtent};
-ghost use Rattle.pc_table.specs.Table.{table_tree, table_of};
+ghost use Rattle.pc_table.specs.Table.{table_tree};
+ghost use Rattle.pc_table.specs.StoredTable.{table_of};
 ghost use Rattle.pc_code_tests.specs.Summing.{zero_tree, sum_tree, summing_table};
 
 use pc_compile::{
@@ -70,6 +71,7 @@ fn turn(alloc: Global) -> Result<RegionTree, AllocError>
 }
 
 /// The loop, and what stands before it, as a table of two regions.
+#[tactic(auto, using(crate::proofs::SummingKept::kept))]
 fn summing(alloc: Global) -> Result<RegionTable, AllocError>
     ensures { IfOk result (λ table. table_of table ≡ summing_table) }
 {
@@ -102,7 +104,7 @@ fn summing(alloc: Global) -> Result<RegionTable, AllocError>
 }
 
 /// What is chosen for the loop and what stands before it, where searches have this extent.
-#[tactic(auto, using(crate::proofs::SummingKept::kept))]
+#[tactic(auto, using(crate::proofs::SummingKept::short))]
 fn chosen_within(alloc: Global, extent: Extent) -> Result<Chosen, ChooseError>
     requires { IsExtent extent }
 {

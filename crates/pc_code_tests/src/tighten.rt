@@ -1,8 +1,8 @@
 //! Rows that are made compact.
 
-use pc_machine::{Code, Tree, TreeList, well_formed};
+use pc_machine::{Code, Leaf, Tree, TreeList, well_formed};
 use pc_tighten::{TightenError, tighten};
-use pc_word::{Item, LengthList, Limits, Operand};
+use pc_word::{Item, LengthList, Limits, Operand, RowTree};
 use std::alloc::{AllocError, Global};
 use std::test::Fail;
 
@@ -15,20 +15,27 @@ enum End {
     Fork(u32, u32),
 }
 
+/// A goto alone.
+fn goto(row: u32) -> Tree {
+    RowTree::Leaf {
+        leaf: Leaf::Goto { row },
+    }
+}
+
 /// A row of items and an end.
 fn row(alloc: Global, items: &[Item], end: End) -> Result<Tree, AllocError> {
     let mut tree = match end {
-        End::Goto(row) => Tree::Goto { row },
-        End::Stop => Tree::Stop,
-        End::Fork(yes, no) => Tree::Test {
+        End::Goto(row) => goto(row),
+        End::Stop => RowTree::Leaf { leaf: Leaf::Stop },
+        End::Fork(yes, no) => RowTree::Test {
             on: Operand::Name(9),
-            yes: Box::new(alloc, Tree::Goto { row: yes })?,
-            no: Box::new(alloc, Tree::Goto { row: no })?,
+            yes: Box::new(alloc, goto(yes))?,
+            no: Box::new(alloc, goto(no))?,
         },
     };
     for item in items.iter().rev() {
         let next = Box::new(alloc, tree)?;
-        tree = Tree::Step { item: *item, next };
+        tree = RowTree::Step { item: *item, next };
     }
     Ok(tree)
 }
@@ -141,7 +148,7 @@ static CODES: [(&[(&[Item], End)], &[(&[Item], End)]); 13] = [
         &[(&[A], End::Goto(1)), (&[AFTER_A], End::Stop)],
         &[(&[A], End::Goto(1)), (&[AFTER_A], End::Stop)],
     ),
-    // what writes a register goes up behind what reads it there
+    // what writes a register goes up after what reads it there
     (
         &[(&[A], End::Goto(1)), (&[B, OVER_B], End::Stop)],
         &[(&[A, B, OVER_B], End::Goto(1)), (&[], End::Stop)],

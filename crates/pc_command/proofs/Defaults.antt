@@ -57,7 +57,7 @@ all_defaults-kept : (rules : List Rule) (name : Text) (rows : List Row) → has_
 all_defaults-kept [] name rows h = h
 all_defaults-kept (a ∷ rules) name rows h = all_defaults-kept rules name (with_default rows a) (with_default-kept a name rows h)
 
--- an argument with defaults has a row behind them
+-- an argument with defaults has a row after them
 default_rows-new : (a : Rule) (values : List Text) (rows : List Row) → nat_lt 0 (length values) ≡ true
     → has_row a.id (default_rows a.id (reading_by a) values rows) ≡ true
 default_rows-new a [] rows some = absurd (cc)
@@ -71,7 +71,7 @@ with_default-new a rows some = by (has_row a.id rows) refl
     by true e = e
     by false e = default_rows-new a a.defaults rows some
 
--- each argument with defaults has a row behind all
+-- each argument with defaults has a row after all
 pub defaults_are_there : (rules : List Rule) (rows : List Row)
     → AllByRecursion (λ a. nat_lt 0 (length a.defaults) ≡ true → has_row a.id (fold with_default rows rules) ≡ true) rules
 defaults_are_there [] rows = tt

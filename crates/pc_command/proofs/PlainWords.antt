@@ -47,7 +47,7 @@ plain_word-met rules idle place word held is = rw (no_dashes word is, no_long wo
 plain_word-met rules (option id) place word held is = rw (no_dashes word is, no_long word is, no_short word is) refl
 plain_word-met rules positional place word held is = rw (no_dashes word is, no_long word is, no_short word is) refl
 
--- a walk that stands at a place, with no subcommand and no `--` behind it
+-- a walk that stands at a place, with no subcommand and no `--` after it
 abbrev at_place : Held → Waiting → ℕ → Walk
 at_place held waiting place = record { held = held; waiting = waiting; position = place; is_trailing = false; stopped = None }
 
@@ -73,7 +73,7 @@ plain_word-turn shape held waiting place word is =
 
 -- ---- the simulator's word
 
--- what is held behind OBJ
+-- what is held after OBJ
 abbrev object_held : Text → Held
 object_held object = record { rows = []; pending = Some (codes "OBJ", object ∷ []); skip = 0 }
 
@@ -88,7 +88,7 @@ simulate-walk_fault : (object : Text) → IsPlainWord object → walk_fault (bui
 unfolding argument_tables walk_fault
 simulate-walk_fault object is = rw (plain_word-turn (built simulate_app).top nothing_held idle 1 object is) refl
 
--- and there is none behind it
+-- and there is none after it
 simulate-fault : (object : Text) → IsPlainWord object → fault_of simulate_app (object ∷ []) ≡ []
 unfolding argument_tables defaults_fault
 simulate-fault object is = rw (simulate-walk_fault object is, simulate-walked object is) refl
@@ -110,7 +110,7 @@ view-walk_fault : (object : Text) → IsPlainWord object → walk_fault (built v
 unfolding argument_tables walk_fault
 view-walk_fault object is = rw (plain_word-turn (built view_app).top nothing_held idle 1 object is) refl
 
--- and there is none behind it
+-- and there is none after it
 view-fault : (object : Text) → IsPlainWord object → fault_of view_app (object ∷ []) ≡ []
 unfolding argument_tables defaults_fault
 view-fault object is = rw (view-walk_fault object is, view-walked object is) refl
@@ -122,7 +122,7 @@ plain_word-views object is = rw (view-fault object is, view-walked object is) re
 
 -- ---- the compiler's words
 
--- what is held behind SRC, behind `-o`, and behind OBJ
+-- what is held after SRC, after `-o`, and after OBJ
 abbrev source_held : Text → Held
 source_held source = record { rows = []; pending = Some (codes "SRC", source ∷ []); skip = 0 }
 
@@ -169,7 +169,7 @@ compile-walk_fault source object is also =
       plain_word-turn (built compile_app).top (taking_object source []) (option (codes "OBJ")) 2 object also,
     ) refl
 
--- and there is none behind them
+-- and there is none after them
 compile-fault : (source object : Text) → IsPlainWord source → IsPlainWord object → fault_of compile_app (source ∷ (codes "-o" ∷ (object ∷ []))) ≡ []
 unfolding argument_tables defaults_fault
 compile-fault source object is also =

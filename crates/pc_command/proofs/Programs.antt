@@ -12,7 +12,7 @@ use Rattle.clap.proofs.OnLiterals.{clap_on_literals}
 use Rattle.pc_command.specs.Arguments.{compile_app, app_with, simulate_app, view_app}
 use Rattle.pc_command.specs.Options.{ops_option, tests_option, mem_option, window_option, rows_option, cycles_option}
 
--- a command whose words begin behind the program's name
+-- a command whose words begin after the program's name
 pub nameless : (old new : Command) (name : Text) → out-Command new ≡ record (out-Command old) { no_binary_name = true }
     → app_of old ≡ new_app name → app_of new ≡ app_with name []
 nameless old new name e named = ap app_of_fields e ∙ ap (on_top (λ s. record s { no_binary_name = true })) named

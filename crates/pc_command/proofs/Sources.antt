@@ -8,7 +8,7 @@ use Rattle.pc_word.specs.NumberText.{is_numeral}
 use Rattle.pc_word.proofs.NumberTexts.{is_numeral-from, is_numeral-to}
 use Rattle.pc_command.specs.Requests.{behind_at, sample_number_of}
 
--- behind a `@`
+-- after a `@`
 pub behind_at-Some : (word rest : List ℕ) → word ≡ 64 ∷ rest → behind_at word ≡ Some rest
 unfolding behind_at
 behind_at-Some word rest e = rw e refl

@@ -182,7 +182,7 @@ module _ (shape : Shape) (names : Names) (plain_rules : AllByRecursion (IsPlainR
   to_positional-holds None word walk held fault all = all
   to_positional-holds (Some a) word walk held fault all = positional_held-holds a word held fault all
 
-  -- the walk goes on behind a word
+  -- the walk goes on after a word
   after_step-holds : (word : Text) (walk : Walk) (held : Held) (step : Step) → step_fault shape walk.position held step ≡ [] → Sound held
       → Sound (after_step shape.rules word walk held step).held
   after_step-holds word walk held (next waiting) fault all = all

@@ -30,7 +30,7 @@ number_argument option = record (new_rule option.name) {
 abbrev pub flag_argument : Text → Rule
 flag_argument name = record (new_rule name) { long = Some name; action = Some SetTrue }
 
--- a program of this name with these arguments, whose words begin behind its name
+-- a program of this name with these arguments, whose words begin after its name
 abbrev pub app_with : Text → List Rule → App
 app_with name arguments = record { top = record (new_shape name) { rules = arguments; no_binary_name = true }; subs = [] }
 

@@ -42,12 +42,12 @@ pub record ViewRequest : Type 0 where
 abbrev pub sample_number_of : List ℕ → Option ℕ
 sample_number_of digits = if is_numeral digits && nat_lt (digits_value 10 digits) (2 ^ 32) then Some (digits_value 10 digits) else None
 
--- what stands behind a first `@` (64), if the word begins with one
+-- what stands after a first `@` (64), if the word begins with one
 unfoldable pub behind_at : List ℕ → Option (List ℕ)
 behind_at [] = None
 behind_at (first ∷ rest) = if first == 64 then Some rest else None
 
--- what a word for SRC names by what stands behind its `@`: a sample by its number, and without a `@` a file
+-- what a word for SRC names by what stands after its `@`: a sample by its number, and without a `@` a file
 abbrev pub source_place_behind : List ℕ → Option (List ℕ) → Option SourcePlace
 source_place_behind word (Some digits) = option_map OfSample (sample_number_of digits)
 source_place_behind word None = Some (OfFile word)

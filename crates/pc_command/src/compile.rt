@@ -28,7 +28,7 @@ pub struct CompileCommand<'a> {
     pub report: bool,
 }
 
-/// Reads the words behind the compiler's own name:
+/// Reads the words after the compiler's own name:
 /// `SRC -o OBJ [--ops N] [--tests N] [--mem N] [--window N] [--rows N] [--report]`.
 ///
 /// What `clap` takes is taken: `--ops=5`, `-oOBJ`, `+8` and leading zeros too. A SRC that begins with

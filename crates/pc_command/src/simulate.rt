@@ -22,7 +22,7 @@ pub struct SimulateCommand<'a> {
     pub cycles: u64,
 }
 
-/// Reads the words behind the simulator's own name: `OBJ [--cycles N]`.
+/// Reads the words after the simulator's own name: `OBJ [--cycles N]`.
 ///
 /// What `clap` takes is taken: `--cycles=5`, `+8` and leading zeros too.
 pub fn simulate_command<'a>(

@@ -11,7 +11,7 @@ pub enum SourceName<'a> {
     Sample(u32),
 }
 
-/// What a word names: behind a `@` the number of a sample, in decimal digits alone, and with any
+/// What a word names: after a `@` the number of a sample, in decimal digits alone, and with any
 /// other first character a file.
 #[tactic(auto, unfolding(crate::specs::Requests::source_place_of))]
 pub(crate) fn source_named<'a>(word: &'a str) -> Option<SourceName<'a>>
@@ -23,7 +23,7 @@ pub(crate) fn source_named<'a>(word: &'a str) -> Option<SourceName<'a>>
     }
 }
 
-/// What stands behind a first `@`.
+/// What stands after a first `@`.
 fn behind_at<'a>(word: &'a str) -> Option<&'a str>
     ensures { option_map (λ digits. digits.now) result ≡ behind_at word.entry.now }
 {

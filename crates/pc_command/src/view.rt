@@ -20,7 +20,7 @@ pub struct ViewCommand<'a> {
     pub dot: bool,
 }
 
-/// Reads the words behind the viewer's own name: `OBJ [--dot]`.
+/// Reads the words after the viewer's own name: `OBJ [--dot]`.
 pub fn view_command<'a>(alloc: Global, words: &'a [String]) -> Result<ViewCommand<'a>, CommandError>
     ensures { IsExact view_request command_cause result
         (ok_or (view_command_of (spelled words.entry.now)) CommandError.NoCommand) }

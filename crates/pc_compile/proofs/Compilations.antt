@@ -23,6 +23,7 @@ use Rattle.pc_lower.specs.Lowered.{IsLowered}
 use Rattle.pc_lower.specs.SourceLoops.{SourceLoop}
 use Rattle.pc_lower.proofs.Bounds.{list-loops_sized}
 use Rattle.pc_lower.proofs.LoopMarks.{as_many_marks}
+use Rattle.pc_lower.proofs.Numbered.{loops_counted}
 use Rattle.pc_machine.specs.MachineCode.{CodeRow, RowCode}
 use Rattle.pc_machine.specs.MachineRun.{machine_run}
 use Rattle.pc_machine.specs.WellFormed.{AreArrays, WellFormed}
@@ -49,7 +50,6 @@ use Rattle.pc_compile.specs.Compiled.{loose_code, IsCompiled}
 use Rattle.pc_compile.proofs.Counts.{all_units}
 use Rattle.pc_compile.specs.models.Made.{IsObjectOf}
 use Rattle.pc_compile.proofs.Origins.{few_units, few_regions}
-use Rattle.pc_compile.proofs.FewLoops.{list-counted}
 use Rattle.pc_compile.proofs.Short.{plain_is_short, few_notes, known_notes, text_room, no_longer, object_is_short}
 
 -- lengths that were checked are lengths of the machine
@@ -88,7 +88,7 @@ module _ (program : ResolvedProgram) (first flow : FlowGraph) (table : Table) (l
       let same = ap (λ (l : List LoopMark). length l) (cut.loops ∙ kept.same_loops) in
       let marks = as_many_marks first.loops in
       let loops = ap (λ (l : List SourceLoop). length l) lowered.loops in
-      let counted = list-counted program.body None [] in
+      let counted = loops_counted program.body None [] in
       let sized = list-loops_sized program.body in
       let few = lowered.few in
       omega (arith, same, marks, loops, counted, sized, few)
@@ -105,12 +105,12 @@ never_faults program runs agree input words =
 
 -- the object that is made of the cut of a graph, which passes made of the program's, in the forms that were chosen, is the
 -- program's
-pub is_compiled : (program : ResolvedProgram) (limits : Limits) (extent : Extent) (first flow : FlowGraph) (table : Table) (forms : List (Option StoredForm))
-    (choices : List Choice) (object : CodeWithNotes) → AreLimits limits
-    → IsLowered program first → Keeps first flow → IsCutOf flow table → TableKeeps table → AgreeOnInputs (table_run table) (flow_run flow)
+pub is_compiled : (program : ResolvedProgram) (Passed : FlowGraph → FlowGraph → Type 0) (limits : Limits) (extent : Extent) (first flow : FlowGraph) (table : Table)
+    (forms : List (Option StoredForm)) (choices : List Choice) (object : CodeWithNotes) → AreLimits limits
+    → IsLowered program first → Passed first flow → Keeps first flow → IsCutOf flow table → TableKeeps table → AgreeOnInputs (table_run table) (flow_run flow)
     → AreChosen table limits extent choices (region_forms forms) → IsObjectOf table forms choices limits object
-    → IsCompiled program limits extent flow table choices object
-is_compiled program limits extent first flow table forms choices object fine lowered kept cut keeps cut_agrees chosen made =
+    → IsCompiled program Passed limits extent flow table choices object
+is_compiled program Passed limits extent first flow table forms choices object fine lowered passed kept cut keeps cut_agrees chosen made =
     let emitted = made.emitted in
     let tightened = made.tightened in
     let e = emission_of table forms emitted.entries limits.ops in
@@ -145,6 +145,7 @@ is_compiled program limits extent first flow table forms choices object fine low
       arrays = tightened.arrays ∙ same_arrays;
       first = first;
       lowered = lowered;
+      passed = passed;
       kept = kept;
       cut = cut;
       forms = forms;

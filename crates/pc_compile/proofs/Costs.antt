@@ -1,4 +1,4 @@
--- The rows of copies behind a leaf are no more than the leaf's cost allows.
+-- The rows of copies after a leaf are no more than the leaf's cost allows.
 use Rattle.std.proofs.Common.{◌≡◌, ℕ, zero, suc, ◌+◌, ◌*◌, ◌≤◌, List, [], ◌∷◌, length, refl, arith}
 use Rattle.std.specs.Prelude.{Bool, true, false, if◌then◌else◌, nat_le}
 use Rattle.std.specs.List.{AllByRecursion}

@@ -12,7 +12,6 @@ pub mod Order
 pub mod BareTraps
 pub mod Emittable
 pub mod Compilations
-pub mod FewLoops
 pub mod MetRegions
 pub mod LoopNotes
 pub mod Origins
@@ -23,4 +22,5 @@ pub mod Costs
 pub mod Needs
 pub mod SchedulePlaces
 pub mod Paces
+pub mod SourcePace
 pub mod Worked

@@ -8,7 +8,7 @@ use Rattle.std.proofs.lemmas.Option.{slice_get_within}
 use Rattle.pc_word.specs.declared.loop_mark.LoopMark.{LoopMark}
 use Rattle.pc_word.proofs.Lists.{set_at, set_length}
 use Rattle.pc_table.specs.Table.{Table}
-use Rattle.pc_window.specs.Opening.{same_loop, headed_loop}
+use Rattle.pc_table.specs.Loops.{same_loop, headed_loop}
 use Rattle.pc_compile.specs.declared.choice.Choice.{Choice}
 use Rattle.pc_object.specs.declared.object.Note.{Note}
 use Rattle.pc_compile.specs.Notes.{form_notes, choice_heading, choice_notes, loop_notes, notes_from, notes_of}
@@ -40,7 +40,7 @@ set_as_long heading (Some loop) choice = set_length heading loop choice
 headings_as_long : (table : Table) (loops at : ℕ) (choices : List Choice) → length (headings table loops at choices) ≡ loops
 headings_as_long table loops at [] = length-replicate loops None
 headings_as_long table loops at (choice ∷ choices) =
-    set_as_long (headings table loops (suc at) choices) (headed_loop (slice_get table.regions choice.region)) (Some at)
+    set_as_long (headings table loops (suc at) choices) (headed_loop table choice.region) (Some at)
     ∙ headings_as_long table loops (suc at) choices
 
 without_as_long : (heading : List (Option ℕ)) (marks : List LoopMark) → length (without_outer heading marks) ≡ length heading
@@ -82,7 +82,7 @@ without_there heading (mark ∷ marks) loop was at lt =
 
 -- ---- choices that head loops
 
--- behind some choices stand these
+-- after some choices stand these
 behind : (before choices : List Choice) (choice : Choice) → slice_get (before ++ (choice ∷ choices)) (length before) ≡ Some choice
 behind [] choices choice = refl
 behind (first ∷ before) choices choice = behind before choices choice
@@ -106,7 +106,7 @@ told_of table loops before (choice ∷ choices) loop lt =
     (subst (λ (n : ℕ). Told ((before ++ (choice ∷ [])) ++ choices) (headings table loops n choices) loop (choice_heading table choices loop)) many
     (told_of table loops (before ++ (choice ∷ [])) choices loop lt)) in
     let long = headings_as_long table loops (suc (length before)) choices in
-    let headed = headed_loop (slice_get table.regions choice.region) in
+    let headed = headed_loop table choice.region in
     record {
       place = if same_loop headed (Some loop) then Some (length before) else rest.place;
       there = set_there (headings table loops (suc (length before)) choices) headed (Some (length before)) loop rest.place rest.there
@@ -189,7 +189,7 @@ set_places count heading (Some number) choice lt are loop place e = elim (set_at
 headings_places : (table : Table) (loops at count : ℕ) (choices : List Choice) → at + length choices ≤ count → ArePlaces count (headings table loops at choices)
 headings_places table loops at count [] le loop place e = absurd (no_place loops loop place e)
 headings_places table loops at count (choice ∷ choices) le loop place e =
-    set_places count (headings table loops (suc at) choices) (headed_loop (slice_get table.regions choice.region)) (Some at) (omega (arith, le))
+    set_places count (headings table loops (suc at) choices) (headed_loop table choice.region) (Some at) (omega (arith, le))
     (headings_places table loops (suc at) count choices (omega (arith, le))) loop place e
 
 without_places : (count : ℕ) (heading : List (Option ℕ)) (marks : List LoopMark) → ArePlaces count heading → ArePlaces count (without_outer heading marks)

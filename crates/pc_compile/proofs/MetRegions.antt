@@ -1,4 +1,4 @@
--- Each region of a cut is led to from region 0.
+-- Each region of a cut is reachable from region 0.
 use Rattle.std.proofs.Common.{◌≡◌, inl, inr, ℕ, zero, suc, ◌<◌, List, [], ◌∷◌, length, Some, subst, arith}
 use Rattle.std.specs.Prelude.{slice_get}
 use Rattle.std.specs.List.{AllByRecursion}

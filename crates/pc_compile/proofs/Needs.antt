@@ -1,4 +1,4 @@
--- States that agree on what a tree needs agree, behind its item or test, on what is needed there.
+-- States that agree on what a tree needs agree, after its item or test, on what is needed there.
 use Rattle.std.proofs.Common.{◌≡◌, ℕ, [], ◌∷◌, ap}
 use Rattle.std.specs.Prelude.{pos, true, ◌||◌, ◌&&◌, not}
 use Rattle.pc_word.specs.declared.item.Item.{Item}

@@ -8,7 +8,9 @@ use Rattle.pc_table.specs.Table.{region_tree}
 use Rattle.pc_table.specs.TableKeeps.{TableKeeps}
 use Rattle.pc_table.specs.Laws.{AlikeAtHead}
 use Rattle.pc_window.proofs.Paces.{answer_of_answer}
-use Rattle.pc_machine.specs.MachineCode.{Leaf, Leads_to, CodeRow}
+use Rattle.pc_machine.specs.declared.tree.Leaf.{Leaf}
+use Rattle.pc_machine.specs.declared.tree.Leaf.TheVariants.{Goto}
+use Rattle.pc_machine.specs.MachineCode.{CodeRow}
 use Rattle.pc_machine.specs.MachineRun.{machine_run}
 use Rattle.pc_emit.specs.Emitted.{Emission, RegionForm, Plain, ByAutomaton, form_leaf, BeginsAtFirstRow, IsEmitted}
 use Rattle.pc_emit.specs.PackedForm.{IsRegionForm}
@@ -59,21 +61,21 @@ module _ (e : Emission) (keeps : TableKeeps e.table) (limits : Limits) (rows : L
   alike_itself s = record { cells = refl; input = refl; names = λ variable live. refl }
 
   first_in_time : BeginsAtFirstRow e → (form : RegionForm) → e.forms 0 ≡ Some form → emitted.first ≡ form_leaf e 0 form → (s : State) (n : ℕ)
-      → IsInTime n (begins_in 0 (Some form) s) (Leads_to 0) s
-  first_in_time at_first Plain has is s zero = ((shown (Leads_to 0) s 0).printed, refl)
+      → IsInTime n (begins_in 0 (Some form) s) (Goto 0) s
+  first_in_time at_first Plain has is s zero = ((shown (Goto 0) s 0).printed, refl)
   first_in_time at_first Plain has is s (suc n) =
-      step_in_time n (Goes [] (At_tree (region_tree e.table 0) s)) 1 (Leads_to 0) s (λ next target moved h. in_time n next target moved h)
+      step_in_time n (Goes [] (At_tree (region_tree e.table 0) s)) 1 (Goto 0) s (λ next target moved h. in_time n next target moved h)
       (first_pays e keeps limits rows emitted forms has s s (alike_itself s) emitted.first emitted.begins is)
   first_in_time at_first (ByAutomaton states registers) has is s n =
-      subst (λ (row : ℕ). IsInTime n (At_state 0 states 0 s) (Leads_to row) s) (at_first states registers has)
-      (in_time n (At_state 0 states 0 s) (Leads_to (e.places.state 0 0)) s
+      subst (λ (row : ℕ). IsInTime n (At_state 0 states 0 s) (Goto row) s) (at_first states registers has)
+      (in_time n (At_state 0 states 0 s) (Goto (e.places.state 0 0)) s
       (form_meets e keeps limits rows emitted forms 0 (ByAutomaton states registers) has s s (alike_itself s)))
 
 pub emitted_rows_keep_pace : EmittedRowsKeepPace
 emitted_rows_keep_pace e keeps limits rows same emitted at_first forms input n =
     subst (λ (ops : ℕ). Answers (schedule_run e.table e.forms input n) (machine_run (code_with limits e rows) input (schedule_cost e.table e.forms ops input n))
     (schedule_run e.table e.forms input n).end) (sym same)
-    (subst (λ (it : Option RegionForm). IsInTime e keeps limits rows emitted forms n (begins_in 0 it (start_state input)) (Leads_to 0) (start_state input))
+    (subst (λ (it : Option RegionForm). IsInTime e keeps limits rows emitted forms n (begins_in 0 it (start_state input)) (Goto 0) (start_state input))
     (sym emitted.leads.has)
     (first_in_time e keeps limits rows emitted forms at_first emitted.leads.form emitted.leads.has emitted.leads.is (start_state input) n))
 

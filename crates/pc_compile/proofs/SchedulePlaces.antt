@@ -25,7 +25,9 @@ use Rattle.pc_automaton.specs.declared.automaton.AutomatonLeaf.TheVariants.{To, 
 use Rattle.pc_automaton.specs.Automaton.{AutomatonState}
 use Rattle.pc_automaton.specs.AutomatonRun.{state_parameters}
 use Rattle.pc_assign.proofs.Apartness.{all_in}
-use Rattle.pc_machine.specs.MachineCode.{Leaf, Leads_to, CodeRow, RowCode}
+use Rattle.pc_machine.specs.declared.tree.Leaf.{Leaf}
+use Rattle.pc_machine.specs.declared.tree.Leaf.TheVariants as machine
+use Rattle.pc_machine.specs.MachineCode.{CodeRow, RowCode}
 use Rattle.pc_machine.specs.MachineRun.{after_row, machine_step}
 use Rattle.pc_copies.specs.Moves.{after_rows}
 use Rattle.pc_emit.specs.Registers.{register_of, argument_moves, home_moves}
@@ -75,7 +77,7 @@ module _ (e : Emission) (keeps : TableKeeps e.table) (limits : Limits) (rows : L
   -- the machine, at a leaf that leads on, is at the rows of a schedule's place
   pub data Meets : SchedulePlace → Leaf → State → Type 0 where
     meets_state : {region number : ℕ} {states : List AutomatonState} {registers : ℕ → ℕ → Option ℕ} {s m : State} (has : e.forms region ≡ Some (ByAutomaton states registers))
-        → Stands region states registers has number s m → Meets (At_state region states number s) (Leads_to (e.places.state region number)) m
+        → Stands region states registers has number s m → Meets (At_state region states number s) (machine.Goto (e.places.state region number)) m
     meets_region : {region : ℕ} {s m : State} → e.forms region ≡ Some Plain → AlikeAtHead e.table region s m
         → Meets (Before region s) (root_leaf (e.places.entry region) (region_tree e.table region)) m
     meets_tree : {row : ℕ} {tree : TableTree} {s m : State} → TreeStands e rows row tree → IsRoot tree → Agrees e.table tree s m
@@ -140,18 +142,18 @@ module _ (e : Emission) (keeps : TableKeeps e.table) (limits : Limits) (rows : L
 
     state_pays : (number : ℕ) (s m : State) → Stands region states registers has number s m
         → Pays (schedule_step e.table e.forms (At_state region states number s)) (step_cost e.table.arrays e.ops (At_state region states number s))
-        (leaf_run code (Leads_to (e.places.state region number)) m)
+        (leaf_run code (machine.Goto (e.places.state region number)) m)
     state_pays number s m at =
         let b = both_step e keeps limits rows region states registers (packed region states registers has).automaton (packed region states registers has).apart
         (packed region states registers has).there (emitted.stands region (ByAutomaton states registers) has) number s m at in
         subst (λ (it : Option AutomatonState). Pays (schedule_state_step e.table e.forms region states it s) (state_cost e.table.arrays e.ops it s)
-        (leaf_run code (Leads_to (e.places.state region number)) m)) (sym at.there)
+        (leaf_run code (machine.Goto (e.places.state region number)) m)) (sym at.there)
         (outcome_pays (register_of (registers number)) (row_step e.table.arrays at.state.row s) (row_step e.table.arrays b.0 m) b.2
-        (leaf_run code (Leads_to (e.places.state region number)) m) (λ j. row_seen code (e.places.state region number) b.0 m j b.1))
+        (leaf_run code (machine.Goto (e.places.state region number)) m) (λ j. row_seen code (e.places.state region number) b.0 m j b.1))
 
   -- ---- plain regions
 
-  -- what stands behind an item or a test
+  -- what stands after an item or a test
   behind_meets : {row : ℕ} {tree : TableTree} {leaf : Leaf} (s m : State) → LeadsBehind e row tree leaf → TreeStands e rows row tree → Agrees e.table tree s m
       → Meets (behind e.forms tree s) leaf m
   behind_meets s m to_item stands agrees = meets_tree stands tt agrees
@@ -164,7 +166,7 @@ module _ (e : Emission) (keeps : TableKeeps e.table) (limits : Limits) (rows : L
 
   item_pays : (row origin : ℕ) (item : Item) (rest : TableTree) (leaf : Leaf) (s m : State) → slice_get rows row ≡ Some (Then item (At_leaf leaf))
       → LeadsBehind e (suc row) rest leaf → TreeStands e rows (suc row) rest → Agrees e.table (Does origin item rest) s m
-      → Pays (schedule_step e.table e.forms (At_tree (Does origin item rest) s)) 1 (leaf_run code (Leads_to row) m)
+      → Pays (schedule_step e.table e.forms (At_tree (Does origin item rest) s)) 1 (leaf_run code (machine.Goto row) m)
   item_pays row origin item rest leaf s m there leads below agrees =
       by_fault (fault_of e.table.arrays s (item ∷ [])) (λ j. row_seen code row (Then item (At_leaf leaf)) m j there
       ∙ ap (λ (f : Option MachineFault). seen_of (after_row (commit_of e.table.arrays m (item ∷ []) leaf f)) (run_from (machine_step code) j))
@@ -174,14 +176,14 @@ module _ (e : Emission) (keeps : TableKeeps e.table) (limits : Limits) (rows : L
       prints = Alike-prints m item s item (item_alike e.table s m origin item rest agrees)
 
       by_fault : (f : Option MachineFault)
-          → ((j : ℕ) → leaf_run code (Leads_to row) m (suc j) ≡ seen_of (after_row (commit_of e.table.arrays m (item ∷ []) leaf f)) (run_from (machine_step code) j))
-          → Pays (lead_on (commit_of e.table.arrays s (item ∷ []) rest f) (behind e.forms)) 1 (leaf_run code (Leads_to row) m)
+          → ((j : ℕ) → leaf_run code (machine.Goto row) m (suc j) ≡ seen_of (after_row (commit_of e.table.arrays m (item ∷ []) leaf f)) (run_from (machine_step code) j))
+          → Pays (lead_on (commit_of e.table.arrays s (item ∷ []) rest f) (behind e.forms)) 1 (leaf_run code (machine.Goto row) m)
       by_fault (Some fault) same = pays_end 1 (omega arith) (same 0)
       by_fault None same =
           let new = state_after e.table.arrays m (item ∷ []) in
           pays_on 1 (omega arith)
           (λ k. let one : 1 + k ≡ suc k = omega arith in
-          ap (leaf_run code (Leads_to row) m) one ∙ same k ∙ leaf_seen code (prints_of m (item ∷ [])) new leaf k
+          ap (leaf_run code (machine.Goto row) m) one ∙ same k ∙ leaf_seen code (prints_of m (item ∷ [])) new leaf k
           ∙ ap (λ (l : List ℤ). after_printing l (leaf_run code leaf new k)) prints)
           (behind_meets (state_after e.table.arrays s (item ∷ [])) new leads below (behind_item e.table s m origin item rest agrees))
 
@@ -189,18 +191,18 @@ module _ (e : Emission) (keeps : TableKeeps e.table) (limits : Limits) (rows : L
       → slice_get rows row ≡ Some (Either on (At_leaf yes_leaf) (At_leaf no_leaf))
       → LeadsBehind e (suc row) on_yes yes_leaf → LeadsBehind e (suc row + units on_yes) on_no no_leaf
       → TreeStands e rows (suc row) on_yes → TreeStands e rows (suc row + units on_yes) on_no → Agrees e.table (Asks origin on on_yes on_no) s m
-      → Pays (schedule_step e.table e.forms (At_tree (Asks origin on on_yes on_no) s)) 1 (leaf_run code (Leads_to row) m)
+      → Pays (schedule_step e.table e.forms (At_tree (Asks origin on on_yes on_no) s)) 1 (leaf_run code (machine.Goto row) m)
   test_pays row origin on on_yes on_no yes_leaf no_leaf s m there yes_leads no_leads yes_below no_below agrees =
       by_test (holds (operand_value s.names on)) (λ j. test_shown e keeps limits rows row on yes_leaf no_leaf m j there
       ∙ ap (λ (value : ℤ). leaf_run code (if holds value then yes_leaf else no_leaf) m j) (test_alike e.table s m origin on on_yes on_no agrees))
     where
-      by_test : (b : Bool) → ((j : ℕ) → leaf_run code (Leads_to row) m (suc j) ≡ leaf_run code (if b then yes_leaf else no_leaf) m j)
-          → Pays (Goes [] (behind e.forms (if b then on_yes else on_no) s)) 1 (leaf_run code (Leads_to row) m)
+      by_test : (b : Bool) → ((j : ℕ) → leaf_run code (machine.Goto row) m (suc j) ≡ leaf_run code (if b then yes_leaf else no_leaf) m j)
+          → Pays (Goes [] (behind e.forms (if b then on_yes else on_no) s)) 1 (leaf_run code (machine.Goto row) m)
       by_test true same =
-          pays_on 1 (omega arith) (λ k. let one : 1 + k ≡ suc k = omega arith in ap (leaf_run code (Leads_to row) m) one ∙ same k)
+          pays_on 1 (omega arith) (λ k. let one : 1 + k ≡ suc k = omega arith in ap (leaf_run code (machine.Goto row) m) one ∙ same k)
           (behind_meets s m yes_leads yes_below (behind_yes e.table s m origin on on_yes on_no agrees))
       by_test false same =
-          pays_on 1 (omega arith) (λ k. let one : 1 + k ≡ suc k = omega arith in ap (leaf_run code (Leads_to row) m) one ∙ same k)
+          pays_on 1 (omega arith) (λ k. let one : 1 + k ≡ suc k = omega arith in ap (leaf_run code (machine.Goto row) m) one ∙ same k)
           (behind_meets s m no_leads no_below (behind_no e.table s m origin on on_yes on_no agrees))
 
   tree_pays : {row : ℕ} {tree : TableTree} (s m : State) → TreeStands e rows row tree → IsRoot tree → Agrees e.table tree s m
@@ -225,14 +227,14 @@ module _ (e : Emission) (keeps : TableKeeps e.table) (limits : Limits) (rows : L
 
   -- from row 0, where region 0 is plain: that row is the first of its tree, or the leaf alone that leads there
   pub first_pays : e.forms 0 ≡ Some Plain → (s m : State) → AlikeAtHead e.table 0 s m → (leaf : Leaf) → BeginsAt rows leaf
-      → leaf ≡ root_leaf (e.places.entry 0) (region_tree e.table 0) → Pays (Goes [] (At_tree (region_tree e.table 0) s)) 1 (leaf_run code (Leads_to 0) m)
+      → leaf ≡ root_leaf (e.places.entry 0) (region_tree e.table 0) → Pays (Goes [] (At_tree (region_tree e.table 0) s)) 1 (leaf_run code (machine.Goto 0) m)
   first_pays has s m alike leaf begins is = by_row begins (subst (λ (l : Leaf). Meets (At_tree (region_tree e.table 0) s) l m) (sym is)
       (meets_tree (emitted.stands 0 Plain has) (roots e.table keeps 0) (agrees_at_head e.table s m keeps 0 alike)))
     where
       by_row : {leaf : Leaf} → BeginsAt rows leaf → Meets (At_tree (region_tree e.table 0) s) leaf m
-          → Pays (Goes [] (At_tree (region_tree e.table 0) s)) 1 (leaf_run code (Leads_to 0) m)
-      by_row at_first_row meets = pays_on 0 (omega arith) (λ k. let none : 0 + k ≡ k = omega arith in ap (leaf_run code (Leads_to 0) m) none) meets
+          → Pays (Goes [] (At_tree (region_tree e.table 0) s)) 1 (leaf_run code (machine.Goto 0) m)
+      by_row at_first_row meets = pays_on 0 (omega arith) (λ k. let none : 0 + k ≡ k = omega arith in ap (leaf_run code (machine.Goto 0) m) none) meets
       by_row (by_leaf_alone {leaf} there) meets =
           pays_on 1 (omega arith)
           (λ k. let one : 1 + k ≡ suc k = omega arith in
-          ap (leaf_run code (Leads_to 0) m) one ∙ row_seen code 0 (At_leaf leaf) m k there ∙ leaf_seen code [] m leaf k) meets
+          ap (leaf_run code (machine.Goto 0) m) one ∙ row_seen code 0 (At_leaf leaf) m k there ∙ leaf_seen code [] m leaf k) meets

@@ -13,7 +13,7 @@ use Rattle.pc_word.specs.MachineLimits.{most_object}
 use Rattle.pc_word.proofs.Lists.{all_both}
 use Rattle.pc_table.specs.Table.{TableTree, Does, Asks, Next, Stops_here, Traps_here, TableRegion, Table}
 use Rattle.pc_table.specs.TableKeeps.{units}
-use Rattle.pc_window.specs.Steps.{is_innermost}
+use Rattle.pc_table.specs.Loops.{is_innermost}
 use Rattle.pc_emit.specs.Emitted.{RegionForm}
 use Rattle.pc_emit.specs.Bytes.{tree_bytes, regions_bytes, object_bytes}
 use Rattle.pc_compile.specs.declared.choice.Form.{Form}

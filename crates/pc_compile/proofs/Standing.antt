@@ -259,7 +259,7 @@ module _ (table : Table) (keeps : TableKeeps table) (limits : Limits) (extent : 
     last_free : forms last ≡ None
     last_free = next_is_free table limits extent found choices forms choosing last next
 
-    -- regions that are found, and forms, behind it
+    -- regions that are found, and forms, after it
     abbrev leads : List ℕ
     leads = form_leads (region_tree table last) chosen
 

@@ -7,7 +7,7 @@ use Rattle.pc_word.specs.declared.item.Limits.{Limits}
 use Rattle.pc_word.specs.declared.item.Extent.{Extent}
 use Rattle.pc_word.specs.MachineLimits.{most_rows, most_object}
 use Rattle.pc_table.specs.Table.{Table, region_tree}
-use Rattle.pc_window.specs.Steps.{loop_of}
+use Rattle.pc_table.specs.Loops.{innermost_loop}
 use Rattle.pc_automaton.specs.Automaton.{AutomatonState}
 use Rattle.pc_pattern.specs.Searches.{Rules, HasNoPattern}
 use Rattle.pc_pattern.specs.Pattern.{rules_for, IsFound}
@@ -34,7 +34,7 @@ bytes_with table forms region form = object_bytes table (with_region_form forms 
 
 -- ---- searches
 
--- the search for a pipelined form, whose windows may hold so many turns of a loop
+-- the search for a pipelined form, whose windows may hold so many iterations of a loop
 abbrev pub pipelines : Table → Limits → Extent → Rules
 pipelines table limits extent = rules_for table limits extent.window
 
@@ -61,12 +61,12 @@ pub data IsFormRefused (rules : Rules) (region rows : ℕ) (bytes : RegionForm �
 
 -- ---- what a region gets
 
--- whether a pipelined form is tried: a window may hold more than one turn of a loop, and the region is the header of an innermost
+-- whether a pipelined form is tried: a window may hold more than one iteration of a loop, and the region is the header of an innermost
 -- one
 abbrev pub may_pipeline : Table → Extent → (region : ℕ) → Bool
-may_pipeline table extent region = nat_lt 1 extent.window && is_some (loop_of table region)
+may_pipeline table extent region = nat_lt 1 extent.window && is_some (innermost_loop table region)
 
--- why a region is not pipelined: that is not tried, and nothing is told, or it is tried and refused
+-- why a region is not pipelined: that is not tried, and there is no cause, or it is tried and refused
 pub data PassesOver (table : Table) (limits : Limits) (extent : Extent) (region : ℕ) (bytes : RegionForm → ℕ) : List Cause → Type 0 where
   Is_not_tried : may_pipeline table extent region ≡ false → PassesOver table limits extent region bytes []
   Is_refused : {cause : Cause} → may_pipeline table extent region ≡ true
@@ -89,7 +89,7 @@ pub data Gets (table : Table) (limits : Limits) (extent : Extent) (region : ℕ)
 
 -- ---- regions that are found
 
--- regions that were found, and this one behind them, if it was not
+-- regions that were found, and this one after them, if it was not
 abbrev pub with_region : List ℕ → ℕ → List ℕ
 with_region found region = if list_any (nat_eq region) found then found else found ++ (region ∷ [])
 

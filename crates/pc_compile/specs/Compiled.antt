@@ -32,18 +32,20 @@ abbrev pub loose_code : Limits → (arrays : List ℕ) → List CodeRow → RowC
 loose_code limits arrays rows = record { limits = limits; arrays = arrays; rows = rows }
 
 -- The object does what the program does, for every input of words, and may be written; it has the given limits and the
--- program's arrays. The table is the cut of the graph, which shows what the program's own graph shows. Each region that is led to from
--- region 0 got the first form that was not refused. The code is that of the regions' rows in their forms, tightened: it is
--- compact, leaves lead to each row from row 0, and no row but row 0 is a goto alone to another row; and on every input of words
--- it keeps pace with the schedule of the regions in their forms. The notes tell the forms of the loops.
-pub record IsCompiled (program : ResolvedProgram) (limits : Limits) (extent : Extent) (flow : FlowGraph) (table : Table) (choices : List Choice) (object : CodeWithNotes)
-    : Type 0 where
+-- program's arrays. The passes made the graph of the program's own graph, as `Passed` says, and it shows what that shows; the table
+-- is this graph's cut. Each region that is reachable from region 0 got the first form that was not refused. The code is that of the
+-- regions' rows in their forms, tightened: it is compact, leaves lead to each row from row 0, and no row but row 0 is a goto alone
+-- to another row; and on every input of words it keeps pace with the schedule of the regions in their forms. The notes tell the
+-- forms of the loops.
+pub record IsCompiled (program : ResolvedProgram) (Passed : FlowGraph → FlowGraph → Type 0) (limits : Limits) (extent : Extent) (flow : FlowGraph) (table : Table)
+    (choices : List Choice) (object : CodeWithNotes) : Type 0 where
   pub agree : AgreeOnInputs (source_run program) (machine_run object.code)
   pub is_object : IsObject object
   pub limited : object.code.limits ≡ limits
   pub arrays : object.code.arrays ≡ program.arrays
   pub first : FlowGraph
   pub lowered : IsLowered program first
+  pub passed : Passed first flow
   pub kept : Keeps first flow
   pub cut : IsCutOf flow table
   pub forms : List (Option RegionForm)
@@ -57,7 +59,7 @@ pub record IsCompiled (program : ResolvedProgram) (limits : Limits) (extent : Ex
   pub pace : (input : List ℤ) → All IsWord input → KeepsPaceOn table (region_forms forms) object.code input
   pub notes : object.notes ≡ notes_of table choices
 
--- Why a program of a size has no object: its flow graph would have too many nodes, and they are told, as far as a number
+-- Why a program of a size has no object: its flow graph would have too many nodes, and their count is given, as far as a number
 -- goes; or it would not, and memory ran out.
 abbrev pub IsUncompiled : (size : ℕ) → CompileError → Type 0
 IsUncompiled size (TooLarge nodes) = (most_nodes < size) × (nodes ≡ min size 4294967295)

@@ -1,6 +1,14 @@
 -- The laws of chosen forms and of pace. Each is the contract of a function of laws.rt, which does nothing.
-use Rattle.std.specs.Prelude.{◌≡◌, ℕ, ◌≤◌, ℤ, Bool, true, false, List, map, Option, Some, None}
-use Rattle.pc_word.specs.Run.{NeverFaults}
+use Rattle.std.specs.Prelude.{◌≡◌, ℕ, suc, ◌≤◌, ℤ, Bool, true, false, List, length, map, Option, Some, None}
+use Rattle.pc_word.specs.Run.{Answers, NeverFaults}
+use Rattle.pc_syntax.specs.Source.{ResolvedProgram}
+use Rattle.pc_meaning.specs.SourceRun.{source_run}
+use Rattle.pc_meaning.specs.Trace.{trace_of}
+use Rattle.pc_flow.specs.FlowGraph.{FlowGraph}
+use Rattle.pc_table.specs.RegionRun.{table_run}
+use Rattle.pc_lower.specs.Lowered.{IsLowered}
+use Rattle.pc_pass.specs.Pass.{Keeps}
+use Rattle.pc_regions.specs.Cut.{IsCutOf}
 use Rattle.pc_word.specs.declared.item.Limits.{Limits}
 use Rattle.pc_word.specs.declared.item.Extent.{Extent}
 use Rattle.pc_word.specs.MachineLimits.{most_object}
@@ -55,3 +63,11 @@ EmittedRowsKeepPace = (e : Emission) → TableKeeps e.table → (limits : Limits
 abbrev pub TightenedCodesKeepPace : Type 0
 TightenedCodesKeepPace = (table : Table) (forms : ℕ → Option RegionForm) (before after : RowCode) → IsTightened before after
     → (input : List ℤ) → NeverFaults (machine_run before input) → KeepsPaceOn table forms before input → KeepsPaceOn table forms after input
+
+-- Where a graph is that of a program, passes keep it, and the table is the cut of what they made, as `IsCompiled` has it, the regions keep
+-- pace with the source: on every input they show what the source shows with n iterations of loops after as many items and tests as the
+-- source's evaluation has passed by then, and one unit more, that of the end.
+abbrev pub RegionsKeepPaceWithTheSource : Type 0
+RegionsKeepPaceWithTheSource = (program : ResolvedProgram) (first flow : FlowGraph) (table : Table) → IsLowered program first → Keeps first flow → IsCutOf flow table
+    → (input : List ℤ) (n : ℕ)
+    → Answers (source_run program input n) (table_run table input (suc (length (trace_of program input n)))) (source_run program input n).end

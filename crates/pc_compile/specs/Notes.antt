@@ -2,8 +2,7 @@
 use Rattle.std.specs.Prelude.{ℕ, suc, ◌+◌, ◌-◌, if◌then◌else◌, List, [], ◌∷◌, ◌++◌, length, Option, Some, None, slice_get}
 use Rattle.pc_word.specs.declared.loop_mark.LoopMark.{LoopMark}
 use Rattle.pc_table.specs.Table.{Table}
-use Rattle.pc_window.specs.Opening.{same_loop, headed_loop}
-use Rattle.pc_window.specs.Steps.{is_innermost}
+use Rattle.pc_table.specs.Loops.{same_loop, headed_loop, is_innermost}
 use Rattle.pc_compile.specs.declared.choice.Form.{Form}
 use Rattle.pc_compile.specs.declared.choice.Form.TheVariants.{Pipelined, Packed, Plain}
 use Rattle.pc_compile.specs.declared.choice.Cause.{Cause}
@@ -21,7 +20,7 @@ caused_note line first (Rows number limit) = line_note line first number limit
 caused_note line first (Live number limit) = line_note line (1 + first) number limit
 caused_note line first (Bytes number limit) = line_note line (2 + first) number limit
 
--- the note of a packed region: why it is not pipelined, or that its window holds one turn of one
+-- the note of a packed region: why it is not pipelined, or that its window holds one iteration of one
 abbrev pub packed_note : (line : ℕ) → Option Cause → Note
 packed_note line None = line_note line 4 1 1
 packed_note line (Some cause) = caused_note line 1 cause
@@ -42,7 +41,7 @@ form_notes line Plain causes = plain_notes line (slice_get causes (length causes
 abbrev pub choice_heading : Table → List Choice → (loop : ℕ) → Option Choice
 choice_heading table [] loop = None
 choice_heading table (choice ∷ choices) loop =
-    if same_loop (headed_loop (slice_get table.regions choice.region)) (Some loop) then Some choice else choice_heading table choices loop
+    if same_loop (headed_loop table choice.region) (Some loop) then Some choice else choice_heading table choices loop
 
 -- the note of a choice, where there is one
 abbrev pub choice_notes : (line : ℕ) → Option Choice → List Note

@@ -31,7 +31,7 @@ begins_in region (Some (ByAutomaton states registers)) s = At_state region state
 abbrev pub begins_at : (forms : ℕ → Option RegionForm) → (region : ℕ) → State → SchedulePlace
 begins_at forms region s = begins_in region (forms region) s
 
--- what stands behind an item or test of a plain region: the rest of its tree, or the region that follows
+-- what stands after an item or test of a plain region: the rest of its tree, or the region that follows
 abbrev pub behind : (forms : ℕ → Option RegionForm) → TableTree → State → SchedulePlace
 behind forms (Does origin item rest) s = At_tree (Does origin item rest) s
 behind forms (Asks origin on on_yes on_no) s = At_tree (Asks origin on on_yes on_no) s
@@ -107,7 +107,7 @@ step_cost lengths ops (Before region s) = 1
 step_cost lengths ops (At_tree tree s) = 1
 step_cost lengths ops (At_state region states number s) = state_cost lengths ops (slice_get states number) s
 
--- the cycles of the steps behind one
+-- the cycles of the steps after one
 abbrev pub cost_behind : {P : Type 0} → Step P → (P → ℕ) → ℕ
 cost_behind (Goes out next) cost = cost next
 cost_behind (Stops out end) cost = 0

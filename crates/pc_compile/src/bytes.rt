@@ -1,7 +1,8 @@
 //! The bytes that are counted for regions in their forms.
 ghost use Rattle.std.specs.Prelude.{◌≡◌, ◌<◌, ◌≤◌, ◌^◌, None, length};
 ghost use Rattle.pc_word.specs.MachineLimits.{most_object};
-ghost use Rattle.pc_table.specs.Table.{table_tree, table_regions, table_of};
+ghost use Rattle.pc_table.specs.Table.{table_tree, table_regions};
+ghost use Rattle.pc_table.specs.StoredTable.{table_of};
 ghost use Rattle.pc_automaton.specs.Automaton.{states_in};
 ghost use Rattle.pc_emit.specs.Bytes.{leaf_bytes, row_bytes, states_bytes, tree_bytes, plain_bytes, object_bytes};
 ghost use Rattle.pc_compile.specs.models.Counting.{all_plain_bytes};

@@ -33,7 +33,7 @@ pub struct Choice {
     pub causes: CauseList,
 }
 
-/// What was chosen for the regions that are led to from region 0, in the order in which they were
+/// What was chosen for the regions that are reachable from region 0, in the order in which they were
 /// taken, and the forms themselves, by region.
 #[derive(Drop)]
 pub struct Chosen {

@@ -4,9 +4,7 @@ ghost use Rattle.pc_word.specs.declared.item.Limits.{Limits};
 ghost use Rattle.pc_word.specs.declared.item.Extent.{Extent};
 ghost use Rattle.pc_word.specs.Ranges.{AreLimits, IsExtent};
 ghost use Rattle.pc_word.specs.MachineLimits.{most_object};
-ghost use Rattle.pc_word.specs.SourceLimits.{most_nodes};
-ghost use Rattle.pc_table.specs.Table.{table_of};
-ghost use Rattle.pc_table.specs.TableKeeps.{TableKeeps};
+ghost use Rattle.pc_table.specs.StoredTable.{table_of};
 ghost use Rattle.pc_emit.specs.Bytes.{object_bytes};
 ghost use Rattle.pc_emit.specs.Emitting.{region_forms};
 ghost use Rattle.pc_compile.specs.Choosing.{AreChosen, choice_of};
@@ -16,7 +14,7 @@ use crate::bytes::{object_bytes, plain_bytes};
 use crate::choice::{Choice, Chosen};
 use crate::choose_error::ChooseError;
 use crate::found::Found;
-use crate::giving::{Given, form_for, region_tree};
+use crate::giving::{Given, form_for};
 use crate::leading::find_behind;
 use crate::{ChoiceList, FormList};
 use pc_table::RegionTable;
@@ -32,7 +30,7 @@ pub(crate) struct Progress {
     pub(crate) bytes: u32,
 }
 
-/// Chooses a form for each region that is led to from region 0, in the order in which they are found:
+/// Chooses a form for each region that is reachable from region 0, in the order in which they are found:
 /// the first that is not refused.
 ///
 /// It takes at most two searches for the header of an innermost loop, and one for each other region. It
@@ -44,8 +42,6 @@ pub fn choose(
     limits: Limits,
     extent: Extent,
 ) -> Result<Chosen, ChooseError>
-    requires kept { TableKeeps (table_of table.now) }
-    requires few { length table.now.regions ≤ most_nodes }
     requires limits { AreLimits limits }
     requires extent { IsExtent extent }
     requires small { object_bytes (table_of table.now) (λ region. None) ≤ most_object }
@@ -61,7 +57,6 @@ pub fn choose(
 
 /// Region 0 was found, and none was taken.
 fn begun(alloc: Global, table: &RegionTable) -> Result<Progress, AllocError>
-    requires kept { TableKeeps (table_of table.now) }
     requires small { object_bytes (table_of table.now) (λ region. None) ≤ most_object }
     ensures { IfOk result (λ progress. (limits : Limits) (extent : Extent) → IsChoosing (table_of table.now) limits extent progress) }
 {
@@ -99,8 +94,6 @@ fn take(
     region: u32,
     progress: &mut Progress,
 ) -> Result<(), ChooseError>
-    requires kept { TableKeeps (table_of table.now) }
-    requires few { length table.now.regions ≤ most_nodes }
     requires limits { AreLimits limits }
     requires extent { IsExtent extent }
     requires choosing { IsChoosing (table_of table.now) limits extent progress.old }
@@ -109,7 +102,7 @@ fn take(
     ensures choosing { OnOk result (IsChoosing (table_of table.now) limits extent progress.new) }
     ensures taken { OnOk result (length progress.new.chosen.choices ≡ suc (length progress.old.chosen.choices)) }
 {
-    let tree = region_tree(table, region);
+    let tree = table.tree(region);
     let plain = plain_bytes(tree);
     let others = progress.bytes - plain;
     let given = form_for(alloc, table, region, limits, extent, others, plain)?;

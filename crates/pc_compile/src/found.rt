@@ -47,7 +47,7 @@ impl Found {
         self.order.get(at).copied()
     }
 
-    /// Finds a region, which comes behind the others if it was not found before.
+    /// Finds a region, which comes after the others if it was not found before.
     pub(crate) fn find(&mut self, region: u32) -> Result<(), AllocError>
         requires { region < length self.old.marks }
         ensures { OnOk result (Finds (region ∷ []) self.old self.new) }

@@ -3,9 +3,8 @@ ghost use Rattle.std.specs.Prelude.{◌≡◌, ◌+◌, ◌<◌, ◌≤◌, ◌^
 ghost use Rattle.pc_word.specs.declared.item.Extent.{Extent};
 ghost use Rattle.pc_word.specs.Ranges.{AreLimits, IsExtent};
 ghost use Rattle.pc_word.specs.MachineLimits.{most_object, most_rows};
-ghost use Rattle.pc_word.specs.SourceLimits.{most_nodes};
-ghost use Rattle.pc_table.specs.Table.{table_of, table_tree, region_tree};
-ghost use Rattle.pc_table.specs.TableKeeps.{TableKeeps};
+ghost use Rattle.pc_table.specs.Table.{region_tree};
+ghost use Rattle.pc_table.specs.StoredTable.{table_of};
 ghost use Rattle.pc_emit.specs.declared.form.RegionForm.TheVariants.{ByAutomaton};
 ghost use Rattle.pc_emit.specs.Bytes.{plain_bytes};
 ghost use Rattle.pc_compile.specs.declared.choice.Form.TheVariants.{Pipelined};
@@ -20,7 +19,7 @@ use crate::trying::{Attempt, try_form};
 use pc_assign::Assigned;
 use pc_automaton::Automaton;
 use pc_emit::RegionForm;
-use pc_table::{RegionTable, RegionTree};
+use pc_table::RegionTable;
 use pc_word::{Extent, Limits, MOST_ROWS};
 use std::alloc::{AllocError, Global};
 
@@ -50,8 +49,6 @@ pub(crate) fn form_for(
     others: u32,
     plain: u32,
 ) -> Result<Given, ChooseError>
-    requires kept { TableKeeps (table_of table.now) }
-    requires few { length table.now.regions ≤ most_nodes }
     requires limits { AreLimits limits }
     requires extent { IsExtent extent }
     requires there { region < length table.now.regions }
@@ -89,8 +86,6 @@ fn packed_or_plain(
     others: u32,
     plain: u32,
 ) -> Result<Given, ChooseError>
-    requires kept { TableKeeps (table_of table.now) }
-    requires few { length table.now.regions ≤ most_nodes }
     requires limits { AreLimits limits }
     requires there { region < length table.now.regions }
     requires counted { plain ≡ plain_bytes (region_tree (table_of table.now) region) }
@@ -124,8 +119,6 @@ fn try_packed(
     limits: Limits,
     others: u32,
 ) -> Result<Attempt, ChooseError>
-    requires kept { TableKeeps (table_of table.now) }
-    requires few { length table.now.regions ≤ most_nodes }
     requires limits { AreLimits limits }
     requires there { region < length table.now.regions }
     requires short { others ≤ most_object }
@@ -167,18 +160,10 @@ fn pipelined(automaton: &Automaton, extent: Extent) -> Form
     }
 }
 
-/// Tells a cause behind the others.
+/// Appends a cause to the others.
 fn tell(cause: Cause, causes: &mut CauseList) -> Result<(), AllocError>
     ensures { OnOk result (causes.new ≡ causes.old ++ cause ∷ []) }
 {
     causes.push(cause)?;
     Ok(())
-}
-
-/// The tree of a region.
-pub(crate) fn region_tree(table: &RegionTable, region: u32) -> &RegionTree
-    requires { region < length table.now.regions }
-    ensures { table_tree result.now ≡ region_tree (table_of table.now) region }
-{
-    &table.regions.as_slice()[region as usize].tree
 }

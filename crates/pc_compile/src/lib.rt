@@ -1,6 +1,6 @@
 //! From a checked program to its object: the flow graph, passes over it, its regions, a form for each of them
-//! that is led to, their rows, and notes on loops. A region gets the first form that is not refused; the regions
-//! that are led to from region 0 are taken in the order in which they are found. The schedule of regions in their
+//! that is reachable, their rows, and notes on loops. A region gets the first form that is not refused; the regions
+//! that are reachable from region 0 are taken in the order in which they are found. The schedule of regions in their
 //! forms: its run, what it may cost in cycles, and that emitted code keeps pace with it, and tightened code too.
 #![tactic(auto)]
 

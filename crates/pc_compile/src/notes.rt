@@ -1,7 +1,6 @@
 //! Notes on the loops of a program.
-ghost use Rattle.std.specs.Prelude.{◌≡◌, ◌<◌, ◌≤◌, ◌++◌, length, slice_get, IfOk, IfSome, OnOk};
-ghost use Rattle.pc_table.specs.Table.{table_of};
-ghost use Rattle.pc_window.specs.Opening.{headed_loop};
+ghost use Rattle.std.specs.Prelude.{◌≡◌, ◌<◌, ◌≤◌, ◌++◌, length, IfOk, IfSome, OnOk};
+ghost use Rattle.pc_table.specs.StoredTable.{table_of};
 ghost use Rattle.pc_compile.specs.Notes.{caused_note, packed_note, form_notes, choice_notes, notes_of};
 ghost use Rattle.pc_compile.specs.models.Heading.{heading_set, headings, without_outer, choice_in, noted, note_list, ArePlaces};
 
@@ -38,7 +37,7 @@ fn heading(
     let mut at = choices.len();
     while at > 0 {
         at -= 1;
-        set_heading(&mut found, headed_loop(table, choices[at].region), Some(at));
+        set_heading(&mut found, table.headed_loop(choices[at].region), Some(at));
     }
     leave_out_outer(loops, &mut found);
     Ok(found)
@@ -84,17 +83,7 @@ fn noted(
     Ok(notes)
 }
 
-/// The loop whose header a region is.
-fn headed_loop(table: &RegionTable, region: u32) -> Option<u16>
-    ensures { result ≡ headed_loop (slice_get (table_of table.now).regions region) }
-{
-    match table.regions.get(region as usize) {
-        None => None,
-        Some(region) => region.heads,
-    }
-}
-
-/// Puts the note of a loop behind others, where a region that heads it has a form.
+/// Appends the note of a loop to others, where a region that heads it has a form.
 fn push_note(
     notes: &mut NoteList,
     line: u32,
@@ -110,7 +99,7 @@ fn push_note(
     }
 }
 
-/// Puts a note behind others, if there is one.
+/// Appends a note to others, if there is one.
 fn push_any(notes: &mut NoteList, note: Option<Note>) -> Result<(), AllocError>
     ensures { OnOk result (notes.new ≡ notes.old ++ note_list note) }
 {

@@ -5,9 +5,8 @@ ghost use Rattle.pc_check.specs.Sizes.{resolved_size};
 ghost use Rattle.pc_word.specs.Ranges.{AreLimits, IsExtent};
 ghost use Rattle.pc_machine.specs.WellFormed.{AreArrays};
 ghost use Rattle.pc_object.specs.ObjectText.{object_of};
-ghost use Rattle.pc_pass.specs.Pass.{EachRose};
-ghost use Rattle.pc_table.specs.Table.{table_of};
-ghost use Rattle.pc_table.specs.TableKeeps.{TableKeeps};
+ghost use Rattle.pc_pass.specs.Pass.{Chain, EachRose};
+ghost use Rattle.pc_table.specs.StoredTable.{table_of};
 ghost use Rattle.pc_emit.specs.Emitting.{region_forms, AreForms};
 ghost use Rattle.pc_compile.specs.declared.error.CompileError.TheVariants.{Memory};
 ghost use Rattle.pc_compile.specs.Compiled.{IsCompiled, IsUncompiled};
@@ -32,8 +31,8 @@ use pc_tighten::tighten;
 use pc_word::{Extent, LengthList, Limits};
 use std::alloc::Global;
 
-/// A program's flow graph behind passes, the graph's regions, the forms that those got which are led
-/// to, and the program's object.
+/// A program's flow graph after passes, the graph's regions, the forms that the reachable ones got,
+/// and the program's object.
 #[derive(Debug, Drop)]
 pub struct Compiled {
     pub flow: Flow,
@@ -42,9 +41,9 @@ pub struct Compiled {
     pub object: Object,
 }
 
-/// The object of a checked program, under limits of rows that the machine has, behind passes over its flow
-/// graph, each of which is applied once. The graph is cut into regions then. Each of them that is led to gets the
-/// first form that is not refused: pipelined, for an innermost loop, with at most as many turns in a window as the
+/// The object of a checked program, under limits of rows that the machine has, after passes over its flow
+/// graph, each of which is applied once, in order. The graph is cut into regions then. Each of them that is reachable gets the
+/// first form that is not refused: pipelined, for an innermost loop, with at most as many iterations in a window as the
 /// extent's window and at most as many rows as its rows; packed; or a row for each item and test. The rows are
 /// tightened at last. It fails where the graph would have more than 16,384 nodes, and where memory runs out; then
 /// some of the passes may have been applied.
@@ -57,7 +56,8 @@ pub fn compile(
 ) -> Result<Compiled, CompileError>
     requires limits { AreLimits limits }
     requires extent { IsExtent extent }
-    ensures compiled { IfOk result (λ it. IsCompiled (resolved_of checked.now) limits extent it.flow (table_of it.table) it.choices (object_of it.object)) }
+    ensures compiled { IfOk result (λ it. IsCompiled (resolved_of checked.now) (Chain (λ b. does b) (λ b. changed b) passes.old.items passes.new.items)
+        limits extent it.flow (table_of it.table) it.choices (object_of it.object)) }
     ensures uncompiled { IfErr result (λ error. IsUncompiled (resolved_size (resolved_of checked.now)) error) }
     ensures named { map (λ b. label b) passes.new.items ≡ map (λ b. label b) passes.old.items }
     ensures ran { OnOk result (EachRose (map (λ b. runs b) passes.old.items) (map (λ b. runs b) passes.new.items)) }
@@ -75,7 +75,8 @@ pub fn compile_with<P: Pass>(
 ) -> Result<Compiled, CompileError>
     requires limits { AreLimits limits }
     requires extent { IsExtent extent }
-    ensures compiled { IfOk result (λ it. IsCompiled (resolved_of checked.now) limits extent it.flow (table_of it.table) it.choices (object_of it.object)) }
+    ensures compiled { IfOk result (λ it. IsCompiled (resolved_of checked.now) (Chain P.does P.changed passes.old.items passes.new.items)
+        limits extent it.flow (table_of it.table) it.choices (object_of it.object)) }
     ensures uncompiled { IfErr result (λ error. IsUncompiled (resolved_size (resolved_of checked.now)) error) }
     ensures named { map P.label passes.new.items ≡ map P.label passes.old.items }
     ensures ran { OnOk result (EachRose (map P.runs passes.old.items) (map P.runs passes.new.items)) }
@@ -101,7 +102,6 @@ fn object_of(
     chosen: &Chosen,
     limits: Limits,
 ) -> Result<Object, CompileError>
-    requires kept { TableKeeps (table_of table.now) }
     requires limits { AreLimits limits }
     requires arrays { AreArrays (table_of table.now).arrays }
     requires count { length chosen.now.forms ≡ length table.now.regions }

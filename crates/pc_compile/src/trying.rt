@@ -2,9 +2,7 @@
 ghost use Rattle.std.specs.Prelude.{◌≡◌, ◌<◌, ◌≤◌, suc, length, IfOk};
 ghost use Rattle.pc_word.specs.Ranges.{AreLimits, IsExtent};
 ghost use Rattle.pc_word.specs.MachineLimits.{most_object};
-ghost use Rattle.pc_word.specs.SourceLimits.{most_nodes};
-ghost use Rattle.pc_table.specs.Table.{table_of};
-ghost use Rattle.pc_table.specs.TableKeeps.{TableKeeps};
+ghost use Rattle.pc_table.specs.StoredTable.{table_of};
 ghost use Rattle.pc_assign.specs.Pressure.{allowed};
 ghost use Rattle.pc_compile.specs.declared.trying.Attempt.TheVariants.{Refused};
 ghost use Rattle.pc_compile.specs.declared.choice.Cause.TheVariants.{Rows, Live, Bytes};
@@ -45,8 +43,6 @@ pub(crate) fn try_form(
     extent: Extent,
     others: u32,
 ) -> Result<Attempt, ChooseError>
-    requires kept { TableKeeps (table_of table.now) }
-    requires few { length table.now.regions ≤ most_nodes }
     requires limits { AreLimits limits }
     requires extent { IsExtent extent }
     requires there { region < length table.now.regions }

@@ -22,7 +22,7 @@ use Rattle.pc_copies.proofs.Rings.{none_front, none_behind, leads_split, WriteAp
 
 -- ---- where moves end
 
--- a move in a list, and those before and behind it
+-- a move in a list, and those before and after it
 pub split_at : (moves : List Move) (at : ℕ) (move : Move) → slice_get moves at ≡ Some move → moves ≡ take at moves ++ move ∷ drop (suc at) moves
 split_at [] at move e = absurd (cc)
 split_at (other ∷ moves) zero move e = let same : other ≡ move = (cc) in ap (λ (m : Move). m ∷ moves) same

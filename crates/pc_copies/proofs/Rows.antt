@@ -28,7 +28,7 @@ over_cons : (b : Bool) (from : Operand) (one other : Option Operand) → (if b t
 over_cons true from one other = refl
 over_cons false from one other = refl
 
--- the sources of moves behind others
+-- the sources of moves after others
 pub source_both : (moves more : List Move) (x : ℕ) → source_in (moves ++ more) x ≡ over (source_in moves) (source_in more) x
 source_both [] more x = refl
 source_both (move ∷ moves) more x =
@@ -60,7 +60,7 @@ do_more scratch rows first more placed done apart unread = record {
       ∙ moved_both placed (source_in more) names x apart;
 }
 
--- it stands behind the other rows
+-- it stands after the other rows
 pub do_next : (scratch : ℕ) (rows : List (List Move)) (first : List Move) (placed : ℕ → Option Operand) → Do scratch rows first placed → Do scratch (rows ++ first ∷ []) [] placed
 do_next scratch rows first placed done = record { same = λ names x other. ap (λ (n : ℕ → ℤ). n x) (back_more rows first names) ∙ done.same names x other }
 

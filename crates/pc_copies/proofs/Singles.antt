@@ -1,4 +1,4 @@
--- One move, and the moves behind it.
+-- One move, and the moves after it.
 use Rattle.std.proofs.Common.{◌≡◌, ◌≢◌, ℕ, Bool, true, false, List, [], ◌∷◌, Some, None, refl, sym, ◌∙◌, ap}
 use Rattle.std.proofs.Common.{eq-eqb, eqb-true, true≢false}
 use Rattle.std.specs.Prelude.{if◌then◌else◌, nat_eq}
@@ -26,7 +26,7 @@ one_unwritten move register other = ap (λ b. if b then Some move.from else None
 pub head_written : (move : Move) (moves : List Move) → source_in (move ∷ moves) move.dest ≡ Some move.from
 head_written move moves = ap (λ b. if b then Some move.from else source_in moves move.dest) (eq-eqb move.dest move.dest refl)
 
--- behind another move the same is written
+-- after another move the same is written
 pub tail_written : (move : Move) (moves : List Move) (register : ℕ) → move.dest ≢ register → source_in (move ∷ moves) register ≡ source_in moves register
 tail_written move moves register other = ap (λ b. if b then Some move.from else source_in moves register) (apart_tests move.dest register other)
 
@@ -53,7 +53,7 @@ one_read move register h = by_test (nat_eq move.dest h.by) h.reads
 pub head_read : (move : Move) (moves : List Move) (register : ℕ) → move.from ≡ Name register → IsRead (source_in (move ∷ moves)) register
 head_read move moves register e = record { by = move.dest; reads = head_written move moves ∙ ap (λ o. Some o) e }
 
--- what the moves behind another one read
+-- what the moves after another one read
 pub tail_read : (move : Move) (moves : List Move) (register : ℕ) → source_in moves move.dest ≡ None → IsRead (source_in moves) register → IsRead (source_in (move ∷ moves)) register
 tail_read move moves register once h =
     let other : move.dest ≢ h.by = λ e. let both = sym (ap (source_in moves) e) ∙ once in let reads = h.reads in absurd (cc) in

@@ -37,7 +37,7 @@ unfolding by_stores
 no_fault lengths s row =
     ap (λ (stores : List Stored). by_stores stores (reads_of (map copy_of row)) s) (row_stores lengths row s) ∙ ap (λ (reads : ℕ). by_stores [] reads s) (row_takes row)
 
--- whatever leaf stands behind it
+-- whatever leaf stands after it
 pub row_commits : {L : Type 0} (lengths : List ℕ) (row : List Move) (leaf : L) (s : State) → row_step lengths (copy_row row leaf) s ≡ Commits [] (after_copies lengths row s) leaf
 row_commits {L} lengths row leaf s =
     ap (λ (l : List Item). commit_of lengths s l (leaf_of s.names (copy_row row leaf)) (fault_of lengths s l)) (path_is s.names row leaf)

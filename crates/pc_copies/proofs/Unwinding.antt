@@ -42,7 +42,7 @@ over_more None None false from once = refl
 module _ (scratch ops : ℕ) (move : Move) (moves : List Move) (rows : List (List Move)) (first : List Move) (mid : List (List Move)) (row : List Move)
     (later : List (List Move)) (now : List Move) (before : Unwound ops scratch moves rows first mid row) (puts : Puts ops (move ∷ []) mid row later now)
     (unwinds : Unwinds (move ∷ moves)) (avoids : Avoids scratch move) where
-  -- what the moves behind it read is not written by it
+  -- what the moves after it read is not written by it
   moves_unread : (register : ℕ) → IsRead (source_in moves) register → source_in (move ∷ []) register ≡ None
   moves_unread register h = one_unwritten move register (λ e. unwinds.1 (subst (IsRead (source_in moves)) (sym e) h))
 
@@ -85,7 +85,7 @@ module _ (scratch ops : ℕ) (move : Move) (moves : List Move) (rows : List (Lis
     | inr here ↦ inr (head_read move moves register (one_read move register here))
   ]
 
-  -- what the moves behind it write is not written by it
+  -- what the moves after it write is not written by it
   moves_apart : (register : ℕ) → IsWritten (source_in moves) register → source_in (move ∷ []) register ≡ None
   moves_apart register h = one_unwritten move register (λ e. let none = sym (ap (source_in moves) e) ∙ unwinds.0 in let writes = h.writes in absurd (cc))
 

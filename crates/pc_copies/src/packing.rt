@@ -153,7 +153,7 @@ impl Packing {
     }
 }
 
-/// Puts copies behind those of a row.
+/// Appends copies to those of a row.
 fn append(row: &mut CopyRow, group: &[Move]) -> Result<(), AllocError>
     ensures { OnOk result (row.new ≡ row.old ++ group.now) }
 {

@@ -1,4 +1,4 @@
--- One more choice behind others.
+-- One more choice after others.
 use Rattle.std.proofs.Common.{◌⊎◌, inl, inr}
 
 pub either_first : {A B C : Type 0} → A ⊎ B → A ⊎ B ⊎ C

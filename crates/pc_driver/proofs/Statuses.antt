@@ -1,4 +1,4 @@
--- The status by which something that was due is told.
+-- The status by which something that was due is reported.
 use Rattle.std.proofs.Common.{◌≡◌, ℕ, ◌⊎◌, inl, inr, Option, Some, None}
 use Rattle.pc_word.specs.Count.{Rose}
 use Rattle.pc_report.specs.declared.fault.ToolFault.{ToolFault}

@@ -29,7 +29,7 @@ fault_status (fault.Budget number) = 6
 fault_status (fault.Machine what) = 7
 fault_status (fault.Trap kind line) = trap_status kind
 
--- What was due is told, by the status and on the error output: 0 and nothing with success, and else the line of the fault.
+-- What was due is reported, by the status and on the error output: 0 and nothing with success, and else the line of the fault.
 abbrev pub Told : Option ToolFault → Streamed → Streamed → ℕ → Type 0
 Told None old new code = (code ≡ 0) × (new ≡ old)
 Told (Some due) old new code = TellsLine (fault_line due) (fault_status due) old new code

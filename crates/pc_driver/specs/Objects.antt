@@ -1,4 +1,4 @@
--- Objects that load, the files that hold them, and why bytes are refused, as a user is told it.
+-- Objects that load, the files that hold them, and why bytes are refused, as it is reported to a user.
 use Rattle.std.specs.Prelude.{◌≡◌, ℕ, ◌<◌, ◌≤◌, List, length, Option, Some, None, Err}
 use Rattle.pc_word.specs.MachineLimits.{most_object}
 use Rattle.pc_object.specs.ObjectText.{CodeWithNotes, IsObject, object_text}
@@ -36,7 +36,7 @@ HoldsObject held name = HoldsText held name (λ bytes. (object : CodeWithNotes) 
 
 -- ---- refusals
 
--- how the first thing that is wrong with an object is told; want of memory is none
+-- how the first thing that is wrong with an object is reported; want of memory is none
 abbrev pub told_of_object : ObjectError → Option ObjectFault
 told_of_object error.BadMagic = Some object.BadMagic
 told_of_object (error.Truncated offset) = Some (object.Truncated offset)

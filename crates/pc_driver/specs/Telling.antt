@@ -16,6 +16,6 @@ pub record TellsPart (line : List ℕ) (old new : Streamed) (code : ℕ) : Type 
   pub failed : Rose old.faults new.faults
   pub sent : AppendsPart old.told new.told line
 
--- a line is told with a status
+-- a line is reported with a status
 abbrev pub TellsLine : List ℕ → ℕ → Streamed → Streamed → ℕ → Type 0
 TellsLine line status old new code = TellsWhole line status old new code ⊎ TellsPart line old new code

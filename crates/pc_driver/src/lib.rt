@@ -1,5 +1,5 @@
 //! What the programs have in common: the words of the command line, files and objects as they find them, streams
-//! as they see them, and how a line is told at the end.
+//! as they see them, and how a line is reported at the end.
 #![tactic(auto)]
 
 mod file;

@@ -4,7 +4,7 @@ ghost use Rattle.std.specs.Prelude.{◌≡◌, [], drop};
 use std::alloc::{AllocError, Global};
 use std::{env, io};
 
-/// The words behind the program's own name. Where one of them is no UTF-8 there are none, and no words are
+/// The words after the program's own name. Where one of them is no UTF-8 there are none, and no words are
 /// no command of any program. An error is want of memory.
 ///
 /// Which words the host gives no clause says, since std tells none of it.
@@ -16,7 +16,7 @@ pub fn read_words(rt: &HostRuntime) -> Result<Vec<String>, AllocError> {
     }
 }
 
-/// The words behind the first, which is the program's own name.
+/// The words after the first, which is the program's own name.
 fn behind_name(mut words: Vec<String>) -> Vec<String>
     ensures { result.items ≡ drop 1 words.items }
 {

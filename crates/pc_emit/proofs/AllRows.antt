@@ -15,7 +15,9 @@ use Rattle.pc_automaton.specs.There.{StateIsThere}
 use Rattle.pc_automaton.specs.Reachable.{EachIsReachable}
 use Rattle.pc_automaton.specs.RowFits.{RowFits}
 use Rattle.pc_copies.specs.declared.moves.Move.{Move}
-use Rattle.pc_machine.specs.MachineCode.{Leaf, Ends, CodeRow}
+use Rattle.pc_machine.specs.declared.tree.Leaf.{Leaf}
+use Rattle.pc_machine.specs.declared.tree.Leaf.TheVariants.{Stop}
+use Rattle.pc_machine.specs.MachineCode.{CodeRow}
 use Rattle.pc_machine.specs.WellFormed.{IsLeaf, IsRow}
 use Rattle.pc_machine.specs.Reachable.{IsReachable, Entry}
 use Rattle.pc_emit.specs.Registers.{register_of}
@@ -241,10 +243,10 @@ module _ (plan : Plan) (is : IsPlan plan) (rows : List CodeRow) (emitted : IsEmi
     front_fits : (number : ℕ) → number < entry 0 → Fits number
     front_fits number lt = by_form (forms_at plan 0) refl (let first = is.entries.first in omega (arith, lt, first))
       where
-        alone : BeginsAt rows Ends → slice_get rows 0 ≡ Some (At_leaf Ends)
+        alone : BeginsAt rows Stop → slice_get rows 0 ≡ Some (At_leaf Stop)
         alone (by_leaf_alone there) = there
 
-        ends : forms_at plan 0 ≡ Some Plain → region_tree (table_in plan) 0 ≡ Stops_here → emitted.first ≡ Ends
+        ends : forms_at plan 0 ≡ Some Plain → region_tree (table_in plan) 0 ≡ Stops_here → emitted.first ≡ Stop
         ends e is_end =
             let plain : emitted.leads.form ≡ Plain = one_form emitted.leads.has e in
             emitted.leads.is ∙ ap (form_leaf (emission_in plan) 0) plain ∙ ap (root_leaf (entry 0)) is_end
@@ -259,8 +261,8 @@ module _ (plan : Plan) (is : IsPlan plan) (rows : List CodeRow) (emitted : IsEmi
         by_tree Stops_here t e lt =
             let at : 0 ≡ number = omega (arith, lt) in
             subst Fits at
-            (row_fits 0 (At_leaf Ends) (alone (subst (BeginsAt rows) (ends e t) emitted.begins))
-            (leaf_row_fits plan.limits is.limits (length plan.table.now.arrays) (length rows) Ends tt))
+            (row_fits 0 (At_leaf Stop) (alone (subst (BeginsAt rows) (ends e t) emitted.begins))
+            (leaf_row_fits plan.limits is.limits (length plan.table.now.arrays) (length rows) Stop tt))
         by_tree (Traps_here kind line) t e lt = absurd (is.forms.traps 0 line kind t e)
 
         by_form : (it : Option RegionForm) → forms_at plan 0 ≡ it → number < length (front_rows (region_tree (table_in plan) 0) it) → Fits number

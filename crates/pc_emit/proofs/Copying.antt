@@ -10,7 +10,7 @@ use Rattle.pc_word.specs.Items.{is_effect, is_memory}
 use Rattle.pc_word.specs.Row.{items_of, tests_of, leaves_of, paths_of}
 use Rattle.pc_word.proofs.Lists.{count_more}
 use Rattle.pc_assign.specs.Pressure.{allowed}
-use Rattle.pc_machine.specs.MachineCode.{Leaf}
+use Rattle.pc_machine.specs.declared.tree.Leaf.{Leaf}
 use Rattle.pc_machine.specs.WellFormed.{IsOperand, IsItem, IsLeaf, IsPath, IsRow}
 use Rattle.pc_object.specs.ObjectText.{operand_text, item_text, leaf_text, row_text}
 use Rattle.pc_copies.specs.declared.moves.Move.{Move}

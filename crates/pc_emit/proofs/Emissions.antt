@@ -20,7 +20,8 @@ use Rattle.pc_automaton.specs.declared.automaton.AutomatonLeaf.{AutomatonLeaf}
 use Rattle.pc_automaton.specs.declared.automaton.AutomatonLeaf.TheVariants.{To, Out}
 use Rattle.pc_automaton.specs.Automaton.{AutomatonState}
 use Rattle.pc_automaton.specs.AutomatonRun.{automaton_run}
-use Rattle.pc_machine.specs.MachineCode.{Leaf, CodeRow}
+use Rattle.pc_machine.specs.declared.tree.Leaf.{Leaf}
+use Rattle.pc_machine.specs.MachineCode.{CodeRow}
 use Rattle.pc_emit.specs.Emitted.{Emission, RegionForm, Plain, ByAutomaton, form_leaf, BeginsAt, at_first_row, by_leaf_alone, IsEmitted}
 use Rattle.pc_automaton.specs.RunsAsRegion.{LeadsUntested}
 use Rattle.pc_emit.specs.PackedForm.{IsPackedForm, IsRegionForm}

@@ -1,4 +1,4 @@
--- The rows of all regions, one region behind the other.
+-- The rows of all regions, one region after the other.
 use Rattle.std.proofs.Common.{◌≡◌, inl, inr, ℕ, zero, suc, ◌+◌, ◌-◌, ◌<◌, ◌≤◌, ◌^◌, List, [], ◌∷◌, ◌++◌, length, Option, Some, None, refl, sym, ◌∙◌, ap, subst, drop, get_or, arith}
 use Rattle.std.specs.Prelude.{slice_get, slice_index}
 use Rattle.std.specs.List.{AllByRecursion}
@@ -7,15 +7,18 @@ use Rattle.std.proofs.lemmas.Option.{slice_get_within, slice_get-get_or}
 use Rattle.pc_word.proofs.Truth.{decide_le}
 use Rattle.pc_word.specs.declared.item.Limits.{Limits}
 use Rattle.pc_word.specs.Row.{Row, Then, Either, At_leaf}
-use Rattle.pc_table.specs.Table.{TableTree, Does, Asks, Next, Stops_here, Traps_here, TableRegion, tree_of, table_tree, table_region, table_regions, table_of, region_tree}
+use Rattle.pc_table.specs.Table.{TableTree, Does, Asks, Next, Stops_here, Traps_here, TableRegion, tree_of, table_tree, table_region, table_regions, region_tree}
+use Rattle.pc_table.specs.StoredTable.{table_of}
 use Rattle.pc_table.specs.declared.table.RegionTable.{RegionTable}
 use Rattle.pc_table.specs.declared.table.Region.{Region}
 use Rattle.pc_table.specs.TableKeeps.{units}
 use Rattle.pc_automaton.specs.declared.automaton.AutomatonLeaf.{AutomatonLeaf}
 use Rattle.pc_automaton.specs.declared.automaton.AutomatonLeaf.TheVariants.{To, Out, Stop, Trap}
 use Rattle.pc_automaton.specs.Automaton.{AutomatonState}
-use Rattle.pc_machine.specs.declared.tree.Tree.{Tree}
-use Rattle.pc_machine.specs.MachineCode.{Leaf, Leads_to, Ends, Traps, CodeRow, row_of, rows_of}
+use Rattle.pc_word.specs.declared.row_tree.RowTree.{RowTree}
+use Rattle.pc_machine.specs.declared.tree.Leaf.{Leaf}
+use Rattle.pc_machine.specs.declared.tree.Leaf.TheVariants as machine
+use Rattle.pc_machine.specs.MachineCode.{CodeRow, row_of, rows_of}
 use Rattle.pc_machine.specs.WellFormed.{IsLeaf, IsRow}
 use Rattle.pc_machine.specs.Reachable.{IsReachable}
 use Rattle.pc_emit.specs.declared.form.RegionForm.{RegionForm as StoredForm}
@@ -195,7 +198,7 @@ front_less f (region ∷ regions) some =
 
 -- ---- region by region
 
--- the rows of the first regions were put behind the row in front
+-- the rows of the first regions were put after the row in front
 pub record RegionsSoFar (plan : Plan) (old new : Output) (count : ℕ) : Type 0 where
   pub grows : OutputGrows old new
   pub count_is : length new.rows ≡ slice_index plan.entries.now count
@@ -326,17 +329,17 @@ module _ (plan : Plan) (is : IsPlan plan) (old new : Output) (rows : List CodeRo
       by_tree : (tree : TableTree) → region_tree (table_in plan) 0 ≡ tree → IsRoot tree → forms_at plan 0 ≡ Some Plain → BeginsAt rows (root_leaf entry tree)
       by_tree (Does origin item rest) t root e =
           let none : entry ≡ 0 = is.entries.first ∙ ap (λ (f : Option RegionForm). length (front_rows (region_tree (table_in plan) 0) f)) e ∙ ap (λ (it : TableTree). length (leaf_alone it)) t in
-          subst (λ (n : ℕ). BeginsAt rows (Leads_to n)) (sym none) at_first_row
+          subst (λ (n : ℕ). BeginsAt rows (machine.Goto n)) (sym none) at_first_row
       by_tree (Asks origin on on_yes on_no) t root e =
           let none : entry ≡ 0 = is.entries.first ∙ ap (λ (f : Option RegionForm). length (front_rows (region_tree (table_in plan) 0) f)) e ∙ ap (λ (it : TableTree). length (leaf_alone it)) t in
-          subst (λ (n : ℕ). BeginsAt rows (Leads_to n)) (sym none) at_first_row
+          subst (λ (n : ℕ). BeginsAt rows (machine.Goto n)) (sym none) at_first_row
       by_tree (Next region) t root e = absurd root
-      by_tree Stops_here t root e = by_leaf_alone (in_front_is (At_leaf Ends) (ap (front_rows (region_tree (table_in plan) 0)) e ∙ ap leaf_alone t))
-      by_tree (Traps_here kind line) t root e = by_leaf_alone (in_front_is (At_leaf (Traps kind line)) (ap (front_rows (region_tree (table_in plan) 0)) e ∙ ap leaf_alone t))
+      by_tree Stops_here t root e = by_leaf_alone (in_front_is (At_leaf machine.Stop) (ap (front_rows (region_tree (table_in plan) 0)) e ∙ ap leaf_alone t))
+      by_tree (Traps_here kind line) t root e = by_leaf_alone (in_front_is (At_leaf (machine.Trap kind line)) (ap (front_rows (region_tree (table_in plan) 0)) e ∙ ap leaf_alone t))
 
       begins : (form : RegionForm) → forms_at plan 0 ≡ Some form → BeginsAt rows (form_leaf (emission_in plan) 0 form)
       begins Plain e = by_tree (region_tree (table_in plan) 0) refl (roots (table_in plan) is.kept 0) e
-      begins (ByAutomaton states registers) e = subst (λ (n : ℕ). BeginsAt rows (Leads_to n)) (sym (first_row states registers e)) at_first_row
+      begins (ByAutomaton states registers) e = subst (λ (n : ℕ). BeginsAt rows (machine.Goto n)) (sym (first_row states registers e)) at_first_row
 
   -- a row is one of a region, or of copies
   by_part : (P : ℕ → Type 0) → ((number : ℕ) → number < rows_end plan → P number)
@@ -386,7 +389,7 @@ module _ (plan : Plan) (is : IsPlan plan) (old new : Output) (rows : List CodeRo
       let counted = front_less (forms_at plan) (table_in plan).regions is.kept.some_region in
       omega (arith, made, all, first, none, counted)
     where
-      empty : (trees : List Tree) → length trees ≡ 0 → bytes_of (rows_of trees) ≡ 0
+      empty : (trees : List (RowTree Leaf)) → length trees ≡ 0 → bytes_of (rows_of trees) ≡ 0
       empty [] e = refl
       empty (tree ∷ trees) e = absurd (omega (arith, e))
 
@@ -395,8 +398,8 @@ module _ (plan : Plan) (is : IsPlan plan) (old new : Output) (rows : List CodeRo
 
 -- ---- what the code reads
 
--- the rows of regions begin behind the leaf alone of region 0
-pub begins_behind : (table : RegionTable) (forms : List (Option StoredForm)) (regions : List Region) (region : Region) (form : Option StoredForm) (front : List Tree) (first : ℕ)
+-- the rows of regions begin after the leaf alone of region 0
+pub begins_behind : (table : RegionTable) (forms : List (Option StoredForm)) (regions : List Region) (region : Region) (form : Option StoredForm) (front : List (RowTree Leaf)) (first : ℕ)
     → regions ≡ table.regions → 1 ≤ length (table_of table).regions → length forms ≡ length table.regions → form ≡ get_or forms 0 form
     → rows_of front ≡ front_rows (table_tree (get_or regions 0 region).tree) (form_in (Some form)) → first ≡ length front
     → first ≡ length (front_rows (region_tree (table_of table) 0) (region_forms forms 0))

@@ -5,7 +5,7 @@ use Rattle.std.proofs.lemmas.List.{length-map}
 use Rattle.std.proofs.lemmas.Option.{slice_get_within}
 use Rattle.pc_table.specs.Table.{TableTree, Does, Asks, Next, Stops_here, Traps_here, Table, table_region, region_tree}
 use Rattle.pc_table.specs.TableKeeps.{units}
-use Rattle.pc_machine.specs.MachineCode.{Leaf}
+use Rattle.pc_machine.specs.declared.tree.Leaf.{Leaf}
 use Rattle.pc_emit.specs.declared.form.RegionForm.{RegionForm as StoredForm}
 use Rattle.pc_emit.specs.Emitted.{RegionForm, Plain, ByAutomaton, root_leaf, form_leaf, LeadsToRegion}
 use Rattle.pc_emit.specs.Emitting.{form_in, CanHave}
@@ -71,7 +71,7 @@ module _ (plan : Plan) (is : IsPlan plan) where
       let end = ap (slice_index plan.entries.now) (length-map plan.table.now.regions table_region) in
       omega (arith, within, rows, end)
 
-  -- what leads to a region may stand behind copies
+  -- what leads to a region may stand after copies
   pub region_target : (region : ℕ) (leaf : Leaf) → LeadsToRegion (emission_in plan) region leaf → CopiesMayLeadTo plan leaf
   region_target region leaf leads = subst (CopiesMayLeadTo plan) (sym leads.is) (by_form leads.form leads.has)
     where

@@ -17,7 +17,8 @@ use Rattle.pc_window.specs.There.{ArrayIsThere}
 use Rattle.pc_window.proofs.Uses.{nat_eq-tells}
 use Rattle.pc_automaton.specs.declared.automaton.AutomatonLeaf.{AutomatonLeaf}
 use Rattle.pc_automaton.specs.RowFits.{RowFits}
-use Rattle.pc_machine.specs.MachineCode.{Leaf, CodeRow}
+use Rattle.pc_machine.specs.declared.tree.Leaf.{Leaf}
+use Rattle.pc_machine.specs.MachineCode.{CodeRow}
 use Rattle.pc_machine.specs.WellFormed.{IsOperand, IsItem, IsLeaf, IsPath, IsRow}
 use Rattle.pc_emit.specs.Emitted.{RowStands, item_stands, test_stands, leaf_stands}
 use Rattle.pc_emit.proofs.Undisturbed.{IsUndisturbed, StaysUndisturbed}

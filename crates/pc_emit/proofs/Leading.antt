@@ -7,7 +7,9 @@ use Rattle.pc_word.specs.Row.{row_step}
 use Rattle.pc_word.specs.Run.{Seen, Run, Answers, after_printing, seen_of, run_from}
 use Rattle.pc_word.proofs.Runs.{Answers-refl, run_from-answers}
 use Rattle.pc_window.proofs.Paces.{answer_of_answer}
-use Rattle.pc_machine.specs.MachineCode.{Leaf, Leads_to, Ends, Traps, CodeRow, RowCode}
+use Rattle.pc_machine.specs.declared.tree.Leaf.{Leaf}
+use Rattle.pc_machine.specs.declared.tree.Leaf.TheVariants.{Goto, Stop, Trap}
+use Rattle.pc_machine.specs.MachineCode.{CodeRow, RowCode}
 use Rattle.pc_machine.specs.MachineRun.{follow_leaf, after_row, run_row, machine_step}
 use Rattle.pc_copies.specs.declared.moves.Move.{Move}
 use Rattle.pc_copies.specs.Moves.{after_rows}
@@ -25,16 +27,16 @@ module _ (code : RowCode) where
   row_run row m n = run_from (machine_step code) n (record { row = row; state = m })
 
   abbrev pub leaf_run : Leaf → State → Run
-  leaf_run (Leads_to row) m n = row_run row m n
-  leaf_run Ends m n = record { printed = []; end = Some Ended }
-  leaf_run (Traps kind line) m n = record { printed = []; end = Some (Trapped kind line) }
+  leaf_run (Goto row) m n = row_run row m n
+  leaf_run Stop m n = record { printed = []; end = Some Ended }
+  leaf_run (Trap kind line) m n = record { printed = []; end = Some (Trapped kind line) }
 
   -- a row leads on to its leaf
   pub leaf_seen : (out : List ℤ) (m : State) (leaf : Leaf) (n : ℕ)
       → seen_of (follow_leaf out m leaf) (run_from (machine_step code) n) ≡ after_printing out (leaf_run leaf m n)
-  leaf_seen out m (Leads_to row) n = refl
-  leaf_seen out m Ends n = ap (λ (l : List ℤ). let seen : Seen = record { printed = l; end = Some Ended } in seen) (sym (append-nil out))
-  leaf_seen out m (Traps kind line) n = ap (λ (l : List ℤ). let seen : Seen = record { printed = l; end = Some (Trapped kind line) } in seen) (sym (append-nil out))
+  leaf_seen out m (Goto row) n = refl
+  leaf_seen out m Stop n = ap (λ (l : List ℤ). let seen : Seen = record { printed = l; end = Some Ended } in seen) (sym (append-nil out))
+  leaf_seen out m (Trap kind line) n = ap (λ (l : List ℤ). let seen : Seen = record { printed = l; end = Some (Trapped kind line) } in seen) (sym (append-nil out))
 
   pub row_seen : (row : ℕ) (it : CodeRow) (m : State) (n : ℕ) → slice_get code.rows row ≡ Some it
       → row_run row m (suc n) ≡ seen_of (after_row (row_step code.arrays it m)) (run_from (machine_step code) n)
@@ -42,9 +44,9 @@ module _ (code : RowCode) where
 
   -- more cycles show no less
   pub leaf_grows : (leaf : Leaf) (m : State) (n k : ℕ) → n ≤ k → Answers (leaf_run leaf m n) (leaf_run leaf m k) (leaf_run leaf m n).end
-  leaf_grows (Leads_to row) m n k le = run_from-answers (machine_step code) n k (record { row = row; state = m }) le
-  leaf_grows Ends m n k le = (refl, refl)
-  leaf_grows (Traps kind line) m n k le = (refl, refl)
+  leaf_grows (Goto row) m n k le = run_from-answers (machine_step code) n k (record { row = row; state = m }) le
+  leaf_grows Stop m n k le = (refl, refl)
+  leaf_grows (Trap kind line) m n k le = (refl, refl)
 
   -- a row that is a leaf alone, or copies before one
   pub copies_seen : (at : ℕ) (copies : List Move) (next : Leaf) (m : State) (n : ℕ) → slice_get code.rows at ≡ Some (copy_row copies next)
@@ -67,7 +69,7 @@ module _ (code : RowCode) where
       (answer_of_answer (leaf_run next moved n) (leaf_run target last n) (leaf_run target last (suc n))
       (passes_forth h moved n) (leaf_grows target last n (suc n) (omega arith)))
 
-  -- and behind them the same is shown
+  -- and after them the same is shown
   pub passes_back : {leaf target : Leaf} {copies : List (List Move)} → Passes code.rows leaf copies target → (m : State) (n : ℕ)
       → leaf_run leaf m (length copies + n) ≡ leaf_run target (after_rows code.arrays copies m) n
   passes_back (passes_none {leaf}) m n = let none : length {A = List Move} [] + n ≡ n = omega arith in ap (λ (k : ℕ). leaf_run leaf m k) none

@@ -1,14 +1,16 @@
--- What leads to a region, and to what stands behind an item or a test.
+-- What leads to a region, and to what stands after an item or a test.
 use Rattle.std.proofs.Common.{◌≡◌, ℕ, zero, suc, ◌+◌, ◌<◌, List, [], ◌∷◌, length, Option, Some, None, sym, ◌∙◌, ap, subst, arith}
 use Rattle.std.specs.Prelude.{IsSome, slice_get, slice_index}
 use Rattle.std.proofs.lemmas.List.{length-map}
 use Rattle.pc_word.specs.declared.item.Item.{Item}
 use Rattle.pc_word.specs.declared.item.Operand.{Operand}
 use Rattle.pc_word.specs.declared.item.TrapKind.{TrapKind}
-use Rattle.pc_table.specs.Table.{TableTree, Does, Asks, Next, Stops_here, Traps_here, tree_of, table_tree, table_region, table_regions, table_of, region_tree}
+use Rattle.pc_table.specs.Table.{TableTree, Does, Asks, Next, Stops_here, Traps_here, tree_of, table_tree, table_region, table_regions, region_tree}
+use Rattle.pc_table.specs.StoredTable.{table_of}
 use Rattle.pc_table.specs.declared.table.Region.{Region}
 use Rattle.pc_table.specs.declared.table.RegionTable.{RegionTable}
-use Rattle.pc_machine.specs.MachineCode.{Leaf, Leads_to, Ends, Traps}
+use Rattle.pc_machine.specs.declared.tree.Leaf.{Leaf}
+use Rattle.pc_machine.specs.declared.tree.Leaf.TheVariants.{Goto, Stop, Trap}
 use Rattle.pc_emit.specs.declared.form.RegionForm.{RegionForm as StoredForm}
 use Rattle.pc_emit.specs.declared.form.RegionForm.TheVariants as stored
 use Rattle.pc_emit.specs.declared.plan.Plan.{Plan}
@@ -57,18 +59,18 @@ module _ (plan : Plan) (region : ℕ) (is : IsPlan plan) (has : HasForm (table_i
       none_given : None ≡ Some has.form → ⊥
       none_given bad = cc
   region_led (Some stored.Plain) leaf e led = record { form = Plain; has = ap form_in e; is = led }
-  region_led (Some (stored.ByAutomaton automaton registers)) leaf e led = record { form = _; has = ap form_in e; is = led ∙ ap Leads_to (none_more (slice_index plan.entries.now region)) }
+  region_led (Some (stored.ByAutomaton automaton registers)) leaf e led = record { form = _; has = ap form_in e; is = led ∙ ap Goto (none_more (slice_index plan.entries.now region)) }
     where
       none_more : (n : ℕ) → n ≡ n + 0
       none_more n = omega arith
 
 module _ (plan : Plan) (row : ℕ) (tree : TableTree) (leaf : Leaf) where
-  pub behind_item : (origin : ℕ) (item : Item) (rest : TableTree) → tree ≡ Does origin item rest → leaf ≡ Leads_to row → LeadsBehind (emission_in plan) row tree leaf
+  pub behind_item : (origin : ℕ) (item : Item) (rest : TableTree) → tree ≡ Does origin item rest → leaf ≡ Goto row → LeadsBehind (emission_in plan) row tree leaf
   behind_item origin item rest e is =
       subst (λ (t : TableTree). LeadsBehind (emission_in plan) row t leaf) (sym e)
       (subst (λ (l : Leaf). LeadsBehind (emission_in plan) row (Does origin item rest) l) (sym is) to_item)
 
-  pub behind_test : (origin : ℕ) (on : Operand) (on_yes on_no : TableTree) → tree ≡ Asks origin on on_yes on_no → leaf ≡ Leads_to row
+  pub behind_test : (origin : ℕ) (on : Operand) (on_yes on_no : TableTree) → tree ≡ Asks origin on on_yes on_no → leaf ≡ Goto row
       → LeadsBehind (emission_in plan) row tree leaf
   behind_test origin on on_yes on_no e is =
       subst (λ (t : TableTree). LeadsBehind (emission_in plan) row t leaf) (sym e)
@@ -77,12 +79,12 @@ module _ (plan : Plan) (row : ℕ) (tree : TableTree) (leaf : Leaf) where
   pub behind_region : (region : ℕ) → tree ≡ Next region → LeadsToRegion (emission_in plan) region leaf → LeadsBehind (emission_in plan) row tree leaf
   behind_region region e leads = subst (λ (t : TableTree). LeadsBehind (emission_in plan) row t leaf) (sym e) (to_region leads)
 
-  pub behind_end : tree ≡ Stops_here → leaf ≡ Ends → LeadsBehind (emission_in plan) row tree leaf
+  pub behind_end : tree ≡ Stops_here → leaf ≡ Stop → LeadsBehind (emission_in plan) row tree leaf
   behind_end e is =
       subst (λ (t : TableTree). LeadsBehind (emission_in plan) row t leaf) (sym e)
       (subst (λ (l : Leaf). LeadsBehind (emission_in plan) row Stops_here l) (sym is) to_end)
 
-  pub behind_trap : (kind : TrapKind) (line : ℕ) → tree ≡ Traps_here kind line → leaf ≡ Traps kind line → LeadsBehind (emission_in plan) row tree leaf
+  pub behind_trap : (kind : TrapKind) (line : ℕ) → tree ≡ Traps_here kind line → leaf ≡ Trap kind line → LeadsBehind (emission_in plan) row tree leaf
   behind_trap kind line e is =
       subst (λ (t : TableTree). LeadsBehind (emission_in plan) row t leaf) (sym e)
       (subst (λ (l : Leaf). LeadsBehind (emission_in plan) row (Traps_here kind line) l) (sym is) to_trap)

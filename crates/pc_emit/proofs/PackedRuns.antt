@@ -19,7 +19,9 @@ use Rattle.pc_automaton.specs.declared.automaton.AutomatonLeaf.{AutomatonLeaf}
 use Rattle.pc_automaton.specs.declared.automaton.AutomatonLeaf.TheVariants.{To, Out, Stop, Trap}
 use Rattle.pc_automaton.specs.Automaton.{AutomatonState, IsStateAmong, IsAutomaton, Takes, LeafLeads}
 use Rattle.pc_automaton.specs.AutomatonRun.{At_state, passed_state, state_parameters, leaf_step, outcome_step, state_step, automaton_step}
-use Rattle.pc_machine.specs.MachineCode.{Leaf, Leads_to, Ends, Traps, CodeRow, RowCode}
+use Rattle.pc_machine.specs.declared.tree.Leaf.{Leaf}
+use Rattle.pc_machine.specs.declared.tree.Leaf.TheVariants as machine
+use Rattle.pc_machine.specs.MachineCode.{CodeRow, RowCode}
 use Rattle.pc_machine.specs.MachineRun.{after_row, machine_step}
 use Rattle.pc_copies.specs.Moves.{after_rows, AreDone}
 use Rattle.pc_emit.specs.Registers.{register_of, argument_moves, home_moves}
@@ -106,10 +108,10 @@ module _ (e : Emission) (keeps : TableKeeps e.table) (limits : Limits) (rows : L
 
     -- ---- where a leaf leads
 
-    -- the next state is there, and its parameters have their values behind the copies
+    -- the next state is there, and its parameters have their values after the copies
     pub next_stands : (of : ℕ → ℕ) (s m : State) (number : ℕ) (arguments : List Operand) (leaf : Leaf) → Takes (slice_get states number) (length arguments)
         → LeafHolds of (To number arguments) s m
-        → (moves : LeadsThroughMoves e rows leaf (argument_moves of (register_of (registers number)) (state_parameters (slice_get states number)) arguments) (Leads_to (e.places.state region number)))
+        → (moves : LeadsThroughMoves e rows leaf (argument_moves of (register_of (registers number)) (state_parameters (slice_get states number)) arguments) (machine.Goto (e.places.state region number)))
         → StandsAt number (passed_state s (state_parameters (slice_get states number)) arguments) (after_rows table.arrays moves.copies m)
     next_stands of s m number arguments leaf takes holds moves = by_state (slice_get states number) refl takes (moves.arranged.done table.arrays m)
       where
@@ -123,7 +125,7 @@ module _ (e : Emission) (keeps : TableKeeps e.table) (limits : Limits) (rows : L
         }
         by_state None there many done = absurd many
 
-    -- behind the copies a region shows what it shows from the homes
+    -- after the copies a region shows what it shows from the homes
     behind_same : (of : ℕ → ℕ) (s m : State) (to : ℕ) (homes : List Home) (leaf target : Leaf) → LeafIsThere table (Out to homes) → LeafHolds of (Out to homes) s m
         → (moves : LeadsThroughMoves e rows leaf (home_moves of homes) target) → (n : ℕ)
         → region_run table (Next to) (after_rows table.arrays moves.copies m) n ≡ region_run table (Next to) (home_state s homes) n
@@ -171,9 +173,9 @@ module _ (e : Emission) (keeps : TableKeeps e.table) (limits : Limits) (rows : L
               (subst (λ (l : Leaf). Answers (leaf_run code below m n) (leaf_run code l u n) (leaf_run code below m n).end) there.is (passes_forth code moves.passes m n)) k.1)),
         )
     leaf_forth n of out s m Stop below (leads, ends_here) holds never next regions =
-        (0, Answers-equal (after_printing out (leaf_run code Ends m n)) (seen_after out s Stop 0) (sym (leaf_seen code out m Ends n)))
+        (0, Answers-equal (after_printing out (leaf_run code machine.Stop m n)) (seen_after out s Stop 0) (sym (leaf_seen code out m machine.Stop n)))
     leaf_forth n of out s m (Trap kind line) below (leads, traps_here) holds never next regions =
-        (0, Answers-equal (after_printing out (leaf_run code (Traps kind line) m n)) (seen_after out s (Trap kind line) 0) (sym (leaf_seen code out m (Traps kind line) n)))
+        (0, Answers-equal (after_printing out (leaf_run code (machine.Trap kind line) m n)) (seen_after out s (Trap kind line) 0) (sym (leaf_seen code out m (machine.Trap kind line) n)))
 
     -- a row of each
     outcome_forth : (n : ℕ) (of : ℕ → ℕ) (a : RowOutcome AutomatonLeaf) (b : RowOutcome Leaf) → OutcomeStands (Leads of) of a b
@@ -236,9 +238,9 @@ module _ (e : Emission) (keeps : TableKeeps e.table) (limits : Limits) (rows : L
               (subst (λ (y : Seen). Answers x y x.end) (sym (passes_back code moves.passes m k.0 ∙ ap (λ (l : Leaf). leaf_run code l u k.0) there.is)) k.1)),
         )
     leaf_back n of out s m Stop below (leads, ends_here) holds never next regions =
-        (0, Answers-equal (seen_after out s Stop n) (after_printing out (leaf_run code Ends m 0)) (leaf_seen code out m Ends 0))
+        (0, Answers-equal (seen_after out s Stop n) (after_printing out (leaf_run code machine.Stop m 0)) (leaf_seen code out m machine.Stop 0))
     leaf_back n of out s m (Trap kind line) below (leads, traps_here) holds never next regions =
-        (0, Answers-equal (seen_after out s (Trap kind line) n) (after_printing out (leaf_run code (Traps kind line) m 0)) (leaf_seen code out m (Traps kind line) 0))
+        (0, Answers-equal (seen_after out s (Trap kind line) n) (after_printing out (leaf_run code (machine.Trap kind line) m 0)) (leaf_seen code out m (machine.Trap kind line) 0))
 
     -- the leaf at which a row commits
     abbrev pub CommitsAt : RowOutcome AutomatonLeaf → AutomatonLeaf → Type 0

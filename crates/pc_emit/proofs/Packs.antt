@@ -13,7 +13,9 @@ use Rattle.pc_automaton.specs.declared.automaton.AutomatonState.{AutomatonState 
 use Rattle.pc_automaton.specs.Automaton.{state_in, states_in}
 use Rattle.pc_automaton.specs.AutomatonRun.{state_parameters}
 use Rattle.pc_copies.specs.declared.moves.Move.{Move}
-use Rattle.pc_machine.specs.MachineCode.{Leaf, Leads_to, Ends, Traps, CodeRow}
+use Rattle.pc_machine.specs.declared.tree.Leaf.{Leaf}
+use Rattle.pc_machine.specs.declared.tree.Leaf.TheVariants as machine
+use Rattle.pc_machine.specs.MachineCode.{CodeRow}
 use Rattle.pc_object.specs.ObjectText.{operand_text, item_text, leaf_text, row_text}
 use Rattle.pc_emit.specs.Registers.{argument_moves, home_moves}
 use Rattle.pc_emit.specs.Emitted.{LeadsToRegion, leads_to_state, leads_to_region, ends_here, traps_here, item_stands, test_stands, leaf_stands}
@@ -33,19 +35,19 @@ use Rattle.pc_word.specs.Naming.{map_name, map_names}
 
 module _ (plan : Plan) (output : Output) (from to : Leaf) (moves given : List Move) (are : moves ≡ given) (along : MovesAlong plan output from moves to) where
   -- moves on the way to a state
-  pub moved_to_state : (site : PackedSite) (state row : ℕ) → IsSite plan site → row ≡ site.first + state → to ≡ Leads_to row
-      → MovesAlong plan output from given (Leads_to ((emission_in plan).places.state site.region state))
+  pub moved_to_state : (site : PackedSite) (state row : ℕ) → IsSite plan site → row ≡ site.first + state → to ≡ machine.Goto row
+      → MovesAlong plan output from given (machine.Goto ((emission_in plan).places.state site.region state))
   moved_to_state site state row is at leads =
-      subst (λ (l : Leaf). MovesAlong plan output from given l) (leads ∙ ap Leads_to (at ∙ ap (λ (n : ℕ). n + state) is.begins))
+      subst (λ (l : Leaf). MovesAlong plan output from given l) (leads ∙ ap machine.Goto (at ∙ ap (λ (n : ℕ). n + state) is.begins))
       (subst (λ (m : List Move). MovesAlong plan output from m to) are along)
 
   -- on the way to a region
   pub moved_to_region : (region : ℕ) → LeadsToRegion (emission_in plan) region to → MovesToRegion plan output from given region
   moved_to_region region leads = record { to = to; leads = leads; along = subst (λ (m : List Move). MovesAlong plan output from m to) are along }
 
--- what leads to a state may stand behind copies
+-- what leads to a state may stand after copies
 pub state_target : (plan : Plan) (site : PackedSite) (state row : ℕ) → IsSite plan site → state < length site.automaton.now → row ≡ site.first + state
-    → CopiesMayLeadTo plan (Leads_to row)
+    → CopiesMayLeadTo plan (machine.Goto row)
 state_target plan site state row is there at = record { within = let few = is.few in omega (arith, few, there, at); short = omega arith }
 
 -- a state in memory is one of the states
@@ -78,7 +80,7 @@ homes_short of homes moves bytes before are short =
 module _ (plan : Plan) (site : PackedSite) (of : ℕ → ℕ) (output : Output) (leaf : AutomatonLeaf) (made : Leaf) where
   pub leaf_to_state : (state : ℕ) (arguments : List Operand) → leaf ≡ To state arguments
       → MovesAlong plan output made (argument_moves of (names_at site state) (state_parameters (slice_get (states_at site) state)) arguments)
-      (Leads_to ((emission_in plan).places.state site.region state))
+      (machine.Goto ((emission_in plan).places.state site.region state))
       → LeafMade plan site of output leaf made
   leaf_to_state state arguments e along =
       subst (λ (l : AutomatonLeaf). LeafMade plan site of output l made) (sym e) (record { stands = λ final stays. leads_to_state (along.stands final stays) })
@@ -89,12 +91,12 @@ module _ (plan : Plan) (site : PackedSite) (of : ℕ → ℕ) (output : Output) 
       subst (λ (l : AutomatonLeaf). LeafMade plan site of output l made) (sym e)
       (record { stands = λ final stays. leads_to_region led.leads (led.along.stands final stays) })
 
-  pub leaf_ends : leaf ≡ Stop → made ≡ Ends → LeafMade plan site of output leaf made
+  pub leaf_ends : leaf ≡ Stop → made ≡ machine.Stop → LeafMade plan site of output leaf made
   leaf_ends e is =
       subst (λ (l : AutomatonLeaf). LeafMade plan site of output l made) (sym e)
       (subst (λ (m : Leaf). LeafMade plan site of output Stop m) (sym is) (record { stands = λ final stays. ends_here }))
 
-  pub leaf_traps : (kind : TrapKind) (line : ℕ) → leaf ≡ Trap kind line → made ≡ Traps kind line → LeafMade plan site of output leaf made
+  pub leaf_traps : (kind : TrapKind) (line : ℕ) → leaf ≡ Trap kind line → made ≡ machine.Trap kind line → LeafMade plan site of output leaf made
   leaf_traps kind line e is =
       subst (λ (l : AutomatonLeaf). LeafMade plan site of output l made) (sym e)
       (subst (λ (m : Leaf). LeafMade plan site of output (Trap kind line) m) (sym is) (record { stands = λ final stays. traps_here }))

@@ -11,7 +11,9 @@ use Rattle.pc_assign.specs.Pressure.{allowed}
 use Rattle.pc_copies.specs.declared.moves.Move.{Move}
 use Rattle.pc_copies.specs.Moves.{copies_in, IsCopyRow, IsArranged}
 use Rattle.pc_copies.specs.Laws.{copy_row}
-use Rattle.pc_machine.specs.MachineCode.{Leaf, Leads_to, CodeRow, row_of, rows_of}
+use Rattle.pc_machine.specs.declared.tree.Leaf.{Leaf}
+use Rattle.pc_machine.specs.declared.tree.Leaf.TheVariants.{Goto}
+use Rattle.pc_machine.specs.MachineCode.{CodeRow, row_of, rows_of}
 use Rattle.pc_machine.specs.WellFormed.{IsLeaf, IsRow}
 use Rattle.pc_machine.specs.Reachable.{Behind, HasLeafTo}
 use Rattle.pc_object.specs.ObjectText.{leaf_text, row_text}
@@ -55,7 +57,7 @@ pub record LeadsThrough (plan : Plan) (old new : Output) (from : Leaf) (copies :
 
 -- a leaf that is within some rows is within more
 pub within_more : (rows more : ℕ) (leaf : Leaf) → rows ≤ more → IsLeaf rows leaf → IsLeaf more leaf
-within_more rows more (Leads_to row) le is = omega (arith, le, is)
+within_more rows more (Goto row) le is = omega (arith, le, is)
 within_more rows more _ le is = is
 
 -- a target leads to itself
@@ -74,13 +76,13 @@ module _ (plan : Plan) (old mid new : Output) (number : ℕ) (row : CodeRow) (co
     (through : LeadsThrough plan old mid next more to) (grows : OutputGrows mid new) (stands : StandsAt new number row) (fits : IsCopyRow plan.limits.ops allowed copies) where
   -- what leads to the row
   abbrev Here : List CodeRow → Type 0
-  Here = LeavesReached (Leads_to number ∷ [])
+  Here = LeavesReached (Goto number ∷ [])
 
   -- where it is reached, so is what it leads to
   leads_on : (final : List CodeRow) → Stays new final → Here final → LeavesReached (next ∷ []) final
   leads_on final stays reached to has =
-      Behind (reached number (Contains-push [] (Leads_to number))) (stands.stands final stays)
-      (subst (λ (r : CodeRow). HasLeafTo r to) (sym is) (subst (λ (l : List Leaf). Contains l (Leads_to to)) (sym (one_leaf copies next)) has))
+      Behind (reached number (Contains-push [] (Goto number))) (stands.stands final stays)
+      (subst (λ (r : CodeRow). HasLeafTo r to) (sym is) (subst (λ (l : List Leaf). Contains l (Goto to)) (sym (one_leaf copies next)) has))
 
   -- the row itself
   own_way : (final : List CodeRow) → Stays new final → IsOnTheWay plan Here final number
@@ -89,7 +91,7 @@ module _ (plan : Plan) (old mid new : Output) (number : ℕ) (row : CodeRow) (co
         let same : row ≡ other = same_row (stands.stands final stays) there in
         subst (IsRow plan.limits (length plan.table.now.arrays) (length final)) (sym is ∙ same)
         (copies_fit plan.limits (length plan.table.now.arrays) (length final) copies next fits (through.within final (grows.stays final stays) le));
-    reached = λ reached. reached number (Contains-push [] (Leads_to number));
+    reached = λ reached. reached number (Contains-push [] (Goto number));
   }
     where
       same_row : {it : Option CodeRow} {other : CodeRow} → it ≡ Some row → it ≡ Some other → row ≡ other
@@ -103,7 +105,7 @@ module _ (plan : Plan) (old mid new : Output) (number : ℕ) (row : CodeRow) (co
 
   -- through one row more
   pub through_one : new.rows ≡ mid.rows → rows_of new.copies.items ≡ rows_of mid.copies.items ++ row ∷ [] → number ≡ mid.base + length mid.copies.items
-      → LeadsThrough plan old new (Leads_to number) (copies ∷ more) to
+      → LeadsThrough plan old new (Goto number) (copies ∷ more) to
   through_one same added at = record {
     grows = grows_more old mid new through.grows grows;
     rows = same ∙ through.rows;

@@ -16,7 +16,9 @@ use Rattle.pc_word.proofs.Runs.{Answers-after}
 use Rattle.pc_table.specs.Table.{TableTree, Does, Asks, Next, Stops_here, Traps_here, Table, region_tree}
 use Rattle.pc_table.specs.RegionRun.{arrive, place_at, lead_on, region_step, region_run}
 use Rattle.pc_table.specs.TableKeeps.{TableKeeps, units, By_one, untested}
-use Rattle.pc_machine.specs.MachineCode.{Leaf, Leads_to, Ends, Traps, CodeRow}
+use Rattle.pc_machine.specs.declared.tree.Leaf.{Leaf}
+use Rattle.pc_machine.specs.declared.tree.Leaf.TheVariants.{Goto, Stop, Trap}
+use Rattle.pc_machine.specs.MachineCode.{CodeRow}
 use Rattle.pc_machine.specs.MachineRun.{after_row, machine_step}
 use Rattle.pc_emit.specs.Emitted.{Emission, root_leaf, LeadsBehind, to_item, to_test, to_region, to_end, to_trap}
 use Rattle.pc_emit.specs.Emitted.{TreeStands, item_row, test_row}
@@ -57,7 +59,7 @@ module _ (e : Emission) (keeps : TableKeeps e.table) (limits : Limits) (rows : L
 
   -- an item's row does what the item does
   item_shown : (row origin : ℕ) (item : Item) (rest : TableTree) (leaf : Leaf) (m : State) (n : ℕ) → slice_get rows row ≡ Some (Then item (At_leaf leaf))
-      → shown (Leads_to row) m (suc n)
+      → shown (Goto row) m (suc n)
       ≡ seen_of (after_row (commit_of e.table.arrays m (item ∷ []) leaf (fault_of e.table.arrays m (item ∷ [])))) (run_from (machine_step (code e keeps limits rows)) n)
   item_shown row origin item rest leaf m n there = row_seen (code e keeps limits rows) row (Then item (At_leaf leaf)) m n there
 
@@ -101,7 +103,7 @@ module _ (e : Emission) (keeps : TableKeeps e.table) (limits : Limits) (rows : L
 
   -- the side of a test
   pub test_shown : (row : ℕ) (on : Operand) (yes_leaf no_leaf : Leaf) (m : State) (n : ℕ) → slice_get rows row ≡ Some (Either on (At_leaf yes_leaf) (At_leaf no_leaf))
-      → shown (Leads_to row) m (suc n) ≡ shown (if holds (operand_value m.names on) then yes_leaf else no_leaf) m n
+      → shown (Goto row) m (suc n) ≡ shown (if holds (operand_value m.names on) then yes_leaf else no_leaf) m n
   test_shown row on yes_leaf no_leaf m n there =
       row_seen (code e keeps limits rows) row (Either on (At_leaf yes_leaf) (At_leaf no_leaf)) m n there ∙ by_test (holds (operand_value m.names on))
     where
@@ -115,7 +117,7 @@ module _ (e : Emission) (keeps : TableKeeps e.table) (limits : Limits) (rows : L
   abbrev Shows : ℕ → TableTree → Leaf → State → Type 0
   Shows n tree leaf m = (k : ℕ) × Answers (shown leaf m n) (run tree m k) (shown leaf m n).end
 
-  -- behind an item or a test
+  -- after an item or a test
   behind_forth : (n row : ℕ) (tree : TableTree) (leaf : Leaf) (m : State)
       → ((row : ℕ) (tree : TableTree) (m : State) → TreeStands e rows row tree → IsRoot tree → NeverFaults (run tree m) → Shows n tree (root_leaf row tree) m)
       → ForthIn e keeps limits rows n → LeadsBehind e row tree leaf → TreeStands e rows row tree → NeverFaults (run tree m) → Shows n tree leaf m
@@ -159,11 +161,11 @@ module _ (e : Emission) (keeps : TableKeeps e.table) (limits : Limits) (rows : L
   abbrev IsShown : ℕ → TableTree → Leaf → State → Type 0
   IsShown n tree leaf m = (k : ℕ) × Answers (run tree m n) (shown leaf m k) (run tree m n).end
 
-  ended_stop : (n : ℕ) (m : State) → Answers (run Stops_here m n) (shown Ends m 0) (run Stops_here m n).end
+  ended_stop : (n : ℕ) (m : State) → Answers (run Stops_here m n) (shown Stop m 0) (run Stops_here m n).end
   ended_stop zero m = ([], refl)
   ended_stop (suc n) m = (refl, refl)
 
-  ended_trap : (n : ℕ) (kind : TrapKind) (line : ℕ) (m : State) → Answers (run (Traps_here kind line) m n) (shown (Traps kind line) m 0) (run (Traps_here kind line) m n).end
+  ended_trap : (n : ℕ) (kind : TrapKind) (line : ℕ) (m : State) → Answers (run (Traps_here kind line) m n) (shown (Trap kind line) m 0) (run (Traps_here kind line) m n).end
   ended_trap zero kind line m = ([], refl)
   ended_trap (suc n) kind line m = (refl, refl)
 

@@ -1,4 +1,4 @@
--- The rows of a plain region, one behind the other.
+-- The rows of a plain region, one after the other.
 use Rattle.std.proofs.Common.{◌≡◌, ◌⊎◌, inl, inr, ℕ, suc, ◌+◌, ◌≤◌, List, [], ◌∷◌, ◌++◌, length, sym, ◌∙◌, ap, subst, arith}
 use Rattle.std.specs.Prelude.{Some}
 use Rattle.std.proofs.lemmas.List.{length-append}
@@ -10,7 +10,8 @@ use Rattle.pc_table.specs.Table.{TableTree, Does, Asks, Next, Stops_here, Traps_
 use Rattle.pc_table.specs.declared.tree.RegionTree.{RegionTree}
 use Rattle.pc_table.specs.declared.tree.RegionTree.TheVariants as stored
 use Rattle.pc_table.specs.TableKeeps.{units}
-use Rattle.pc_machine.specs.MachineCode.{Leaf, CodeRow}
+use Rattle.pc_machine.specs.declared.tree.Leaf.{Leaf}
+use Rattle.pc_machine.specs.MachineCode.{CodeRow}
 use Rattle.pc_object.specs.ObjectText.{operand_text, item_text, leaf_text, row_text}
 use Rattle.pc_emit.specs.Bytes.{tree_bytes}
 use Rattle.pc_emit.specs.Emitted.{LeadsBehind, item_row, test_row, no_row, no_end_row, no_trap_row}
@@ -22,7 +23,7 @@ use Rattle.pc_emit.specs.models.Making.{TreeMade}
 use Rattle.pc_emit.proofs.Texts.{operand_short, item_short, leaf_short, bytes_more}
 
 module _ (plan : Plan) (tree : TableTree) (row : ℕ) where
-  -- an item's row, and those behind it
+  -- an item's row, and those after it
   pub item_tree : (mid new : Output) (origin next behind : ℕ) (item : Item) (rest : TableTree) (made : CodeRow) (leaf : Leaf) → tree ≡ Does origin item rest
       → StandsAt mid row made → made ≡ Then item (At_leaf leaf) → LeadsBehind (emission_in plan) behind rest leaf → behind ≡ row + 1 → OutputGrows mid new
       → TreeMade plan new next rest → next ≡ row + 1 → TreeMade plan new row tree

@@ -16,7 +16,9 @@ use Rattle.pc_automaton.specs.Automaton.{AutomatonState}
 use Rattle.pc_automaton.specs.Reachable.{EachIsReachable}
 use Rattle.pc_copies.specs.declared.moves.Move.{Move}
 use Rattle.pc_copies.specs.Laws.{copy_row}
-use Rattle.pc_machine.specs.MachineCode.{Leaf, Leads_to, CodeRow}
+use Rattle.pc_machine.specs.declared.tree.Leaf.{Leaf}
+use Rattle.pc_machine.specs.declared.tree.Leaf.TheVariants as machine
+use Rattle.pc_machine.specs.MachineCode.{CodeRow}
 use Rattle.pc_machine.specs.Reachable.{IsReachable, Entry, Behind}
 use Rattle.pc_emit.specs.Registers.{register_of}
 use Rattle.pc_emit.specs.Emitted.{RegionForm, Plain, ByAutomaton, Emission, root_leaf, form_leaf, LeadsToRegion, Passes, passes_none, passes_row}
@@ -61,7 +63,7 @@ stands_for {Related} leaf (leaf_stands {leaf = own} {below} related) has =
 module _ (e : Emission) (rows : List CodeRow) (emitted : IsEmitted e rows) (keeps : TableKeeps e.table) where
   -- the row that a leaf leads to, if it leads to one, is reached
   abbrev pub IsLed : Leaf → Type 0
-  IsLed leaf = (row : ℕ) → leaf ≡ Leads_to row → IsReachable rows row
+  IsLed leaf = (row : ℕ) → leaf ≡ machine.Goto row → IsReachable rows row
 
   -- and so is what leads to a region
   abbrev pub RegionLed : ℕ → Type 0
@@ -115,7 +117,7 @@ module _ (e : Emission) (rows : List CodeRow) (emitted : IsEmitted e rows) (keep
       let below = tree_reached next more leads (led_by_row row (Then item (At_leaf next)) next reached there (Contains-push [] next)) in
       record { own = one_more row (units rest) reached below.own; named = below.named }
     where
-      first : {leaf : Leaf} → LeadsBehind e row (Does origin item rest) leaf → leaf ≡ Leads_to row
+      first : {leaf : Leaf} → LeadsBehind e row (Does origin item rest) leaf → leaf ≡ machine.Goto row
       first to_item = refl
   tree_reached leaf (test_row {row} {origin} {on} {on_yes} {on_no} {yes_leaf} {no_leaf} there leads leads_too more more_too) behind led =
       let reached = led row (first behind) in
@@ -127,7 +129,7 @@ module _ (e : Emission) (rows : List CodeRow) (emitted : IsEmitted e rows) (keep
         named = λ to has. elim (Contains-append_cases (tree_leads on_yes) (tree_leads on_no) to has) [ inl here ↦ one.named to here | inr here ↦ other.named to here ];
       }
     where
-      first : {leaf : Leaf} → LeadsBehind e row (Asks origin on on_yes on_no) leaf → leaf ≡ Leads_to row
+      first : {leaf : Leaf} → LeadsBehind e row (Asks origin on on_yes on_no) leaf → leaf ≡ machine.Goto row
       first to_test = refl
   tree_reached leaf (no_row {row} {region}) behind led = record {
     own = nothing row;
@@ -231,7 +233,7 @@ module _ (e : Emission) (rows : List CodeRow) (emitted : IsEmitted e rows) (keep
         (led (root_leaf (e.places.entry region) (region_tree e.table region)) (record { form = Plain; has = has; is = refl })) in
         record { own = tree.own; named = tree.named }
     region_reached region (ByAutomaton states registers) has led =
-        let first = led (Leads_to (e.places.state region 0)) (record { form = ByAutomaton states registers; has = has; is = refl }) (e.places.state region 0) refl in
+        let first = led (machine.Goto (e.places.state region 0)) (record { form = ByAutomaton states registers; has = has; is = refl }) (e.places.state region 0) refl in
         let stand = emitted.stands region (ByAutomaton states registers) has in
         let each = states_reached region states registers stand (led_to region states registers has) first in
         record {
@@ -244,11 +246,11 @@ module _ (e : Emission) (rows : List CodeRow) (emitted : IsEmitted e rows) (keep
           named = out_led region states registers stand (led_to region states registers has) first;
         }
 
-    -- region 0 is led to
+    -- region 0 is reachable
     first_led : RegionLed 0
     first_led leaf leads row is = by_leaf emitted.begins (one_leads 0 emitted.first leaf emitted.leads leads ∙ is)
       where
-        by_leaf : {first : Leaf} → BeginsAt rows first → first ≡ Leads_to row → IsReachable rows row
+        by_leaf : {first : Leaf} → BeginsAt rows first → first ≡ machine.Goto row → IsReachable rows row
         by_leaf at_first_row e = let same : 0 ≡ row = (cc) in subst (IsReachable rows) same Entry
         by_leaf (by_leaf_alone {leaf = first} there) e = led_by_row 0 (At_leaf first) first Entry there (Contains-push [] first) row e
 

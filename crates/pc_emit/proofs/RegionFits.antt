@@ -12,7 +12,7 @@ use Rattle.pc_word.specs.Ranges.{AreLimits}
 use Rattle.pc_word.specs.Items.{dest_of, is_effect, is_memory}
 use Rattle.pc_word.specs.Row.{Then, Either, At_leaf}
 use Rattle.pc_table.specs.TableKeeps.{NamesVariable, ItemIsThere}
-use Rattle.pc_machine.specs.MachineCode.{Leaf}
+use Rattle.pc_machine.specs.declared.tree.Leaf.{Leaf}
 use Rattle.pc_machine.specs.WellFormed.{IsOperand, IsItem, IsLeaf, IsPath, IsRow}
 
 -- ---- rows of one item or test

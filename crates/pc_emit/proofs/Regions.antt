@@ -6,7 +6,8 @@ use Rattle.std.proofs.lemmas.Option.{slice_get_within}
 use Rattle.pc_table.specs.Table.{TableTree, region_tree}
 use Rattle.pc_table.specs.TableKeeps.{units}
 use Rattle.pc_automaton.specs.Automaton.{AutomatonState, state_in}
-use Rattle.pc_machine.specs.declared.tree.Tree.{Tree}
+use Rattle.pc_word.specs.declared.row_tree.RowTree.{RowTree}
+use Rattle.pc_machine.specs.declared.tree.Leaf.{Leaf}
 use Rattle.pc_machine.specs.MachineCode.{rows_of}
 use Rattle.pc_emit.specs.Bytes.{tree_bytes, states_bytes}
 use Rattle.pc_emit.specs.Emitted.{RegionForm, Plain, ByAutomaton, RegionStands, StateStands}
@@ -55,7 +56,7 @@ module _ (plan : Plan) (region : ℕ) where
       → bytes_made new ≤ bytes_made old + bytes_in (region_tree (table_in plan) region) (forms_at plan region)
   plain_short old new tree e is same short =
       let counted = ap (bytes_in (region_tree (table_in plan) region)) e ∙ ap tree_bytes (sym is) in
-      let copies = ap (λ (l : List Tree). bytes_of (rows_of l)) same in
+      let copies = ap (λ (l : List (RowTree Leaf)). bytes_of (rows_of l)) same in
       omega (arith, counted, copies, short)
 
   pub plain_names : (tree : TableTree) → IsPlan plan → forms_at plan region ≡ Some Plain → tree ≡ region_tree (table_in plan) region

@@ -1,10 +1,11 @@
--- The rows of the states of a packed region, one behind the other.
+-- The rows of the states of a packed region, one after the other.
 use Rattle.std.proofs.Common.{◌≡◌, inl, inr, ℕ, zero, suc, ◌+◌, ◌≤◌, List, [], ◌∷◌, ◌++◌, length, Some, refl, sym, ◌∙◌, ap, subst, drop, arith}
 use Rattle.std.specs.Prelude.{slice_get, slice_index}
 use Rattle.pc_word.specs.Row.{leaves_of}
 use Rattle.pc_word.proofs.Truth.{decide_le}
 use Rattle.pc_automaton.specs.Automaton.{AutomatonState}
-use Rattle.pc_machine.specs.declared.tree.Tree.{Tree}
+use Rattle.pc_word.specs.declared.row_tree.RowTree.{RowTree}
+use Rattle.pc_machine.specs.declared.tree.Leaf.{Leaf}
 use Rattle.pc_machine.specs.MachineCode.{CodeRow, rows_of}
 use Rattle.pc_machine.specs.Reachable.{Behind}
 use Rattle.pc_object.specs.ObjectText.{row_text}
@@ -24,7 +25,7 @@ use Rattle.pc_emit.proofs.Ways.{same_copies}
 abbrev pub bytes_made : Output → ℕ
 bytes_made output = bytes_of (rows_of output.rows) + bytes_of (rows_of output.copies.items)
 
--- the rows of the first states were put behind others
+-- the rows of the first states were appended to others
 pub record StatesSoFar (plan : Plan) (site : PackedSite) (old new : Output) (count : ℕ) : Type 0 where
   pub grows : OutputGrows old new
   pub count_is : length new.rows ≡ length old.rows + count
@@ -51,7 +52,7 @@ module _ (plan : Plan) (site : PackedSite) (old : Output) where
       (grows_too : OutputGrows later new) (copies : new.copies.items ≡ later.copies.items) (added : rows_of new.rows ≡ rows_of later.rows ++ made ∷ [])
       (count_more : length new.rows ≡ length later.rows + 1) (stands : StandsAt new (length later.rows) made) where
     same_count : length later.rows ≡ length mid.rows
-    same_count = ap (λ (l : List Tree). length l) same
+    same_count = ap (λ (l : List (RowTree Leaf)). length l) same
 
     -- and one state more
     pub one_more_state : IsSite plan site → length old.rows ≡ site.first → StatesSoFar plan site old new (number + 1)
@@ -72,7 +73,7 @@ module _ (plan : Plan) (site : PackedSite) (old : Output) where
               subst (λ (b : ℕ). IsOnTheWay plan (RowsReached (length old.rows) (length new.rows)) final (b + at)) base
               (record { fits = way.fits; reached = λ reached. way.reached (λ row from to. reached row from (let one = same_count in omega (arith, to, one, count_more))) })
           | inr above ↦
-              let many = ap (λ (l : List Tree). length l) copies in
+              let many = ap (λ (l : List (RowTree Leaf)). length l) copies in
               let way = ways.each final (grows_too.stays final stays) at (omega (arith, above)) (omega (arith, high, many)) in
               subst (λ (b : ℕ). IsOnTheWay plan (RowsReached (length old.rows) (length new.rows)) final (b + at)) (sym grows_too.base)
               (record {
@@ -85,8 +86,8 @@ module _ (plan : Plan) (site : PackedSite) (old : Output) where
       short =
           let before = so_far.short in
           let rows = ap bytes_of added ∙ bytes_more (rows_of later.rows) made in
-          let old_rows = ap (λ (l : List Tree). bytes_of (rows_of l)) same in
-          let new_copies = ap (λ (l : List Tree). bytes_of (rows_of l)) copies in
+          let old_rows = ap (λ (l : List (RowTree Leaf)). bytes_of (rows_of l)) same in
+          let new_copies = ap (λ (l : List (RowTree Leaf)). bytes_of (rows_of l)) copies in
           let left = next_left (states_at site) number there in
           omega (arith, before, short, rows, old_rows, new_copies, left);
     }

@@ -6,7 +6,9 @@ use Rattle.pc_word.specs.declared.item.Item.{Item}
 use Rattle.pc_word.specs.declared.item.Item.TheVariants.{Bin, Copy, Load, Store, Print, Read, More}
 use Rattle.pc_word.specs.declared.item.Operand.{Operand}
 use Rattle.pc_word.specs.declared.item.Operand.TheVariants.{Name, Lit}
-use Rattle.pc_machine.specs.MachineCode.{Leaf, Leads_to, Ends, Traps, CodeRow}
+use Rattle.pc_machine.specs.declared.tree.Leaf.{Leaf}
+use Rattle.pc_machine.specs.declared.tree.Leaf.TheVariants.{Goto, Stop, Trap}
+use Rattle.pc_machine.specs.MachineCode.{CodeRow}
 use Rattle.pc_object.specs.ObjectText.{operand_text, item_text, leaf_text, row_text}
 use Rattle.pc_emit.specs.models.Output.{bytes_of}
 use Rattle.pc_word.specs.Naming.{map_name, map_names}
@@ -20,9 +22,9 @@ pub item_short : (item : Item) → length (item_text item) ≤ item_bytes item
 item_short item = let same = sizes_are_lengths.item item in omega (arith, same)
 
 pub leaf_short : (leaf : Leaf) → length (leaf_text leaf) ≤ 6
-leaf_short (Leads_to row) = omega arith
-leaf_short Ends = omega arith
-leaf_short (Traps kind line) = omega arith
+leaf_short (Goto row) = omega arith
+leaf_short Stop = omega arith
+leaf_short (Trap kind line) = omega arith
 
 -- registers in place of names change no length
 pub operand_same : (of : ℕ → ℕ) (operand : Operand) → operand_bytes (map_name of operand) ≡ operand_bytes operand
@@ -47,7 +49,7 @@ bytes_more (first ∷ rows) row =
     let rest = bytes_more rows row in
     omega (arith, one, other, rest)
 
--- bytes of rows, and of others behind them
+-- bytes of rows, and of others after them
 pub bytes_both : (rows more : List CodeRow) → bytes_of (rows ++ more) ≡ bytes_of rows + bytes_of more
 bytes_both [] more = omega arith
 bytes_both (first ∷ rows) more =

@@ -5,8 +5,10 @@ use Rattle.pc_word.specs.declared.item.Item.{Item}
 use Rattle.pc_word.specs.declared.item.Operand.{Operand}
 use Rattle.pc_word.specs.Row.{Then, Either, At_leaf, leaves_of}
 use Rattle.pc_word.proofs.Truth.{decide_le}
-use Rattle.pc_machine.specs.declared.tree.Tree.{Tree}
-use Rattle.pc_machine.specs.MachineCode.{Leaf, Leads_to, CodeRow}
+use Rattle.pc_word.specs.declared.row_tree.RowTree.{RowTree}
+use Rattle.pc_machine.specs.declared.tree.Leaf.{Leaf}
+use Rattle.pc_machine.specs.declared.tree.Leaf.TheVariants.{Goto}
+use Rattle.pc_machine.specs.MachineCode.{CodeRow}
 use Rattle.pc_emit.specs.declared.output.Output.{Output}
 use Rattle.pc_emit.specs.declared.plan.Plan.{Plan}
 use Rattle.pc_emit.specs.models.Output.{Stays, OutputGrows, EachCopy}
@@ -15,7 +17,7 @@ use Rattle.pc_emit.specs.models.Making.{IsOnTheWay, LeavesReached}
 -- none was made since
 pub same_copies : {P : List CodeRow → ℕ → Type 0} (old new : Output) → new.copies.items ≡ old.copies.items → EachCopy P old new
 same_copies old new same = record {
-  each = λ final stays at low high. absurd (let many = ap (λ (l : List Tree). length l) same in omega (arith, low, high, many));
+  each = λ final stays at low high. absurd (let many = ap (λ (l : List (RowTree Leaf)). length l) same in omega (arith, low, high, many));
 }
 
 module _ {P : List CodeRow → ℕ → Type 0} (old mid new : Output) where
@@ -43,7 +45,7 @@ ways_from plan Reached Known old new implies ways =
 -- ---- rows
 
 module _ (plan : Plan) (made : CodeRow) where
-  -- the leaves of a row are those behind its item
+  -- the leaves of a row are those after its item
   pub item_ways : (item : Item) (below : CodeRow) (old new : Output) → made ≡ Then item below → EachCopy (IsOnTheWay plan (LeavesReached (leaves_of below))) old new
       → EachCopy (IsOnTheWay plan (LeavesReached (leaves_of made))) old new
   item_ways item below old new is ways = subst (λ (m : CodeRow). EachCopy (IsOnTheWay plan (LeavesReached (leaves_of m))) old new) (sym is) ways
@@ -57,9 +59,9 @@ module _ (plan : Plan) (made : CodeRow) where
       subst (λ (m : CodeRow). EachCopy (IsOnTheWay plan (LeavesReached (leaves_of m))) old new) (sym is)
       (copies_more {P = IsOnTheWay plan (LeavesReached all)} old mid new grows
       (ways_from plan (LeavesReached (leaves_of yes_below)) (LeavesReached all) old mid
-      (λ final stays known number has. known number (Contains-append_left (leaves_of yes_below) (leaves_of no_below) (Leads_to number) has)) one)
+      (λ final stays known number has. known number (Contains-append_left (leaves_of yes_below) (leaves_of no_below) (Goto number) has)) one)
       (ways_from plan (LeavesReached (leaves_of no_below)) (LeavesReached all) mid new
-      (λ final stays known number has. known number (Contains-append_right (leaves_of yes_below) (leaves_of no_below) (Leads_to number) has)) other))
+      (λ final stays known number has. known number (Contains-append_right (leaves_of yes_below) (leaves_of no_below) (Goto number) has)) other))
 
   -- or it is a leaf
   pub leaf_ways : (leaf : Leaf) (old new : Output) → made ≡ At_leaf leaf → EachCopy (IsOnTheWay plan (LeavesReached (leaf ∷ []))) old new

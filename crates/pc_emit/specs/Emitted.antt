@@ -1,4 +1,4 @@
--- Where the rows of regions stand in a code: those of an automaton on registers, with rows of copies behind its leaves, or
+-- Where the rows of regions stand in a code: those of an automaton on registers, with rows of copies after its leaves, or
 -- one for each item and test.
 use Rattle.std.specs.Prelude.{◌≡◌, ℕ, suc, ◌+◌, List, [], ◌∷◌, Option, Some, slice_get}
 use Rattle.pc_word.specs.declared.item.Item.{Item}
@@ -12,7 +12,9 @@ use Rattle.pc_automaton.specs.declared.automaton.AutomatonLeaf.{AutomatonLeaf}
 use Rattle.pc_automaton.specs.declared.automaton.AutomatonLeaf.TheVariants.{To, Out, Stop, Trap}
 use Rattle.pc_automaton.specs.Automaton.{AutomatonState}
 use Rattle.pc_automaton.specs.AutomatonRun.{state_parameters}
-use Rattle.pc_machine.specs.MachineCode.{Leaf, Leads_to, Ends, Traps, CodeRow}
+use Rattle.pc_machine.specs.declared.tree.Leaf.{Leaf}
+use Rattle.pc_machine.specs.declared.tree.Leaf.TheVariants as machine
+use Rattle.pc_machine.specs.MachineCode.{CodeRow}
 use Rattle.pc_copies.specs.declared.moves.Move.{Move}
 use Rattle.pc_copies.specs.Moves.{IsArranged}
 use Rattle.pc_copies.specs.Laws.{copy_row}
@@ -43,16 +45,16 @@ pub record Emission : Type 0 where
 
 -- the leaf that leads to the root of a plain region's tree: a goto to its row, or the stop or trap that it is
 abbrev pub root_leaf : (row : ℕ) → TableTree → Leaf
-root_leaf row (Does origin item rest) = Leads_to row
-root_leaf row (Asks origin on on_yes on_no) = Leads_to row
-root_leaf row (Next region) = Leads_to row
-root_leaf row Stops_here = Ends
-root_leaf row (Traps_here kind line) = Traps kind line
+root_leaf row (Does origin item rest) = machine.Goto row
+root_leaf row (Asks origin on on_yes on_no) = machine.Goto row
+root_leaf row (Next region) = machine.Goto row
+root_leaf row Stops_here = machine.Stop
+root_leaf row (Traps_here kind line) = machine.Trap kind line
 
 -- the leaf that leads to a region in this form
 abbrev pub form_leaf : Emission → ℕ → RegionForm → Leaf
 form_leaf e region Plain = root_leaf (e.places.entry region) (region_tree e.table region)
-form_leaf e region (ByAutomaton states registers) = Leads_to (e.places.state region 0)
+form_leaf e region (ByAutomaton states registers) = machine.Goto (e.places.state region 0)
 
 -- a leaf that leads to a region that has a form
 pub record LeadsToRegion (e : Emission) (region : ℕ) (leaf : Leaf) : Type 0 where
@@ -64,7 +66,7 @@ pub record LeadsToRegion (e : Emission) (region : ℕ) (leaf : Leaf) : Type 0 wh
 pub data Passes (rows : List CodeRow) : Leaf → List (List Move) → Leaf → Type 0 where
   passes_none : {leaf : Leaf} → Passes rows leaf [] leaf
   passes_row : {at : ℕ} {copies : List Move} {more : List (List Move)} {next leaf : Leaf} → slice_get rows at ≡ Some (copy_row copies next)
-      → Passes rows next more leaf → Passes rows (Leads_to at) (copies ∷ more) leaf
+      → Passes rows next more leaf → Passes rows (machine.Goto at) (copies ∷ more) leaf
 
 -- from one leaf to another through copies that do these moves at once
 pub record LeadsThroughMoves (e : Emission) (rows : List CodeRow) (from : Leaf) (moves : List Move) (to : Leaf) : Type 0 where
@@ -78,12 +80,12 @@ pub record LeadsThroughMoves (e : Emission) (rows : List CodeRow) (from : Leaf) 
 pub data LeafStands (e : Emission) (rows : List CodeRow) (region : ℕ) (states : List AutomatonState) (registers : ℕ → ℕ → Option ℕ) (of : ℕ → ℕ)
     : AutomatonLeaf → Leaf → Type 0 where
   leads_to_state : {number : ℕ} {arguments : List Operand} {leaf : Leaf}
-      → LeadsThroughMoves e rows leaf (argument_moves of (register_of (registers number)) (state_parameters (slice_get states number)) arguments) (Leads_to (e.places.state region number))
+      → LeadsThroughMoves e rows leaf (argument_moves of (register_of (registers number)) (state_parameters (slice_get states number)) arguments) (machine.Goto (e.places.state region number))
       → LeafStands e rows region states registers of (To number arguments) leaf
   leads_to_region : {to : ℕ} {homes : List Home} {leaf target : Leaf} → LeadsToRegion e to target → LeadsThroughMoves e rows leaf (home_moves of homes) target
       → LeafStands e rows region states registers of (Out to homes) leaf
-  ends_here : LeafStands e rows region states registers of Stop Ends
-  traps_here : {kind : TrapKind} {line : ℕ} → LeafStands e rows region states registers of (Trap kind line) (Traps kind line)
+  ends_here : LeafStands e rows region states registers of Stop machine.Stop
+  traps_here : {kind : TrapKind} {line : ℕ} → LeafStands e rows region states registers of (Trap kind line) (machine.Trap kind line)
 
 -- a row of names, and the row of registers that does it
 pub data RowStands (Related : AutomatonLeaf → Leaf → Type 0) (of : ℕ → ℕ) : Row AutomatonLeaf → CodeRow → Type 0 where
@@ -103,15 +105,15 @@ pub record StateStands (e : Emission) (rows : List CodeRow) (region : ℕ) (stat
 
 -- ---- plain regions
 
--- the leaf that leads to what stands behind an item or a test: to this row, or to the region that follows
+-- the leaf that leads to what stands after an item or a test: to this row, or to the region that follows
 pub data LeadsBehind (e : Emission) (row : ℕ) : TableTree → Leaf → Type 0 where
-  to_item : {origin : ℕ} {item : Item} {rest : TableTree} → LeadsBehind e row (Does origin item rest) (Leads_to row)
-  to_test : {origin : ℕ} {on : Operand} {on_yes on_no : TableTree} → LeadsBehind e row (Asks origin on on_yes on_no) (Leads_to row)
+  to_item : {origin : ℕ} {item : Item} {rest : TableTree} → LeadsBehind e row (Does origin item rest) (machine.Goto row)
+  to_test : {origin : ℕ} {on : Operand} {on_yes on_no : TableTree} → LeadsBehind e row (Asks origin on on_yes on_no) (machine.Goto row)
   to_region : {region : ℕ} {leaf : Leaf} → LeadsToRegion e region leaf → LeadsBehind e row (Next region) leaf
-  to_end : LeadsBehind e row Stops_here Ends
-  to_trap : {kind : TrapKind} {line : ℕ} → LeadsBehind e row (Traps_here kind line) (Traps kind line)
+  to_end : LeadsBehind e row Stops_here machine.Stop
+  to_trap : {kind : TrapKind} {line : ℕ} → LeadsBehind e row (Traps_here kind line) (machine.Trap kind line)
 
--- the rows of a tree stand from this one on: each item, and what stands behind it; each test, and its two sides
+-- the rows of a tree stand from this one on: each item, and what stands after it; each test, and its two sides
 pub data TreeStands (e : Emission) (rows : List CodeRow) : (row : ℕ) → TableTree → Type 0 where
   item_row : {row origin : ℕ} {item : Item} {rest : TableTree} {leaf : Leaf} → slice_get rows row ≡ Some (Then item (At_leaf leaf))
       → LeadsBehind e (suc row) rest leaf → TreeStands e rows (suc row) rest → TreeStands e rows row (Does origin item rest)
@@ -133,7 +135,7 @@ RegionStands e rows region (ByAutomaton states registers) =
 
 -- row 0 is the row of region 0, or it is the leaf alone that leads to it
 pub data BeginsAt (rows : List CodeRow) : Leaf → Type 0 where
-  at_first_row : BeginsAt rows (Leads_to 0)
+  at_first_row : BeginsAt rows (machine.Goto 0)
   by_leaf_alone : {leaf : Leaf} → slice_get rows 0 ≡ Some (At_leaf leaf) → BeginsAt rows leaf
 
 -- row 0 is the first row of region 0, if this is packed

@@ -85,7 +85,7 @@ LeadsToForm table forms Stop = Unit {0}
 LeadsToForm table forms (Trap kind line) = Unit {0}
 
 -- an automaton that may be emitted: names that are live together have different registers, all registers are below 127, what its
--- leaves lead out to is there and has a form, its rows keep the limits, and each state but the first is led to
+-- leaves lead out to is there and has a form, its rows keep the limits, and each state but the first is reachable
 pub record CanPack (table : Table) (limits : Limits) (forms : ℕ → Option RegionForm) (states : List AutomatonState) (registers : ℕ → ℕ → Option ℕ)
     : Type 0 where
   pub automaton : IsAutomaton states

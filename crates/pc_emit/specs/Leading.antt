@@ -1,4 +1,4 @@
--- To which regions a form leads, and which regions are led to from region 0.
+-- To which regions a form leads, and which regions are reachable from region 0.
 use Rattle.std.specs.Prelude.{◌≡◌, ℕ, List, [], ◌∷◌, ◌++◌, Contains, Option, Some}
 use Rattle.std.specs.List.{flat_map}
 use Rattle.pc_word.specs.Row.{leaves_of}

@@ -1,8 +1,8 @@
 //! The rows of all regions of a table.
 ghost use Rattle.std.specs.Prelude.{◌≡◌, ◌+◌, ◌<◌, ◌≤◌, Some, length, slice_index, IfOk, OnOk};
 ghost use Rattle.pc_word.specs.Ranges.{AreLimits};
-ghost use Rattle.pc_table.specs.Table.{region_tree, table_of, table_tree};
-ghost use Rattle.pc_table.specs.TableKeeps.{TableKeeps};
+ghost use Rattle.pc_table.specs.Table.{region_tree, table_tree};
+ghost use Rattle.pc_table.specs.StoredTable.{table_of};
 ghost use Rattle.pc_machine.specs.MachineCode.{rows_of};
 ghost use Rattle.pc_emit.specs.Emitting.{region_forms, form_in, AreEmitted, AreForms};
 ghost use Rattle.pc_emit.specs.models.Output.{bytes_of, EachCopy, OutputGrows};
@@ -17,12 +17,12 @@ use crate::plain::tree_rows;
 use crate::plan::{Plan, entries, root};
 use pc_machine::TreeList;
 use pc_table::{RegionTable, RegionTree};
-use pc_word::Limits;
+use pc_word::{Limits, RowTree};
 use std::alloc::{AllocError, Global};
 
 /// The rows of a table's regions, each in its form.
 ///
-/// The rows of regions stand in the order of the regions, and behind them all those of the copies
+/// The rows of regions stand in the order of the regions, and after them all those of the copies
 /// that pass values from row to row. How many rows a region has follows from its form, so where each
 /// begins is found before any row is made. Where region 0 is plain and the end of the program, it has
 /// no row, and a leaf alone stands in front.
@@ -34,7 +34,6 @@ pub fn emit(
     forms: &[Option<RegionForm>],
     limits: Limits,
 ) -> Result<TreeList, EmitError>
-    requires kept { TableKeeps (table_of table.now) }
     requires limits { AreLimits limits }
     requires count { length forms.now ≡ length table.now.regions }
     requires forms { AreForms (table_of table.now) limits (region_forms forms.now) }
@@ -52,7 +51,7 @@ pub fn emit(
     all_rows(alloc, &plan, front)
 }
 
-/// The rows of all regions behind this one in front, and those of copies behind them.
+/// The rows of all regions after this one in front, and those of copies after them.
 fn all_rows(alloc: Global, plan: &Plan, front: TreeList) -> Result<TreeList, EmitError>
     requires plan { IsPlan plan.now }
     requires front { rows_of front ≡ front_rows (region_tree (table_in plan.now) 0) (forms_at plan.now 0) }
@@ -81,14 +80,17 @@ fn front_rows(
     match form {
         None | Some(RegionForm::ByAutomaton { .. }) => {}
         Some(RegionForm::Plain) => match tree {
-            RegionTree::Stop | RegionTree::Trap { .. } => rows.push(root(tree, 0).tree())?,
+            RegionTree::Stop | RegionTree::Trap { .. } => {
+                let leaf = root(tree, 0);
+                rows.push(RowTree::Leaf { leaf })?;
+            }
             RegionTree::Step { .. } | RegionTree::Test { .. } | RegionTree::Next { .. } => {}
         },
     }
     Ok(rows)
 }
 
-/// Puts the rows of a region behind others.
+/// Appends the rows of a region to others.
 #[tactic(auto, using(crate::proofs::Regions::regions))]
 fn region_rows(
     alloc: Global,

@@ -12,7 +12,6 @@ mod packed;
 mod passing;
 mod plain;
 mod plan;
-mod target;
 mod trees;
 
 pub use emission::emit;

@@ -7,7 +7,7 @@ use crate::error::EmitError;
 use pc_machine::{Tree, TreeList};
 use std::alloc::AllocError;
 
-/// The rows of regions, and those of copies, which will stand behind them all, from row `base` on.
+/// The rows of regions, and those of copies, which will stand after them all, from row `base` on.
 #[derive(Drop)]
 pub(crate) struct Output {
     pub(crate) rows: TreeList,
@@ -16,7 +16,7 @@ pub(crate) struct Output {
 }
 
 impl Output {
-    /// Puts a row behind those of regions.
+    /// Appends a row to those of regions.
     #[tactic(auto, using(crate::proofs::Outputs::outputs))]
     pub(crate) fn push_row(&mut self, row: Tree) -> Result<(), EmitError>
         ensures grows { OnOk result (OutputGrows self.old self.new) }
@@ -29,7 +29,7 @@ impl Output {
         Ok(())
     }
 
-    /// Puts a row behind those of copies, and returns the number that it will have.
+    /// Appends a row to those of copies, and returns the number that it will have.
     #[tactic(auto, using(crate::proofs::Outputs::outputs))]
     pub(crate) fn push_copies(&mut self, row: Tree) -> Result<u32, EmitError>
         ensures grows { OnOk result (OutputGrows self.old self.new) }
@@ -63,7 +63,7 @@ impl Output {
     }
 }
 
-/// A row's number, if it has one: it stands so many rows behind this one.
+/// A row's number, if it has one: it stands so many rows after this one.
 fn number_of(base: u32, behind: usize) -> Option<u32>
     ensures { IfSome result (λ at. at ≡ base + behind) }
 {

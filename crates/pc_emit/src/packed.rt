@@ -4,12 +4,13 @@ ghost use Rattle.pc_word.specs.Row.{leaves_of};
 ghost use Rattle.pc_automaton.specs.AutomatonRun.{state_parameters};
 ghost use Rattle.pc_assign.specs.Pressure.{allowed};
 ghost use Rattle.pc_copies.specs.Moves.{AreMoves};
-ghost use Rattle.pc_machine.specs.MachineCode.{Leads_to, row_of, rows_of};
+ghost use Rattle.pc_machine.specs.declared.tree.Leaf.TheVariants.{Goto};
+ghost use Rattle.pc_machine.specs.MachineCode.{row_of, rows_of};
 ghost use Rattle.pc_object.specs.ObjectText.{leaf_text, row_text};
 ghost use Rattle.pc_emit.specs.Registers.{argument_moves, home_moves};
 ghost use Rattle.pc_emit.specs.Emitting.{HasForm};
 ghost use Rattle.pc_emit.specs.Bytes.{passed_bytes, leaf_bytes, row_bytes, states_bytes};
-ghost use Rattle.pc_emit.specs.models.Output.{bytes_of, target_leaf, of_state, EachCopy, OutputGrows};
+ghost use Rattle.pc_emit.specs.models.Output.{bytes_of, of_state, EachCopy, OutputGrows};
 ghost use Rattle.pc_emit.specs.models.Layout.{emission_in, rows_end, forms_at, names_at, registers_at, states_at, table_in, IsPlan, IsSite};
 ghost use Rattle.pc_emit.specs.models.Packing.{CanMakeLeaf, CanMakeRow, LeafMade, RowMade, StatesMade, MovesAlong, MovesToRegion};
 ghost use Rattle.pc_emit.specs.models.Making.{IsOnTheWay, LeavesReached, RowsReached};
@@ -21,11 +22,10 @@ use crate::names::{StateNames, argument_moves, home_moves};
 use crate::output::Output;
 use crate::passing::move_along;
 use crate::plan::Plan;
-use crate::target::Target;
 use crate::trees::{with_item, with_test};
 use pc_assign::Assigned;
 use pc_automaton::{Automaton, AutomatonLeaf};
-use pc_machine::Tree;
+use pc_machine::{Leaf, Tree};
 use pc_window::Home;
 use pc_word::{Operand, RowTree};
 use std::alloc::Global;
@@ -39,7 +39,7 @@ pub(crate) struct PackedSite<'a> {
     pub(crate) registers: &'a Assigned,
 }
 
-/// Puts the rows of the states of a packed region behind others.
+/// Appends the rows of the states of a packed region to others.
 #[tactic(auto, using(crate::proofs::States::states))]
 pub(crate) fn state_rows(
     alloc: Global,
@@ -102,13 +102,13 @@ fn packed_row(
             Ok(with_test(alloc, names.operand(*on), yes, no)?)
         }
         RowTree::Leaf { leaf } => {
-            let target = packed_leaf(alloc, plan, site, names, leaf, output)?;
-            Ok(target.tree())
+            let leaf = packed_leaf(alloc, plan, site, names, leaf, output)?;
+            Ok(RowTree::Leaf { leaf })
         }
     }
 }
 
-/// What leads on from a leaf, through the copies that pass its arguments or homes.
+/// The leaf that leads on from a leaf of an automaton, through the copies that pass its arguments or homes.
 #[tactic(auto, using(crate::proofs::Packs::leaves, crate::proofs::Passings::passings))]
 fn packed_leaf(
     alloc: Global,
@@ -117,16 +117,16 @@ fn packed_leaf(
     names: &StateNames,
     leaf: &AutomatonLeaf,
     output: &mut Output,
-) -> Result<Target, EmitError>
+) -> Result<Leaf, EmitError>
     requires site { IsSite plan.now site.now }
     requires plan { IsPlan plan.now }
     requires base { output.old.base ≡ rows_end plan.now }
     requires can { CanMakeLeaf (emission_in plan.now) (states_at site.now) (registers_at site.now) (of_state names.now) leaf.now }
     ensures grows { OnOk result (OutputGrows output.old output.new) }
     ensures rows { OnOk result (output.new.rows ≡ output.old.rows) }
-    ensures made { IfOk result (λ target. LeafMade plan.now site.now (of_state names.now) output.new leaf.now (target_leaf target)) }
-    ensures ways { IfOk result (λ target. EachCopy (IsOnTheWay plan.now (LeavesReached (target_leaf target ∷ []))) output.old output.new) }
-    ensures short { IfOk result (λ target. bytes_of (rows_of output.new.copies.items) + length (leaf_text (target_leaf target))
+    ensures made { IfOk result (λ made. LeafMade plan.now site.now (of_state names.now) output.new leaf.now made) }
+    ensures ways { IfOk result (λ made. EachCopy (IsOnTheWay plan.now (LeavesReached (made ∷ []))) output.old output.new) }
+    ensures short { IfOk result (λ made. bytes_of (rows_of output.new.copies.items) + length (leaf_text made)
         ≤ bytes_of (rows_of output.old.copies.items) + leaf_bytes leaf.now) }
 {
     match leaf {
@@ -144,15 +144,15 @@ fn packed_leaf(
         AutomatonLeaf::Out { region, homes } => {
             to_region(alloc, plan, names, *region, homes.as_slice(), output)
         }
-        AutomatonLeaf::Stop => Ok(Target::Stop),
-        AutomatonLeaf::Trap { kind, line } => Ok(Target::Trap {
+        AutomatonLeaf::Stop => Ok(Leaf::Stop),
+        AutomatonLeaf::Trap { kind, line } => Ok(Leaf::Trap {
             kind: *kind,
             line: *line,
         }),
     }
 }
 
-/// What leads to a state, through the copies that pass it arguments.
+/// The leaf that leads to a state, through the copies that pass it arguments.
 #[tactic(auto, using(crate::proofs::Packs::leaves, crate::proofs::Passings::passings))]
 fn to_state(
     alloc: Global,
@@ -162,7 +162,7 @@ fn to_state(
     state: u32,
     arguments: &[Operand],
     output: &mut Output,
-) -> Result<Target, EmitError>
+) -> Result<Leaf, EmitError>
     requires site { IsSite plan.now site.now }
     requires plan { IsPlan plan.now }
     requires base { output.old.base ≡ rows_end plan.now }
@@ -172,11 +172,11 @@ fn to_state(
         (argument_moves (of_state names.now) (names_at site.now state) (state_parameters (slice_get (states_at site.now) state)) arguments.now) }
     ensures grows { OnOk result (OutputGrows output.old output.new) }
     ensures rows { OnOk result (output.new.rows ≡ output.old.rows) }
-    ensures moved { IfOk result (λ target. MovesAlong plan.now output.new (target_leaf target)
+    ensures moved { IfOk result (λ made. MovesAlong plan.now output.new made
         (argument_moves (of_state names.now) (names_at site.now state) (state_parameters (slice_get (states_at site.now) state)) arguments.now)
-        (Leads_to ((emission_in plan.now).places.state site.now.region state))) }
-    ensures ways { IfOk result (λ target. EachCopy (IsOnTheWay plan.now (LeavesReached (target_leaf target ∷ []))) output.old output.new) }
-    ensures short { IfOk result (λ target. bytes_of (rows_of output.new.copies.items) + length (leaf_text (target_leaf target))
+        (Goto ((emission_in plan.now).places.state site.now.region state))) }
+    ensures ways { IfOk result (λ made. EachCopy (IsOnTheWay plan.now (LeavesReached (made ∷ []))) output.old output.new) }
+    ensures short { IfOk result (λ made. bytes_of (rows_of output.new.copies.items) + length (leaf_text made)
         ≤ bytes_of (rows_of output.old.copies.items) + (goto_bytes + passed_bytes * length arguments.now)) }
 {
     let parameters = site.automaton.state(state).parameters.as_slice();
@@ -186,10 +186,10 @@ fn to_state(
     };
     let moves = argument_moves(alloc, names, &to, parameters, arguments)?;
     let row = site.first + state;
-    move_along(alloc, plan, moves.as_slice(), Target::Row { row }, output)
+    move_along(alloc, plan, moves.as_slice(), Leaf::Goto { row }, output)
 }
 
-/// What leads to a region, through the copies that bring variables home.
+/// The leaf that leads to a region, through the copies that bring variables home.
 #[tactic(auto, using(crate::proofs::Packs::leaves, crate::proofs::Passings::passings))]
 fn to_region(
     alloc: Global,
@@ -198,19 +198,19 @@ fn to_region(
     region: u32,
     homes: &[Home],
     output: &mut Output,
-) -> Result<Target, EmitError>
+) -> Result<Leaf, EmitError>
     requires plan { IsPlan plan.now }
     requires base { output.old.base ≡ rows_end plan.now }
     requires form { HasForm (table_in plan.now) (forms_at plan.now) region }
     requires moves { AreMoves allowed (home_moves (of_state names.now) homes.now) }
     ensures grows { OnOk result (OutputGrows output.old output.new) }
     ensures rows { OnOk result (output.new.rows ≡ output.old.rows) }
-    ensures moved { IfOk result (λ target. MovesToRegion plan.now output.new (target_leaf target) (home_moves (of_state names.now) homes.now) region) }
-    ensures ways { IfOk result (λ target. EachCopy (IsOnTheWay plan.now (LeavesReached (target_leaf target ∷ []))) output.old output.new) }
-    ensures short { IfOk result (λ target. bytes_of (rows_of output.new.copies.items) + length (leaf_text (target_leaf target))
+    ensures moved { IfOk result (λ made. MovesToRegion plan.now output.new made (home_moves (of_state names.now) homes.now) region) }
+    ensures ways { IfOk result (λ made. EachCopy (IsOnTheWay plan.now (LeavesReached (made ∷ []))) output.old output.new) }
+    ensures short { IfOk result (λ made. bytes_of (rows_of output.new.copies.items) + length (leaf_text made)
         ≤ bytes_of (rows_of output.old.copies.items) + (goto_bytes + passed_bytes * length homes.now)) }
 {
-    let target = plan.target_of(region);
+    let leaf = plan.leaf_to(region);
     let moves = home_moves(alloc, names, homes)?;
-    move_along(alloc, plan, moves.as_slice(), target, output)
+    move_along(alloc, plan, moves.as_slice(), leaf, output)
 }

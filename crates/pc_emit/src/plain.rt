@@ -14,9 +14,10 @@ use crate::output::Output;
 use crate::plan::{Plan, units};
 use crate::trees::{with_item, with_test};
 use pc_table::RegionTree;
+use pc_word::RowTree;
 use std::alloc::Global;
 
-/// Puts the rows of a tree behind others.
+/// Appends the rows of a tree to others.
 ///
 /// The items and tests on the yes side of each test are counted, so it takes time in proportion to
 /// the square of a tree at most, which is small.
@@ -40,17 +41,19 @@ pub(crate) fn tree_rows(
         RegionTree::Step { item, next, .. } => {
             let next: &RegionTree = next;
             let behind = output.rows.len() as u32 + 1;
-            let target = plan.target_behind(next, behind);
-            output.push_row(with_item(alloc, *item, target.tree())?)?;
+            let leaf = plan.leaf_behind(next, behind);
+            output.push_row(with_item(alloc, *item, RowTree::Leaf { leaf })?)?;
             tree_rows(alloc, plan, next, output)
         }
         RegionTree::Test { on, yes, no, .. } => {
             let yes: &RegionTree = yes;
             let no: &RegionTree = no;
             let behind = output.rows.len() as u32 + 1;
-            let on_yes = plan.target_behind(yes, behind);
-            let on_no = plan.target_behind(no, behind + units(yes));
-            output.push_row(with_test(alloc, *on, on_yes.tree(), on_no.tree())?)?;
+            let yes_leaf = plan.leaf_behind(yes, behind);
+            let no_leaf = plan.leaf_behind(no, behind + units(yes));
+            let on_yes = RowTree::Leaf { leaf: yes_leaf };
+            let on_no = RowTree::Leaf { leaf: no_leaf };
+            output.push_row(with_test(alloc, *on, on_yes, on_no)?)?;
             tree_rows(alloc, plan, yes, output)?;
             tree_rows(alloc, plan, no, output)
         }

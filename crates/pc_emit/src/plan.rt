@@ -4,11 +4,10 @@ ghost use Rattle.pc_table.specs.Table.{region_tree, table_tree};
 ghost use Rattle.pc_table.specs.TableKeeps.{units};
 ghost use Rattle.pc_emit.specs.Emitted.{LeadsToRegion, LeadsBehind, root_leaf};
 ghost use Rattle.pc_emit.specs.Emitting.{HasForm, NamesHaveForms, form_in};
-ghost use Rattle.pc_emit.specs.models.Output.{target_leaf};
 ghost use Rattle.pc_emit.specs.models.Layout.{emission_in, table_in, forms_at, IsPlan, leaf_in, rows_in, all_rows, entries_from};
 
 use crate::form::RegionForm;
-use crate::target::Target;
+use pc_machine::Leaf;
 use pc_table::{Region, RegionTable, RegionTree};
 use pc_word::Limits;
 use std::alloc::{AllocError, Global};
@@ -24,12 +23,12 @@ pub(crate) struct Plan<'a> {
 }
 
 impl<'a> Plan<'a> {
-    /// What leads to a region: a goto to its first row, or the stop or trap that it is.
+    /// The leaf that leads to a region: a goto to its first row, or the stop or trap that it is.
     #[tactic(auto, using(crate::proofs::Leads::leads))]
-    pub(crate) fn target_of(&self, region: u32) -> Target
+    pub(crate) fn leaf_to(&self, region: u32) -> Leaf
         requires plan { IsPlan self.now }
         requires form { HasForm (table_in self.now) (forms_at self.now) region }
-        ensures { LeadsToRegion (emission_in self.now) region (target_leaf result) }
+        ensures { LeadsToRegion (emission_in self.now) region result }
     {
         let at = region as usize;
         beginning(&self.forms[at], self.tree_of(region), self.entries[at])
@@ -44,18 +43,18 @@ impl<'a> Plan<'a> {
         &self.table.regions.as_slice()[region as usize].tree
     }
 
-    /// What leads to what stands behind an item or a test: to this row, or to the region that follows.
+    /// The leaf that leads to what stands after an item or a test: to this row, or to the region that follows.
     #[tactic(auto, using(crate::proofs::Leads::leads))]
-    pub(crate) fn target_behind(&self, tree: &RegionTree, row: u32) -> Target
+    pub(crate) fn leaf_behind(&self, tree: &RegionTree, row: u32) -> Leaf
         requires plan { IsPlan self.now }
         requires names { NamesHaveForms (table_in self.now) (forms_at self.now) (table_tree tree.now) }
-        ensures { LeadsBehind (emission_in self.now) row (table_tree tree.now) (target_leaf result) }
+        ensures { LeadsBehind (emission_in self.now) row (table_tree tree.now) result }
     {
         match tree {
-            RegionTree::Next { region } => self.target_of(*region),
-            RegionTree::Step { .. } | RegionTree::Test { .. } => Target::Row { row },
-            RegionTree::Stop => Target::Stop,
-            RegionTree::Trap { kind, line } => Target::Trap {
+            RegionTree::Next { region } => self.leaf_to(*region),
+            RegionTree::Step { .. } | RegionTree::Test { .. } => Leaf::Goto { row },
+            RegionTree::Stop => Leaf::Stop,
+            RegionTree::Trap { kind, line } => Leaf::Trap {
                 kind: *kind,
                 line: *line,
             },
@@ -63,36 +62,36 @@ impl<'a> Plan<'a> {
     }
 }
 
-/// What leads to a region with this form and this tree that begins at this row.
-fn beginning(form: &Option<RegionForm>, tree: &RegionTree, row: u32) -> Target
+/// The leaf that leads to a region with this form and this tree that begins at this row.
+fn beginning(form: &Option<RegionForm>, tree: &RegionTree, row: u32) -> Leaf
     requires { IsSome form.now }
-    ensures { target_leaf result ≡ leaf_in row (table_tree tree.now) form.now }
+    ensures { result ≡ leaf_in row (table_tree tree.now) form.now }
 {
     match form {
         Some(RegionForm::Plain) => root(tree, row),
-        Some(RegionForm::ByAutomaton { .. }) => Target::Row { row },
-        // Only a region that has a form is led to.
+        Some(RegionForm::ByAutomaton { .. }) => Leaf::Goto { row },
+        // Only a region that has a form is reachable.
         None => unreachable!(),
     }
 }
 
-/// What leads to the root of a tree that has this row: a goto, or the stop or trap that it is.
-pub(crate) fn root(tree: &RegionTree, row: u32) -> Target
-    ensures { target_leaf result ≡ root_leaf row (table_tree tree.now) }
+/// The leaf that leads to the root of a tree that has this row: a goto, or the stop or trap that it is.
+pub(crate) fn root(tree: &RegionTree, row: u32) -> Leaf
+    ensures { result ≡ root_leaf row (table_tree tree.now) }
 {
     match tree {
         RegionTree::Step { .. } | RegionTree::Test { .. } | RegionTree::Next { .. } => {
-            Target::Row { row }
+            Leaf::Goto { row }
         }
-        RegionTree::Stop => Target::Stop,
-        RegionTree::Trap { kind, line } => Target::Trap {
+        RegionTree::Stop => Leaf::Stop,
+        RegionTree::Trap { kind, line } => Leaf::Trap {
             kind: *kind,
             line: *line,
         },
     }
 }
 
-/// The row at which each region begins, the first of them at this one; and, last, the row behind
+/// The row at which each region begins, the first of them at this one; and, last, the row after
 /// them all.
 pub(crate) fn entries(
     alloc: Global,

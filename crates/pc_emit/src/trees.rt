@@ -4,7 +4,7 @@ ghost use Rattle.pc_word.specs.Row.{Then, Either};
 ghost use Rattle.pc_machine.specs.MachineCode.{row_of};
 
 use pc_machine::Tree;
-use pc_word::{Item, Operand};
+use pc_word::{Item, Operand, RowTree};
 use std::alloc::{AllocError, Global};
 
 /// An item, and what stands below it.
@@ -12,7 +12,7 @@ pub(crate) fn with_item(alloc: Global, item: Item, next: Tree) -> Result<Tree, A
     ensures { IfOk result (λ tree. row_of tree ≡ Then item (row_of next)) }
 {
     let next = Box::new(alloc, next)?;
-    Ok(Tree::Step { item, next })
+    Ok(RowTree::Step { item, next })
 }
 
 /// A test, and its two sides.
@@ -21,5 +21,5 @@ pub(crate) fn with_test(alloc: Global, on: Operand, yes: Tree, no: Tree) -> Resu
 {
     let yes = Box::new(alloc, yes)?;
     let no = Box::new(alloc, no)?;
-    Ok(Tree::Test { on, yes, no })
+    Ok(RowTree::Test { on, yes, no })
 }

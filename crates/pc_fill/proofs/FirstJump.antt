@@ -18,7 +18,7 @@ use Rattle.pc_window.specs.Conflict.{touch_of, NoStoreDependence, MayFollow}
 use Rattle.pc_window.specs.Jump.{combined, Without, NewForm, Root, Past_item, Past_yes, Past_no, EntersFront, Lands, Lands_renamed, Lands_test, Lands_once, Behind_item, On_yes, On_no}
 use Rattle.pc_window.specs.Filled.{risen_place, priority_of, deeper, TwinsAlike, given_supply}
 use Rattle.pc_window.specs.Ready.{CanRise, Stands_here, Stands_below, Stands_on_yes, Stands_on_no, MayStandBehind, IsReadyAt, Item_ready, Test_ready, Ready_below, Ready_on_yes, Ready_on_no}
-use Rattle.pc_window.proofs.Readiness.{Alike, alike, dest_named, clear_alike, Risen, not_written_named}
+use Rattle.pc_window.proofs.Readiness.{Alike, alike, dest_named, clear_alike, Risen, not_written_named, follows_alike, reads_alike, gives_next}
 use Rattle.pc_fill.specs.models.Places.{Node, nodes_of}
 use Rattle.pc_fill.specs.models.Landing.{both_unfinished, TwinHere, TwinIn}
 use Rattle.pc_fill.proofs.Sides.{to_below, from_below, to_no, from_no, side_first, first_only, side_second, second_only}
@@ -30,15 +30,6 @@ use Rattle.pc_word.specs.Naming.{with_dest, renamed}
 
 alike_turned : (x z : Item) → Alike x z → Alike z x
 alike_turned x z a = record { operands = sym a.operands; touch = sym a.touch; effect = sym a.effect; memory = sym a.memory; quiet = sym a.quiet }
-
-follows_alike : (forms : ℕ → Form) (y x z : Item) → Alike x z → MayFollow forms y x → MayFollow forms y z
-follows_alike forms y x z a h = record {
-  no_store_dependence = subst (λ (t : Option Touch). NoStoreDependence forms (touch_of y) t) (sym a.touch) h.no_store_dependence;
-  one_effect = ap (λ (b : Bool). is_effect y && b) a.effect ∙ h.one_effect;
-}
-
-reads_alike : (known : ℕ → Bool) (x z : Item) → Alike x z → ReadsKnown known x → ReadsKnown known z
-reads_alike known x z a h = subst (λ (l : List Operand). AllByRecursion (IsKnown known) l) (sym a.operands) h
 
 -- an item rises with any name that is written nowhere
 rise_renamed : (forms : ℕ → Form) (m : ℕ) (x : Item) (tag origin place : ℕ) (c : Bool) (from : Tree) → CanRise forms x tag origin place c from
@@ -66,12 +57,6 @@ rise_renamed forms m x tag origin place c from (Stands_on_no t o on n d p q is c
       left = Undecided t o on p k.left;
       rises = Past_no t o on d p q k.left ((alike m x).quiet ∙ is) (not_written_named m x p h.0) k.rises;
     }
-
--- the form of a new name
-gives_next : (forms : ℕ → Form) (n variable : ℕ) (c : Option Form) → ((y : ℕ) → Without variable (forms y))
-    → (form : Form) × NewForm forms c form × ((with_name (record { forms = forms; next = n; next_variable = variable }) c).forms ≡ changed forms n form)
-gives_next forms n variable (Some given) without = (given, refl, refl)
-gives_next forms n variable None without = (variable_form variable, (variable, refl, without), refl)
 
 -- ---- what has come with a twin had one
 

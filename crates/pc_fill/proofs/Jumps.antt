@@ -16,7 +16,7 @@ use Rattle.pc_window.specs.StoredWindow.{tree_in, front_in, window_in, NodesBehi
 use Rattle.pc_window.proofs.Filling.{jump_window}
 use Rattle.pc_window.proofs.Proper.{fills_proper}
 use Rattle.pc_window.proofs.Readiness.{jumps_were_ready}
-use Rattle.pc_window.proofs.Sizes.{filling_bounded, jumps_count}
+use Rattle.pc_window.proofs.Sizes.{filling_bounded, jumps_count, size_mapped, most_entered}
 use Rattle.pc_window.proofs.Unwinding.{used_below}
 use Rattle.pc_fill.specs.declared.first.ReadyNode.{ReadyNode}
 use Rattle.pc_fill.specs.FirstReady.{IsFirstReady}
@@ -31,35 +31,11 @@ use Rattle.pc_word.specs.Items.{reads}
 
 -- ---- sizes
 
-size_mapped : (f : Operand → Operand) (tree : Tree) → tree_size (mapped f tree) ≡ tree_size tree
-size_mapped f (Pending t o x rest) = ap suc (size_mapped f rest)
-size_mapped f (Undecided t o on p q) = let a = size_mapped f p in let b = size_mapped f q in omega arith
-size_mapped f (Exit region tag homes) = refl
-size_mapped f Stop_exit = refl
-size_mapped f (Trap_exit kind line) = refl
-
 size_risen : (forms : ℕ → Form) (tag origin : ℕ) (stood x : Item) (c : Bool) (from left : Tree) → Rises forms tag origin stood x c from left → suc (tree_size left) ≡ tree_size from
 size_risen forms tag origin stood x c from left (Root rest unwritten) = ap suc (size_mapped _ rest)
 size_risen forms tag origin stood x c from left (Past_item t o y d rest left' clear apart rises) = ap suc (size_risen forms tag origin stood x d rest left' rises)
 size_risen forms tag origin stood x c from left (Past_yes t o on d p q left' is unwritten rises) = let a = size_risen forms tag origin stood x d p left' rises in omega arith
 size_risen forms tag origin stood x c from left (Past_no t o on d p q left' is unwritten rises) = let a = size_risen forms tag origin stood x d q left' rises in omega arith
-
-size_divided : (tag origin : ℕ) (on : Operand) (from p q : Tree) → DividesTree tag origin on from p q → (tree_size p < tree_size from) × (tree_size q < tree_size from)
-size_divided tag origin on from p q (Root_test p' q') = (omega arith, omega arith)
-size_divided tag origin on from p q (Past t o y rest p' q' divides) = let a = size_divided tag origin on rest p' q' divides in let b = a.0 in let c = a.1 in (omega arith, omega arith)
-
-most_entered : (known : ℕ → Bool) (forms forms' : ℕ → Form) (new : Option ℕ) (n : ℕ) (comes : Option Item) (from to : Front)
-    → EntersFront known forms forms' new comes from to → MostBehind n from → MostBehind n to
-most_entered known forms forms' new n comes from to (Lands tag origin x t left reads isnew none same rises) h = let a = size_risen forms tag origin x x _ t left rises in omega arith
-most_entered known forms forms' new n comes from to (Lands_renamed tag origin name stood t left reads isnew is gives rises) h =
-    let a = size_risen forms tag origin stood _ _ t left rises in omega arith
-most_entered known forms forms' new n comes from to (Lands_test tag origin on t p q reads none same divides) h =
-    let a = size_divided tag origin on t p q divides in let b = a.0 in let c = a.1 in (omega arith, omega arith)
-most_entered known forms forms' new n comes from to (Lands_once t o on tag origin tag' origin' name stood other c c' p q l m equal reads isnew is gives rises rises') h =
-    let a = size_risen forms tag origin stood _ _ p l rises in let b = size_risen forms tag' origin' other _ _ q m rises' in let d = h.0 in let e = h.1 in (omega arith, omega arith)
-most_entered known forms forms' new n comes from to (Behind_item t o y c rest rest' may apart enters) h = most_entered known forms forms' new n c rest rest' enters h
-most_entered known forms forms' new n comes from to (On_yes t o on c p q p' apart enters) h = (most_entered known forms forms' new n c p p' enters h.0, h.1)
-most_entered known forms forms' new n comes from to (On_no t o on c p q q' apart enters) h = (h.0, most_entered known forms forms' new n c q q' enters h.1)
 
 -- no leaf has more behind it than the whole
 behind_whole : (n : ℕ) (f : Front) → tree_size (whole f) ≤ n → MostBehind n f

@@ -8,29 +8,12 @@ use Rattle.pc_word.specs.declared.item.Operand.{Operand}
 use Rattle.pc_fill.specs.declared.landing.Coming.{Coming}
 use Rattle.pc_fill.specs.models.Landing.{both_unfinished, joins, place_or_root}
 use Rattle.pc_fill.specs.models.Way.{taken_along, joins_along, above_along, landed_along}
-use Rattle.pc_window.proofs.WindowsStored.{whole_in}
+use Rattle.pc_window.proofs.WindowsStored.{whole_in, below_unfinished, below_behind}
 use Rattle.pc_window.specs.declared.tree.WindowTree.{WindowTree}
 use Rattle.pc_window.specs.declared.tree.WindowTree.TheVariants as stored
 use Rattle.pc_window.specs.Tree.{Front, Issued, Split, Unfinished, whole}
 use Rattle.pc_window.specs.StoredWindow.{tree_in, front_in, InNodes, NodesBehind}
 use Rattle.pc_fill.specs.models.Taking.{taken_out}
-
--- nothing is finished of what a leaf leads to
-pub leaf_front : (tree : WindowTree) → InNodes false tree → front_in tree ≡ Unfinished (tree_in tree)
-leaf_front (stored.Step' tag origin item p rest) h = absurd h
-leaf_front (stored.Test' tag origin on p on_yes q on_no) h = absurd h
-leaf_front (stored.Node' p below) h = refl
-leaf_front (stored.Exit region tag homes) h = refl
-leaf_front stored.Stop h = refl
-leaf_front (stored.Trap kind line) h = refl
-
-pub leaf_nodes : (tree : WindowTree) → InNodes false tree → NodesBehind tree
-leaf_nodes (stored.Step' tag origin item p rest) h = absurd h
-leaf_nodes (stored.Test' tag origin on p on_yes q on_no) h = absurd h
-leaf_nodes (stored.Node' p below) h = h
-leaf_nodes (stored.Exit region tag homes) h = tt
-leaf_nodes stored.Stop h = tt
-leaf_nodes (stored.Trap kind line) h = tt
 
 -- ---- as code sees it
 
@@ -90,6 +73,6 @@ module _ (c : Coming) (item : Item) (twin : ℕ) (is_item : c.item ≡ Some item
         else Split tag origin on (landed_along c (front_in p) below depth) (front_in q)) else Split tag origin on (front_in p) (landed_along c (front_in q) below depth)) (sym parts.0)
         ∙ (λ i. landed_along c (sym is i) (sym turns i) depth)
 
-pub ruleset landing = (leaf_front, leaf_nodes)
+pub ruleset landing = (below_unfinished, below_behind)
 
-pub ruleset joining = (leaf_front)
+pub ruleset joining = (below_unfinished)

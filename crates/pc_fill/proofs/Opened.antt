@@ -7,22 +7,12 @@ use Rattle.pc_window.specs.Tree.{whole, tree_size}
 use Rattle.pc_window.specs.StoredWindow.{tree_in, front_in, window_in, InNodes, IsJustOpened, NodesBehind}
 use Rattle.pc_fill.specs.Fillable.{IsFillable}
 use Rattle.pc_fill.specs.Laws.{OpenedWindowsCanBeFilled}
-use Rattle.pc_window.proofs.WindowsStored.{whole_in}
-use Rattle.pc_fill.proofs.Landed.{leaf_nodes}
-
--- where each item and test is a node of its own, each behind the front is
-single_nodes : (tree : WindowTree) → InNodes true tree → NodesBehind tree
-single_nodes (stored.Step' tag origin item p rest) h = leaf_nodes rest h
-single_nodes (stored.Test' tag origin on p on_yes q on_no) h = (leaf_nodes on_yes h.0, leaf_nodes on_no h.1)
-single_nodes (stored.Node' p below) h = absurd h
-single_nodes (stored.Exit region tag homes) h = tt
-single_nodes stored.Stop h = tt
-single_nodes (stored.Trap kind line) h = tt
+use Rattle.pc_window.proofs.WindowsStored.{whole_in, in_nodes_behind}
 
 pub opened_fillable : OpenedWindowsCanBeFilled
 opened_fillable w opened nodes =
     let size = opened.size in let names = opened.names in let variables = opened.variables in
-    record { size = omega arith; nodes = single_nodes w.tree nodes; names = omega arith; variables = omega arith }
+    record { size = omega arith; nodes = in_nodes_behind w.tree nodes; names = omega arith; variables = omega arith }
 
 -- it is small
 pub opened_small : (w : StoredWindow) → IsJustOpened w → tree_size (whole (window_in w).front) < 2 ^ 31

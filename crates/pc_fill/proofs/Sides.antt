@@ -51,9 +51,6 @@ module _ (On_yes On_no : ℕ → Type 0) (n m : ℕ) where
 
 -- ---- tests that are true exactly where something holds
 
-pub holds_here : (P : Type 0) → P → (true ≡ true) ↔ P
-holds_here P h = (λ e. h, λ p. refl)
-
 -- at the root, and below it
 pub at_root : (place : ℕ) (At Below : Type 0) → place ≡ 0 → At → Side (nat_eq place 0) At Below
 at_root place At Below e h = subst (λ (n : ℕ). Side (nat_eq n 0) At Below) (sym e) h

@@ -1,13 +1,13 @@
 -- Whether the way from a place is free, step by step as code walks it.
 use Rattle.std.proofs.Common.{◌≡◌, ◌≢◌, ◌↔◌, ℕ, ◌-◌, ◌<◌, ◌≤◌, Bool, true, false, Option, sym, subst, lt-ltb, arith}
 use Rattle.std.specs.Prelude.{nat_lt}
-use Rattle.pc_word.proofs.Truth.{of_most, fails_here, failed, held, same_fact}
+use Rattle.pc_word.proofs.Truth.{of_most, fails_here, failed, held, same_fact, holds_here}
 use Rattle.pc_word.specs.declared.item.Item.{Item}
 use Rattle.pc_word.specs.declared.item.Operand.{Operand}
 use Rattle.pc_linear.specs.Form.{Form}
 use Rattle.pc_window.specs.Tree.{Tree, Pending, Undecided, tree_size}
 use Rattle.pc_fill.specs.models.Places.{MayPass, MayCross, MayRise}
-use Rattle.pc_fill.proofs.Sides.{holds_here, at_root, under_root, below_only, side_first, first_only, side_second, second_only}
+use Rattle.pc_fill.proofs.Sides.{at_root, under_root, below_only, side_first, first_only, side_second, second_only}
 
 module _ (forms : ℕ → Form) (what : Option Item) (tag origin place : ℕ) where
   -- ---- behind the front

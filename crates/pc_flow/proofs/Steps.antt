@@ -19,7 +19,7 @@ abbrev next_node : Step FlowState → ℕ → ℕ
 next_node (Goes out next) other = next.node
 next_node (Stops out end) other = other
 
--- the node behind an item, by the fault that it has
+-- the node after an item, by the fault that it has
 item_leads : (lengths : List ℕ) (item : Item) (to : ℕ) (s : State) (fault : Option MachineFault) (out : List ℤ) (next : FlowState)
     → step_after_item (commit_of lengths s (item ∷ []) to fault) ≡ Goes out next → next.node ≡ to
 item_leads lengths item to s (Some fault) out next e = absurd (cc)

@@ -23,7 +23,7 @@ pub record FlowGraph : Type 0 where
 
 -- ---- names, arrays
 
--- the names of variables: 64 scalars, and behind them 32 temporaries
+-- the names of variables: 64 scalars, and after them 32 temporaries
 abbrev pub variables : ℕ
 variables = most_scalars + most_temporaries
 

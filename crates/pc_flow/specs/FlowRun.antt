@@ -15,7 +15,7 @@ pub record FlowState : Type 0 where
   pub node : ℕ
   pub state : State
 
--- an item goes on to the node behind it; a fault ends the run, and its node prints nothing
+-- an item goes on to the node after it; a fault ends the run, and its node prints nothing
 abbrev pub step_after_item : RowOutcome ℕ → Step FlowState
 step_after_item (Faults fault) = Stops [] (Fault fault)
 step_after_item (Commits out new to) = Goes out (record { node = to; state = new })

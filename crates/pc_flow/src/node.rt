@@ -3,7 +3,7 @@ use pc_word::{Item, Operand, TrapKind};
 /// A node of a flow graph. Nodes are named by their numbers.
 #[derive(Clone, Copy, Debug, PartialEq, Eq)]
 pub enum FlowNode {
-    /// An item, and the node behind it.
+    /// An item, and the node after it.
     Op {
         item: Item,
         next: u32,
@@ -18,7 +18,7 @@ pub enum FlowNode {
     },
     /// The end of the program.
     Stop,
-    /// A trap, with the line that it is told by.
+    /// A trap, with its line in the source.
     Trap {
         kind: TrapKind,
         line: u32,

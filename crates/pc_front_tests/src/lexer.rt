@@ -190,7 +190,7 @@ static FAULTS: [(&[u8], LexError); 20] = [
     (b"08 $ /*", LexError::BadLiteral { line: 1 }),
 ];
 
-/// What stands behind as many tokens as there may be, and the fault of the text then.
+/// What stands after as many tokens as there may be, and the fault of the text then.
 static ENDS: [(&[u8], Option<LexError>); 5] = [
     (b" \n/* a */ // b\n#include <c>\n\t", None),
     (b"// a\na", Some(LexError::TooManyTokens)),

@@ -1,5 +1,5 @@
 //! Passes that are applied one after another.
-ghost use Rattle.std.specs.Prelude.{codes};
+ghost use Rattle.std.specs.Prelude.{◌≡◌, codes};
 
 use crate::graphs::stop;
 use pc_flow::{Flow, FlowNode};
@@ -19,6 +19,8 @@ impl Pass for Idle {
     ghost changed = { λ it. it.applied };
 
     ghost runs = { λ it. it.applied };
+
+    ghost does = { λ it old new before now. new ≡ old };
 
     fn name(&self) -> &str {
         "idle"
@@ -44,6 +46,8 @@ impl Pass for Starved {
     ghost changed = { λ it. 0 };
 
     ghost runs = { λ it. 0 };
+
+    ghost does = { λ it old new before now. new ≡ old };
 
     fn name(&self) -> &str {
         "starved"

@@ -2,7 +2,7 @@
 
 use crate::graphs::example;
 use pc_live::live;
-use pc_regions::{law_of_one_cut, regions};
+use pc_regions::{law_of_one_cut, laws_of_cut_runs, regions};
 use pc_table::{Region, RegionTree, laws_of_regions};
 use std::alloc::Global;
 use std::test::Fail;
@@ -53,7 +53,7 @@ const CUT: [Cut; 2] = [
     },
 ];
 
-/// Puts the parts of a tree behind others.
+/// Appends the parts of a tree to others.
 fn list_parts(tree: &RegionTree, parts: &mut Vec<Part>) -> Result<(), Fail> {
     match tree {
         RegionTree::Step { origin, next, .. } => {
@@ -102,5 +102,6 @@ fn a_loop_is_cut_at_its_header(rt: HostRuntime) -> Result<(), Fail> {
     assert!(rt; table.arrays.is_empty());
     laws_of_regions();
     law_of_one_cut();
+    laws_of_cut_runs();
     Ok(())
 }

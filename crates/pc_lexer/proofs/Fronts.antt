@@ -64,7 +64,7 @@ slashes_front (b ∷ text) h = prefix_front (λ b. not (is_line_feed b)) b text 
     first : b ≡ 47
     first = ap (λ l. get_or l 0 0) (prefix_is (b ∷ text) (codes "//") h)
 
--- what is skipped behind a `#`
+-- what is skipped after a `#`
 include_found : (bytes : List ℕ) (n : ℕ) → include_length bytes ≡ Some n → n ≤ length bytes
 unfolding include_length
 include_found bytes n h =

@@ -236,7 +236,7 @@ longest fresh text _ (a_mark l d) = mark_longest text (mark_at text) refl l d
 longest_at : (fresh : Bool) (text : List ℕ) (r : Result Piece Trouble) → piece_at fresh text ≡ r → LongestAt text r
 longest_at fresh text r h = subst (LongestAt text) h (longest fresh text (piece_at fresh text) (begun fresh text))
 
--- the same behind any bytes
+-- the same after any bytes
 cuts : (fuel : ℕ) (bytes before : List ℕ) → length bytes ≤ fuel → (cut_text (cut bytes 0 before) ≡ bytes) × AreLongest (cut bytes 0 before)
 unfolding cut
 cuts fuel [] before enough = (refl, tt)

@@ -60,7 +60,7 @@ no_mark_in_comment text k two opens = fails (is_mark (take k text)) (λ h.
     = ap (λ l. bytes_eq (codes "//") l || bytes_eq (codes "/*") l) same ∙ opens in
     cc)
 
--- each element is at least as large as those behind it
+-- each element is at least as large as those after it
 pub descends : {X : Type 0} → (X → ℕ) → List X → Bool
 descends size [] = true
 descends size (x ∷ xs) = list_all (λ y. nat_le (size y) (size x)) xs && descends size xs

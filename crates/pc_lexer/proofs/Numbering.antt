@@ -38,7 +38,7 @@ any_kept p (x ∷ xs) ys h = by (p x) h (any_kept p xs ys)
     by true h rest = refl
     by false h rest = rest h
 
--- a new name's place is behind the others
+-- a new name's place is after the others
 place_new : (p : List ℕ → Bool) (xs : List (List ℕ)) → list_any p xs ≡ false → position_or_len p xs ≡ length xs
 place_new p [] h = refl
 place_new p (x ∷ xs) h = by (p x) h (place_new p xs)
@@ -129,7 +129,7 @@ name_numbered names name tokens line used n = by (list_any (bytes_eq name) names
           order = (omega arith, subst (λ m. AreInOrder m (symbols_in tokens)) most n.order);
         }
 
--- what was read behind a token
+-- what was read after a token
 token_first : (count : ℕ) (token : Token) (r : Result (List Token) LexError) (tokens : List Token) (full : Result (List Token) LexError)
     → ((tokens : List Token) → full ≡ Ok tokens → ⊥) → cond (nat_lt count most_tokens) (token_before token r) full ≡ Ok tokens
     → (rest : List Token) × (r ≡ Ok rest) × (token ∷ rest ≡ tokens)

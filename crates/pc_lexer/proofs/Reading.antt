@@ -25,7 +25,7 @@ use Rattle.pc_lexer.specs.declared.error.LexError.{LexError}
 use Rattle.pc_lexer.specs.declared.error.LexError.TheVariants as error
 use Rattle.pc_lexer.proofs.Begun.{piece_fits}
 
--- behind the bytes of a piece the next one begins
+-- after the bytes of a piece the next one begins
 pub cut-inside : (bytes : List ℕ) (n : ℕ) (before : List ℕ) → cut bytes n before ≡ cut (drop n bytes) 0 (before ++ take n bytes)
 unfolding cut
 cut-inside [] zero before = refl
@@ -104,7 +104,7 @@ unfolding kind_of names_after_piece
 names_stay names spelling shape.Word h = cc
 names_stay names spelling _ h = refl
 
--- a line behind two texts
+-- a line after two texts
 fresh_after-append : (fresh : Bool) (xs ys : List ℕ) → fresh_after fresh (xs ++ ys) ≡ fresh_after (fresh_after fresh xs) ys
 unfolding fresh_after
 fresh_after-append fresh [] ys = refl
@@ -171,7 +171,7 @@ module _ (text : List ℕ) (found : List Token) (names : List (List ℕ)) (offse
       (cut-stuck (drop offset text) (take offset text) why left (sym (ap (λ f. piece_at f (drop offset text)) r.fresh_is) ∙ h))
 
   module _ (piece : Piece) (h : piece_at fresh (drop offset text) ≡ Ok piece) where
-    -- the cut is the piece, before the cut behind it
+    -- the cut is the piece, before the cut after it
     cut_first : cut_from text offset ≡ Next (take offset text) (spelled_at text offset piece) piece.shape (cut_from text (offset + piece.length))
     cut_first =
         cut-piece (drop offset text) (take offset text) piece left (sym (ap (λ f. piece_at f (drop offset text)) r.fresh_is) ∙ h)
@@ -194,11 +194,11 @@ module _ (text : List ℕ) (found : List Token) (names : List (List ℕ)) (offse
         ∙ ap (λ c. with_front found (read (length found) names c)) (sym cut_first)
         ∙ r.reads
 
-    -- the names behind it
+    -- the names after it
     after : List (List ℕ)
     after = names_after_piece names (spelled_at text offset piece) piece.shape
 
-    -- the reading behind the piece
+    -- the reading after the piece
     reads_next : (kind : Option TokenKind) → kind_of names (spelled_at text offset piece) piece.shape ≡ kind → IfSome kind (λ _. length found < most_tokens)
         → with_front (with_token found kind line) (read (length (with_token found kind line)) after (cut_from text (offset + piece.length))) ≡ lexed text
     unfolding chosen_of chosen after

@@ -11,7 +11,7 @@ unfoldable pub fresh_after : Bool → List ℕ → Bool
 fresh_after fresh [] = fresh
 fresh_after fresh (b ∷ bytes) = fresh_after (is_line_feed b || fresh && is_blank b) bytes
 
--- the line in which a text goes on behind these bytes, counted from 1
+-- the line in which a text goes on after these bytes, counted from 1
 abbrev pub line_behind : List ℕ → ℕ
 line_behind before = 1 + line_feeds before
 
@@ -22,7 +22,7 @@ pub data Cut : Type 0 where
   Next : (before spelling : List ℕ) (shape : Shape) (others : Cut) → Cut
   Stuck : (before rest : List ℕ) (why : Trouble) → Cut
 
--- Cuts bytes behind others. The first `inside` of them belong to a piece that began before.
+-- Cuts bytes after others. The first `inside` of them belong to a piece that began before.
 unfoldable pub cut : List ℕ → ℕ → List ℕ → Cut
 cut [] inside before = Done
 cut (b ∷ bytes) (suc inside) before = cut bytes inside (before ++ b ∷ [])

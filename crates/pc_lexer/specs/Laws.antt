@@ -21,7 +21,7 @@ abbrev pub is_word_spelling : List ℕ → Bool
 is_word_spelling [] = false
 is_word_spelling (b ∷ bytes) = is_letter b && list_all is_word_byte bytes
 
--- letters, digits, `_`, and signs directly behind `e`, `E`, `p` and `P`
+-- letters, digits, `_`, and signs directly after `e`, `E`, `p` and `P`
 abbrev pub is_number_rest : Bool → List ℕ → Bool
 is_number_rest exponent [] = true
 is_number_rest exponent (b ∷ bytes) = (is_word_byte b || exponent && is_sign b) && is_number_rest (is_exponent b) bytes
@@ -58,7 +58,7 @@ IsStuck trouble.NoPiece text = NoTokenBeyond 0 text
 IsStuck trouble.Misspelt text = (n : ℕ) × IsTrue (is_number (take n text)) × (number_value (take n text) ≡ None) × NoTokenBeyond n text
 IsStuck trouble.OpenComment text = IsTrue (starts_with nat_eq text (codes "/*"))
 
--- the spellings of the pieces and what is left behind them, in a row
+-- the spellings of the pieces and what is left after them, in a row
 abbrev pub cut_text : Cut → List ℕ
 cut_text Done = []
 cut_text (Next before spelling shape others) = spelling ++ cut_text others
@@ -71,7 +71,7 @@ AreLongest (Next before spelling shape others) =
     (0 < length spelling) × IsSpelled shape spelling × NoTokenBeyond (length spelling) (spelling ++ cut_text others) × AreLongest others
 AreLongest (Stuck before rest why) = IsStuck why rest
 
--- the pieces of a text and what is left behind them are the text, and no token could be longer
+-- the pieces of a text and what is left after them are the text, and no token could be longer
 abbrev pub CutsIntoLongest : Type 0
 CutsIntoLongest = (text : List ℕ) → (cut_text (pieces_of text) ≡ text) × AreLongest (pieces_of text)
 

@@ -3,7 +3,7 @@ use Rattle.std.specs.Prelude.{ℕ, suc, ◌+◌, ◌-◌, ◌*◌, Bool, ◌==�
 use Rattle.std.specs.List.{starts_with}
 use Rattle.pc_lexer.specs.Bytes.{is_digit, is_word_byte}
 
--- `e`, `E`, `p`, `P`: a sign directly behind one of these belongs to a number (C17 6.4.8)
+-- `e`, `E`, `p`, `P`: a sign directly after one of these belongs to a number (C17 6.4.8)
 abbrev pub is_exponent : ℕ → Bool
 is_exponent b = b == 101 || b == 69 || b == 112 || b == 80
 
@@ -30,7 +30,7 @@ digit_value b =
     else (if nat_le 65 b && nat_le b 70 then b - 55
     else 16))
 
--- the number that digits spell behind others that spell n; None where a byte is no digit of the base
+-- the number that digits spell after others that spell n; None where a byte is no digit of the base
 unfoldable pub digits_value : ℕ → ℕ → List ℕ → Option ℕ
 digits_value base n [] = Some n
 digits_value base n (b ∷ bytes) =
@@ -46,8 +46,8 @@ abbrev pub int_of_digits : ℕ → List ℕ → Option ℕ
 int_of_digits base [] = None
 int_of_digits base (b ∷ bytes) = as_int (digits_value base 0 (b ∷ bytes))
 
--- What a number's spelling stands for, as C17 6.4.4.1 has it without suffixes: hexadecimal behind `0x` or `0X`,
--- octal behind another `0` that is not alone, else decimal. None where it is misspelt or no `int`.
+-- What a number's spelling stands for, as C17 6.4.4.1 has it without suffixes: hexadecimal after `0x` or `0X`,
+-- octal after another `0` that is not alone, else decimal. None where it is misspelt or no `int`.
 unfoldable pub number_value : List ℕ → Option ℕ
 number_value spelling =
     if starts_with nat_eq spelling (codes "0x") || starts_with nat_eq spelling (codes "0X") then int_of_digits 16 (drop 2 spelling)

@@ -36,7 +36,7 @@ abbrev pub goes_on : List ℕ → Bool
 goes_on [] = false
 goes_on (b ∷ bytes) = is_word_byte b
 
--- how many bytes behind a `#` are skipped: blanks, the whole word `include` and the rest of the line
+-- how many bytes after a `#` are skipped: blanks, the whole word `include` and the rest of the line
 unfoldable pub include_length : List ℕ → Option ℕ
 include_length bytes =
     let blanks = prefix_len is_inner_blank bytes in

@@ -47,7 +47,7 @@ unfoldable pub names_after_piece : List (List ℕ) → List ℕ → Shape → Li
 names_after_piece names spelling shape.Word = names_after_word names spelling (keyword_of spelling)
 names_after_piece names spelling _ = names
 
--- the fault where no piece begins behind these bytes
+-- the fault where no piece begins after these bytes
 abbrev pub fault_behind : Trouble → List ℕ → LexError
 fault_behind trouble.NoPiece before = error.BadByte (length before)
 fault_behind trouble.Misspelt before = error.BadLiteral (line_behind before)
@@ -63,7 +63,7 @@ abbrev pub token_before : Token → Result (List Token) LexError → Result (Lis
 token_before token (Ok tokens) = Ok (token ∷ tokens)
 token_before token (Err fault) = Err fault
 
--- the tokens of pieces, behind `count` others in which `names` were used, or the first fault
+-- the tokens of pieces, after `count` others in which `names` were used, or the first fault
 unfoldable pub read : ℕ → List (List ℕ) → Cut → Result (List Token) LexError
 read count names Done = Ok []
 read count names (Stuck before rest why) = Err (fault_at count why before)

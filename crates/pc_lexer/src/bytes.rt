@@ -58,7 +58,7 @@ pub(crate) fn fresh_after(fresh: bool, bytes: &[u8]) -> bool
     fresh
 }
 
-/// Whether a line has only blanks so far behind one byte more.
+/// Whether a line has only blanks so far after one byte more.
 fn stays_fresh(fresh: bool, byte: u8) -> bool
     ensures { result ≡ (is_line_feed byte || fresh && is_blank byte) }
 {

@@ -13,7 +13,7 @@ pub enum LexError {
     /// A `/*` in that line that no `*/` closes.
     #[error("line {line}: comment is not closed")]
     OpenComment { line: u32 },
-    /// Something other than blanks, comments and skipped lines stands behind token 65,536.
+    /// Something other than blanks, comments and skipped lines stands after token 65,536.
     #[error("too many tokens")]
     TooManyTokens,
     /// There was no memory for the answer.

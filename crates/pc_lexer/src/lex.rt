@@ -15,7 +15,7 @@ use indexmap::IndexSet;
 use pc_word::{MOST_TOKENS, Seq};
 use std::alloc::Global;
 
-/// A name's symbol. A new name is kept behind the others.
+/// A name's symbol. A new name is kept after the others.
 fn symbol_of<'a>(names: &mut IndexSet<&'a [u8]>, name: &'a [u8]) -> Result<u32, LexError>
     requires { index_set_len names.old ≤ most_tokens }
     ensures symbol { IfOk result (λ symbol. symbol ≡ symbol_of (spellings names.old.keys) name.now) }
@@ -67,7 +67,7 @@ fn kind_of<'a>(
     }
 }
 
-/// The fault where no piece begins, behind `count` tokens.
+/// The fault where no piece begins, after `count` tokens.
 fn fault_at(count: usize, why: Trouble, offset: u32, line: u32) -> LexError
     ensures { (before : List ℕ) → length before ≡ offset → line_behind before ≡ line → result ≡ fault_at count why before }
 {
@@ -79,7 +79,7 @@ fn fault_at(count: usize, why: Trouble, offset: u32, line: u32) -> LexError
     }
 }
 
-/// Puts the token that a piece is, if it is one, behind the others.
+/// Appends the token that a piece is, if it is one, to the others.
 fn keep(found: &mut TokenList, kind: Option<TokenKind>, line: u32) -> Result<(), LexError>
     ensures kept { OnOk result (found.new ≡ with_token found.old kind line) }
     ensures room { OnOk result (IfSome kind (λ _. length found.old < most_tokens)) }
@@ -100,7 +100,7 @@ fn keep(found: &mut TokenList, kind: Option<TokenKind>, line: u32) -> Result<(),
 /// Tokens are words, numbers and marks, the longest that begin at their place. Blanks, comments and
 /// `#include` lines are passed over. The first fault from the left is the answer: `BadByte` where
 /// nothing begins, `BadLiteral` at a number that is no `int`, `OpenComment` at a comment that stays
-/// open, `TooManyTokens` where a token, a bad byte or a bad number stands behind token 65,536.
+/// open, `TooManyTokens` where a token, a bad byte or a bad number stands after token 65,536.
 /// `Memory` alone may come at any text. The time is linear in the text's length; of the text nothing
 /// is copied.
 pub fn tokens(alloc: Global, text: &[u8]) -> Result<TokenList, LexError>

@@ -19,7 +19,7 @@ fn is_sign(byte: u8) -> bool
     byte == b'+' || byte == b'-'
 }
 
-/// Whether a byte belongs to a number; `exponent` says whether it stands behind an exponent's letter.
+/// Whether a byte belongs to a number; `exponent` says whether it stands after an exponent's letter.
 fn belongs(exponent: bool, byte: u8) -> bool
     ensures { result ≡ (is_word_byte byte || exponent && is_sign byte) }
 {
@@ -86,7 +86,7 @@ fn int_of_digits(base: u64, digits: &[u8]) -> Option<u32>
     Some(value as u32)
 }
 
-/// What a number's spelling stands for: hexadecimal behind `0x` or `0X`, octal behind another `0`
+/// What a number's spelling stands for: hexadecimal after `0x` or `0X`, octal after another `0`
 /// that is not alone, else decimal (C17 6.4.4.1, without suffixes). `None` where it is misspelt or
 /// no `int`.
 #[tactic(auto, unfolding(crate::specs::Number::number_value))]

@@ -99,7 +99,7 @@ fn goes_on(text: &[u8]) -> bool
     }
 }
 
-/// How many bytes behind a `#` are skipped: blanks, the whole word `include` and the rest of the line.
+/// How many bytes after a `#` are skipped: blanks, the whole word `include` and the rest of the line.
 #[tactic(auto, unfolding(crate::specs::Piece::include_length))]
 fn include_length(text: &[u8]) -> Option<usize>
     ensures value { result ≡ include_length text.now }

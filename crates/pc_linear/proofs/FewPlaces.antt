@@ -21,7 +21,7 @@ within (u ∷ ts) zero t h = omega arith
 within (u ∷ ts) (suc at) t h = let lt = within ts at t h in omega arith
 
 module _ (f : Form) (kept : IsForm f) (at : ℕ) where
-  -- there are few places, and fewer behind one that is there
+  -- there are few places, and fewer after one that is there
   pub few_places : (t : Term) → slice_get f.terms at ≡ Some t → at < 4
   few_places t is = let lt = within f.terms at t is in let few = kept.few in omega arith
 

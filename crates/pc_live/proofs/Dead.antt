@@ -222,7 +222,7 @@ run_same flow (suc n) s t alike =
 
 -- ---- writes of dead variables
 
--- a write of a variable that is not live behind it leaves the state alike
+-- a write of a variable that is not live after it leaves the state alike
 pub dead_write : (flow : FlowGraph) (at variable : ℕ) (value : ℤ) (s : State) → (IsLive flow variable at → ⊥)
     → AlikeWhereLive flow (record { node = at; state = s }) (record { node = at; state = set_name variable value s })
 dead_write flow at variable value s dead = record {

@@ -85,7 +85,7 @@ example_is = record {
 
 -- ---- what is live
 
--- `v1` is live behind its last read in the loop's text, round the edge back to the loop's test
+-- `v1` is live after its last read in the loop's text, round the edge back to the loop's test
 live_round_the_loop : IsLive example 1 4
 live_round_the_loop = Read_later {next = 1} refl refl refl (Read_later {next = 2} refl refl (inl refl) (Read_here refl refl))
 

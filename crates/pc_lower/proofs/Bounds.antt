@@ -13,7 +13,7 @@ use Rattle.pc_check.specs.Needs.{need, optional_need, assignment_need}
 use Rattle.pc_check.specs.Sizes.{statement_size, branch_size, list_size}
 use Rattle.pc_check.specs.Sound.{is_length, has_slots, optional_has_slots, is_measured, has_target, is_sound, branch_is_sound, list_is_sound}
 use Rattle.pc_lower.specs.models.LowersExpression.{AreLengths}
-use Rattle.pc_lower.specs.models.LowersStatement.{loop_count, branch_loops, list_loops}
+use Rattle.pc_lower.specs.SourceLoops.{loop_count, branch_loops, list_loops}
 
 -- ---- loops and nodes
 

@@ -14,21 +14,22 @@ use Rattle.pc_syntax.specs.Erasure.{statement_of, list_of}
 use Rattle.pc_check.specs.Needs.{need}
 use Rattle.pc_check.specs.Sizes.{expression_size, optional_size, target_size, statement_size, branch_size, list_size}
 use Rattle.pc_check.specs.Sound.{has_slots, is_measured, is_sound, branch_is_sound, list_is_sound}
-use Rattle.pc_flow.specs.declared.node.FlowNode.{FlowNode}
-use Rattle.pc_flow.specs.declared.node.FlowNode.TheVariants.{Test}
+use Rattle.pc_flow.specs.FlowGraph.{FlowGraph}
 use Rattle.pc_word.specs.declared.item.Item.TheVariants.{Print}
-use Rattle.pc_lower.specs.Lowers.{held, Does, Gives, Assigns, Declares}
+use Rattle.pc_lower.specs.Lowers.{held, Does, Gives, Begins, Assigns, Declares}
 use Rattle.pc_lower.specs.declared.spot.Spot.{Spot}
 use Rattle.pc_lower.specs.declared.spot.Laid.{Laid}
 use Rattle.pc_lower.specs.models.Drafts.{Draft, IsPlaced}
-use Rattle.pc_lower.specs.models.Fills.{Lays}
+use Rattle.pc_lower.specs.models.Fills.{IsOwn, Lays, LaysLoops}
 use Rattle.pc_lower.specs.models.LowersExpression.{IsHeld}
-use Rattle.pc_lower.specs.models.LowersStatement.{loop_count, branch_loops, list_loops, IsSpot, AreTested, LaysList, LaysTurn, closed}
-use Rattle.pc_lower.specs.models.LowersStatement.{ConditionNodes, StatementNodes, OptionalNodes, ListNodes, RoundNodes, TurnsNodes}
+use Rattle.pc_lower.specs.SourceLoops.{with_loops, with_list_loops, loop_count, branch_loops, list_loops}
+use Rattle.pc_lower.specs.models.LowersStatement.{IsSpot, AreTested, LaysList}
+use Rattle.pc_lower.specs.models.LowersStatement.{StatementNodes, OptionalNodes, ListNodes}
 use Rattle.pc_lower.proofs.Weights.{statement_weight, list_weight}
-use Rattle.pc_lower.proofs.Fills.{lays_both, lays_as}
+use Rattle.pc_lower.proofs.Fills.{lays_as, lays_more}
 use Rattle.pc_lower.proofs.Spots.{lays_nothing, spot_before}
-use Rattle.pc_lower.proofs.Loops.{lays_round, lays_round_before}
+use Rattle.pc_lower.proofs.Compounds.{lays_numbered}
+use Rattle.pc_lower.proofs.Numbered.{adds_loops, adds_list_loops, marked_first, marked_second}
 use Rattle.pc_lower.proofs.Tested.{tested_none, tested_both, all_still}
 
 -- ---- parts in general
@@ -49,142 +50,113 @@ target_some None op = omega arith
 target_some (Some index) None = omega arith
 target_some (Some index) (Some op) = omega arith
 
--- ---- the nodes of the parts implement the whole
-
--- `if`
-pub lays_branch : {a b c d : Draft} {p m start z y to : ℕ} (x : SourceExpression) (s : SourceStatement) (o : OptionalStatement) (b' c' r q : ℕ)
-    → Lays a b (branch_size o) start to (OptionalNodes o b' c' r z q) → Lays b c (statement_size s) m start (StatementNodes s b' c' r y q)
-    → Lays c d (expression_size x + 1) p m (ConditionNodes x y z p)
-    → Lays a d (expression_size x + statement_size s + branch_size o + 1) p to (StatementNodes (Branch 0 x s o) b' c' r p q)
-lays_branch {p = p} {z = z} {y = y} x s o b' c' r q other chosen test =
-    lays_as (expression_size x + statement_size s + branch_size o + 1) (StatementNodes (Branch 0 x s o) b' c' r p q)
-    (lays_both (lays_both other chosen) test) (omega arith) (λ nodes h. record { is = (h.1.is.0, y, z, h.1.is.1, h.1.is.2, h.0.1.is, h.0.0.is) })
-
--- `while`
-pub lays_while : {a b c : Draft} {h at start to y : ℕ} (x : SourceExpression) (s : SourceStatement) (b' c' r q own : ℕ)
-    → LaysTurn a b x own h at → Lays b c (statement_size s) start to (StatementNodes s q h r y h) → at + 1 + statement_size s ≡ to → to ≤ length a.graph.nodes
-    → Lays a (closed at (Test (held x 0) y q (Some own)) own h c) (expression_size x + statement_size s + 1) h to (StatementNodes (WhileLoop 0 x s) b' c' r h q)
-lays_while {b = b} {c = c} {h = h} {at = at} {start = start} {to = to} {y = y} x s b' c' r q own turn body place there =
-    let e = body.size_is in
-    let same : start ≡ at + 1 = omega (arith, e, place) in
-    let behind = subst (λ (n : ℕ). Lays b c (statement_size s) n to (StatementNodes s q h r y h)) same body in
-    lays_as (expression_size x + statement_size s + 1) (StatementNodes (WhileLoop 0 x s) b' c' r h q)
-    (lays_round x (Test (held x 0) y q (Some own)) own h turn behind there) (omega arith) (λ nodes h. record { is = (at, y, h.0, (own, h.1), h.2.is) })
-
--- `do`
-pub lays_do : {a b c : Draft} {h at start p to : ℕ} (x : SourceExpression) (s : SourceStatement) (b' c' r q own : ℕ)
-    → LaysTurn a b x own h at → Lays b c (statement_size s) start h (StatementNodes s q h r p h) → at + 1 ≡ to → to ≤ length a.graph.nodes
-    → Lays a (closed at (Test (held x 0) p q (Some own)) own start c) (statement_size s + expression_size x + 1) start to (StatementNodes (DoLoop 0 s x) b' c' r p q)
-lays_do {a = a} {c = c} {h = h} {at = at} {start = start} {p = p} {to = to} x s b' c' r q own turn body place there =
-    subst (λ (n : ℕ). Lays a (closed at (Test (held x 0) p q (Some own)) own start c) (statement_size s + expression_size x + 1) start n
-    (StatementNodes (DoLoop 0 s x) b' c' r p q)) place
-    (lays_as (statement_size s + expression_size x + 1) (StatementNodes (DoLoop 0 s x) b' c' r p q)
-    (lays_round_before x (Test (held x 0) p q (Some own)) own start turn body (omega (arith, place, there))) refl (λ nodes g. record { is = (h, at, g.0.is, g.1, (own, g.2)) }))
-
--- the body and the step of a `for`
-pub lays_body_and_step : {a b c : Draft} {start middle to y m : ℕ} (s : SourceStatement) (o : OptionalStatement) (out b' c' r q : ℕ)
-    → Lays a b (branch_size o) middle to (OptionalNodes o b' c' r m q) → Lays b c (statement_size s) start middle (StatementNodes s out m r y m)
-    → Lays a c (statement_size s + branch_size o) start to (RoundNodes s o out b' c' r y q)
-lays_body_and_step {y = y} {m = m} s o out b' c' r q step body =
-    lays_as (statement_size s + branch_size o) (RoundNodes s o out b' c' r y q) (lays_both step body) refl (λ nodes h. record { is = (m, h.1.is, h.0.is) })
-
--- the turns of a `for`
-pub lays_turns : {a b c : Draft} {h at start to y : ℕ} (x : SourceExpression) (o : OptionalStatement) (s : SourceStatement) (b' c' r q own : ℕ)
-    → LaysTurn a b x own h at → Lays b c (statement_size s + branch_size o) start to (RoundNodes s o q b' c' r y h)
-    → at + 1 + (statement_size s + branch_size o) ≡ to → to ≤ length a.graph.nodes
-    → Lays a (closed at (Test (held x 0) y q (Some own)) own h c) (expression_size x + 1 + (statement_size s + branch_size o)) h to (TurnsNodes x o s b' c' r h q)
-lays_turns {b = b} {c = c} {h = h} {at = at} {start = start} {to = to} {y = y} x o s b' c' r q own turn round place there =
-    let e = round.size_is in
-    let same : start ≡ at + 1 = omega (arith, e, place) in
-    let behind = subst (λ (n : ℕ). Lays b c (statement_size s + branch_size o) n to (RoundNodes s o q b' c' r y h)) same round in
-    lays_as (expression_size x + 1 + (statement_size s + branch_size o)) (TurnsNodes x o s b' c' r h q)
-    (lays_round x (Test (held x 0) y q (Some own)) own h turn behind there) refl (λ nodes g. record { is = (at, y, g.2.is.0, g.0, (own, g.1), g.2.is.1, g.2.is.2) })
-
--- `for`
-pub lays_for : {a b c : Draft} {h start to p : ℕ} (f : SourceList) (x : SourceExpression) (o : OptionalStatement) (s : SourceStatement) (b' c' r q : ℕ)
-    → Lays a b (expression_size x + 1 + (statement_size s + branch_size o)) h to (TurnsNodes x o s b' c' r h q)
-    → Lays b c (list_size f) start h (ListNodes f b' c' r p h)
-    → Lays a c (list_size f + expression_size x + branch_size o + statement_size s + 1) start to (StatementNodes (ForLoop 0 f x o s) b' c' r p q)
-lays_for {h = h} {p = p} f x o s b' c' r q turns first =
-    lays_as (list_size f + expression_size x + branch_size o + statement_size s + 1) (StatementNodes (ForLoop 0 f x o s) b' c' r p q)
-    (lays_both turns first) (omega arith) (λ nodes g. record { is = (h, g.0.is.0, g.0.is.1, g.0.is.2, g.1.is, g.0.is.3, g.0.is.4, g.0.is.5, g.0.is.6) })
-
 -- ---- each statement, by what was laid of its parts
 
 -- no node tells the line of an assignment's name
-any_line : (nodes : List FlowNode) (lengths : List ℕ) (name line : ℕ) (index : Option SourceExpression) (bracket : ℕ) (op : Option BinaryOp) (at : ℕ) (value : SourceExpression)
-    (p q : ℕ) → Assigns nodes lengths name 0 index bracket op at value p q → Assigns nodes lengths name line index bracket op at value p q
-any_line nodes lengths name line None bracket None at value p q h = h
-any_line nodes lengths name line None bracket (Some op) at value p q h = h
-any_line nodes lengths name line (Some index) bracket None at value p q h = h
-any_line nodes lengths name line (Some index) bracket (Some op) at value p q h = h
+any_line : (flow : FlowGraph) (inside : Option ℕ) (name line : ℕ) (index : Option SourceExpression) (bracket : ℕ) (op : Option BinaryOp) (at : ℕ) (value : SourceExpression)
+    (p q : ℕ) → Assigns flow inside name 0 index bracket op at value p q → Assigns flow inside name line index bracket op at value p q
+any_line flow inside name line None bracket None at value p q h = h
+any_line flow inside name line None bracket (Some op) at value p q h = h
+any_line flow inside name line (Some index) bracket None at value p q h = h
+any_line flow inside name line (Some index) bracket (Some op) at value p q h = h
 
-module _ {a b : Draft} {start to : ℕ} (b' c' r p q : ℕ) where
-  pub lays_scope : (items : SourceList) → Lays a b (list_size items) start to (ListNodes items b' c' r p q)
-      → Lays a b (statement_size (Scope items)) start to (StatementNodes (Scope items) b' c' r p q)
-  unfolding statement_size
-  lays_scope items l = lays_as (list_size items) (StatementNodes (Scope items) b' c' r p q) l refl (λ nodes h. record { is = h.is })
+module _ {a b : Draft} {start to : ℕ} {inside : Option ℕ} {ends : ℕ} (b' c' r p q : ℕ) where
+  pub lays_scope : (items : SourceList) → LaysLoops a b (list_size items) start to (IsOwn (list_loops items) ends) (ListNodes items inside ends start to b' c' r p q)
+      → LaysLoops a b (statement_size (Scope items)) start to (IsOwn (loop_count (Scope items)) ends) (StatementNodes (Scope items) inside ends start to b' c' r p q)
+  unfolding statement_size loop_count with_loops
+  lays_scope items l = lays_as (list_size items) (StatementNodes (Scope items) inside ends start to b' c' r p q) l refl (λ flow h. record { is = h.is })
 
-  pub lays_declaration : (name line : ℕ) (initial : Option SourceExpression)
-      → Lays a b (optional_size initial + 1) start to (λ nodes lengths. Declares nodes lengths name initial p q)
-      → Lays a b (statement_size (ScalarDeclaration name line initial)) start to (StatementNodes (ScalarDeclaration name line initial) b' c' r p q)
+  pub lays_evaluation : (line : ℕ) (value : SourceExpression)
+      → Lays a b (expression_size value) start to (λ flow. Begins (expression_size value) p start to × Gives flow inside value 0 p q)
+      → LaysLoops a b (statement_size (Evaluation line value)) start to (IsOwn (loop_count (Evaluation line value)) ends)
+      (StatementNodes (Evaluation line value) inside ends start to b' c' r p q)
   unfolding statement_size
-  lays_declaration name line initial l =
-      lays_as (optional_size initial + 1) (StatementNodes (ScalarDeclaration name line initial) b' c' r p q) l refl (λ nodes h. record { is = h })
+  lays_evaluation line value l =
+      lays_as (expression_size value) (StatementNodes (Evaluation line value) inside ends start to b' c' r p q) (lays_more l) refl
+      (λ flow h. record { is = λ k n marked. (h.0, h.1) })
 
-  pub lays_assignment : (name line : ℕ) (index : Option SourceExpression) (bracket : ℕ) (op : Option BinaryOp) (at : ℕ) (value : SourceExpression)
-      → Lays a b (optional_size index + expression_size value + target_size index op) start to (λ nodes lengths. Assigns nodes lengths name 0 index bracket op at value p q)
-      → Lays a b (statement_size (Assignment name line index bracket op at value)) start to (StatementNodes (Assignment name line index bracket op at value) b' c' r p q)
+  pub lays_return : (line : ℕ) (value : SourceExpression)
+      → Lays a b (expression_size value) start to (λ flow. Begins (expression_size value) p start to × Gives flow inside value 0 p r)
+      → LaysLoops a b (statement_size (ReturnFrom line value)) start to (IsOwn (loop_count (ReturnFrom line value)) ends)
+      (StatementNodes (ReturnFrom line value) inside ends start to b' c' r p q)
   unfolding statement_size
-  lays_assignment name line index bracket op at value l =
-      lays_as (optional_size index + expression_size value + target_size index op) (StatementNodes (Assignment name line index bracket op at value) b' c' r p q) l refl
-      (λ nodes h. record { is = any_line nodes a.graph.arrays name line index bracket op at value p q h })
-
-  pub lays_printing : (line : ℕ) (value : SourceExpression)
-      → Lays a b (expression_size value + 1) start to (λ nodes lengths. (m : ℕ) × Gives nodes lengths value 0 p m × Does nodes lengths m (Print (held value 0)) q)
-      → Lays a b (statement_size (Printing line value)) start to (StatementNodes (Printing line value) b' c' r p q)
-  unfolding statement_size
-  lays_printing line value l = lays_as (expression_size value + 1) (StatementNodes (Printing line value) b' c' r p q) l refl (λ nodes h. record { is = h })
-
-  pub lays_evaluation : (line : ℕ) (value : SourceExpression) → Lays a b (expression_size value) start to (λ nodes lengths. Gives nodes lengths value 0 p q)
-      → Lays a b (statement_size (Evaluation line value)) start to (StatementNodes (Evaluation line value) b' c' r p q)
-  unfolding statement_size
-  lays_evaluation line value l = lays_as (expression_size value) (StatementNodes (Evaluation line value) b' c' r p q) l refl (λ nodes h. record { is = h })
-
-  pub lays_return : (line : ℕ) (value : SourceExpression) → Lays a b (expression_size value) start to (λ nodes lengths. Gives nodes lengths value 0 p r)
-      → Lays a b (statement_size (ReturnFrom line value)) start to (StatementNodes (ReturnFrom line value) b' c' r p q)
-  unfolding statement_size
-  lays_return line value l = lays_as (expression_size value) (StatementNodes (ReturnFrom line value) b' c' r p q) l refl (λ nodes h. record { is = h })
+  lays_return line value l =
+      lays_as (expression_size value) (StatementNodes (ReturnFrom line value) inside ends start to b' c' r p q) (lays_more l) refl
+      (λ flow h. record { is = λ k n marked. (h.0, h.1) })
 
   pub lays_branch_of : (line : ℕ) (x : SourceExpression) (s : SourceStatement) (o : OptionalStatement)
-      → Lays a b (expression_size x + statement_size s + branch_size o + 1) start to (StatementNodes (Branch 0 x s o) b' c' r p q)
-      → Lays a b (statement_size (Branch line x s o)) start to (StatementNodes (Branch line x s o) b' c' r p q)
-  unfolding statement_size
-  lays_branch_of line x s o l = lays_as (expression_size x + statement_size s + branch_size o + 1) (StatementNodes (Branch line x s o) b' c' r p q) l refl (λ nodes h. record { is = h.is })
+      → LaysLoops a b (expression_size x + statement_size s + branch_size o + 1) start to (IsOwn (loop_count s + branch_loops o) ends)
+      (StatementNodes (Branch 0 x s o) inside ends start to b' c' r p q)
+      → LaysLoops a b (statement_size (Branch line x s o)) start to (IsOwn (loop_count (Branch line x s o)) ends)
+      (StatementNodes (Branch line x s o) inside ends start to b' c' r p q)
+  unfolding statement_size loop_count with_loops
+  lays_branch_of line x s o l =
+      lays_as (expression_size x + statement_size s + branch_size o + 1) (StatementNodes (Branch line x s o) inside ends start to b' c' r p q) l refl
+      (λ flow h. record { is = h.is })
 
   pub lays_while_of : (line : ℕ) (x : SourceExpression) (s : SourceStatement)
-      → Lays a b (expression_size x + statement_size s + 1) start to (StatementNodes (WhileLoop 0 x s) b' c' r p q)
-      → Lays a b (statement_size (WhileLoop line x s)) start to (StatementNodes (WhileLoop line x s) b' c' r p q)
-  unfolding statement_size
-  lays_while_of line x s l = lays_as (expression_size x + statement_size s + 1) (StatementNodes (WhileLoop line x s) b' c' r p q) l refl (λ nodes h. record { is = h.is })
+      → LaysLoops a b (expression_size x + statement_size s + 1) start to (IsOwn (loop_count s + 1) ends)
+      (StatementNodes (WhileLoop line x s) inside ends start to b' c' r p q)
+      → LaysLoops a b (statement_size (WhileLoop line x s)) start to (IsOwn (loop_count (WhileLoop line x s)) ends)
+      (StatementNodes (WhileLoop line x s) inside ends start to b' c' r p q)
+  unfolding statement_size loop_count
+  lays_while_of line x s l =
+      lays_as (expression_size x + statement_size s + 1) (StatementNodes (WhileLoop line x s) inside ends start to b' c' r p q) l refl (λ flow h. record { is = h.is })
 
   pub lays_do_of : (line : ℕ) (x : SourceExpression) (s : SourceStatement)
-      → Lays a b (statement_size s + expression_size x + 1) start to (StatementNodes (DoLoop 0 s x) b' c' r p q)
-      → Lays a b (statement_size (DoLoop line s x)) start to (StatementNodes (DoLoop line s x) b' c' r p q)
-  unfolding statement_size
-  lays_do_of line x s l = lays_as (statement_size s + expression_size x + 1) (StatementNodes (DoLoop line s x) b' c' r p q) l refl (λ nodes h. record { is = h.is })
+      → LaysLoops a b (statement_size s + expression_size x + 1) start to (IsOwn (loop_count s + 1) ends)
+      (StatementNodes (DoLoop line s x) inside ends start to b' c' r p q)
+      → LaysLoops a b (statement_size (DoLoop line s x)) start to (IsOwn (loop_count (DoLoop line s x)) ends)
+      (StatementNodes (DoLoop line s x) inside ends start to b' c' r p q)
+  unfolding statement_size loop_count
+  lays_do_of line x s l =
+      lays_as (statement_size s + expression_size x + 1) (StatementNodes (DoLoop line s x) inside ends start to b' c' r p q) l refl (λ flow h. record { is = h.is })
 
   pub lays_for_of : (line : ℕ) (f : SourceList) (x : SourceExpression) (o : OptionalStatement) (s : SourceStatement)
-      → Lays a b (list_size f + expression_size x + branch_size o + statement_size s + 1) start to (StatementNodes (ForLoop 0 f x o s) b' c' r p q)
-      → Lays a b (statement_size (ForLoop line f x o s)) start to (StatementNodes (ForLoop line f x o s) b' c' r p q)
-  unfolding statement_size
+      → LaysLoops a b (list_size f + expression_size x + branch_size o + statement_size s + 1) start to
+      (IsOwn (list_loops f + (branch_loops o + loop_count s) + 1) ends) (StatementNodes (ForLoop line f x o s) inside ends start to b' c' r p q)
+      → LaysLoops a b (statement_size (ForLoop line f x o s)) start to (IsOwn (loop_count (ForLoop line f x o s)) ends)
+      (StatementNodes (ForLoop line f x o s) inside ends start to b' c' r p q)
+  unfolding statement_size loop_count
   lays_for_of line f x o s l =
-      lays_as (list_size f + expression_size x + branch_size o + statement_size s + 1) (StatementNodes (ForLoop line f x o s) b' c' r p q) l refl (λ nodes h. record { is = h.is })
+      lays_as (list_size f + expression_size x + branch_size o + statement_size s + 1) (StatementNodes (ForLoop line f x o s) inside ends start to b' c' r p q) l refl
+      (λ flow h. record { is = h.is })
 
-  pub lays_present : (s : SourceStatement) → Lays a b (statement_size s) start to (StatementNodes s b' c' r p q)
-      → Lays a b (branch_size (Present s)) start to (OptionalNodes (Present s) b' c' r p q)
+  pub lays_present : (s : SourceStatement)
+      → LaysLoops a b (statement_size s) start to (IsOwn (loop_count s) ends) (StatementNodes s inside ends start to b' c' r p q)
+      → LaysLoops a b (branch_size (Present s)) start to (IsOwn (branch_loops (Present s)) ends) (OptionalNodes (Present s) inside ends start to b' c' r p q)
+  unfolding statement_size loop_count with_loops
+  lays_present s l = lays_as (statement_size s) (OptionalNodes (Present s) inside ends start to b' c' r p q) l refl (λ flow h. record { is = h.is })
+
+-- statements that begin with their first node
+module _ {a b : Draft} {start to : ℕ} {inside : Option ℕ} {ends : ℕ} (b' c' r q : ℕ) where
+  pub lays_declaration : (name line : ℕ) (initial : Option SourceExpression)
+      → Lays a b (optional_size initial + 1) start to (λ flow. Declares flow inside name initial start q)
+      → LaysLoops a b (statement_size (ScalarDeclaration name line initial)) start to (IsOwn (loop_count (ScalarDeclaration name line initial)) ends)
+      (StatementNodes (ScalarDeclaration name line initial) inside ends start to b' c' r start q)
   unfolding statement_size
-  lays_present s l = lays_as (statement_size s) (OptionalNodes (Present s) b' c' r p q) l refl (λ nodes h. record { is = h.is })
+  lays_declaration name line initial l =
+      lays_as (optional_size initial + 1) (StatementNodes (ScalarDeclaration name line initial) inside ends start to b' c' r start q) (lays_more l) refl
+      (λ flow h. record { is = λ k n marked. (refl, h) })
+
+  pub lays_assignment : (name line : ℕ) (index : Option SourceExpression) (bracket : ℕ) (op : Option BinaryOp) (at : ℕ) (value : SourceExpression)
+      → Lays a b (optional_size index + expression_size value + target_size index op) start to (λ flow. Assigns flow inside name 0 index bracket op at value start q)
+      → LaysLoops a b (statement_size (Assignment name line index bracket op at value)) start to (IsOwn (loop_count (Assignment name line index bracket op at value)) ends)
+      (StatementNodes (Assignment name line index bracket op at value) inside ends start to b' c' r start q)
+  unfolding statement_size
+  lays_assignment name line index bracket op at value l =
+      lays_as (optional_size index + expression_size value + target_size index op)
+      (StatementNodes (Assignment name line index bracket op at value) inside ends start to b' c' r start q) (lays_more l) refl
+      (λ flow h. record { is = λ k n marked. (refl, any_line flow inside name line index bracket op at value start q h) })
+
+  pub lays_printing : (line : ℕ) (value : SourceExpression)
+      → Lays a b (expression_size value + 1) start to (λ flow. (m : ℕ) × Gives flow inside value 0 start m × Does flow inside m (Print (held value 0)) q)
+      → LaysLoops a b (statement_size (Printing line value)) start to (IsOwn (loop_count (Printing line value)) ends)
+      (StatementNodes (Printing line value) inside ends start to b' c' r start q)
+  unfolding statement_size
+  lays_printing line value l =
+      lays_as (expression_size value + 1) (StatementNodes (Printing line value) inside ends start to b' c' r start q) (lays_more l) refl
+      (λ flow h. record { is = λ k n marked. (h.0, refl, h.1, h.2) })
 
 -- the parts of a `for`
 module _ (line : ℕ) (f : SourceList) (x : SourceExpression) (o : OptionalStatement) (s : SourceStatement) where
@@ -203,26 +175,30 @@ module _ (line : ℕ) (f : SourceList) (x : SourceExpression) (o : OptionalState
       (first.0, (second.0, and_true (branch_is_sound most_scalars n true o) (is_sound most_scalars n true s) second.1))
 
 -- statements without nodes, which begin where they lead to
-module _ (d : Draft) (to b' c' r q : ℕ) where
-  pub lays_break : (line : ℕ) → Lays d d (statement_size (BreakOut line)) to to (StatementNodes (BreakOut line) b' c' r b' q)
+module _ (d : Draft) (to : ℕ) (inside : Option ℕ) (ends b' c' r q : ℕ) where
+  pub lays_break : (line : ℕ) → LaysLoops d d (statement_size (BreakOut line)) to to (IsOwn (loop_count (BreakOut line)) ends)
+      (StatementNodes (BreakOut line) inside ends to to b' c' r b' q)
   unfolding statement_size
-  lays_break line = lays_nothing d to (StatementNodes (BreakOut line) b' c' r b' q) (λ final. record { is = refl })
+  lays_break line = lays_nothing d to (StatementNodes (BreakOut line) inside ends to to b' c' r b' q) (λ final. record { is = λ k n marked. (refl, refl) })
 
-  pub lays_continue : (line : ℕ) → Lays d d (statement_size (ContinueOn line)) to to (StatementNodes (ContinueOn line) b' c' r c' q)
+  pub lays_continue : (line : ℕ) → LaysLoops d d (statement_size (ContinueOn line)) to to (IsOwn (loop_count (ContinueOn line)) ends)
+      (StatementNodes (ContinueOn line) inside ends to to b' c' r c' q)
   unfolding statement_size
-  lays_continue line = lays_nothing d to (StatementNodes (ContinueOn line) b' c' r c' q) (λ final. record { is = refl })
+  lays_continue line = lays_nothing d to (StatementNodes (ContinueOn line) inside ends to to b' c' r c' q) (λ final. record { is = λ k n marked. (refl, refl) })
 
-  pub lays_array : (name line at size : ℕ) → Lays d d (statement_size (ArrayDeclaration name line at size)) to to (StatementNodes (ArrayDeclaration name line at size) b' c' r q q)
+  pub lays_array : (name line at size : ℕ) → LaysLoops d d (statement_size (ArrayDeclaration name line at size)) to to
+      (IsOwn (loop_count (ArrayDeclaration name line at size)) ends) (StatementNodes (ArrayDeclaration name line at size) inside ends to to b' c' r q q)
   unfolding statement_size
-  lays_array name line at size = lays_nothing d to (StatementNodes (ArrayDeclaration name line at size) b' c' r q q) (λ final. record { is = refl })
+  lays_array name line at size =
+      lays_nothing d to (StatementNodes (ArrayDeclaration name line at size) inside ends to to b' c' r q q) (λ final. record { is = λ k n marked. (refl, refl) })
 
-  pub lays_empty : Lays d d (statement_size Nothing) to to (StatementNodes Nothing b' c' r q q)
+  pub lays_empty : LaysLoops d d (statement_size Nothing) to to (IsOwn (loop_count Nothing) ends) (StatementNodes Nothing inside ends to to b' c' r q q)
   unfolding statement_size
-  lays_empty = lays_nothing d to (StatementNodes Nothing b' c' r q q) (λ final. record { is = refl })
+  lays_empty = lays_nothing d to (StatementNodes Nothing inside ends to to b' c' r q q) (λ final. record { is = λ k n marked. (refl, refl) })
 
-  pub lays_absent : Lays d d (branch_size Absent) to to (OptionalNodes Absent b' c' r q q)
+  pub lays_absent : LaysLoops d d (branch_size Absent) to to (IsOwn (branch_loops Absent) ends) (OptionalNodes Absent inside ends to to b' c' r q q)
   unfolding statement_size
-  lays_absent = lays_nothing d to (OptionalNodes Absent b' c' r q q) (λ final. record { is = refl })
+  lays_absent = lays_nothing d to (OptionalNodes Absent inside ends to to b' c' r q q) (λ final. record { is = λ k n marked. (refl, refl) })
 
 pub ruleset endings = (lays_break, lays_continue, lays_array, lays_empty, lays_absent)
 
@@ -253,7 +229,7 @@ is_part (first ∷ others) (suc i) =
       sound = λ n h. part.sound n (and_true (is_sound most_scalars n true (statement_of first)) (list_is_sound most_scalars n true (list_of others)) h).1;
     }
 
--- the statement at a place, and those behind it
+-- the statement at a place, and those after it
 list_at : (items : List Stmt) (i : ℕ) (item : Stmt) → i < length items → item ≡ get_or items i item
     → list_of (drop i items) ≡ More (statement_of item) (list_of (drop (suc i) items))
 unfolding list_of
@@ -274,7 +250,9 @@ none_laid d spot items placed e = rw (drop-length items, e) (made)
   where
     made : ListLaid d d spot No_more (record { start = spot.end; entry = spot.next }) spot.loops_end
     made = record {
-      lays = lays_nothing d spot.end (ListNodes No_more spot.break_to spot.continue_to spot.return_to spot.next spot.next) (λ final. record { is = refl });
+      lays = lays_nothing d spot.end
+          (ListNodes No_more spot.inside spot.loops_end spot.end spot.end spot.break_to spot.continue_to spot.return_to spot.next spot.next)
+          (λ final. record { is = λ k n marked. (refl, refl) });
       begins = placed;
       numbers = omega arith;
       tested = tested_none;
@@ -314,19 +292,30 @@ module _ {d d1 : Draft} {spot : Spot} (items : List Stmt) (i at : ℕ) (item : S
   item_numbers = item_spot.numbers
 
   pub item_laid : {d2 : Draft} {new : Laid} {ends : ℕ}
-      → Lays d1 d2 (statement_size (statement_of item)) new.start laid.start
-      (StatementNodes (statement_of item) spot.break_to spot.continue_to spot.return_to new.entry laid.entry)
+      → LaysLoops d1 d2 (statement_size (statement_of item)) new.start laid.start (IsOwn (loop_count (statement_of item)) loops_end)
+      (StatementNodes (statement_of item) spot.inside loops_end new.start laid.start spot.break_to spot.continue_to spot.return_to new.entry laid.entry)
       → IsPlaced d2.graph new.entry → ends + loop_count (statement_of item) ≡ loops_end
       → AreTested d2 (loop_count (statement_of item)) loops_end → ListLaid d d2 spot (list_of (drop i items)) new ends
-  unfolding list_size loop_count
+  unfolding list_size loop_count with_loops
   item_laid {d2} {new} {ends} l begins e tested =
       let numbers = laid-so_far.numbers in
       let made : ListLaid d d2 spot (More (statement_of item) (list_of (drop (suc i) items))) new ends = record {
         lays = lays_as (statement_size (statement_of item) + list_size (list_of (drop (suc i) items)))
-            (ListNodes (More (statement_of item) (list_of (drop (suc i) items))) spot.break_to spot.continue_to spot.return_to new.entry spot.next)
-            (lays_both laid-so_far.lays l) refl (λ nodes h. record { is = (laid.entry, h.1.is, h.0.is) });
+            (ListNodes (More (statement_of item) (list_of (drop (suc i) items))) spot.inside spot.loops_end new.start spot.end
+            spot.break_to spot.continue_to spot.return_to new.entry spot.next)
+            (lays_numbered (loop_count (statement_of item) + list_loops (list_of (drop (suc i) items))) laid-so_far.lays l numbers refl) refl
+            (λ flow h. record {
+              is = λ k n marked.
+                  let first = with_loops (statement_of item) spot.inside in
+                  let second = with_list_loops (list_of (drop (suc i) items)) spot.inside in (
+                    laid.entry,
+                    laid.start,
+                    h.1.is k (omega (arith, n, numbers)) (marked_first first second marked (adds_list_loops (list_of (drop (suc i) items)) spot.inside)),
+                    h.0.is (k + loop_count (statement_of item)) (omega (arith, n)) (marked_second first second marked (adds_loops (statement_of item) spot.inside)),
+                  );
+            });
         begins = begins;
         numbers = omega (arith, numbers, e);
-        tested = tested_both _ tested (all_still l laid-so_far.tested) numbers refl;
+        tested = tested_both _ tested (all_still l.fills laid-so_far.tested) numbers refl;
       } in
       subst (λ (rest : SourceList). ListLaid d d2 spot rest new ends) (sym (list_at items i item below read)) made

@@ -1,4 +1,5 @@
 pub mod LoopMarks
+pub mod Numbered
 pub mod Drafts
 pub mod Fills
 pub mod Layouts
@@ -8,6 +9,7 @@ pub mod Assigned
 pub mod Spots
 pub mod Loops
 pub mod Tested
+pub mod Compounds
 pub mod Constructs
 pub mod Rules
 pub mod Bounds

@@ -12,8 +12,7 @@ use Rattle.pc_syntax.specs.Source.{SourceExpression, SourceStatement, Scope, Sca
 use Rattle.pc_syntax.specs.Source.{DoLoop, ForLoop, BreakOut, ContinueOn, ReturnFrom, Nothing, OptionalStatement, Absent, Present, SourceList, No_more, More}
 use Rattle.pc_syntax.specs.Erasure.{statement_of, list_of}
 use Rattle.pc_syntax.proofs.ErasureLaws.{statement_forms}
-use Rattle.pc_lower.specs.SourceLoops.{SourceLoop, source_loop, source_loops, with_loop, with_loops, with_branch_loops, with_list_loops}
-use Rattle.pc_lower.specs.models.LowersStatement.{loop_count, list_loops}
+use Rattle.pc_lower.specs.SourceLoops.{SourceLoop, source_loop, source_loops, with_loop, with_loops, with_branch_loops, with_list_loops, loop_count, list_loops}
 use Rattle.pc_lower.proofs.Weights.{statement_weight, list_weight}
 use Rattle.pc_lower.specs.models.Drafts.{with_header}
 use Rattle.pc_word.proofs.Places.{get_more}
@@ -48,7 +47,7 @@ marked_for old one two three line f x o s outer own number first second third = 
 
 -- ---- statements in order
 
--- the statement at a place, and those behind it
+-- the statement at a place, and those after it
 pub statements_from : (items : List Stmt) (i : ℕ) (item : Stmt) → i < length items → item ≡ get_or items i item
     → list_of (drop i items) ≡ More (statement_of item) (list_of (drop (suc i) items))
 unfolding list_of
@@ -61,7 +60,7 @@ weights_from items zero = omega arith
 weights_from [] (suc i) = omega arith
 weights_from (first ∷ others) (suc i) = let rest = weights_from others i in omega (arith, rest)
 
--- nothing is left behind all
+-- nothing is left after all
 drop_past : (items : List Stmt) (i : ℕ) → length items ≤ i → drop i items ≡ []
 drop_past [] zero past = refl
 drop_past [] (suc i) past = refl
@@ -118,7 +117,7 @@ marked_all {items} {outer} {old} {new} {i} all past =
 abbrev pub OuterFirst : List SourceLoop → Type 0
 OuterFirst loops = (i : ℕ) (loop : SourceLoop) → slice_get loops i ≡ Some loop → IfSome loop.outer (λ outer. outer < i)
 
--- loops behind others, of which the loop round each has a smaller number
+-- loops after others, of which the loop round each has a smaller number
 pub record Ordered (old new : List SourceLoop) : Type 0 where
   pub longer : length old ≤ length new
   pub first : OuterFirst new
@@ -249,6 +248,22 @@ header_outer (old ∷ marks) zero header zero mark e =
 header_outer (old ∷ marks) zero header (suc i) mark e = (mark, e, refl)
 header_outer (old ∷ marks) (suc number) header zero mark e = let same : old ≡ mark = (cc) in (old, refl, ap (λ (m : LoopMark). m.outer) same)
 header_outer (old ∷ marks) (suc number) header (suc i) mark e = header_outer marks number header i mark e
+
+-- the mark of that loop has the header
+pub header_there : (marks : List LoopMark) (number header : ℕ) → number < length marks
+    → (mark : LoopMark) × (slice_get (with_header marks number header) number ≡ Some mark) × (mark.header ≡ header)
+header_there [] number header lt = absurd (omega arith)
+header_there (mark ∷ marks) zero header lt = (record mark { header = header }, refl, refl)
+header_there (mark ∷ marks) (suc number) header lt = header_there marks number header (omega arith)
+
+-- and the mark of another stays
+pub header_elsewhere : (marks : List LoopMark) (number header i : ℕ) → (i ≡ number → ⊥)
+    → slice_get (with_header marks number header) i ≡ slice_get marks i
+header_elsewhere [] number header i other = refl
+header_elsewhere (mark ∷ marks) zero header zero other = absurd (other refl)
+header_elsewhere (mark ∷ marks) zero header (suc i) other = refl
+header_elsewhere (mark ∷ marks) (suc number) header zero other = refl
+header_elsewhere (mark ∷ marks) (suc number) header (suc i) other = header_elsewhere marks number header i (λ e. other (ap suc e))
 
 -- a mark with another header, put back in its place
 pub header_put_at : (marks : List LoopMark) (number header : ℕ) (d : LoopMark) → number < length marks

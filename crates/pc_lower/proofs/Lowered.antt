@@ -1,6 +1,6 @@
 -- Expressions that are lowered part by part: what each part may take for granted, and what the parts together give.
-use Rattle.std.proofs.Common.{◌≡◌, ℕ, ◌+◌, ◌<◌, ◌≤◌, ◌⊎◌, inl, inr, true, ◌&&◌, List, length, Option, Some, None, refl, sym, ◌∙◌, ap, subst, arith}
-use Rattle.std.specs.Prelude.{ℤ, pos, slice_get, max, nat_lt}
+use Rattle.std.proofs.Common.{◌≡◌, ℕ, ◌+◌, ◌<◌, ◌≤◌, ◌⊎◌, inl, inr, true, ◌&&◌, List, length, Option, refl, sym, ◌∙◌, ap, subst, arith}
+use Rattle.std.specs.Prelude.{ℤ, pos, max, nat_lt}
 use Rattle.pc_word.specs.declared.item.Item.TheVariants.{Bin, Copy, Load, Read, More}
 use Rattle.pc_word.specs.declared.item.Operand.{Operand}
 use Rattle.pc_word.specs.declared.item.Operand.TheVariants.{Name, Lit}
@@ -15,10 +15,8 @@ use Rattle.pc_syntax.specs.Source.{SourceExpression, Literal, Variable, Input, I
 use Rattle.pc_check.specs.Needs.{hold, need}
 use Rattle.pc_check.specs.Sizes.{expression_size, operator_size}
 use Rattle.pc_check.specs.Sound.{has_slots}
-use Rattle.pc_flow.specs.declared.node.FlowNode.{FlowNode}
-use Rattle.pc_flow.specs.declared.node.FlowNode.TheVariants.{Op, Test}
-use Rattle.pc_flow.specs.FlowGraph.{IsVariable, ItemFits}
-use Rattle.pc_lower.specs.Lowers.{temporary, held, prefix_item, Bounds, Combines, Does, Gives}
+use Rattle.pc_flow.specs.FlowGraph.{FlowGraph, IsVariable, ItemFits}
+use Rattle.pc_lower.specs.Lowers.{temporary, held, prefix_item, Bounds, Combines, Does, Tests, Gives}
 use Rattle.pc_lower.specs.models.Drafts.{Draft}
 use Rattle.pc_lower.specs.models.Fills.{Lays, HasRoom}
 use Rattle.pc_lower.specs.models.LowersExpression.{AreLengths, MayLower, LaysExpression, Guards}
@@ -61,7 +59,7 @@ prefix_fits Not dest arrays a h k = record { reads = (k, (tt, tt)); writes = h; 
 -- ---- parts
 
 -- a part that is lowered before nodes that were placed: it leads on to the first of them
-pub may_part : {d d1 : Draft} {e : SourceExpression} {t to q k m : ℕ} {inside : Option ℕ} {P : List FlowNode → List ℕ → Type 0} (x : SourceExpression) (u : ℕ)
+pub may_part : {d d1 : Draft} {e : SourceExpression} {t to q k m : ℕ} {inside : Option ℕ} {P : FlowGraph → Type 0} (x : SourceExpression) (u : ℕ)
     → MayLower d e t to q inside → Lays d d1 k m to P → has_slots most_scalars (length d.graph.arrays) x ≡ true → u + need x ≤ most_temporaries
     → expression_size x + k ≤ expression_size e → 1 ≤ k → MayLower d1 x u m m inside
 may_part {d} {d1} {e} {t} {to} {q} {k} {m} {inside} {P} x u may l slots temporaries size some = record {
@@ -76,15 +74,15 @@ may_part {d} {d1} {e} {t} {to} {q} {k} {m} {inside} {P} x u may l slots temporar
 -- ---- each construct
 
 -- `read()`
-pub lays_read : {a b c d : Draft} {p n m to : ℕ} (line t q : ℕ)
-    → Lays a b 1 n to (λ nodes lengths. slice_get nodes n ≡ Some (Op (Read (64 + t)) q))
-    → Lays b c 2 m n (λ nodes lengths. Guards nodes (Name (64 + t)) EndOfInput line m n)
-    → Lays c d 1 p m (λ nodes lengths. slice_get nodes p ≡ Some (Op (More (64 + t)) m))
-    → LaysExpression (Input line) t p to q a d
+pub lays_read : {a b c d : Draft} {p n m to : ℕ} {inside : Option ℕ} (line t q : ℕ)
+    → Lays a b 1 n to (λ flow. Does flow inside n (Read (64 + t)) q)
+    → Lays b c 2 m n (λ flow. Guards flow inside (Name (64 + t)) EndOfInput line m n)
+    → Lays c d 1 p m (λ flow. Does flow inside p (More (64 + t)) m)
+    → LaysExpression (Input line) t p to q inside a d
 unfolding expression_size
-lays_read {p = p} {n = n} {m = m} line t q read guard more =
-    lays_as 4 (λ nodes lengths. Gives nodes lengths (Input line) t p q) (lays_both (lays_both read guard) more) refl
-    (λ nodes h. (m, n, h.0.1.0, h.1, h.0.1.1, h.0.1.2, h.0.0))
+lays_read {p = p} {n = n} {m = m} {inside = inside} line t q read guard more =
+    lays_as 4 (λ flow. Gives flow inside (Input line) t p q) (lays_both (lays_both read guard) more) refl
+    (λ flow h. (m, n, h.0.1.0, h.1, h.0.1.1, h.0.1.2, h.0.0))
 
 -- a unary operator
 module _ {d : Draft} {op : UnaryOp} {x : SourceExpression} {t to q : ℕ} {inside : Option ℕ} (may : MayLower d (Prefixed op x) t to q inside) where
@@ -109,17 +107,17 @@ module _ {d : Draft} {op : UnaryOp} {x : SourceExpression} {t to q : ℕ} {insid
       prefix_fits op (64 + t) (length d.graph.arrays) (held x t) (omega (arith, dest))
       (held_fits x t (length d.graph.arrays) unary-slots (omega (arith, h, room)))
 
-  pub unary_operand : {d1 : Draft} {m : ℕ} {P : List FlowNode → List ℕ → Type 0} → Lays d d1 1 m to P → MayLower d1 x t m m inside
+  pub unary_operand : {d1 : Draft} {m : ℕ} {P : FlowGraph → Type 0} → Lays d d1 1 m to P → MayLower d1 x t m m inside
   unfolding expression_size
   unary_operand l = may_part x t may l unary-slots unary-needs.0 (omega arith) (omega arith)
 
-pub lays_unary : {a b c : Draft} {p m to : ℕ} (op : UnaryOp) (x : SourceExpression) (t q : ℕ)
-    → Lays a b 1 m to (λ nodes lengths. slice_get nodes m ≡ Some (Op (prefix_item op (64 + t) (held x t)) q))
-    → LaysExpression x t p m m b c → LaysExpression (Prefixed op x) t p to q a c
+pub lays_unary : {a b c : Draft} {p m to : ℕ} {inside : Option ℕ} (op : UnaryOp) (x : SourceExpression) (t q : ℕ)
+    → Lays a b 1 m to (λ flow. Does flow inside m (prefix_item op (64 + t) (held x t)) q)
+    → LaysExpression x t p m m inside b c → LaysExpression (Prefixed op x) t p to q inside a c
 unfolding expression_size
-lays_unary {p = p} {m = m} op x t q item operand =
-    lays_as (expression_size x + 1) (λ nodes lengths. Gives nodes lengths (Prefixed op x) t p q) (lays_both item operand) refl
-    (λ nodes h. (m, h.1, h.0))
+lays_unary {p = p} {m = m} {inside = inside} op x t q item operand =
+    lays_as (expression_size x + 1) (λ flow. Gives flow inside (Prefixed op x) t p q) (lays_both item operand) refl
+    (λ flow h. (m, h.1, h.0))
 
 -- ---- items that fit
 
@@ -166,18 +164,18 @@ module _ {d : Draft} {array line at : ℕ} {x : SourceExpression} {t to q : ℕ}
   unfolding expression_size
   element_room = less_room 4 (omega arith) may.room
 
-  pub element_index : {d1 : Draft} {m : ℕ} {P : List FlowNode → List ℕ → Type 0} → Lays d d1 4 m to P → MayLower d1 x t m m inside
+  pub element_index : {d1 : Draft} {m : ℕ} {P : FlowGraph → Type 0} → Lays d d1 4 m to P → MayLower d1 x t m m inside
   unfolding expression_size
   element_index l = may_part x t may l element-slots.1 element-needs.0 (omega arith) (omega arith)
 
-pub lays_element : {a b c : Draft} {p m to : ℕ} (array line at : ℕ) (x : SourceExpression) (t q : ℕ)
-    → Lays a b 4 m to (λ nodes lengths. (n : ℕ) × Bounds nodes lengths array at (temporary (t + hold x)) (held x t) m n
-    × Does nodes lengths n (Load (temporary t) array (held x t)) q)
-    → LaysExpression x t p m m b c → LaysExpression (Indexed array line at x) t p to q a c
+pub lays_element : {a b c : Draft} {p m to : ℕ} {inside : Option ℕ} (array line at : ℕ) (x : SourceExpression) (t q : ℕ)
+    → Lays a b 4 m to (λ flow. (n : ℕ) × Bounds flow inside array at (temporary (t + hold x)) (held x t) m n
+    × Does flow inside n (Load (temporary t) array (held x t)) q)
+    → LaysExpression x t p m m inside b c → LaysExpression (Indexed array line at x) t p to q inside a c
 unfolding expression_size
-lays_element {p = p} {m = m} array line at x t q load index =
-    lays_as (expression_size x + 4) (λ nodes lengths. Gives nodes lengths (Indexed array line at x) t p q) (lays_both load index) refl
-    (λ nodes h. (m, h.0.0, h.1, h.0.1, h.0.2))
+lays_element {p = p} {m = m} {inside = inside} array line at x t q load index =
+    lays_as (expression_size x + 4) (λ flow. Gives flow inside (Indexed array line at x) t p q) (lays_both load index) refl
+    (λ flow h. (m, h.0.0, h.1, h.0.1, h.0.2))
 
 -- ---- a binary operator
 
@@ -210,22 +208,22 @@ module _ {d : Draft} {op : BinaryOp} {at : ℕ} {x y : SourceExpression} {t to q
   pub binary_right_value : IsVariable (held y (t + hold x))
   binary_right_value = value_fits y (t + hold x) (length d.graph.arrays) binary-slots.1 binary-needs.1.0
 
-  pub binary_right : {d1 : Draft} {n : ℕ} {P : List FlowNode → List ℕ → Type 0} → Lays d d1 (operator_size op) n to P → MayLower d1 y (t + hold x) n n inside
+  pub binary_right : {d1 : Draft} {n : ℕ} {P : FlowGraph → Type 0} → Lays d d1 (operator_size op) n to P → MayLower d1 y (t + hold x) n n inside
   unfolding expression_size
   binary_right l = may_part y (t + hold x) may l binary-slots.1 binary-needs.1.0 (omega arith) (operator_some op)
 
-  pub binary_left : {d1 d2 : Draft} {n m : ℕ} {P Q : List FlowNode → List ℕ → Type 0} → Lays d d1 (operator_size op) n to P → Lays d1 d2 (expression_size y) m n Q
+  pub binary_left : {d1 d2 : Draft} {n m : ℕ} {P Q : FlowGraph → Type 0} → Lays d d1 (operator_size op) n to P → Lays d1 d2 (expression_size y) m n Q
       → MayLower d2 x t m m inside
   unfolding expression_size
   binary_left l k = let some = operator_some op in may_part x t may (lays_both l k) binary-slots.0 binary-needs.0 (omega arith) (omega (arith, some))
 
-pub lays_binary : {a b c e : Draft} {p m n to : ℕ} (op : BinaryOp) (at : ℕ) (x y : SourceExpression) (t q : ℕ)
-    → Lays a b (operator_size op) n to (λ nodes lengths. Combines nodes lengths op at (temporary t) (held x t) (held y (t + hold x)) n q)
-    → LaysExpression y (t + hold x) m n n b c → LaysExpression x t p m m c e → LaysExpression (Combined op at x y) t p to q a e
+pub lays_binary : {a b c e : Draft} {p m n to : ℕ} (inside : Option ℕ) (op : BinaryOp) (at : ℕ) (x y : SourceExpression) (t q : ℕ)
+    → Lays a b (operator_size op) n to (λ flow. Combines flow inside op at (temporary t) (held x t) (held y (t + hold x)) n q)
+    → LaysExpression y (t + hold x) m n n inside b c → LaysExpression x t p m m inside c e → LaysExpression (Combined op at x y) t p to q inside a e
 unfolding expression_size
-lays_binary {p = p} {m = m} {n = n} op at x y t q operation right left =
-    lays_as (expression_size x + expression_size y + operator_size op) (λ nodes lengths. Gives nodes lengths (Combined op at x y) t p q)
-    (lays_both (lays_both operation right) left) (omega arith) (λ nodes h. (m, n, h.1, h.0.1, h.0.0))
+lays_binary {p = p} {m = m} {n = n} inside op at x y t q operation right left =
+    lays_as (expression_size x + expression_size y + operator_size op) (λ flow. Gives flow inside (Combined op at x y) t p q)
+    (lays_both (lays_both operation right) left) (omega arith) (λ flow h. (m, n, h.1, h.0.1, h.0.0))
 
 -- ---- `&&` and `||`
 
@@ -276,8 +274,8 @@ module _ {d : Draft} {e x y : SourceExpression} {t to q : ℕ} {inside : Option 
   pub shortcut_left_value : IsVariable (held x t)
   shortcut_left_value = value_fits x t (length d.graph.arrays) both-slots.0 both-needs.0
 
-  -- behind the copy
-  module _ {d1 : Draft} {z : ℕ} {P : List FlowNode → List ℕ → Type 0} (l : Lays d d1 1 z to P) where
+  -- after the copy
+  module _ {d1 : Draft} {z : ℕ} {P : FlowGraph → Type 0} (l : Lays d d1 1 z to P) where
     pub truth_room : HasRoom d1 1 z inside
     truth_room = let s = shortcut-size e x y is in room_left 1 may.room l (omega (arith, s))
 
@@ -286,43 +284,43 @@ module _ {d : Draft} {e x y : SourceExpression} {t to q : ℕ} {inside : Option 
         let n = both-needs.1.1 in
         truth_fits (64 + t) (length d1.graph.arrays) (held y t) (omega (arith, n)) (value_fits y t (length d.graph.arrays) both-slots.1 both-needs.1.0)
 
-    -- behind the test that the right operand is not 0
-    module _ {d2 : Draft} {n : ℕ} {Q : List FlowNode → List ℕ → Type 0} (k : Lays d1 d2 1 n z Q) where
+    -- after the test that the right operand is not 0
+    module _ {d2 : Draft} {n : ℕ} {Q : FlowGraph → Type 0} (k : Lays d1 d2 1 n z Q) where
       pub shortcut_right : MayLower d2 y t n n inside
       shortcut_right = let s = shortcut-size e x y is in may_part y t may (lays_both l k) both-slots.1 both-needs.1.0 (omega (arith, s)) (omega arith)
 
-      -- behind the right operand
-      module _ {d3 : Draft} {v : ℕ} {R : List FlowNode → List ℕ → Type 0} (j : Lays d2 d3 (expression_size y) v n R) where
+      -- after the right operand
+      module _ {d3 : Draft} {v : ℕ} {R : FlowGraph → Type 0} (j : Lays d2 d3 (expression_size y) v n R) where
         pub test_room : HasRoom d3 1 v inside
         test_room = let s = shortcut-size e x y is in room_left 1 may.room (lays_both (lays_both l k) j) (omega (arith, s))
 
-        pub shortcut_left : {d4 : Draft} {m : ℕ} {S : List FlowNode → List ℕ → Type 0} → Lays d3 d4 1 m v S → MayLower d4 x t m m inside
+        pub shortcut_left : {d4 : Draft} {m : ℕ} {S : FlowGraph → Type 0} → Lays d3 d4 1 m v S → MayLower d4 x t m m inside
         shortcut_left i = let s = shortcut-size e x y is in
             may_part x t may (lays_both (lays_both (lays_both l k) j) i) both-slots.0 both-needs.0 (omega (arith, s)) (omega arith)
 
-pub lays_conjunction : {a b c d e f : Draft} {p m v n z to : ℕ} (x y : SourceExpression) (t q : ℕ)
-    → Lays a b 1 z to (λ nodes lengths. slice_get nodes z ≡ Some (Op (Copy (64 + t) (Lit (pos 0))) q))
-    → Lays b c 1 n z (λ nodes lengths. slice_get nodes n ≡ Some (Op (Bin codes.Unequal (64 + t) (held y t) (Lit (pos 0))) q))
-    → LaysExpression y t v n n c d
-    → Lays d e 1 m v (λ nodes lengths. slice_get nodes m ≡ Some (Test (held x t) v z None))
-    → LaysExpression x t p m m e f → LaysExpression (Conjunction x y) t p to q a f
+pub lays_conjunction : {a b c d e f : Draft} {p m v n z to : ℕ} {inside : Option ℕ} (x y : SourceExpression) (t q : ℕ)
+    → Lays a b 1 z to (λ flow. Does flow inside z (Copy (64 + t) (Lit (pos 0))) q)
+    → Lays b c 1 n z (λ flow. Does flow inside n (Bin codes.Unequal (64 + t) (held y t) (Lit (pos 0))) q)
+    → LaysExpression y t v n n inside c d
+    → Lays d e 1 m v (λ flow. Tests flow inside m (held x t) v z)
+    → LaysExpression x t p m m inside e f → LaysExpression (Conjunction x y) t p to q inside a f
 unfolding expression_size
-lays_conjunction {p = p} {m = m} {v = v} {n = n} {z = z} x y t q copy unequal right test left =
-    lays_as (expression_size x + expression_size y + 3) (λ nodes lengths. Gives nodes lengths (Conjunction x y) t p q)
+lays_conjunction {p = p} {m = m} {v = v} {n = n} {z = z} {inside = inside} x y t q copy unequal right test left =
+    lays_as (expression_size x + expression_size y + 3) (λ flow. Gives flow inside (Conjunction x y) t p q)
     (lays_both (lays_both (lays_both (lays_both copy unequal) right) test) left) (omega arith)
-    (λ nodes h. (m, v, z, n, h.1, h.0.1, h.0.0.1, h.0.0.0.1, h.0.0.0.0))
+    (λ flow h. (m, v, z, n, h.1, h.0.1, h.0.0.1, h.0.0.0.1, h.0.0.0.0))
 
-pub lays_disjunction : {a b c d e f : Draft} {p m v n z to : ℕ} (x y : SourceExpression) (t q : ℕ)
-    → Lays a b 1 z to (λ nodes lengths. slice_get nodes z ≡ Some (Op (Copy (64 + t) (Lit (pos 1))) q))
-    → Lays b c 1 n z (λ nodes lengths. slice_get nodes n ≡ Some (Op (Bin codes.Unequal (64 + t) (held y t) (Lit (pos 0))) q))
-    → LaysExpression y t v n n c d
-    → Lays d e 1 m v (λ nodes lengths. slice_get nodes m ≡ Some (Test (held x t) z v None))
-    → LaysExpression x t p m m e f → LaysExpression (Disjunction x y) t p to q a f
+pub lays_disjunction : {a b c d e f : Draft} {p m v n z to : ℕ} {inside : Option ℕ} (x y : SourceExpression) (t q : ℕ)
+    → Lays a b 1 z to (λ flow. Does flow inside z (Copy (64 + t) (Lit (pos 1))) q)
+    → Lays b c 1 n z (λ flow. Does flow inside n (Bin codes.Unequal (64 + t) (held y t) (Lit (pos 0))) q)
+    → LaysExpression y t v n n inside c d
+    → Lays d e 1 m v (λ flow. Tests flow inside m (held x t) z v)
+    → LaysExpression x t p m m inside e f → LaysExpression (Disjunction x y) t p to q inside a f
 unfolding expression_size
-lays_disjunction {p = p} {m = m} {v = v} {n = n} {z = z} x y t q copy unequal right test left =
-    lays_as (expression_size x + expression_size y + 3) (λ nodes lengths. Gives nodes lengths (Disjunction x y) t p q)
+lays_disjunction {p = p} {m = m} {v = v} {n = n} {z = z} {inside = inside} x y t q copy unequal right test left =
+    lays_as (expression_size x + expression_size y + 3) (λ flow. Gives flow inside (Disjunction x y) t p q)
     (lays_both (lays_both (lays_both (lays_both copy unequal) right) test) left) (omega arith)
-    (λ nodes h. (m, z, v, n, h.1, h.0.1, h.0.0.0.0, h.0.0.1, h.0.0.0.1))
+    (λ flow h. (m, z, v, n, h.1, h.0.1, h.0.0.0.0, h.0.0.1, h.0.0.0.1))
 
 -- ---- `?:`
 
@@ -356,13 +354,13 @@ module _ {d : Draft} {x y w : SourceExpression} {t to q : ℕ} {inside : Option 
       let n = choice-needs.1.1.1 in
       copy_fits (64 + t) (length d.graph.arrays) (held w t) (omega (arith, n)) (value_fits w t (length d.graph.arrays) choice-slots.1.1 choice-needs.1.1.0)
 
-  -- behind the copy of the second value
-  module _ {d1 : Draft} {j : ℕ} {P : List FlowNode → List ℕ → Type 0} (l : Lays d d1 1 j to P) where
+  -- after the copy of the second value
+  module _ {d1 : Draft} {j : ℕ} {P : FlowGraph → Type 0} (l : Lays d d1 1 j to P) where
     pub choice_other : MayLower d1 w t j j inside
     choice_other = let s = choice-size in may_part w t may l choice-slots.1.1 choice-needs.1.1.0 (omega (arith, s)) (omega arith)
 
-    -- behind the second expression
-    module _ {d2 : Draft} {z : ℕ} {Q : List FlowNode → List ℕ → Type 0} (k : Lays d1 d2 (expression_size w) z j Q) where
+    -- after the second expression
+    module _ {d2 : Draft} {z : ℕ} {Q : FlowGraph → Type 0} (k : Lays d1 d2 (expression_size w) z j Q) where
       pub choice_one_room : HasRoom d2 1 z inside
       choice_one_room = let s = choice-size in room_left 1 may.room (lays_both l k) (omega (arith, s))
 
@@ -371,30 +369,30 @@ module _ {d : Draft} {x y w : SourceExpression} {t to q : ℕ} {inside : Option 
           let n = choice-needs.1.1.1 in
           copy_fits (64 + t) (length d2.graph.arrays) (held y t) (omega (arith, n)) (value_fits y t (length d.graph.arrays) choice-slots.1.0 choice-needs.1.0)
 
-      -- behind the copy of the first value
-      module _ {d3 : Draft} {i : ℕ} {R : List FlowNode → List ℕ → Type 0} (g : Lays d2 d3 1 i z R) where
+      -- after the copy of the first value
+      module _ {d3 : Draft} {i : ℕ} {R : FlowGraph → Type 0} (g : Lays d2 d3 1 i z R) where
         pub choice_one : MayLower d3 y t i i inside
         choice_one = let s = choice-size in
             may_part y t may (lays_both (lays_both l k) g) choice-slots.1.0 choice-needs.1.0 (omega (arith, s)) (omega arith)
 
-        -- behind the first expression
-        module _ {d4 : Draft} {v : ℕ} {S : List FlowNode → List ℕ → Type 0} (f : Lays d3 d4 (expression_size y) v i S) where
+        -- after the first expression
+        module _ {d4 : Draft} {v : ℕ} {S : FlowGraph → Type 0} (f : Lays d3 d4 (expression_size y) v i S) where
           pub choice_test_room : HasRoom d4 1 v inside
           choice_test_room = let s = choice-size in room_left 1 may.room (lays_both (lays_both (lays_both l k) g) f) (omega (arith, s))
 
-          pub choice_test : {d5 : Draft} {m : ℕ} {T : List FlowNode → List ℕ → Type 0} → Lays d4 d5 1 m v T → MayLower d5 x t m m inside
+          pub choice_test : {d5 : Draft} {m : ℕ} {T : FlowGraph → Type 0} → Lays d4 d5 1 m v T → MayLower d5 x t m m inside
           choice_test e = let s = choice-size in
               may_part x t may (lays_both (lays_both (lays_both (lays_both l k) g) f) e) choice-slots.0 choice-needs.0 (omega (arith, s)) (omega arith)
 
-pub lays_choice : {a b c d e f g : Draft} {p m v i z j to : ℕ} (x y w : SourceExpression) (t q : ℕ)
-    → Lays a b 1 j to (λ nodes lengths. slice_get nodes j ≡ Some (Op (Copy (64 + t) (held w t)) q))
-    → LaysExpression w t z j j b c
-    → Lays c d 1 i z (λ nodes lengths. slice_get nodes i ≡ Some (Op (Copy (64 + t) (held y t)) q))
-    → LaysExpression y t v i i d e
-    → Lays e f 1 m v (λ nodes lengths. slice_get nodes m ≡ Some (Test (held x t) v z None))
-    → LaysExpression x t p m m f g → LaysExpression (Conditional x y w) t p to q a g
+pub lays_choice : {a b c d e f g : Draft} {p m v i z j to : ℕ} {inside : Option ℕ} (x y w : SourceExpression) (t q : ℕ)
+    → Lays a b 1 j to (λ flow. Does flow inside j (Copy (64 + t) (held w t)) q)
+    → LaysExpression w t z j j inside b c
+    → Lays c d 1 i z (λ flow. Does flow inside i (Copy (64 + t) (held y t)) q)
+    → LaysExpression y t v i i inside d e
+    → Lays e f 1 m v (λ flow. Tests flow inside m (held x t) v z)
+    → LaysExpression x t p m m inside f g → LaysExpression (Conditional x y w) t p to q inside a g
 unfolding expression_size
-lays_choice {p = p} {m = m} {v = v} {i = i} {z = z} {j = j} x y w t q last other middle one start test =
-    lays_as (expression_size x + expression_size y + expression_size w + 3) (λ nodes lengths. Gives nodes lengths (Conditional x y w) t p q)
+lays_choice {p = p} {m = m} {v = v} {i = i} {z = z} {j = j} {inside = inside} x y w t q last other middle one start test =
+    lays_as (expression_size x + expression_size y + expression_size w + 3) (λ flow. Gives flow inside (Conditional x y w) t p q)
     (lays_both (lays_both (lays_both (lays_both (lays_both last other) middle) one) start) test) (omega arith)
-    (λ nodes h. (m, v, z, i, j, h.1, h.0.1, h.0.0.1, h.0.0.0.1, h.0.0.0.0.1, h.0.0.0.0.0))
+    (λ flow h. (m, v, z, i, j, h.1, h.0.1, h.0.0.1, h.0.0.0.1, h.0.0.0.0.1, h.0.0.0.0.0))

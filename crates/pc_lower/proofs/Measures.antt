@@ -4,9 +4,9 @@ use Rattle.pc_syntax.specs.declared.statement.Stmt.{Stmt}
 use Rattle.pc_syntax.specs.Source.{SourceList, No_more, More, appended}
 use Rattle.pc_syntax.specs.Erasure.{list_of, statement_of}
 use Rattle.pc_check.proofs.Rows.{list_of-more}
-use Rattle.pc_lower.specs.models.LowersStatement.{loop_count, list_loops}
+use Rattle.pc_lower.specs.SourceLoops.{loop_count, list_loops}
 
--- a list behind a list adds its loops
+-- a list after a list adds its loops
 pub loops-appended : (front rest : SourceList) → list_loops (appended front rest) ≡ list_loops front + list_loops rest
 unfolding loop_count
 loops-appended No_more rest = omega arith

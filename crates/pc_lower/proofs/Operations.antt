@@ -1,5 +1,5 @@
 -- The items for operators give the operators' values, and where the value of an expression is, it stays.
-use Rattle.std.proofs.Common.{◌≡◌, ℕ, ◌+◌, List, refl, arith}
+use Rattle.std.proofs.Common.{◌≡◌, ℕ, ◌+◌, Option, refl, arith}
 use Rattle.std.specs.Prelude.{ℤ, pos, negsuc}
 use Rattle.pc_word.specs.declared.item.Item.TheVariants.{Bin}
 use Rattle.pc_word.specs.declared.item.Operand.{Operand}
@@ -14,7 +14,7 @@ use Rattle.pc_word.specs.State.{State}
 use Rattle.pc_word.specs.Items.{operand_value}
 use Rattle.pc_meaning.specs.Expression.{prefix_value, binary_value}
 use Rattle.pc_meaning.specs.Lowered.{prefix_code, binary_code}
-use Rattle.pc_flow.specs.declared.node.FlowNode.{FlowNode}
+use Rattle.pc_flow.specs.FlowGraph.{FlowGraph}
 use Rattle.pc_check.specs.Needs.{hold}
 use Rattle.pc_lower.specs.Lowers.{temporary, held, prefix_item, binary_item, Gives}
 use Rattle.pc_lower.proofs.Walks.{Keeps}
@@ -57,14 +57,14 @@ prefix-item Flip d a = record { left = a; right = Lit (negsuc 0); same = refl; v
 prefix-item Not d a = record { left = a; right = Lit (pos 0); same = refl; value = λ n. refl }
 
 -- where names up to an expression's temporary are kept, so is its value
-pub held-kept : (nodes : List FlowNode) (lengths : List ℕ) (e : SourceExpression) (t p q : ℕ) → Gives nodes lengths e t p q → (old new : State) → Keeps (t + hold e) old new
+pub held-kept : (flow : FlowGraph) (loop : Option ℕ) (e : SourceExpression) (t p q : ℕ) → Gives flow loop e t p q → (old new : State) → Keeps (t + hold e) old new
     → operand_value new.names (held e t) ≡ operand_value old.names (held e t)
-held-kept nodes lengths (Literal value) t p q g old new k = refl
-held-kept nodes lengths (Variable scalar line) t p q g old new k = let small = g.0 in k scalar (omega arith)
-held-kept nodes lengths (Input line) t p q g old new k = k (temporary t) (omega arith)
-held-kept nodes lengths (Indexed array line at index) t p q g old new k = k (temporary t) (omega arith)
-held-kept nodes lengths (Prefixed op operand) t p q g old new k = k (temporary t) (omega arith)
-held-kept nodes lengths (Combined op at left right) t p q g old new k = k (temporary t) (omega arith)
-held-kept nodes lengths (Conjunction left right) t p q g old new k = k (temporary t) (omega arith)
-held-kept nodes lengths (Disjunction left right) t p q g old new k = k (temporary t) (omega arith)
-held-kept nodes lengths (Conditional test one other) t p q g old new k = k (temporary t) (omega arith)
+held-kept flow loop (Literal value) t p q g old new k = refl
+held-kept flow loop (Variable scalar line) t p q g old new k = let small = g.0 in k scalar (omega arith)
+held-kept flow loop (Input line) t p q g old new k = k (temporary t) (omega arith)
+held-kept flow loop (Indexed array line at index) t p q g old new k = k (temporary t) (omega arith)
+held-kept flow loop (Prefixed op operand) t p q g old new k = k (temporary t) (omega arith)
+held-kept flow loop (Combined op at left right) t p q g old new k = k (temporary t) (omega arith)
+held-kept flow loop (Conjunction left right) t p q g old new k = k (temporary t) (omega arith)
+held-kept flow loop (Disjunction left right) t p q g old new k = k (temporary t) (omega arith)
+held-kept flow loop (Conditional test one other) t p q g old new k = k (temporary t) (omega arith)

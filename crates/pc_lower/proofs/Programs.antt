@@ -1,5 +1,5 @@
 -- A flow that implements a program: it passes the nodes of the trace, and its run and the source's agree.
-use Rattle.std.proofs.Common.{◌≡◌, ℕ, ◌+◌, ◌<◌, ◌≤◌, ◌⊎◌, inl, inr, List, [], ◌∷◌, ◌++◌, length, Option, Some, None, refl, sym, ◌∙◌, ap, subst, append-nil, append_assoc, arith}
+use Rattle.std.proofs.Common.{◌≡◌, ℕ, suc, ◌+◌, ◌<◌, ◌≤◌, ◌⊎◌, inl, inr, List, [], ◌∷◌, ◌++◌, length, Option, Some, None, refl, sym, ◌∙◌, ap, subst, append-nil, append_assoc, arith}
 use Rattle.std.specs.Prelude.{ℤ, slice_get}
 use Rattle.pc_word.specs.declared.item.End.{End}
 use Rattle.pc_word.specs.declared.item.End.TheVariants.{Ended}
@@ -14,10 +14,11 @@ use Rattle.pc_meaning.specs.SourceRun.{shown, outcome_of, source_run}
 use Rattle.pc_meaning.specs.Trace.{Kind, list_trace, trace_of}
 use Rattle.pc_flow.specs.declared.node.FlowNode.{FlowNode}
 use Rattle.pc_flow.specs.declared.node.FlowNode.TheVariants.{Stop}
-use Rattle.pc_flow.specs.FlowRun.{FlowState, run_node, node_step, flow_start, nodes_run}
+use Rattle.pc_flow.specs.FlowGraph.{FlowGraph}
+use Rattle.pc_flow.specs.FlowRun.{FlowState, run_node, node_step, flow_start, nodes_run, flow_run}
 use Rattle.pc_lower.specs.Kinds.{kind_before, kinds_from}
 use Rattle.pc_lower.specs.Lowers.{Lowers}
-use Rattle.pc_lower.specs.Laws.{LoweredRunsAgree, LoweredRunsAreFaultless, LoweredRunsPassTheTrace}
+use Rattle.pc_lower.specs.Laws.{LoweredRunsAgree, LoweredRunsAreFaultless, LoweredRunsPassTheTrace, LoweredRunsKeepPace}
 use Rattle.pc_lower.proofs.Walks.{Comes, Passed}
 use Rattle.pc_lower.proofs.Statements.{Finished, Reaches, list-comes}
 use Rattle.pc_lower.proofs.Payments.{dos_list, cost, cost-below, remaining, execute_list-paid}
@@ -73,18 +74,26 @@ Comes-walked nodes lengths (k ∷ ks) out f P p =
 -- ---- programs
 
 -- a flow that implements a program follows it from the start
-program-comes : (nodes : List FlowNode) (program : ResolvedProgram) (entry : ℕ) (lowers : Lowers nodes program.arrays program.body entry) (input : List ℤ) (n : ℕ)
-    → Comes nodes program.arrays (trace_of program input n) [] (flow_start entry input) (Finished nodes lowers.last lowers.last lowers.last (outcome_of program input n))
+program-comes : (flow : FlowGraph) (program : ResolvedProgram) → flow.arrays ≡ program.arrays → (lowers : Lowers flow program.body) (input : List ℤ) (n : ℕ)
+    → Comes flow.nodes program.arrays (trace_of program input n) [] (flow_start flow.entry input)
+    (Finished flow.nodes lowers.last lowers.last lowers.last (outcome_of program input n))
 unfolding outcome_of trace_of
-program-comes nodes program entry lowers input n =
-    list-comes nodes program.arrays lowers.last lowers.stops program.body lowers.last lowers.last entry lowers.last lowers.body (source_start input n) [] (flow_start entry input) refl
-    (record { scalars = λ x h. refl; cells = λ a i. refl; input = refl; printed = refl })
+program-comes flow program same lowers input n =
+    let last = lowers.last in
+    let start = source_start input n in
+    let here = flow_start flow.entry input in
+    subst (λ (arrays : List ℕ). Comes flow.nodes arrays (list_trace arrays program.body start) [] here
+    (Finished flow.nodes last last last (execute_list arrays program.body start))) same
+    (list-comes flow last lowers.stops.there program.body None 0 lowers.first last last last flow.entry last lowers.body start [] here refl
+    (record { scalars = λ x h. refl; cells = λ a i. refl; input = refl; printed = refl }))
 
 -- the nodes that it passes first are those of the trace
 pub lowered_runs_pass_the_trace : LoweredRunsPassTheTrace
-lowered_runs_pass_the_trace nodes program entry lowers input n =
-    (Comes-walked nodes program.arrays (trace_of program input n) [] (flow_start entry input)
-    (Finished nodes lowers.last lowers.last lowers.last (outcome_of program input n)) (program-comes nodes program entry lowers input n)).kinds
+lowered_runs_pass_the_trace flow program same lowers input n =
+    let walked = Comes-walked flow.nodes program.arrays (trace_of program input n) [] (flow_start flow.entry input)
+    (Finished flow.nodes lowers.last lowers.last lowers.last (outcome_of program input n)) (program-comes flow program same lowers input n) in
+    subst (λ (arrays : List ℕ). kinds_from flow.nodes arrays (length (trace_of program input n)) (flow_start flow.entry input) ≡ trace_of program input n)
+    (sym same) walked.kinds
 
 -- where a flow that has followed a program is: at the end or a trap, or on its way
 Closed : List FlowNode → List ℕ → Seen → Option End → List ℤ → FlowState → Type 0
@@ -113,6 +122,7 @@ record Matches (X : Run) (seen : Seen) (nodes_passed : ℕ) : Type 0 where
   units : ℕ
   same : seen ≡ X units
   enough : nodes_passed ≤ units
+  limited : units ≤ suc nodes_passed
 
 -- what is seen is equal where its parts are
 seen_equal : (x : Seen) (l : List ℤ) (e : Option End) → x.printed ≡ l → x.end ≡ e → x ≡ record { printed = l; end = e }
@@ -127,23 +137,36 @@ closed-matches nodes lengths n f g out seen (Some e) h r c = record {
   same = seen_equal seen (out ++ []) (Some e) (c.0 ∙ sym (append-nil out)) h
       ∙ sym (run_from-at (node_step nodes lengths) n 1 f g out r ∙ ap (λ (x : Step FlowState). after_printing out (seen_of x (run_from (node_step nodes lengths) 0))) c.1);
   enough = omega arith;
+  limited = omega arith;
 }
 closed-matches nodes lengths n f g out seen None h r c = record {
   units = n + 0;
   same = seen_equal seen (out ++ []) None (c ∙ sym (append-nil out)) h ∙ sym (run_from-at (node_step nodes lengths) n 0 f g out r);
   enough = omega arith;
+  limited = omega arith;
 }
 
 -- the source, for any number of turns
-source-matches : (nodes : List FlowNode) (program : ResolvedProgram) (entry : ℕ) → Lowers nodes program.arrays program.body entry → (input : List ℤ) (n : ℕ)
-    → Matches (nodes_run nodes program.arrays entry input) (source_run program input n) (length (trace_of program input n))
+source-matches : (flow : FlowGraph) (program : ResolvedProgram) → flow.arrays ≡ program.arrays → Lowers flow program.body → (input : List ℤ) (n : ℕ)
+    → Matches (nodes_run flow.nodes program.arrays flow.entry input) (source_run program input n) (length (trace_of program input n))
 unfolding source_run
-source-matches nodes program entry lowers input n =
+source-matches flow program same lowers input n =
     let x = outcome_of program input n in
-    let w = Comes-walked nodes program.arrays (trace_of program input n) [] (flow_start entry input) (Finished nodes lowers.last lowers.last lowers.last x)
-    (program-comes nodes program entry lowers input n) in
-    closed-matches nodes program.arrays (length (trace_of program input n)) (flow_start entry input) w.there w.more (shown x) (shown x).end refl w.reached
-    (finished-closed nodes program.arrays lowers.last lowers.stops x w.more w.there w.reason)
+    let here = flow_start flow.entry input in
+    let w = Comes-walked flow.nodes program.arrays (trace_of program input n) [] here (Finished flow.nodes lowers.last lowers.last lowers.last x)
+    (program-comes flow program same lowers input n) in
+    closed-matches flow.nodes program.arrays (length (trace_of program input n)) here w.there w.more (shown x) (shown x).end refl w.reached
+    (finished-closed flow.nodes program.arrays lowers.last lowers.stops.there x w.more w.there w.reason)
+
+-- so it keeps pace with the trace
+pub lowered_runs_keep_pace : LoweredRunsKeepPace
+lowered_runs_keep_pace flow program same lowers input n =
+    let start = flow_start flow.entry input in
+    let most = suc (length (trace_of program input n)) in
+    let step = node_step flow.nodes program.arrays in
+    let here = source-matches flow program same lowers input n in
+    let paced = subst (λ (x : Seen). Answers x (run_from step most start) x.end) (sym here.same) (run_from-answers step here.units most start here.limited) in
+    subst (λ (arrays : List ℕ). Answers (source_run program input n) (nodes_run flow.nodes arrays flow.entry input most) (source_run program input n).end) (sym same) paced
 
 -- ---- enough turns
 
@@ -194,28 +217,30 @@ answered step f seen passed m here enough None h =
 answered step f seen passed m here enough (Some e) h = met step f seen m here.units e here.same h (decide_le m here.units)
 
 -- the flow and the source agree
-pub agree_on : (nodes : List FlowNode) (program : ResolvedProgram) (entry : ℕ) → Lowers nodes program.arrays program.body entry
-    → (input : List ℤ) → Agree (nodes_run nodes program.arrays entry input) (source_run program input)
-agree_on nodes program entry lowers input = record {
-  forth = λ m.
-      let n = cost (dos_list program.body) m in
-      let seen = source_run program input n in (
-        n,
-        answered (node_step nodes program.arrays) (flow_start entry input) seen (length (trace_of program input n)) m (source-matches nodes program entry lowers input n)
-            (enough_turns program input m) seen.end refl,
-      );
-  back = λ n.
-      let here = source-matches nodes program entry lowers input n in
-      (here.units, Answers-equal (source_run program input n) (nodes_run nodes program.arrays entry input here.units) here.same);
-}
+pub agree_on : (flow : FlowGraph) (program : ResolvedProgram) → flow.arrays ≡ program.arrays → Lowers flow program.body
+    → (input : List ℤ) → Agree (flow_run flow input) (source_run program input)
+agree_on flow program same lowers input =
+    let start = flow_start flow.entry input in
+    subst (λ (arrays : List ℕ). Agree (nodes_run flow.nodes arrays flow.entry input) (source_run program input)) (sym same) (record {
+      forth = λ m.
+          let n = cost (dos_list program.body) m in
+          let seen = source_run program input n in (
+            n,
+            answered (node_step flow.nodes program.arrays) start seen (length (trace_of program input n)) m (source-matches flow program same lowers input n)
+                (enough_turns program input m) seen.end refl,
+          );
+      back = λ n.
+          let here = source-matches flow program same lowers input n in
+          (here.units, Answers-equal (source_run program input n) (nodes_run flow.nodes program.arrays flow.entry input here.units) here.same);
+    })
 
 -- on every input of words
 pub lowered_runs_agree : LoweredRunsAgree
-lowered_runs_agree nodes program entry lowers input words = agree_on nodes program entry lowers input
+lowered_runs_agree flow program same lowers input words = agree_on flow program same lowers input
 
 -- and so the flow comes to no fault
 pub lowered_runs_are_faultless : LoweredRunsAreFaultless
-lowered_runs_are_faultless nodes program entry lowers input m fault h =
-    let met = (agree_on nodes program entry lowers input).forth m in
-    let answer = subst (λ (e : Option End). Answers (nodes_run nodes program.arrays entry input m) (source_run program input met.0) e) h met.1 in
+lowered_runs_are_faultless flow program same lowers input m fault h =
+    let met = (agree_on flow program same lowers input).forth m in
+    let answer = subst (λ (e : Option End). Answers (flow_run flow input m) (source_run program input met.0) e) h met.1 in
     source_run-faultless program input met.0 fault answer.1

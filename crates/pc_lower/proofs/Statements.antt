@@ -22,8 +22,10 @@ use Rattle.pc_meaning.specs.Trace.{turn_trace_from, turn_trace, round_trace, loo
 use Rattle.pc_meaning.specs.Trace.{list_trace}
 use Rattle.pc_flow.specs.declared.node.FlowNode.{FlowNode}
 use Rattle.pc_flow.specs.declared.node.FlowNode.TheVariants.{Op, Stop}
+use Rattle.pc_flow.specs.FlowGraph.{FlowGraph}
 use Rattle.pc_flow.specs.FlowRun.{FlowState}
 use Rattle.pc_check.specs.Needs.{hold}
+use Rattle.pc_lower.specs.SourceLoops.{loop_count, branch_loops, list_loops}
 use Rattle.pc_lower.specs.Lowers.{temporary, held, Gives, Puts, Assigns, Declares, TestsTurn, Implements, ImplementsOptional, ImplementsList}
 use Rattle.pc_lower.proofs.Walks.{Comes, Comes-map, Comes-append, Keeps, Keeps-trans, Stands, Wrote, Pure-copy, item-comes, pure-comes, side-comes, standing}
 use Rattle.pc_lower.proofs.Operations.{held-kept}
@@ -68,7 +70,13 @@ Finished nodes q b c (Returns s) out g = (slice_get nodes g.node ≡ Some Stop) 
 Finished nodes q b c (Traps kind line s) out g = TrapsAt nodes kind line s out g
 Finished nodes q b c (Spent s) out g = s.printed ≡ out
 
-module _ (nodes : List FlowNode) (lengths : List ℕ) where
+module _ (flow : FlowGraph) where
+  abbrev nodes : List FlowNode
+  nodes = flow.nodes
+
+  abbrev lengths : List ℕ
+  lengths = flow.arrays
+
   -- ---- one after another
 
   -- a value, and what is done with it
@@ -180,47 +188,47 @@ module _ (nodes : List FlowNode) (lengths : List ℕ) where
       })
 
   -- a value that is put into a scalar
-  put-comes : (scalar : ℕ) (value : SourceExpression) (p q b c : ℕ) → Puts nodes lengths scalar value p q
+  put-comes : (loop : Option ℕ) (scalar : ℕ) (value : SourceExpression) (p q b c : ℕ) → Puts flow loop scalar value p q
       → (s : ProgramState) (out : List ℤ) (f : FlowState) → f.node ≡ p → Stands s out f.state
       → Comes nodes lengths (traced (trace lengths value s) (eval lengths value s) (λ v. passes Copy_node)) out f (Finished nodes q b c (do_with (eval lengths value s) (assign scalar)))
-  put-comes scalar value p q b c g s out f at stands =
+  put-comes loop scalar value p q b c g s out f at stands =
       do_with-comes (eval lengths value s) (trace lengths value s) (λ v. passes Copy_node) (assign scalar) out f (held value 0) 0 g.0 q b c f.state
-      (gives-comes nodes lengths value 0 p g.0 g.2 s out f at stands)
-      (λ v s1 o h a. assign-comes scalar q b c (held value 0) v s1 o h (here nodes h.node g.0 _ a.at g.3) a.value a.stands)
+      (gives-comes flow loop value 0 p g.0 g.2 s out f at stands)
+      (λ v s1 o h a. assign-comes scalar q b c (held value 0) v s1 o h (here nodes h.node g.0 _ a.at g.3.there) a.value a.stands)
 
   -- the value of an expression with temporaries from 0 on is kept
-  first-kept : (e : SourceExpression) (p q : ℕ) → Gives nodes lengths e 0 p q → (old new : State) → Keeps (hold e) old new
+  first-kept : (loop : Option ℕ) (e : SourceExpression) (p q : ℕ) → Gives flow loop e 0 p q → (old new : State) → Keeps (hold e) old new
       → operand_value new.names (held e 0) ≡ operand_value old.names (held e 0)
-  first-kept e p q g old new k = held-kept nodes lengths e 0 p q g old new (λ x h. k x (omega arith))
+  first-kept loop e p q g old new k = held-kept flow loop e 0 p q g old new (λ x h. k x (omega arith))
 
   -- every assignment
-  assigns-comes : (name line : ℕ) (index : Option SourceExpression) (bracket : ℕ) (op : Option BinaryOp) (at : ℕ) (value : SourceExpression) (p q b c : ℕ)
-      → Assigns nodes lengths name line index bracket op at value p q → (s : ProgramState) (out : List ℤ) (f : FlowState) → f.node ≡ p → Stands s out f.state
+  assigns-comes : (loop : Option ℕ) (name line : ℕ) (index : Option SourceExpression) (bracket : ℕ) (op : Option BinaryOp) (at : ℕ) (value : SourceExpression) (p q b c : ℕ)
+      → Assigns flow loop name line index bracket op at value p q → (s : ProgramState) (out : List ℤ) (f : FlowState) → f.node ≡ p → Stands s out f.state
       → Comes nodes lengths (assignment_trace lengths name line index op at value s) out f (Finished nodes q b c (assignment lengths name line index bracket op at value s))
-  assigns-comes name line None bracket None at value p q b c g s out f e stands = put-comes name value p q b c g s out f e stands
-  assigns-comes name line None bracket (Some op) at value p q b c g s out f e stands =
-      put-comes name (source.Combined op at (source.Variable name line) value) p q b c g s out f e stands
-  assigns-comes name line (Some index) bracket None at value p q b c g s out f e stands =
+  assigns-comes loop name line None bracket None at value p q b c g s out f e stands = put-comes loop name value p q b c g s out f e stands
+  assigns-comes loop name line None bracket (Some op) at value p q b c g s out f e stands =
+      put-comes loop name (source.Combined op at (source.Variable name line) value) p q b c g s out f e stands
+  assigns-comes loop name line (Some index) bracket None at value p q b c g s out f e stands =
       let put = λ (i v : ℤ). with_place lengths name bracket i (λ place. store name place v) in
       let passed = λ (i v : ℤ). place_trace lengths name i (λ place. passes Store_node) in
       do_with-comes (eval lengths index s) (trace lengths index s) (λ i t. traced (trace lengths value t) (eval lengths value t) (passed i))
-      (λ i t. do_with (eval lengths value t) (put i)) out f (held index 0) 0 g.0 q b c f.state (gives-comes nodes lengths index 0 p g.0 g.3 s out f e stands)
+      (λ i t. do_with (eval lengths value t) (put i)) out f (held index 0) 0 g.0 q b c f.state (gives-comes flow loop index 0 p g.0 g.3 s out f e stands)
       (λ i s1 o1 h1 a1. do_with-comes (eval lengths value s1) (trace lengths value s1) (passed i) (put i) o1 h1 (held value (hold index)) (hold index) g.1 q b c h1.state
-      (gives-comes nodes lengths value (hold index) g.0 g.1 g.4 s1 o1 h1 a1.at a1.stands)
+      (gives-comes flow loop value (hold index) g.0 g.1 g.4 s1 o1 h1 a1.at a1.stands)
       (λ v s2 o2 h2 a2.
-      let kept = first-kept index p g.0 g.3 h1.state h2.state a2.keeps ∙ a1.value in
-      bounds-comes nodes lengths Completion name bracket (hold index + hold value) g.1 g.2 (held index 0) i s2 h2 o2 (λ place. passes Store_node) (Traps OutOfBounds bracket)
+      let kept = first-kept loop index p g.0 g.3 h1.state h2.state a2.keeps ∙ a1.value in
+      bounds-comes flow loop Completion name bracket (hold index + hold value) g.1 g.2 (held index 0) i s2 h2 o2 (λ place. passes Store_node) (Traps OutOfBounds bracket)
       (λ place. store name place v) (Finished nodes q b c) g.5 a2.at kept a2.stands
-      (λ place found h3 at3 keeps3 stands3. store-comes name q b c (held index 0) (held value (hold index)) i v place s2 o2 h3 (here nodes h3.node g.2 _ at3 g.6)
-      (first-kept index p g.0 g.3 h2.state h3.state (λ x h. keeps3 x (omega arith)) ∙ kept)
-      (held-kept nodes lengths value (hold index) g.0 g.1 g.4 h2.state h3.state keeps3 ∙ a2.value) found stands3)
+      (λ place found h3 at3 keeps3 stands3. store-comes name q b c (held index 0) (held value (hold index)) i v place s2 o2 h3 (here nodes h3.node g.2 _ at3 g.6.there)
+      (first-kept loop index p g.0 g.3 h2.state h3.state (λ x h. keeps3 x (omega arith)) ∙ kept)
+      (held-kept flow loop value (hold index) g.0 g.1 g.4 h2.state h3.state keeps3 ∙ a2.value) found stands3)
       (λ h3 trap. trap)))
-  assigns-comes name line (Some index) bracket (Some op) at value p q b c g s out f e stands =
+  assigns-comes loop name line (Some index) bracket (Some op) at value p q b c g s out f e stands =
       let t = hold index in
       let own = Name (temporary (hold index)) in
       do_with-comes (eval lengths index s) (trace lengths index s) (λ i. place_trace lengths name i (update_trace lengths name op at value))
-      (λ i. with_place lengths name bracket i (update lengths name op at value)) out f (held index 0) 0 g.0 q b c f.state (gives-comes nodes lengths index 0 p g.0 g.5 s out f e stands)
-      (λ i s1 o1 h1 a1. bounds-comes nodes lengths Completion name bracket t g.0 g.1 (held index 0) i s1 h1 o1 (update_trace lengths name op at value) (Traps OutOfBounds bracket)
+      (λ i. with_place lengths name bracket i (update lengths name op at value)) out f (held index 0) 0 g.0 q b c f.state (gives-comes flow loop index 0 p g.0 g.5 s out f e stands)
+      (λ i s1 o1 h1 a1. bounds-comes flow loop Completion name bracket t g.0 g.1 (held index 0) i s1 h1 o1 (update_trace lengths name op at value) (Traps OutOfBounds bracket)
       (update lengths name op at value) (Finished nodes q b c) g.6 a1.at a1.value a1.stands
       (λ place found h2 at2 keeps2 stands2.
       let old = s1.cells name place in
@@ -229,22 +237,23 @@ module _ (nodes : List FlowNode) (lengths : List ℕ) where
       Comes-map nodes lengths (Load_node ∷ []) o1 h2 (Arrives own t g.2 h1.state old s1)
       (λ o h. Comes nodes lengths (traced (trace lengths value s1) (eval lengths value s1) after) o h (Finished nodes q b c (do_with (eval lengths value s1) kont)))
       (λ o3 h3 a3. do_with-comes (eval lengths value s1) (trace lengths value s1) after kont o3 h3 (held value (t + 1)) (t + 1) g.3 q b c h3.state
-      (gives-comes nodes lengths value (t + 1) g.2 g.3 g.8 s1 o3 h3 a3.at a3.stands)
+      (gives-comes flow loop value (t + 1) g.2 g.3 g.8 s1 o3 h3 a3.at a3.stands)
       (λ v s4 o4 h4 a4. do_with-comes (operate op at old v s4) (operation_trace op v s4) (λ r. passes Store_node) (store name place) o4 h4 own t g.4 q b c h1.state
-      (operate-comes nodes lengths op at t g.3 g.4 own (held value (t + 1)) old v s4 o4 h4 h1.state g.9 a4.at
+      (operate-comes flow loop op at t g.3 g.4 own (held value (t + 1)) old v s4 o4 h4 h1.state g.9 a4.at
       (a4.keeps (temporary t) (omega arith) ∙ a3.value) a4.value a4.stands (Keeps-trans t (t + 1) h1.state h3.state h4.state (omega arith) a3.keeps a4.keeps))
-      (λ r s5 o5 h5 a5. store-comes name q b c (held index 0) own i r place s5 o5 h5 (here nodes h5.node g.4 _ a5.at g.10)
-      (first-kept index p g.0 g.5 h1.state h5.state a5.keeps ∙ a1.value) a5.value found a5.stands)))
-      (load-arrives nodes lengths name t g.2 (held index 0) i place s1 o1 h2 h1.state (here nodes h2.node g.1 _ at2 g.7)
-      (first-kept index p g.0 g.5 h1.state h2.state keeps2 ∙ a1.value) found stands2 keeps2))
+      (λ r s5 o5 h5 a5. store-comes name q b c (held index 0) own i r place s5 o5 h5 (here nodes h5.node g.4 _ a5.at g.10.there)
+      (first-kept loop index p g.0 g.5 h1.state h5.state a5.keeps ∙ a1.value) a5.value found a5.stands)))
+      (load-arrives flow loop name t g.2 (held index 0) i place s1 o1 h2 h1.state (here nodes h2.node g.1 _ at2 g.7.there)
+      (first-kept loop index p g.0 g.5 h1.state h2.state keeps2 ∙ a1.value) found stands2 keeps2))
       (λ h2 trap. trap))
 
   -- every declarator
-  declares-comes : (scalar : ℕ) (initial : Option SourceExpression) (p q b c : ℕ) → Declares nodes lengths scalar initial p q
+  declares-comes : (loop : Option ℕ) (scalar : ℕ) (initial : Option SourceExpression) (p q b c : ℕ) → Declares flow loop scalar initial p q
       → (s : ProgramState) (out : List ℤ) (f : FlowState) → f.node ≡ p → Stands s out f.state
       → Comes nodes lengths (declaration_trace lengths initial s) out f (Finished nodes q b c (declare lengths scalar initial s))
-  declares-comes scalar None p q b c g s out f at stands = assign-comes scalar q b c (Lit (pos 0)) (pos 0) s out f (here nodes f.node p _ at g.1) refl stands
-  declares-comes scalar (Some initial) p q b c g s out f at stands = put-comes scalar initial p q b c g s out f at stands
+  declares-comes loop scalar None p q b c g s out f at stands =
+      assign-comes scalar q b c (Lit (pos 0)) (pos 0) s out f (here nodes f.node p _ at g.1.there) refl stands
+  declares-comes loop scalar (Some initial) p q b c g s out f at stands = put-comes loop scalar initial p q b c g s out f at stands
 
   -- ---- loops
 
@@ -259,7 +268,7 @@ module _ (nodes : List FlowNode) (lengths : List ℕ) where
   -- a loop from h to q, whose condition comes to its test at m, whose body begins at y and comes to n, and whose step comes from n to h
   module _ (test : ProgramState → Evaluated) (test_trace : ProgramState → List Kind)
       (step : ProgramState → Completion) (step_trace : ProgramState → List Kind) (body : ProgramState → Completion) (body_trace : ProgramState → List Kind)
-      (w : Operand) (h m y n q b c : ℕ) (tests-at : TestsTurn nodes lengths m w y q)
+      (own : ℕ) (w : Operand) (h m y n q b c : ℕ) (tests-at : TestsTurn flow own m w y q)
       (test-comes : (s : ProgramState) (out : List ℤ) (f : FlowState) → f.node ≡ h → Stands s out f.state → Comes nodes lengths (test_trace s) out f (Valued nodes w 0 m f.state (test s)))
       (step-comes : (s : ProgramState) (out : List ℤ) (f : FlowState) → f.node ≡ n → Stands s out f.state → Comes nodes lengths (step_trace s) out f (Finished nodes h b c (step s)))
       (round-comes : (s : ProgramState) (out : List ℤ) (f : FlowState) → f.node ≡ y → Stands s out f.state → Comes nodes lengths (body_trace s) out f (Finished nodes n q n (body s))) where
@@ -285,8 +294,8 @@ module _ (nodes : List FlowNode) (lengths : List ℕ) where
         let turn = turn_of (round_of body step next) in
         let passed = turn_trace (round_trace body body_trace step step_trace after) in
         do_with-comes (test s) (test_trace s) (λ v. tested (side v passed passes_nothing)) (λ v. side v turn GoesOn) out f w 0 m q b c f.state (test-comes s out f at stands)
-        (λ v s1 o1 h1 a1. side-comes nodes lengths Completion w y q (Some tests-at.0) v s1 h1 o1 passed passes_nothing turn GoesOn (Finished nodes q b c)
-        (here nodes h1.node m _ a1.at tests-at.1) a1.value
+        (λ v s1 o1 h1 a1. side-comes nodes lengths Completion w y q (Some own) v s1 h1 o1 passed passes_nothing turn GoesOn (Finished nodes q b c)
+        (here nodes h1.node m _ a1.at tests-at.there) a1.value
         (turn-comes next after (loop-comes tests) s1 o1 (standing y h1.state) refl a1.stands)
         (record { at = refl; stands = a1.stands }))
 
@@ -305,68 +314,72 @@ module _ (nodes : List FlowNode) (lengths : List ℕ) where
   module _ (r : ℕ) (stops : slice_get nodes r ≡ Some Stop) where
     mutual
       -- every statement
-      pub implements-comes : (statement : SourceStatement) (b c p q : ℕ) → Implements nodes lengths statement b c r p q
+      pub implements-comes : (statement : SourceStatement) (loop : Option ℕ) (k i j b c p q : ℕ) → Implements flow statement loop k i j b c r p q
           → (s : ProgramState) (out : List ℤ) (f : FlowState) → f.node ≡ p → Stands s out f.state
           → Comes nodes lengths (statement_trace lengths statement s) out f (Finished nodes q b c (execute lengths statement s))
-      implements-comes (source.Scope items) b c p q g s out f at stands = list-comes items b c p q g s out f at stands
-      implements-comes (source.ScalarDeclaration name line initial) b c p q g s out f at stands = declares-comes name initial p q b c g s out f at stands
-      implements-comes (source.ArrayDeclaration name line bracket length) b c p q g s out f at stands = record { at = at ∙ g; stands = stands }
-      implements-comes (source.Assignment name line index bracket op place value) b c p q g s out f at stands =
-          assigns-comes name line index bracket op place value p q b c g s out f at stands
-      implements-comes (source.Printing line value) b c p q g s out f at stands =
+      implements-comes (source.Scope items) loop k i j b c p q g s out f at stands = list-comes items loop k i j b c p q g s out f at stands
+      implements-comes (source.ScalarDeclaration name line initial) loop k i j b c p q g s out f at stands =
+          declares-comes loop name initial p q b c g.1 s out f at stands
+      implements-comes (source.ArrayDeclaration name line bracket length) loop k i j b c p q g s out f at stands = record { at = at ∙ g.1; stands = stands }
+      implements-comes (source.Assignment name line index bracket op place value) loop k i j b c p q g s out f at stands =
+          assigns-comes loop name line index bracket op place value p q b c g.1 s out f at stands
+      implements-comes (source.Printing line value) loop k i j b c p q g s out f at stands =
           do_with-comes (eval lengths value s) (trace lengths value s) (λ v. passes Print_node) (λ v t. GoesOn (add_printed v t)) out f (held value 0) 0 g.0 q b c f.state
-          (gives-comes nodes lengths value 0 p g.0 g.1 s out f at stands)
-          (λ v s1 o1 h1 a1. print-comes q b c (held value 0) v s1 o1 h1 (here nodes h1.node g.0 _ a1.at g.2) a1.value a1.stands)
-      implements-comes (source.Evaluation line value) b c p q g s out f at stands =
-          dropped-comes (eval lengths value s) (trace lengths value s) GoesOn out f (held value 0) 0 q q b c f.state (gives-comes nodes lengths value 0 p q g s out f at stands)
+          (gives-comes flow loop value 0 p g.0 g.2 s out f at stands)
+          (λ v s1 o1 h1 a1. print-comes q b c (held value 0) v s1 o1 h1 (here nodes h1.node g.0 _ a1.at g.3.there) a1.value a1.stands)
+      implements-comes (source.Evaluation line value) loop k i j b c p q g s out f at stands =
+          dropped-comes (eval lengths value s) (trace lengths value s) GoesOn out f (held value 0) 0 q q b c f.state (gives-comes flow loop value 0 p q g.1 s out f at stands)
           (λ v s1 o1 h1 a1. record { at = a1.at; stands = a1.stands })
-      implements-comes (source.Branch line test body otherwise) b c p q g s out f at stands =
+      implements-comes (source.Branch line test body otherwise) loop k i j b c p q g s out f at stands =
           do_with-comes (eval lengths test s) (trace lengths test s) (λ v. tested (side v (statement_trace lengths body) (optional_trace lengths otherwise)))
-          (λ v. side v (execute lengths body) (execute_optional lengths otherwise)) out f (held test 0) 0 g.0 q b c f.state (gives-comes nodes lengths test 0 p g.0 g.3 s out f at stands)
+          (λ v. side v (execute lengths body) (execute_optional lengths otherwise)) out f (held test 0) 0 g.0 q b c f.state
+          (gives-comes flow loop test 0 p g.0 g.6 s out f at stands)
           (λ v s1 o1 h1 a1. side-comes nodes lengths Completion (held test 0) g.1 g.2 None v s1 h1 o1 (statement_trace lengths body) (optional_trace lengths otherwise)
-          (execute lengths body) (execute_optional lengths otherwise) (Finished nodes q b c) (here nodes h1.node g.0 _ a1.at g.4) a1.value
-          (implements-comes body b c g.1 q g.5 s1 o1 (standing g.1 h1.state) refl a1.stands)
-          (optional-comes otherwise b c g.2 q g.6 s1 o1 (standing g.2 h1.state) refl a1.stands))
-      implements-comes (source.WhileLoop line test body) b c p q g s out f at stands =
+          (execute lengths body) (execute_optional lengths otherwise) (Finished nodes q b c) (here nodes h1.node g.0 _ a1.at g.7.there) a1.value
+          (implements-comes body loop k g.3 g.4 b c g.1 q g.8 s1 o1 (standing g.1 h1.state) refl a1.stands)
+          (optional-comes otherwise loop (k + loop_count body) g.4 j b c g.2 q g.9 s1 o1 (standing g.2 h1.state) refl a1.stands))
+      implements-comes (source.WhileLoop line test body) loop k i j b c p q g s out f at stands =
           loop_from-comes (eval lengths test) (trace lengths test) GoesOn passes_nothing (execute lengths body) (statement_trace lengths body)
-          (held test 0) p g.0 g.1 p q b c g.3 (gives-comes nodes lengths test 0 p g.0 g.2) (nothing-comes p p b c refl)
-          (implements-comes body q p g.1 p g.4) s out f at stands
-      implements-comes (source.DoLoop line body test) b c p q g s out f at stands =
+          k (held test 0) p g.0 g.1 p q b c g.6 (gives-comes flow (Some k) test 0 p g.0 g.5) (nothing-comes p p b c refl)
+          (implements-comes body (Some k) (k + 1) g.2 j q p g.1 p g.7) s out f at stands
+      implements-comes (source.DoLoop line body test) loop k i j b c p q g s out f at stands =
           turn-comes (eval lengths test) (trace lengths test) GoesOn passes_nothing (execute lengths body) (statement_trace lengths body)
-          (held test 0) g.0 g.1 p g.0 q b c g.4 (gives-comes nodes lengths test 0 g.0 g.1 g.3) (nothing-comes g.0 g.0 b c refl)
-          (implements-comes body q g.0 p g.0 g.2)
+          k (held test 0) g.0 g.1 p g.0 q b c g.5 (gives-comes flow (Some k) test 0 g.0 g.1 g.4) (nothing-comes g.0 g.0 b c refl)
+          (implements-comes body (Some k) (k + 1) i g.0 q g.0 p g.0 g.3)
           (loop_from (eval lengths test) GoesOn (execute lengths body))
           (loop_trace_from (eval lengths test) (trace lengths test) GoesOn passes_nothing (execute lengths body) (statement_trace lengths body))
           (loop_from-comes (eval lengths test) (trace lengths test) GoesOn passes_nothing (execute lengths body) (statement_trace lengths body)
-          (held test 0) g.0 g.1 p g.0 q b c g.4 (gives-comes nodes lengths test 0 g.0 g.1 g.3) (nothing-comes g.0 g.0 b c refl)
-          (implements-comes body q g.0 p g.0 g.2)) s out f at stands
-      implements-comes (source.ForLoop line first test step body) b c p q g s out f at stands =
+          k (held test 0) g.0 g.1 p g.0 q b c g.5 (gives-comes flow (Some k) test 0 g.0 g.1 g.4) (nothing-comes g.0 g.0 b c refl)
+          (implements-comes body (Some k) (k + 1) i g.0 q g.0 p g.0 g.3)) s out f at stands
+      implements-comes (source.ForLoop line first test step body) loop k i j b c p q g s out f at stands =
           let next = loop_from (eval lengths test) (execute_optional lengths step) (execute lengths body) in
           let after = loop_trace_from (eval lengths test) (trace lengths test) (execute_optional lengths step) (optional_trace lengths step) (execute lengths body) (statement_trace lengths body) in
-          then-comes (execute_list lengths first s) (list_trace lengths first s) after next out f g.0 q b c (list-comes first b c p g.0 g.4 s out f at stands)
+          then-comes (execute_list lengths first s) (list_trace lengths first s) after next out f g.0 q b c
+          (list-comes first loop (k + 1) i g.0 b c p g.0 g.6 s out f at stands)
           (λ s1 o1 h1 r1. loop_from-comes (eval lengths test) (trace lengths test) (execute_optional lengths step) (optional_trace lengths step) (execute lengths body) (statement_trace lengths body)
-          (held test 0) g.0 g.1 g.2 g.3 q b c g.6 (gives-comes nodes lengths test 0 g.0 g.1 g.5) (optional-comes step b c g.3 g.0 g.8)
-          (implements-comes body q g.3 g.2 g.3 g.7) s1 o1 h1 r1.at r1.stands)
-      implements-comes (source.BreakOut line) b c p q g s out f at stands = record { at = at ∙ g; stands = stands }
-      implements-comes (source.ContinueOn line) b c p q g s out f at stands = record { at = at ∙ g; stands = stands }
-      implements-comes (source.ReturnFrom line value) b c p q g s out f at stands =
-          dropped-comes (eval lengths value s) (trace lengths value s) Returns out f (held value 0) 0 r q b c f.state (gives-comes nodes lengths value 0 p r g s out f at stands)
+          k (held test 0) g.0 g.1 g.2 g.3 q b c g.9 (gives-comes flow (Some k) test 0 g.0 g.1 g.8)
+          (optional-comes step (Some k) (k + 1 + list_loops first) g.5 j b c g.3 g.0 g.11)
+          (implements-comes body (Some k) (k + 1 + list_loops first + branch_loops step) g.4 g.5 q g.3 g.2 g.3 g.10) s1 o1 h1 r1.at r1.stands)
+      implements-comes (source.BreakOut line) loop k i j b c p q g s out f at stands = record { at = at ∙ g.1; stands = stands }
+      implements-comes (source.ContinueOn line) loop k i j b c p q g s out f at stands = record { at = at ∙ g.1; stands = stands }
+      implements-comes (source.ReturnFrom line value) loop k i j b c p q g s out f at stands =
+          dropped-comes (eval lengths value s) (trace lengths value s) Returns out f (held value 0) 0 r q b c f.state (gives-comes flow loop value 0 p r g.1 s out f at stands)
           (λ v s1 o1 h1 a1. (here nodes h1.node r _ a1.at stops, a1.stands.printed))
-      implements-comes source.Nothing b c p q g s out f at stands = record { at = at ∙ g; stands = stands }
+      implements-comes source.Nothing loop k i j b c p q g s out f at stands = record { at = at ∙ g.1; stands = stands }
 
       -- every statement that may be left out
-      pub optional-comes : (statement : OptionalStatement) (b c p q : ℕ) → ImplementsOptional nodes lengths statement b c r p q
+      pub optional-comes : (statement : OptionalStatement) (loop : Option ℕ) (k i j b c p q : ℕ) → ImplementsOptional flow statement loop k i j b c r p q
           → (s : ProgramState) (out : List ℤ) (f : FlowState) → f.node ≡ p → Stands s out f.state
           → Comes nodes lengths (optional_trace lengths statement s) out f (Finished nodes q b c (execute_optional lengths statement s))
-      optional-comes source.Absent b c p q g s out f at stands = record { at = at ∙ g; stands = stands }
-      optional-comes (source.Present statement) b c p q g s out f at stands = implements-comes statement b c p q g s out f at stands
+      optional-comes source.Absent loop k i j b c p q g s out f at stands = record { at = at ∙ g.1; stands = stands }
+      optional-comes (source.Present statement) loop k i j b c p q g s out f at stands = implements-comes statement loop k i j b c p q g s out f at stands
 
       -- every list of statements
-      pub list-comes : (items : SourceList) (b c p q : ℕ) → ImplementsList nodes lengths items b c r p q
+      pub list-comes : (items : SourceList) (loop : Option ℕ) (k i j b c p q : ℕ) → ImplementsList flow items loop k i j b c r p q
           → (s : ProgramState) (out : List ℤ) (f : FlowState) → f.node ≡ p → Stands s out f.state
           → Comes nodes lengths (list_trace lengths items s) out f (Finished nodes q b c (execute_list lengths items s))
-      list-comes source.No_more b c p q g s out f at stands = record { at = at ∙ g; stands = stands }
-      list-comes (source.More first rest) b c p q g s out f at stands =
+      list-comes source.No_more loop k i j b c p q g s out f at stands = record { at = at ∙ g.1; stands = stands }
+      list-comes (source.More first rest) loop k i j b c p q g s out f at stands =
           then-comes (execute lengths first s) (statement_trace lengths first s) (list_trace lengths rest) (execute_list lengths rest) out f g.0 q b c
-          (implements-comes first b c p g.0 g.1 s out f at stands)
-          (λ s1 o1 h1 r1. list-comes rest b c g.0 q g.2 s1 o1 h1 r1.at r1.stands)
+          (implements-comes first loop k i g.1 b c p g.0 g.2 s out f at stands)
+          (λ s1 o1 h1 r1. list-comes rest loop (k + loop_count first) g.1 j b c g.0 q g.3 s1 o1 h1 r1.at r1.stands)

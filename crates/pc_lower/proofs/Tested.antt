@@ -1,5 +1,5 @@
 -- Loops whose tests were placed.
-use Rattle.std.proofs.Common.{◌≡◌, inl, inr, ℕ, zero, suc, ◌+◌, ◌<◌, ◌≤◌, List, [], ◌∷◌, length, Option, Some, refl, sym, ◌∙◌, ap, subst, arith}
+use Rattle.std.proofs.Common.{◌≡◌, inl, inr, ℕ, zero, suc, ◌+◌, ◌<◌, List, [], ◌∷◌, length, Some, sym, ◌∙◌, ap, subst, arith}
 use Rattle.std.proofs.lemmas.Bool.{cases_eq}
 use Rattle.std.specs.Prelude.{slice_get}
 use Rattle.pc_word.proofs.Lists.{set_length}
@@ -9,7 +9,7 @@ use Rattle.pc_flow.specs.FlowGraph.{tested_loop}
 use Rattle.pc_flow.specs.declared.node.FlowNode.{FlowNode}
 use Rattle.pc_lower.specs.LoopTests.{HasTest}
 use Rattle.pc_lower.specs.models.Drafts.{Draft, PlacedTest, IsTested}
-use Rattle.pc_lower.specs.models.Fills.{Lays}
+use Rattle.pc_lower.specs.models.Fills.{Fills}
 use Rattle.pc_lower.specs.models.LowersStatement.{LaysTurn, AreTested, closed}
 use Rattle.pc_lower.proofs.Fills.{tested_still}
 use Rattle.pc_word.proofs.Places.{set_there, set_elsewhere}
@@ -19,11 +19,11 @@ pub tested_none : {d : Draft} {ends : ℕ} → AreTested d 0 ends
 tested_none = record { each = λ loop lo hi. absurd (omega (arith, lo, hi)) }
 
 -- later placing leaves tests as they are
-pub all_still : {old new : Draft} {k from to many ends : ℕ} {P : List FlowNode → List ℕ → Type 0} → Lays old new k from to P → AreTested old many ends
+pub all_still : {old new : Draft} {from to many ends : ℕ} {Mine : ℕ → Type 0} → Fills old new from to Mine → AreTested old many ends
     → AreTested new many ends
-all_still l tested = record { each = λ loop lo hi. tested_still l (tested.each loop lo hi) }
+all_still fills tested = record { each = λ loop lo hi. tested_still fills (tested.each loop lo hi) }
 
--- loops and those that are numbered behind them
+-- loops and those that are numbered after them
 pub tested_both : {d : Draft} {few mid more ends : ℕ} (total : ℕ) → AreTested d few mid → AreTested d more ends → mid + more ≡ ends → few + more ≡ total
     → AreTested d total ends
 tested_both {d} {few} {mid} {more} {ends} total first second e sum = record {
@@ -39,7 +39,7 @@ tested_one {d} {own} tested = record {
   each = λ loop lo hi. let same : own ≡ loop = omega (arith, lo, hi) in subst (IsTested d.graph) same tested;
 }
 
--- a loop and those that are numbered behind it
+-- a loop and those that are numbered after it
 pub tested_round : {d : Draft} {own many ends : ℕ} → IsTested d.graph own → AreTested d many ends → own + 1 + many ≡ ends → AreTested d (many + 1) ends
 tested_round {many = many} own rest e = tested_both (many + 1) (tested_one own) rest e (omega arith)
 

@@ -1,5 +1,5 @@
 -- The loops of a program's text, in the order of their keywords.
-use Rattle.std.specs.Prelude.{ℕ, List, [], ◌∷◌, ◌++◌, length, map, Option, Some, None}
+use Rattle.std.specs.Prelude.{ℕ, ◌+◌, List, [], ◌∷◌, ◌++◌, length, map, Option, Some, None}
 use Rattle.pc_word.specs.declared.loop_mark.LoopMark.{LoopMark}
 use Rattle.pc_syntax.specs.Source.{SourceStatement, Scope, ScalarDeclaration, ArrayDeclaration, Assignment, Printing, Evaluation, Branch, WhileLoop}
 use Rattle.pc_syntax.specs.Source.{DoLoop, ForLoop, BreakOut, ContinueOn, ReturnFrom, Nothing, OptionalStatement, Absent, Present, SourceList}
@@ -23,7 +23,7 @@ abbrev pub with_loop : ℕ → Option ℕ → List SourceLoop → List SourceLoo
 with_loop line outer loops = loops ++ record { line = line; outer = outer } ∷ []
 
 unfoldable mutual
-  -- The loops so far, and behind them those of a statement that stands in the text of a loop or of none. A loop's number
+  -- The loops so far, and after them those of a statement that stands in the text of a loop or of none. A loop's number
   -- is how many stand before it. Its body and the step of a `for` stand in it; the first part of a `for` does not.
   pub with_loops : SourceStatement → Option ℕ → List SourceLoop → List SourceLoop
   with_loops (Scope items) outer loops = with_list_loops items outer loops
@@ -51,6 +51,34 @@ unfoldable mutual
   pub with_list_loops : SourceList → Option ℕ → List SourceLoop → List SourceLoop
   with_list_loops No_more outer loops = loops
   with_list_loops (More first rest) outer loops = with_list_loops rest outer (with_loops first outer loops)
+
+unfoldable mutual
+  -- how many loops a statement has
+  pub loop_count : SourceStatement → ℕ
+  loop_count (Scope items) = list_loops items
+  loop_count (ScalarDeclaration name line initial) = 0
+  loop_count (ArrayDeclaration name line at length) = 0
+  loop_count (Assignment name line index bracket op at value) = 0
+  loop_count (Printing line value) = 0
+  loop_count (Evaluation line value) = 0
+  loop_count (Branch line test body otherwise) = loop_count body + branch_loops otherwise
+  loop_count (WhileLoop line test body) = loop_count body + 1
+  loop_count (DoLoop line body test) = loop_count body + 1
+  loop_count (ForLoop line first test step body) = list_loops first + (branch_loops step + loop_count body) + 1
+  loop_count (BreakOut line) = 0
+  loop_count (ContinueOn line) = 0
+  loop_count (ReturnFrom line value) = 0
+  loop_count Nothing = 0
+
+  -- the same of a statement that may be left out
+  pub branch_loops : OptionalStatement → ℕ
+  branch_loops Absent = 0
+  branch_loops (Present statement) = loop_count statement
+
+  -- and of statements in order
+  pub list_loops : SourceList → ℕ
+  list_loops No_more = 0
+  list_loops (More first rest) = loop_count first + list_loops rest
 
 -- the loops of a program
 abbrev pub loops_of : ResolvedProgram → List SourceLoop

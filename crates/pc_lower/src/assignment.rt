@@ -64,7 +64,7 @@ fn lower_put(draft: &mut Draft, scalar: u32, value: &Expr, site: Site) -> u32
     requires scalar { scalar < most_scalars }
     requires value { IsHeld draft.now.graph.arrays (expression_of value.now) 0 }
     ensures { Lays draft.old draft.new (expression_size (expression_of value.now) + 1) result site.end
-        (λ nodes lengths. Puts nodes lengths scalar (expression_of value.now) result site.next) }
+        (λ flow. Puts flow site.inside scalar (expression_of value.now) result site.next) }
 {
     let from = held(value, 0);
     let last = lay_item(draft, Item::Copy { dest: scalar, from }, site);
@@ -84,7 +84,7 @@ fn lower_compound(
     requires scalar { scalar < most_scalars }
     requires value { IsHeld draft.now.graph.arrays (expression_of value.now) 0 }
     ensures { Lays draft.old draft.new (expression_size (expression_of value.now) + operator_size operation.op + 1) result
-        site.end (λ nodes lengths. Puts nodes lengths scalar
+        site.end (λ flow. Puts flow site.inside scalar
         (Combined operation.op operation.line (Variable scalar 0) (expression_of value.now)) result site.next) }
 {
     let from = Operand::Name(64);
@@ -107,7 +107,7 @@ fn lower_store(draft: &mut Draft, element: Element, index: &Expr, value: &Expr, 
     requires temporaries { hold (expression_of index.now) + hold (expression_of value.now) < most_temporaries }
     ensures { Lays draft.old draft.new
         (expression_size (expression_of index.now) + expression_size (expression_of value.now) + 4) result site.end
-        (λ nodes lengths. Assigns nodes lengths element.array 0 (Some (expression_of index.now)) element.line None 0
+        (λ flow. Assigns flow site.inside element.array 0 (Some (expression_of index.now)) element.line None 0
         (expression_of value.now) result site.next) }
 {
     let above = hold(index);
@@ -138,10 +138,10 @@ fn lower_change(
     requires index { IsVariable element.index }
     requires value { IsHeld draft.now.graph.arrays (expression_of value.now) (site.temporary + 1) }
     ensures { Lays draft.old draft.new (expression_size (expression_of value.now) + operator_size operation.op + 1) result site.end
-        (λ nodes lengths. (m n : ℕ) × Gives nodes lengths (expression_of value.now) (site.temporary + 1) result m
-        × Combines nodes lengths operation.op operation.line (temporary site.temporary) (Name (temporary site.temporary))
+        (λ flow. (m n : ℕ) × Gives flow site.inside (expression_of value.now) (site.temporary + 1) result m
+        × Combines flow site.inside operation.op operation.line (temporary site.temporary) (Name (temporary site.temporary))
         (held (expression_of value.now) (site.temporary + 1)) m n
-        × Does nodes lengths n (Store element.array element.index (Name (temporary site.temporary))) site.next) }
+        × Does flow site.inside n (Store element.array element.index (Name (temporary site.temporary))) site.next) }
 {
     let old = Operand::Name(64 + site.temporary);
     let store = Item::Store {
@@ -174,7 +174,7 @@ fn lower_update(
     requires value { IsHeld draft.now.graph.arrays (expression_of value.now) (hold (expression_of index.now) + 1) }
     ensures { Lays draft.old draft.new
         (expression_size (expression_of index.now) + expression_size (expression_of value.now) + (operator_size operation.op + 5))
-        result site.end (λ nodes lengths. Assigns nodes lengths element.array 0 (Some (expression_of index.now)) element.line
+        result site.end (λ flow. Assigns flow site.inside element.array 0 (Some (expression_of index.now)) element.line
         (Some operation.op) operation.line (expression_of value.now) result site.next) }
 {
     let above = hold(index);
@@ -200,7 +200,7 @@ pub(crate) fn lower_assignment(
     requires value { has_slots most_scalars (length draft.now.graph.arrays) (expression_of value.now) ≡ true }
     ensures { Lays draft.old draft.new (optional_size (option_map expression_of index.now)
         + expression_size (expression_of value.now) + target_size (option_map expression_of index.now) target.op) result site.end
-        (λ nodes lengths. Assigns nodes lengths target.name 0 (option_map expression_of index.now) target.bracket target.op target.at
+        (λ flow. Assigns flow site.inside target.name 0 (option_map expression_of index.now) target.bracket target.op target.at
         (expression_of value.now) result site.next) }
 {
     let line = target.at;
@@ -232,7 +232,7 @@ pub(crate) fn lower_declaration(
     requires temporaries { optional_need (option_map expression_of initial.now) ≤ most_temporaries }
     requires initial { optional_has_slots most_scalars (length draft.now.graph.arrays) (option_map expression_of initial.now) ≡ true }
     ensures { Lays draft.old draft.new (optional_size (option_map expression_of initial.now) + 1) result site.end
-        (λ nodes lengths. Declares nodes lengths scalar (option_map expression_of initial.now) result site.next) }
+        (λ flow. Declares flow site.inside scalar (option_map expression_of initial.now) result site.next) }
 {
     match initial {
         None => {

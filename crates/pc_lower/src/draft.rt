@@ -1,8 +1,9 @@
 //! A flow graph in the making: its nodes are placed at numbers that are known beforehand, each one
-//! behind those to which it leads.
-ghost use Rattle.std.specs.Prelude.{◌≡◌, ◌+◌, ◌<◌, Some, None, length, slice_get, slice_index, replicate, IfOk};
+//! after those to which it leads.
+ghost use Rattle.std.specs.Prelude.{◌≡◌, ◌+◌, ◌<◌, Some, None, length, slice_index, replicate, IfOk};
 ghost use Rattle.pc_flow.specs.FlowGraph.{IsTarget};
 ghost use Rattle.pc_flow.specs.declared.node.FlowNode.TheVariants.{Test, Stop};
+ghost use Rattle.pc_lower.specs.Lowers.{IsAt};
 ghost use Rattle.pc_lower.specs.LoopTests.{HasTest, TestsInside};
 ghost use Rattle.pc_lower.specs.models.Drafts.{CanPlace, draft_with, CanAim, aimed, headed, MayBegin, first_draft};
 ghost use Rattle.pc_lower.specs.models.Fills.{Lays};
@@ -74,7 +75,7 @@ impl Draft {
     pub(crate) fn place(&mut self, at: u32, node: FlowNode, inside: Option<u16>)
         requires can { CanPlace self.now at node inside }
         ensures placed { self.new ≡ draft_with at node inside self.old }
-        ensures laid { Lays self.old self.new 1 at (at + 1) (λ nodes lengths. slice_get nodes at ≡ Some node) }
+        ensures laid { Lays self.old self.new 1 at (at + 1) (λ flow. IsAt flow at node inside) }
     {
         self.ranked += 1;
         self.nodes.set(at as usize, node);

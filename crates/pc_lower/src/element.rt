@@ -1,4 +1,4 @@
-//! Elements of arrays: the test of an index, and the load behind it.
+//! Elements of arrays: the test of an index, and the load after it.
 ghost use Rattle.std.specs.Prelude.{◌≡◌, ◌<◌, ℕ, length};
 ghost use Rattle.pc_word.specs.SourceLimits.{most_temporaries};
 ghost use Rattle.pc_word.specs.declared.item.Item.TheVariants.{Load};
@@ -31,7 +31,7 @@ pub(crate) fn lay_bounds(draft: &mut Draft, element: Element, site: Site) -> u32
     requires index { IsVariable element.index }
     requires leads { IsPlaced draft.now.graph site.next }
     ensures { Lays draft.old draft.new 3 result site.end
-        (λ nodes lengths. Bounds nodes lengths element.array element.line (temporary site.temporary) element.index result site.next) }
+        (λ flow. Bounds flow site.inside element.array element.line (temporary site.temporary) element.index result site.next) }
 {
     let within = 64 + site.temporary;
     let length = draft.length(element.array) as i32;
@@ -50,7 +50,7 @@ pub(crate) fn lay_bounds(draft: &mut Draft, element: Element, site: Site) -> u32
     lay(draft, node, site.leading_to(guard))
 }
 
-/// The load of an element, behind the test of its index, for which there is a temporary.
+/// The load of an element, after the test of its index, for which there is a temporary.
 #[tactic(auto, using(crate::proofs::Layouts::lays_load))]
 pub(crate) fn lay_load(draft: &mut Draft, element: Element, within: u32, site: Site) -> u32
     requires room { HasRoom draft.now 4 site.end site.inside }
@@ -61,8 +61,8 @@ pub(crate) fn lay_load(draft: &mut Draft, element: Element, within: u32, site: S
     requires index { IsVariable element.index }
     requires leads { IsPlaced draft.now.graph site.next }
     ensures { Lays draft.old draft.new 4 result site.end
-        (λ nodes lengths. (m : ℕ) × Bounds nodes lengths element.array element.line (temporary within) element.index result m
-        × Does nodes lengths m (Load (temporary site.temporary) element.array element.index) site.next) }
+        (λ flow. (m : ℕ) × Bounds flow site.inside element.array element.line (temporary within) element.index result m
+        × Does flow site.inside m (Load (temporary site.temporary) element.array element.index) site.next) }
 {
     let load = Item::Load {
         dest: 64 + site.temporary,

@@ -1,5 +1,5 @@
 //! Expressions, lowered backwards: all nodes are there from the start, and each expression is given
-//! the number behind its last node. Its nodes are placed from the last to the first.
+//! the number after its last node. Its nodes are placed from the last to the first.
 ghost use Rattle.std.specs.Prelude.{ℕ};
 ghost use Rattle.pc_syntax.specs.Source.{Input, Indexed, Prefixed, Combined, Conjunction, Disjunction, Conditional};
 ghost use Rattle.pc_syntax.specs.Erasure.{expression_of};
@@ -18,7 +18,7 @@ use pc_word::{Item, OpCode, Operand, TrapKind};
 #[tactic(auto, unfolding(pc_check::specs::Needs::need, pc_check::specs::Sizes::expression_size))]
 fn lower_read(draft: &mut Draft, line: u32, site: Site) -> u32
     requires may { MayLower draft.now (Input line) site.temporary site.end site.next site.inside }
-    ensures { LaysExpression (Input line) site.temporary result site.end site.next draft.old draft.new }
+    ensures { LaysExpression (Input line) site.temporary result site.end site.next site.inside draft.old draft.new }
 {
     let dest = 64 + site.temporary;
     let last = lay_item(draft, Item::Read { dest }, site);
@@ -31,7 +31,7 @@ fn lower_read(draft: &mut Draft, line: u32, site: Site) -> u32
 #[cycle(lower_expression)]
 fn lower_element(draft: &mut Draft, array: u32, at: u32, index: &Expr, site: Site) -> u32
     requires may { MayLower draft.now (Indexed array at at (expression_of index.now)) site.temporary site.end site.next site.inside }
-    ensures { (line : ℕ) → LaysExpression (Indexed array line at (expression_of index.now)) site.temporary result site.end site.next draft.old draft.new }
+    ensures { (line : ℕ) → LaysExpression (Indexed array line at (expression_of index.now)) site.temporary result site.end site.next site.inside draft.old draft.new }
 {
     let element = Element {
         array: array as u8,
@@ -47,7 +47,7 @@ fn lower_element(draft: &mut Draft, array: u32, at: u32, index: &Expr, site: Sit
 #[cycle(lower_expression)]
 fn lower_unary(draft: &mut Draft, op: UnaryOp, operand: &Expr, site: Site) -> u32
     requires may { MayLower draft.now (Prefixed op (expression_of operand.now)) site.temporary site.end site.next site.inside }
-    ensures { LaysExpression (Prefixed op (expression_of operand.now)) site.temporary result site.end site.next draft.old draft.new }
+    ensures { LaysExpression (Prefixed op (expression_of operand.now)) site.temporary result site.end site.next site.inside draft.old draft.new }
 {
     let item = prefix_item(op, 64 + site.temporary, held(operand, site.temporary));
     let last = lay_item(draft, item, site);
@@ -64,7 +64,7 @@ fn lower_binary(
     site: Site,
 ) -> u32
     requires may { MayLower draft.now (Combined operation.op operation.line (expression_of left.now) (expression_of right.now)) site.temporary site.end site.next site.inside }
-    ensures { LaysExpression (Combined operation.op operation.line (expression_of left.now) (expression_of right.now)) site.temporary result site.end site.next draft.old draft.new }
+    ensures { LaysExpression (Combined operation.op operation.line (expression_of left.now) (expression_of right.now)) site.temporary result site.end site.next site.inside draft.old draft.new }
 {
     let above = next_temporary(left, site.temporary);
     let first = held(left, site.temporary);
@@ -79,7 +79,7 @@ fn lower_binary(
 #[cycle(lower_expression)]
 fn lower_both(draft: &mut Draft, left: &Expr, right: &Expr, site: Site) -> u32
     requires may { MayLower draft.now (Conjunction (expression_of left.now) (expression_of right.now)) site.temporary site.end site.next site.inside }
-    ensures { LaysExpression (Conjunction (expression_of left.now) (expression_of right.now)) site.temporary result site.end site.next draft.old draft.new }
+    ensures { LaysExpression (Conjunction (expression_of left.now) (expression_of right.now)) site.temporary result site.end site.next site.inside draft.old draft.new }
 {
     let dest = 64 + site.temporary;
     let from = Operand::Lit(0);
@@ -101,7 +101,7 @@ fn lower_both(draft: &mut Draft, left: &Expr, right: &Expr, site: Site) -> u32
 #[cycle(lower_expression)]
 fn lower_either(draft: &mut Draft, left: &Expr, right: &Expr, site: Site) -> u32
     requires may { MayLower draft.now (Disjunction (expression_of left.now) (expression_of right.now)) site.temporary site.end site.next site.inside }
-    ensures { LaysExpression (Disjunction (expression_of left.now) (expression_of right.now)) site.temporary result site.end site.next draft.old draft.new }
+    ensures { LaysExpression (Disjunction (expression_of left.now) (expression_of right.now)) site.temporary result site.end site.next site.inside draft.old draft.new }
 {
     let dest = 64 + site.temporary;
     let from = Operand::Lit(1);
@@ -123,7 +123,7 @@ fn lower_either(draft: &mut Draft, left: &Expr, right: &Expr, site: Site) -> u32
 #[cycle(lower_expression)]
 fn lower_choice(draft: &mut Draft, test: &Expr, one: &Expr, other: &Expr, site: Site) -> u32
     requires may { MayLower draft.now (Conditional (expression_of test.now) (expression_of one.now) (expression_of other.now)) site.temporary site.end site.next site.inside }
-    ensures { LaysExpression (Conditional (expression_of test.now) (expression_of one.now) (expression_of other.now)) site.temporary result site.end site.next draft.old draft.new }
+    ensures { LaysExpression (Conditional (expression_of test.now) (expression_of one.now) (expression_of other.now)) site.temporary result site.end site.next site.inside draft.old draft.new }
 {
     let dest = 64 + site.temporary;
     let from = held(other, site.temporary);
@@ -143,7 +143,7 @@ fn lower_choice(draft: &mut Draft, test: &Expr, one: &Expr, other: &Expr, site: 
 #[tactic(auto, using(pc_syntax::proofs::ErasureLaws::expression_forms), unfolding(pc_check::specs::Needs::need, pc_check::specs::Sizes::expression_size, pc_check::specs::Sound::has_slots))]
 pub(crate) fn lower_expression(draft: &mut Draft, expression: &Expr, site: Site) -> u32
     requires may { MayLower draft.now (expression_of expression.now) site.temporary site.end site.next site.inside }
-    ensures { LaysExpression (expression_of expression.now) site.temporary result site.end site.next draft.old draft.new }
+    ensures { LaysExpression (expression_of expression.now) site.temporary result site.end site.next site.inside draft.old draft.new }
 {
     match expression {
         Expr::Lit { .. } | Expr::Name { .. } => site.end,

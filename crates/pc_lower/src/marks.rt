@@ -2,14 +2,13 @@
 //! loops are lowered.
 ghost use Rattle.std.specs.Prelude.{◌≡◌, ◌+◌, ◌≤◌, IfOk, OnOk, length};
 ghost use Rattle.pc_syntax.specs.Erasure.{statement_of, optional_of, list_of};
-ghost use Rattle.pc_lower.specs.SourceLoops.{source_loops, with_loop, with_loops, with_branch_loops, with_list_loops};
-ghost use Rattle.pc_lower.specs.models.LowersStatement.{loop_count, branch_loops, list_loops};
+ghost use Rattle.pc_lower.specs.SourceLoops.{source_loops, with_loop, with_loops, with_branch_loops, with_list_loops, loop_count, branch_loops, list_loops};
 
 use pc_syntax::{Stmt, StmtList};
 use pc_word::{LoopList, LoopMark};
 use std::alloc::AllocError;
 
-/// Puts the mark of a loop behind those that there are, and gives its number.
+/// Appends the mark of a loop to those that there are, and gives its number.
 #[tactic(auto, using(crate::proofs::LoopMarks::marks))]
 fn mark_loop(marks: &mut LoopList, line: u32, outer: Option<u16>) -> Result<u16, AllocError>
     requires room { length marks.old ≤ 65535 }
@@ -26,10 +25,10 @@ fn mark_loop(marks: &mut LoopList, line: u32, outer: Option<u16>) -> Result<u16,
     Ok(own)
 }
 
-/// Puts the marks of a statement's loops behind those that there are. It stands in the text of a loop
+/// Appends the marks of a statement's loops to those that there are. It stands in the text of a loop
 /// or of none.
 #[cycle(mark_statement)]
-#[tactic(auto, using(crate::proofs::LoopMarks::statements), unfolding(crate::specs::SourceLoops::with_loops, crate::specs::models::LowersStatement::loop_count))]
+#[tactic(auto, using(crate::proofs::LoopMarks::statements), unfolding(crate::specs::SourceLoops::with_loops, crate::specs::SourceLoops::loop_count))]
 pub(crate) fn mark_statement(
     marks: &mut LoopList,
     statement: &Stmt,
@@ -69,7 +68,7 @@ pub(crate) fn mark_statement(
 
 /// The same of a statement that may be left out.
 #[cycle(mark_statement)]
-#[tactic(auto, using(crate::proofs::LoopMarks::statements), unfolding(crate::specs::SourceLoops::with_loops, crate::specs::models::LowersStatement::loop_count))]
+#[tactic(auto, using(crate::proofs::LoopMarks::statements), unfolding(crate::specs::SourceLoops::with_loops, crate::specs::SourceLoops::loop_count))]
 fn mark_optional(
     marks: &mut LoopList,
     statement: &Option<Box<Stmt>>,
@@ -87,7 +86,7 @@ fn mark_optional(
 
 /// The same of statements in order.
 #[cycle(mark_statement)]
-#[tactic(auto, using(crate::proofs::LoopMarks::statements), unfolding(crate::specs::SourceLoops::with_loops, crate::specs::models::LowersStatement::loop_count))]
+#[tactic(auto, using(crate::proofs::LoopMarks::statements), unfolding(crate::specs::SourceLoops::with_loops, crate::specs::SourceLoops::loop_count))]
 pub(crate) fn mark_list(
     marks: &mut LoopList,
     items: &StmtList,

@@ -1,13 +1,13 @@
 //! How many loops a statement has.
 ghost use Rattle.std.specs.Prelude.{◌≡◌, min};
 ghost use Rattle.pc_syntax.specs.Erasure.{statement_of, optional_of, list_of};
-ghost use Rattle.pc_lower.specs.models.LowersStatement.{loop_count, branch_loops, list_loops};
+ghost use Rattle.pc_lower.specs.SourceLoops.{loop_count, branch_loops, list_loops};
 
 use pc_syntax::{Stmt, StmtList};
 
 /// The loops of a statement, or 65535 where there are more.
 #[cycle(loop_count)]
-#[tactic(auto, using(pc_syntax::proofs::ErasureLaws::statement_forms), unfolding(crate::specs::models::LowersStatement::loop_count))]
+#[tactic(auto, using(pc_syntax::proofs::ErasureLaws::statement_forms), unfolding(crate::specs::SourceLoops::loop_count))]
 pub(crate) fn loop_count(statement: &Stmt) -> u16
     ensures { result ≡ min (loop_count (statement_of statement.now)) 65535 }
 {
@@ -32,7 +32,7 @@ pub(crate) fn loop_count(statement: &Stmt) -> u16
 
 /// The same of a statement that may be left out.
 #[cycle(loop_count)]
-#[tactic(auto, using(pc_syntax::proofs::ErasureLaws::statement_forms), unfolding(crate::specs::models::LowersStatement::loop_count))]
+#[tactic(auto, using(pc_syntax::proofs::ErasureLaws::statement_forms), unfolding(crate::specs::SourceLoops::loop_count))]
 pub(crate) fn branch_loops(statement: &Option<Box<Stmt>>) -> u16
     ensures { result ≡ min (branch_loops (optional_of statement.now)) 65535 }
 {
@@ -44,7 +44,7 @@ pub(crate) fn branch_loops(statement: &Option<Box<Stmt>>) -> u16
 
 /// The same of statements in order.
 #[cycle(loop_count)]
-#[tactic(auto, using(pc_syntax::proofs::ErasureLaws::statement_forms), unfolding(crate::specs::models::LowersStatement::loop_count))]
+#[tactic(auto, using(pc_syntax::proofs::ErasureLaws::statement_forms), unfolding(crate::specs::SourceLoops::loop_count))]
 pub(crate) fn list_loops(items: &StmtList) -> u16
     ensures { result ≡ min (list_loops (list_of items.now)) 65535 }
 {

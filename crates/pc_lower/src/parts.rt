@@ -1,14 +1,13 @@
 //! Nodes that are placed at a site, and the small parts of constructs.
-ghost use Rattle.std.specs.Prelude.{◌≡◌, ◌+◌, ◌<◌, ◌≤◌, Some, None, length, slice_get};
+ghost use Rattle.std.specs.Prelude.{◌≡◌, ◌+◌, ◌<◌, ◌≤◌, length};
 ghost use Rattle.pc_word.specs.SourceLimits.{most_temporaries};
 ghost use Rattle.pc_syntax.specs.Erasure.{expression_of};
 ghost use Rattle.pc_check.specs.Needs.{hold};
 ghost use Rattle.pc_check.specs.Sizes.{operator_size};
 ghost use Rattle.pc_meaning.specs.Expression.{divides};
 ghost use Rattle.pc_meaning.specs.Lowered.{binary_code};
-ghost use Rattle.pc_flow.specs.declared.node.FlowNode.TheVariants.{Op, Test};
 ghost use Rattle.pc_flow.specs.FlowGraph.{IsVariable, ItemFits};
-ghost use Rattle.pc_lower.specs.Lowers.{temporary, held, prefix_item, binary_item, Combines};
+ghost use Rattle.pc_lower.specs.Lowers.{temporary, held, prefix_item, binary_item, IsAt, Does, Tests, Combines};
 ghost use Rattle.pc_lower.specs.models.Drafts.{IsPlaced, MayPlace, StandsIn};
 ghost use Rattle.pc_lower.specs.models.Fills.{HasRoom, Lays};
 ghost use Rattle.pc_lower.specs.models.LowersExpression.{Guards};
@@ -25,7 +24,7 @@ pub(crate) fn lay(draft: &mut Draft, node: FlowNode, site: Site) -> u32
     requires room { HasRoom draft.now 1 site.end site.inside }
     requires fits { MayPlace draft.now.graph node }
     requires stands { StandsIn site.inside node }
-    ensures { Lays draft.old draft.new 1 result site.end (λ nodes lengths. slice_get nodes result ≡ Some node) }
+    ensures { Lays draft.old draft.new 1 result site.end (λ flow. IsAt flow result node site.inside) }
 {
     let at = site.end - 1;
     draft.place(at, node, site.inside);
@@ -37,7 +36,7 @@ pub(crate) fn lay_item(draft: &mut Draft, item: Item, site: Site) -> u32
     requires room { HasRoom draft.now 1 site.end site.inside }
     requires fits { ItemFits (length draft.now.graph.arrays) item }
     requires leads { IsPlaced draft.now.graph site.next }
-    ensures { Lays draft.old draft.new 1 result site.end (λ nodes lengths. slice_get nodes result ≡ Some (Op item site.next)) }
+    ensures { Lays draft.old draft.new 1 result site.end (λ flow. Does flow site.inside result item site.next) }
 {
     let node = FlowNode::Op {
         item,
@@ -52,7 +51,7 @@ pub(crate) fn lay_test(draft: &mut Draft, on: Operand, yes: u32, no: u32, site: 
     requires on { IsVariable on }
     requires yes { IsPlaced draft.now.graph yes }
     requires no { IsPlaced draft.now.graph no }
-    ensures { Lays draft.old draft.new 1 result site.end (λ nodes lengths. slice_get nodes result ≡ Some (Test on yes no None)) }
+    ensures { Lays draft.old draft.new 1 result site.end (λ flow. Tests flow site.inside result on yes no) }
 {
     let node = FlowNode::Test {
         on,
@@ -152,7 +151,7 @@ pub(crate) fn lay_guard(
     requires room { HasRoom draft.now 2 site.end site.inside }
     requires on { IsVariable on }
     requires leads { IsPlaced draft.now.graph site.next }
-    ensures { Lays draft.old draft.new 2 result site.end (λ nodes lengths. Guards nodes on kind line result site.next) }
+    ensures { Lays draft.old draft.new 2 result site.end (λ flow. Guards flow site.inside on kind line result site.next) }
 {
     let trap = lay(draft, FlowNode::Trap { kind, line }, site);
     let test = FlowNode::Test {
@@ -181,7 +180,7 @@ fn divides(op: BinaryOp) -> bool
     }
 }
 
-/// A binary operator on two values, behind a test of the divisor where there is one.
+/// A binary operator on two values, after a test of the divisor where there is one.
 pub(crate) fn lay_operation(
     draft: &mut Draft,
     operation: Operation,
@@ -195,7 +194,7 @@ pub(crate) fn lay_operation(
     requires right { IsVariable right }
     requires leads { IsPlaced draft.now.graph site.next }
     ensures { Lays draft.old draft.new (operator_size operation.op) result site.end
-        (λ nodes lengths. Combines nodes lengths operation.op operation.line (temporary site.temporary) left right result site.next) }
+        (λ flow. Combines flow site.inside operation.op operation.line (temporary site.temporary) left right result site.next) }
 {
     let item = binary_item(operation.op, 64 + site.temporary, left, right);
     let node = FlowNode::Op {

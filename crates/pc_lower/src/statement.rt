@@ -1,15 +1,16 @@
-//! Statements, lowered backwards: each one is given the number behind its last node, and places where
+//! Statements, lowered backwards: each one is given the number after its last node, and places where
 //! it leads.
-ghost use Rattle.std.specs.Prelude.{◌≡◌, ◌+◌, ◌<◌, true, length};
+ghost use Rattle.std.specs.Prelude.{◌≡◌, ◌+◌, ◌<◌, ℕ, true, length};
 ghost use Rattle.pc_word.specs.SourceLimits.{most_scalars};
 ghost use Rattle.pc_syntax.specs.Source.{Branch, WhileLoop, DoLoop, ForLoop};
 ghost use Rattle.pc_syntax.specs.Erasure.{expression_of, statement_of, optional_of, list_of};
 ghost use Rattle.pc_check.specs.Sizes.{expression_size, statement_size, branch_size, list_size};
 ghost use Rattle.pc_check.specs.Sound.{is_sound, branch_is_sound, list_is_sound};
 ghost use Rattle.pc_lower.specs.models.Drafts.{IsPlaced, IsTested};
-ghost use Rattle.pc_lower.specs.models.Fills.{Lays};
+ghost use Rattle.pc_lower.specs.models.Fills.{LaysLoops, IsOwn};
 ghost use Rattle.pc_lower.specs.models.LowersExpression.{IsHeld};
-ghost use Rattle.pc_lower.specs.models.LowersStatement.{loop_count, branch_loops, list_loops, IsSpot, AreTested, LaysStatement, LaysOptional, LaysList, StatementNodes, RoundNodes, TurnsNodes};
+ghost use Rattle.pc_lower.specs.SourceLoops.{loop_count, branch_loops, list_loops};
+ghost use Rattle.pc_lower.specs.models.LowersStatement.{IsSpot, AreTested, LaysStatement, LaysOptional, LaysList, LaysRound, LaysTurns, StatementNodes};
 
 use crate::assignment::{Target, lower_assignment, lower_declaration};
 use crate::draft::Draft;
@@ -33,10 +34,11 @@ fn lower_branch(
     requires test { IsHeld draft.now.graph.arrays (expression_of test.now) 0 }
     requires yes { is_sound most_scalars (length draft.now.graph.arrays) true (statement_of yes.now) ≡ true }
     requires no { branch_is_sound most_scalars (length draft.now.graph.arrays) true (optional_of no.now) ≡ true }
-    ensures laid { Lays draft.old draft.new (expression_size (expression_of test.now) + statement_size (statement_of yes.now)
+    ensures laid { LaysLoops draft.old draft.new (expression_size (expression_of test.now) + statement_size (statement_of yes.now)
         + branch_size (optional_of no.now) + 1) result.start spot.end
-        (StatementNodes (Branch 0 (expression_of test.now) (statement_of yes.now) (optional_of no.now))
-        spot.break_to spot.continue_to spot.return_to result.entry spot.next) }
+        (IsOwn (loop_count (statement_of yes.now) + branch_loops (optional_of no.now)) spot.loops_end)
+        (StatementNodes (Branch 0 (expression_of test.now) (statement_of yes.now) (optional_of no.now)) spot.inside spot.loops_end
+        result.start spot.end spot.break_to spot.continue_to spot.return_to result.entry spot.next) }
     ensures begins { IsPlaced draft.new.graph result.entry }
     ensures tested { AreTested draft.new (loop_count (statement_of yes.now) + branch_loops (optional_of no.now)) spot.loops_end }
 {
@@ -59,10 +61,10 @@ fn lower_while(draft: &mut Draft, test: &Expr, body: &Stmt, spot: Spot) -> Laid
         (loop_count (statement_of body.now) + 1) spot }
     requires test { IsHeld draft.now.graph.arrays (expression_of test.now) 0 }
     requires body { is_sound most_scalars (length draft.now.graph.arrays) true (statement_of body.now) ≡ true }
-    ensures laid { Lays draft.old draft.new (expression_size (expression_of test.now) + statement_size (statement_of body.now) + 1)
-        result.start spot.end
-        (StatementNodes (WhileLoop 0 (expression_of test.now) (statement_of body.now))
-        spot.break_to spot.continue_to spot.return_to result.entry spot.next) }
+    ensures laid { (line : ℕ) → LaysLoops draft.old draft.new (expression_size (expression_of test.now) + statement_size (statement_of body.now) + 1)
+        result.start spot.end (IsOwn (loop_count (statement_of body.now) + 1) spot.loops_end)
+        (StatementNodes (WhileLoop line (expression_of test.now) (statement_of body.now)) spot.inside spot.loops_end
+        result.start spot.end spot.break_to spot.continue_to spot.return_to result.entry spot.next) }
     ensures begins { IsPlaced draft.new.graph result.entry }
     ensures tested { AreTested draft.new (loop_count (statement_of body.now) + 1) spot.loops_end }
 {
@@ -97,10 +99,10 @@ fn lower_do(draft: &mut Draft, test: &Expr, body: &Stmt, spot: Spot) -> Laid
         (loop_count (statement_of body.now) + 1) spot }
     requires test { IsHeld draft.now.graph.arrays (expression_of test.now) 0 }
     requires body { is_sound most_scalars (length draft.now.graph.arrays) true (statement_of body.now) ≡ true }
-    ensures laid { Lays draft.old draft.new (statement_size (statement_of body.now) + expression_size (expression_of test.now) + 1)
-        result.start spot.end
-        (StatementNodes (DoLoop 0 (statement_of body.now) (expression_of test.now))
-        spot.break_to spot.continue_to spot.return_to result.entry spot.next) }
+    ensures laid { (line : ℕ) → LaysLoops draft.old draft.new (statement_size (statement_of body.now) + expression_size (expression_of test.now) + 1)
+        result.start spot.end (IsOwn (loop_count (statement_of body.now) + 1) spot.loops_end)
+        (StatementNodes (DoLoop line (statement_of body.now) (expression_of test.now)) spot.inside spot.loops_end
+        result.start spot.end spot.break_to spot.continue_to spot.return_to result.entry spot.next) }
     ensures begins { IsPlaced draft.new.graph result.entry }
     ensures tested { AreTested draft.new (loop_count (statement_of body.now) + 1) spot.loops_end }
 {
@@ -142,8 +144,7 @@ fn lower_round(
     requires out { IsPlaced draft.now.graph out }
     requires step { branch_is_sound most_scalars (length draft.now.graph.arrays) true (optional_of step.now) ≡ true }
     requires body { is_sound most_scalars (length draft.now.graph.arrays) true (statement_of body.now) ≡ true }
-    ensures laid { Lays draft.old draft.new (statement_size (statement_of body.now) + branch_size (optional_of step.now)) result.start spot.end
-        (RoundNodes (statement_of body.now) (optional_of step.now) out spot.break_to spot.continue_to spot.return_to result.entry spot.next) }
+    ensures laid { LaysRound (statement_of body.now) (optional_of step.now) out spot result draft.old draft.new }
     ensures begins { IsPlaced draft.new.graph result.entry }
     ensures tested { AreTested draft.new (branch_loops (optional_of step.now) + loop_count (statement_of body.now)) spot.loops_end }
 {
@@ -170,13 +171,11 @@ fn lower_turns(
     requires spot { IsSpot draft.now (expression_size (expression_of test.now) + 1 + (statement_size (statement_of body.now)
         + branch_size (optional_of step.now))) (branch_loops (optional_of step.now) + loop_count (statement_of body.now)) spot }
     requires own { own < length draft.now.graph.loops }
+    requires number { own + (branch_loops (optional_of step.now) + loop_count (statement_of body.now)) < spot.loops_end }
     requires test { IsHeld draft.now.graph.arrays (expression_of test.now) 0 }
     requires step { branch_is_sound most_scalars (length draft.now.graph.arrays) true (optional_of step.now) ≡ true }
     requires body { is_sound most_scalars (length draft.now.graph.arrays) true (statement_of body.now) ≡ true }
-    ensures laid { Lays draft.old draft.new (expression_size (expression_of test.now) + 1 + (statement_size (statement_of body.now)
-        + branch_size (optional_of step.now))) result spot.end
-        (TurnsNodes (expression_of test.now) (optional_of step.now) (statement_of body.now) spot.break_to spot.continue_to spot.return_to
-        result spot.next) }
+    ensures laid { LaysTurns (expression_of test.now) (optional_of step.now) (statement_of body.now) own spot result draft.old draft.new }
     ensures own { IsTested draft.new.graph own }
     ensures tested { AreTested draft.new (branch_loops (optional_of step.now) + loop_count (statement_of body.now)) spot.loops_end }
 {
@@ -218,11 +217,12 @@ fn lower_for(
     requires test { IsHeld draft.now.graph.arrays (expression_of test.now) 0 }
     requires step { branch_is_sound most_scalars (length draft.now.graph.arrays) true (optional_of step.now) ≡ true }
     requires body { is_sound most_scalars (length draft.now.graph.arrays) true (statement_of body.now) ≡ true }
-    ensures laid { Lays draft.old draft.new (list_size (list_of first.now) + expression_size (expression_of test.now)
+    ensures laid { (line : ℕ) → LaysLoops draft.old draft.new (list_size (list_of first.now) + expression_size (expression_of test.now)
         + branch_size (optional_of step.now) + statement_size (statement_of body.now) + 1) result.start spot.end
+        (IsOwn (list_loops (list_of first.now) + (branch_loops (optional_of step.now) + loop_count (statement_of body.now)) + 1) spot.loops_end)
         (StatementNodes
-        (ForLoop 0 (list_of first.now) (expression_of test.now) (optional_of step.now) (statement_of body.now))
-        spot.break_to spot.continue_to spot.return_to result.entry spot.next) }
+        (ForLoop line (list_of first.now) (expression_of test.now) (optional_of step.now) (statement_of body.now)) spot.inside spot.loops_end
+        result.start spot.end spot.break_to spot.continue_to spot.return_to result.entry spot.next) }
     ensures begins { IsPlaced draft.new.graph result.entry }
     ensures tested { AreTested draft.new (list_loops (list_of first.now) + (branch_loops (optional_of step.now) + loop_count (statement_of body.now)) + 1) spot.loops_end }
 {
@@ -234,7 +234,7 @@ fn lower_for(
 
 /// A statement before the end of a spot.
 #[cycle(lower_statement)]
-#[tactic(auto, using(crate::proofs::Rules::statements), unfolding(pc_check::specs::Sizes::statement_size, pc_check::specs::Sound::is_sound, crate::specs::models::LowersStatement::loop_count))]
+#[tactic(auto, using(crate::proofs::Rules::statements), unfolding(pc_check::specs::Sizes::statement_size, pc_check::specs::Sound::is_sound, crate::specs::SourceLoops::loop_count))]
 pub(crate) fn lower_statement(draft: &mut Draft, statement: &Stmt, spot: Spot) -> Laid
     requires spot { IsSpot draft.now (statement_size (statement_of statement.now)) (loop_count (statement_of statement.now)) spot }
     requires sound { is_sound most_scalars (length draft.now.graph.arrays) true (statement_of statement.now) ≡ true }
@@ -281,7 +281,7 @@ pub(crate) fn lower_statement(draft: &mut Draft, statement: &Stmt, spot: Spot) -
 
 /// The same of a statement that may be left out.
 #[cycle(lower_statement)]
-#[tactic(auto, using(crate::proofs::Rules::statements), unfolding(pc_check::specs::Sizes::statement_size, pc_check::specs::Sound::is_sound, crate::specs::models::LowersStatement::loop_count))]
+#[tactic(auto, using(crate::proofs::Rules::statements), unfolding(pc_check::specs::Sizes::statement_size, pc_check::specs::Sound::is_sound, crate::specs::SourceLoops::loop_count))]
 fn lower_optional(draft: &mut Draft, statement: &Option<Box<Stmt>>, spot: Spot) -> Laid
     requires spot { IsSpot draft.now (branch_size (optional_of statement.now)) (branch_loops (optional_of statement.now)) spot }
     requires sound { branch_is_sound most_scalars (length draft.now.graph.arrays) true (optional_of statement.now) ≡ true }
@@ -297,7 +297,7 @@ fn lower_optional(draft: &mut Draft, statement: &Option<Box<Stmt>>, spot: Spot) 
 
 /// Statements in order, from the last to the first.
 #[cycle(lower_statement)]
-#[tactic(auto, using(crate::proofs::Rules::statements), unfolding(pc_check::specs::Sizes::statement_size, pc_check::specs::Sound::is_sound, crate::specs::models::LowersStatement::loop_count))]
+#[tactic(auto, using(crate::proofs::Rules::statements), unfolding(pc_check::specs::Sizes::statement_size, pc_check::specs::Sound::is_sound, crate::specs::SourceLoops::loop_count))]
 pub(crate) fn lower_list(draft: &mut Draft, items: &StmtList, spot: Spot) -> Laid
     requires spot { IsSpot draft.now (list_size (list_of items.now)) (list_loops (list_of items.now)) spot }
     requires sound { list_is_sound most_scalars (length draft.now.graph.arrays) true (list_of items.now) ≡ true }

@@ -1,10 +1,10 @@
 //! Values that a statement evaluates, prints or tests.
-ghost use Rattle.std.specs.Prelude.{◌≡◌, ◌+◌, ◌<◌, ℕ, Some, None, length, slice_get};
+ghost use Rattle.std.specs.Prelude.{◌≡◌, ◌+◌, ◌<◌, ℕ, Some, length};
 ghost use Rattle.pc_word.specs.declared.item.Item.TheVariants.{Print};
 ghost use Rattle.pc_syntax.specs.Erasure.{expression_of};
 ghost use Rattle.pc_check.specs.Sizes.{expression_size};
 ghost use Rattle.pc_flow.specs.declared.node.FlowNode.TheVariants.{Test};
-ghost use Rattle.pc_lower.specs.Lowers.{held, Does, Gives};
+ghost use Rattle.pc_lower.specs.Lowers.{held, Does, Gives, Begins};
 ghost use Rattle.pc_lower.specs.models.Drafts.{IsPlaced, CanAim};
 ghost use Rattle.pc_lower.specs.LoopTests.{HasTest};
 ghost use Rattle.pc_lower.specs.models.Fills.{Lays};
@@ -26,7 +26,8 @@ pub(crate) fn lower_value(draft: &mut Draft, value: &Expr, site: Site) -> Laid
     requires ready { IsReady draft.now (expression_size (expression_of value.now)) site.end site.next site.inside }
     requires value { IsHeld draft.now.graph.arrays (expression_of value.now) 0 }
     ensures laid { Lays draft.old draft.new (expression_size (expression_of value.now)) result.start site.end
-        (λ nodes lengths. Gives nodes lengths (expression_of value.now) 0 result.entry site.next) }
+        (λ flow. Begins (expression_size (expression_of value.now)) result.entry result.start site.end
+        × Gives flow site.inside (expression_of value.now) 0 result.entry site.next) }
     ensures begins { IsPlaced draft.new.graph result.entry }
 {
     if hold(value) == 0 {
@@ -40,8 +41,8 @@ pub(crate) fn lower_print(draft: &mut Draft, value: &Expr, site: Site) -> u32
     requires ready { IsReady draft.now (expression_size (expression_of value.now) + 1) site.end site.next site.inside }
     requires value { IsHeld draft.now.graph.arrays (expression_of value.now) 0 }
     ensures { Lays draft.old draft.new (expression_size (expression_of value.now) + 1) result site.end
-        (λ nodes lengths. (m : ℕ) × Gives nodes lengths (expression_of value.now) 0 result m
-        × Does nodes lengths m (Print (held (expression_of value.now) 0)) site.next) }
+        (λ flow. (m : ℕ) × Gives flow site.inside (expression_of value.now) 0 result m
+        × Does flow site.inside m (Print (held (expression_of value.now) 0)) site.next) }
 {
     let item = Item::Print {
         value: held(value, 0),
@@ -57,7 +58,7 @@ pub(crate) fn lower_condition(draft: &mut Draft, test: &Expr, no: u32, site: Sit
     requires test { IsHeld draft.now.graph.arrays (expression_of test.now) 0 }
     requires no { IsPlaced draft.now.graph no }
     ensures { Lays draft.old draft.new (expression_size (expression_of test.now) + 1) result site.end
-        (ConditionNodes (expression_of test.now) site.next no result) }
+        (ConditionNodes (expression_of test.now) site.inside site.next no result) }
 {
     let last = lay_test(draft, held(test, 0), site.next, no, site);
     lower_expression(draft, test, site.leading_to(last).above(0))
@@ -70,7 +71,7 @@ pub(crate) fn lower_turn(draft: &mut Draft, test: &Expr, own: u16, site: Site) -
     requires own { own < length draft.now.graph.loops }
     requires inside { site.inside ≡ Some own }
     ensures turn { (at : ℕ) → at + 1 ≡ site.end → LaysTurn draft.old draft.new (expression_of test.now) own result at }
-    ensures laid { Lays draft.old draft.new (expression_size (expression_of test.now) + 1) result site.end (λ nodes lengths. Unit {0}) }
+    ensures laid { Lays draft.old draft.new (expression_size (expression_of test.now) + 1) result site.end (λ flow. Unit {0}) }
 {
     let node = FlowNode::Test {
         on: held(test, 0),

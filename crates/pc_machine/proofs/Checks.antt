@@ -10,7 +10,8 @@ use Rattle.pc_word.specs.declared.item.Limits.{Limits}
 use Rattle.pc_machine.specs.declared.code.Flaw.{Flaw}
 use Rattle.pc_machine.specs.declared.check.Bounds.{Bounds}
 use Rattle.pc_machine.specs.declared.check.Counts.{Counts}
-use Rattle.pc_machine.specs.declared.tree.Tree.{Tree}
+use Rattle.pc_word.specs.declared.row_tree.RowTree.{RowTree}
+use Rattle.pc_machine.specs.declared.tree.Leaf.{Leaf}
 use Rattle.pc_machine.specs.MachineCode.{CodeRow, RowCode, row_of, rows_of}
 use Rattle.pc_word.specs.Row.{Then, Either}
 use Rattle.pc_word.specs.Items.{is_memory}
@@ -29,12 +30,12 @@ pub checked-value : {X : Type 0} (flaws : List Flaw) (x y : X) → checked flaws
 checked-value [] x y e = (cc)
 checked-value (flaw ∷ flaws) x y e = (cc)
 
--- what was refused has that flaw first, whatever flaws stand behind
+-- what was refused has that flaw first, whatever flaws stand after
 pub checked-stops : {X Y : Type 0} (flaws more : List Flaw) (x : X) (y : Y) (flaw : Flaw) → checked flaws x ≡ Err flaw → checked (flaws ++ more) y ≡ Err flaw
 checked-stops [] more x y flaw e = (cc)
 checked-stops (first ∷ flaws) more x y flaw e = (cc)
 
--- where there is none, those behind decide
+-- where there is none, those after decide
 pub checked-goes_on : {X Y : Type 0} (flaws more : List Flaw) (x z : X) (y : Y) → checked flaws x ≡ Ok z → checked (flaws ++ more) y ≡ checked more y
 checked-goes_on [] more x z y e = refl
 checked-goes_on (first ∷ flaws) more x z y e = (cc)
@@ -104,7 +105,7 @@ yes-goes_on bounds counts behind between above row on_yes on_no next last on is_
 -- ---- rows
 
 -- a row with a flaw among those that are left
-pub row-stops : (bounds : Bounds) (counts : Counts) (above : Above) (trees : List Tree) (i : ℕ) (tree found : Tree) (flaws : List Flaw) (flaw : Flaw)
+pub row-stops : (bounds : Bounds) (counts : Counts) (above : Above) (trees : List (RowTree Leaf)) (i : ℕ) (tree found : RowTree Leaf) (flaws : List Flaw) (flaw : Flaw)
     → i < length trees → tree ≡ get_or trees i tree → found ≡ tree → counts ≡ no_counts → above ≡ nothing_above
     → flaws ≡ flat_map (row_flaws bounds no_counts nothing_above) (rows_of (drop i trees))
     → Err flaw ≡ given bounds counts above (row_of found)
@@ -114,13 +115,13 @@ row-stops bounds counts above trees i tree found flaws flaw within is_tree is_fo
     let here : Err flaw ≡ given bounds no_counts nothing_above (row_of tree) =
     stops ∙ ap (λ (c : Counts). given bounds c above (row_of found)) is_none
     ∙ ap (λ (a : Above). given bounds no_counts a (row_of found)) is_root
-    ∙ ap (λ (t : Tree). given bounds no_counts nothing_above (row_of t)) is_found in
-    let split : drop i trees ≡ tree ∷ drop (suc i) trees = drop-cons trees i tree within ∙ ap (λ (t : Tree). t ∷ drop (suc i) trees) (sym is_tree) in
+    ∙ ap (λ (t : RowTree Leaf). given bounds no_counts nothing_above (row_of t)) is_found in
+    let split : drop i trees ≡ tree ∷ drop (suc i) trees = drop-cons trees i tree within ∙ ap (λ (t : RowTree Leaf). t ∷ drop (suc i) trees) (sym is_tree) in
     sym (checked-stops (row_flaws bounds no_counts nothing_above (row_of tree)) (whole (rows_of (drop (suc i) trees))) (counts_after (row_of tree) no_counts) tt flaw (sym here))
-    ∙ ap (λ (fs : List Flaw). checked fs tt) (sym (left ∙ ap (λ (ts : List Tree). whole (rows_of ts)) split))
+    ∙ ap (λ (fs : List Flaw). checked fs tt) (sym (left ∙ ap (λ (ts : List (RowTree Leaf)). whole (rows_of ts)) split))
 
 -- a header with no flaw
-pub header-goes_on : (limits : Limits) (lengths : List ℕ) (trees shown : List Tree) (arrays rows : ℕ) (x : Unit {0})
+pub header-goes_on : (limits : Limits) (lengths : List ℕ) (trees shown : List (RowTree Leaf)) (arrays rows : ℕ) (x : Unit {0})
     → Ok x ≡ checked (header_flaws (record { limits = limits; arrays = lengths; rows = rows_of trees })) tt
     → arrays ≡ length lengths → rows ≡ length trees → shown ≡ trees
     → ◌≡◌ {A = Result (Unit {0}) Flaw} (checked (flat_map (row_flaws (record { limits = limits; arrays = arrays; rows = rows }) no_counts nothing_above) (rows_of shown)) tt)
@@ -130,7 +131,7 @@ header-goes_on limits lengths trees shown arrays rows x goes same_arrays same_ro
     let count : rows ≡ length (rows_of trees) = same_rows ∙ sym (length-map trees row_of) in
     ap (λ (n : ℕ). checked (flat_map (row_flaws (record { limits = limits; arrays = n; rows = rows }) no_counts nothing_above) (rows_of shown)) tt) same_arrays
     ∙ ap (λ (n : ℕ). checked (flat_map (row_flaws (record { limits = limits; arrays = length lengths; rows = n }) no_counts nothing_above) (rows_of shown)) tt) count
-    ∙ ap (λ (ts : List Tree). checked (flat_map (row_flaws (bounds_of code) no_counts nothing_above) (rows_of ts)) tt) same
+    ∙ ap (λ (ts : List (RowTree Leaf)). checked (flat_map (row_flaws (bounds_of code) no_counts nothing_above) (rows_of ts)) tt) same
     ∙ sym (checked-goes_on (header_flaws code) (flat_map (row_flaws (bounds_of code) no_counts nothing_above) (rows_of trees)) tt x tt (sym goes))
 
 -- ---- the path

@@ -14,7 +14,9 @@ use Rattle.pc_machine.specs.declared.code.Flaw.TheVariants.{HeaderLimit, ArrayCo
 use Rattle.pc_machine.specs.declared.code.Flaw.TheVariants.{DestTwice, EffectTwice, TooManyOps, TooManyTests, TooManyMem}
 use Rattle.pc_machine.specs.declared.check.Bounds.{Bounds}
 use Rattle.pc_machine.specs.declared.check.Counts.{Counts}
-use Rattle.pc_machine.specs.MachineCode.{Leaf, Leads_to, Ends, Traps, CodeRow, RowCode}
+use Rattle.pc_machine.specs.declared.tree.Leaf.{Leaf}
+use Rattle.pc_machine.specs.declared.tree.Leaf.TheVariants.{Goto, Stop, Trap}
+use Rattle.pc_machine.specs.MachineCode.{CodeRow, RowCode}
 use Rattle.pc_word.specs.Row.{Then, Either, At_leaf, items_of, tests_of, leaves_of, paths_of}
 use Rattle.pc_word.specs.Items.{dest_of, is_memory, is_effect}
 use Rattle.pc_word.specs.Commit.{writes}
@@ -268,7 +270,7 @@ below_rest above item path below = record {
   one_effect = effect_rest (is_effect item) above.effect (count_by is_effect path) (count_by is_effect (item ∷ path)) (count_more is_effect item path) below.one_effect;
 }
 
--- ---- the counts behind a row
+-- ---- the counts after a row
 
 counts-ops : (row : CodeRow) (counts : Counts) → (counts_after row counts).ops ≡ counts.ops + length (items_of row)
 counts-ops (Then item rest) counts = counts-ops rest (counts_with_item (is_memory item) counts) ∙ omega arith
@@ -301,7 +303,7 @@ counts-mem (Either on on_yes on_no) counts =
     ∙ omega (arith, both)
 counts-mem (At_leaf leaf) counts = omega arith
 
--- ---- a row behind these counts and under this path
+-- ---- a row after these counts and under this path
 
 record Keeps (bounds : Bounds) (counts : Counts) (above : Above) (row : CodeRow) : Type 0 where
   ops : counts.ops + length (items_of row) ≤ bounds.limits.ops
@@ -319,14 +321,14 @@ record Within (limits : Limits) (counts : Counts) : Type 0 where
   mem : counts.mem ≤ limits.mem
 
 leaf_sound : (bounds : Bounds) (leaf : Leaf) → leaf_flaws bounds leaf ≡ [] → IsLeaf bounds.rows leaf
-leaf_sound bounds (Leads_to row) e = below_of bounds.rows row (where_none (nat_le bounds.rows row) Target e)
-leaf_sound bounds Ends e = tt
-leaf_sound bounds (Traps kind line) e = tt
+leaf_sound bounds (Goto row) e = below_of bounds.rows row (where_none (nat_le bounds.rows row) Target e)
+leaf_sound bounds Stop e = tt
+leaf_sound bounds (Trap kind line) e = tt
 
 leaf_complete : (bounds : Bounds) (leaf : Leaf) → IsLeaf bounds.rows leaf → leaf_flaws bounds leaf ≡ []
-leaf_complete bounds (Leads_to row) h = none_where (nat_le bounds.rows row) Target (of_below bounds.rows row h)
-leaf_complete bounds Ends h = refl
-leaf_complete bounds (Traps kind line) h = refl
+leaf_complete bounds (Goto row) h = none_where (nat_le bounds.rows row) Target (of_below bounds.rows row h)
+leaf_complete bounds Stop h = refl
+leaf_complete bounds (Trap kind line) h = refl
 
 -- the path that takes each yes
 some_path : (row : CodeRow) (P : List Item → Type 0) → AllByRecursion P (paths_of row) → (path : List Item) × P path

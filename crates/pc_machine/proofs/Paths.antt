@@ -4,7 +4,8 @@ use Rattle.std.specs.Prelude.{ℤ, if◌then◌else◌, slice_get}
 use Rattle.std.specs.List.{AllByRecursion, count_by}
 use Rattle.pc_word.specs.declared.item.Item.{Item}
 use Rattle.pc_word.specs.Word.{holds}
-use Rattle.pc_machine.specs.MachineCode.{Leads_to, CodeRow, RowCode}
+use Rattle.pc_machine.specs.declared.tree.Leaf.TheVariants.{Goto}
+use Rattle.pc_machine.specs.MachineCode.{CodeRow, RowCode}
 use Rattle.pc_word.specs.Row.{Row, Then, Either, At_leaf, path_of, leaf_of, items_of, leaves_of, paths_of}
 use Rattle.pc_word.specs.Items.{operand_value}
 use Rattle.pc_machine.specs.WellFormed.{IsItem, IsLeaf, IsPath, IsRow, WellFormed}
@@ -69,7 +70,7 @@ path-count names (At_leaf leaf) p = omega arith
 
 -- the row that a row leads to is there
 pub next_row_stands : (code : RowCode) → WellFormed code → (names : ℕ → ℤ) (i target : ℕ) (row : CodeRow) → slice_get code.rows i ≡ Some row
-    → leaf_of names row ≡ Leads_to target → target < length code.rows
+    → leaf_of names row ≡ Goto target → target < length code.rows
 next_row_stands code well names i target row at leads =
     let is = all_at (IsRow code.limits (length code.arrays) (length code.rows)) code.rows i row well.rows at in
     subst (IsLeaf (length code.rows)) leads (leaf_taken names row (IsLeaf (length code.rows)) is.leaves)

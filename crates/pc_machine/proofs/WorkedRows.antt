@@ -10,7 +10,8 @@ use Rattle.pc_word.specs.declared.item.Operand.TheVariants.{Name, Lit}
 use Rattle.pc_word.specs.declared.item.TrapKind.TheVariants.{EndOfInput}
 use Rattle.pc_word.specs.Run.{Seen}
 use Rattle.pc_word.specs.Word.{word_add, word_div}
-use Rattle.pc_machine.specs.MachineCode.{Leads_to, Ends, Traps, CodeRow, RowCode}
+use Rattle.pc_machine.specs.declared.tree.Leaf.TheVariants.{Goto, Stop, Trap}
+use Rattle.pc_machine.specs.MachineCode.{CodeRow, RowCode}
 use Rattle.pc_word.specs.Row.{Then, Either, At_leaf}
 use Rattle.pc_machine.specs.MachineRun.{machine_run}
 
@@ -23,7 +24,7 @@ abbrev ended : List ℤ → Seen
 ended printed = record { printed = printed; end = Some Ended }
 
 abbrev stop : CodeRow
-stop = At_leaf Ends
+stop = At_leaf Stop
 
 -- `print 7; stop` prints 7, whatever the input
 prints_seven : (input : List ℤ) → machine_run (code_with [] (Then (Print (Lit (pos 7))) stop ∷ [])) input 1 ≡ ended (pos 7 ∷ [])
@@ -43,8 +44,8 @@ goes_on input = refl
 -- `r0 = more; goto 1`, and then a test of r0: to yes where a number is left, and else to no
 tests_more : RowCode
 tests_more = code_with [] (
-    Then (More 0) (At_leaf (Leads_to 1))
-    ∷ Either (Name 0) (Then (Print (Lit (pos 1))) stop) (Then (Print (Lit (pos 2))) (At_leaf (Traps EndOfInput 9)))
+    Then (More 0) (At_leaf (Goto 1))
+    ∷ Either (Name 0) (Then (Print (Lit (pos 1))) stop) (Then (Print (Lit (pos 2))) (At_leaf (Trap EndOfInput 9)))
     ∷ [])
 
 goes_to_yes : machine_run tests_more (negsuc 4 ∷ []) 2 ≡ ended (pos 1 ∷ [])
@@ -63,9 +64,9 @@ tests_old_value input = refl
 
 -- two registers change places in one row
 swaps : (input : List ℤ) → machine_run (code_with [] (
-    Then (Copy 0 (Lit (pos 5))) (Then (Copy 1 (Lit (pos 6))) (At_leaf (Leads_to 1)))
-    ∷ Then (Copy 0 (Name 1)) (Then (Copy 1 (Name 0)) (At_leaf (Leads_to 2)))
-    ∷ Then (Print (Name 0)) (At_leaf (Leads_to 3))
+    Then (Copy 0 (Lit (pos 5))) (Then (Copy 1 (Lit (pos 6))) (At_leaf (Goto 1)))
+    ∷ Then (Copy 0 (Name 1)) (Then (Copy 1 (Name 0)) (At_leaf (Goto 2)))
+    ∷ Then (Print (Name 0)) (At_leaf (Goto 3))
     ∷ Then (Print (Name 1)) stop
     ∷ [])) input 4
     ≡ ended (pos 6 ∷ pos 5 ∷ [])
@@ -79,20 +80,20 @@ stores_twice input = refl
 
 -- two stores to two elements do not
 stores_beside : (input : List ℤ) → machine_run (code_with (4 ∷ []) (
-    Then (Store 0 (Lit (pos 1)) (Lit (pos 5))) (Then (Store 0 (Lit (pos 2)) (Lit (pos 6))) (At_leaf (Leads_to 1)))
-    ∷ Then (Load 0 0 (Lit (pos 1))) (Then (Load 1 0 (Lit (pos 2))) (At_leaf (Leads_to 2)))
-    ∷ Then (Print (Name 0)) (At_leaf (Leads_to 3))
+    Then (Store 0 (Lit (pos 1)) (Lit (pos 5))) (Then (Store 0 (Lit (pos 2)) (Lit (pos 6))) (At_leaf (Goto 1)))
+    ∷ Then (Load 0 0 (Lit (pos 1))) (Then (Load 1 0 (Lit (pos 2))) (At_leaf (Goto 2)))
+    ∷ Then (Print (Name 0)) (At_leaf (Goto 3))
     ∷ Then (Print (Name 1)) stop
     ∷ [])) input 4
     ≡ ended (pos 5 ∷ pos 6 ∷ [])
 stores_beside input = refl
 
--- a load behind a store of the same element sees the element from before the row
+-- a load after a store of the same element sees the element from before the row
 loads_old_element : (input : List ℤ) → machine_run (code_with (4 ∷ []) (
-    Then (Store 0 (Lit (pos 2)) (Lit (pos 5))) (At_leaf (Leads_to 1))
-    ∷ Then (Store 0 (Lit (pos 2)) (Lit (pos 8))) (Then (Load 1 0 (Lit (pos 2))) (At_leaf (Leads_to 2)))
-    ∷ Then (Print (Name 1)) (At_leaf (Leads_to 3))
-    ∷ Then (Load 1 0 (Lit (pos 2))) (At_leaf (Leads_to 4))
+    Then (Store 0 (Lit (pos 2)) (Lit (pos 5))) (At_leaf (Goto 1))
+    ∷ Then (Store 0 (Lit (pos 2)) (Lit (pos 8))) (Then (Load 1 0 (Lit (pos 2))) (At_leaf (Goto 2)))
+    ∷ Then (Print (Name 1)) (At_leaf (Goto 3))
+    ∷ Then (Load 1 0 (Lit (pos 2))) (At_leaf (Goto 4))
     ∷ Then (Print (Name 1)) stop
     ∷ [])) input 5
     ≡ ended (pos 5 ∷ pos 8 ∷ [])
@@ -100,9 +101,9 @@ loads_old_element input = refl
 
 -- a load outside its array gives 0, on both sides of it
 loads_outside : (input : List ℤ) → machine_run (code_with (4 ∷ []) (
-    Then (Copy 0 (Lit (pos 3))) (Then (Copy 1 (Lit (pos 3))) (At_leaf (Leads_to 1)))
-    ∷ Then (Load 0 0 (Lit (pos 4))) (Then (Load 1 0 (Lit (negsuc 0))) (At_leaf (Leads_to 2)))
-    ∷ Then (Print (Name 0)) (At_leaf (Leads_to 3))
+    Then (Copy 0 (Lit (pos 3))) (Then (Copy 1 (Lit (pos 3))) (At_leaf (Goto 1)))
+    ∷ Then (Load 0 0 (Lit (pos 4))) (Then (Load 1 0 (Lit (negsuc 0))) (At_leaf (Goto 2)))
+    ∷ Then (Print (Name 0)) (At_leaf (Goto 3))
     ∷ Then (Print (Name 1)) stop
     ∷ [])) input 4
     ≡ ended (pos 0 ∷ pos 0 ∷ [])
@@ -121,8 +122,8 @@ twice_before_read = refl
 
 -- a read takes a number, and faults where none is left
 reads_on : machine_run (code_with [] (
-    Then (Read 0) (At_leaf (Leads_to 1))
-    ∷ Then (Print (Name 0)) (At_leaf (Leads_to 0))
+    Then (Read 0) (At_leaf (Goto 1))
+    ∷ Then (Print (Name 0)) (At_leaf (Goto 0))
     ∷ [])) (pos 4 ∷ negsuc 8 ∷ []) 9
     ≡ record { printed = pos 4 ∷ negsuc 8 ∷ []; end = Some (Fault ReadPastEnd) }
 reads_on = refl
@@ -135,8 +136,8 @@ not_taken input = refl
 
 -- a sum wraps, and a quotient by 0 is 0
 computes : (input : List ℤ) → machine_run (code_with [] (
-    Then (Bin Add 0 (Lit (pos 2147483647)) (Lit (pos 1))) (Then (Bin Div 1 (Lit (pos 9)) (Name 0)) (At_leaf (Leads_to 1)))
-    ∷ Then (Print (Name 0)) (At_leaf (Leads_to 2))
+    Then (Bin Add 0 (Lit (pos 2147483647)) (Lit (pos 1))) (Then (Bin Div 1 (Lit (pos 9)) (Name 0)) (At_leaf (Goto 1)))
+    ∷ Then (Print (Name 0)) (At_leaf (Goto 2))
     ∷ Then (Print (Name 1)) stop
     ∷ [])) input 3
     ≡ ended (negsuc 2147483647 ∷ pos 0 ∷ [])

@@ -12,7 +12,9 @@ use Rattle.pc_machine.specs.declared.code.Flaw.TheVariants.{HeaderLimit, ArrayCo
 use Rattle.pc_machine.specs.declared.code.Flaw.TheVariants.{DestTwice, EffectTwice, TooManyOps, TooManyTests, TooManyMem}
 use Rattle.pc_machine.specs.declared.check.Bounds.{Bounds}
 use Rattle.pc_machine.specs.declared.check.Counts.{Counts}
-use Rattle.pc_machine.specs.MachineCode.{Leaf, Leads_to, Ends, Traps, CodeRow, RowCode}
+use Rattle.pc_machine.specs.declared.tree.Leaf.{Leaf}
+use Rattle.pc_machine.specs.declared.tree.Leaf.TheVariants.{Goto, Stop, Trap}
+use Rattle.pc_machine.specs.MachineCode.{CodeRow, RowCode}
 use Rattle.pc_word.specs.Row.{Then, Either, At_leaf}
 use Rattle.pc_word.specs.Items.{dest_of, is_memory, is_effect}
 use Rattle.pc_word.specs.Commit.{writes}
@@ -80,15 +82,15 @@ abbrev pub one_where : Bool → ℕ → ℕ
 one_where true n = suc n
 one_where false n = n
 
--- behind an item, which may be a load or store: what stands before is counted over the whole tree, on whatever path
+-- after an item, which may be a load or store: what stands before is counted over the whole tree, on whatever path
 abbrev pub counts_with_item : Bool → Counts → Counts
 counts_with_item memory counts = record { ops = suc counts.ops; tests = counts.tests; mem = one_where memory counts.mem }
 
--- behind a test
+-- after a test
 abbrev pub counts_with_test : Counts → Counts
 counts_with_test counts = record { ops = counts.ops; tests = suc counts.tests; mem = counts.mem }
 
--- behind all of a tree, or of the part of one
+-- after all of a tree, or of the part of one
 abbrev pub counts_after : CodeRow → Counts → Counts
 counts_after (Then item rest) counts = counts_after rest (counts_with_item (is_memory item) counts)
 counts_after (Either on on_yes on_no) counts = counts_after on_no (counts_after on_yes (counts_with_test counts))
@@ -127,7 +129,7 @@ array_flaws arrays array = flaw_where (nat_le arrays array) Array
 abbrev pub target_flaws : ℕ → ℕ → List Flaw
 target_flaws rows row = flaw_where (nat_le rows row) Target
 
--- behind the tag of an item, field by field
+-- after the tag of an item, field by field
 abbrev pub field_flaws : ℕ → Above → Item → List Flaw
 field_flaws arrays above (Bin op dest left right) = dest_flaws above dest ++ (operand_flaws left ++ operand_flaws right)
 field_flaws arrays above (Copy dest from) = dest_flaws above dest ++ operand_flaws from
@@ -148,11 +150,11 @@ test_flaws bounds counts on = test_tag_flaws bounds.limits counts ++ operand_fla
 
 -- of a leaf
 abbrev pub leaf_flaws : Bounds → Leaf → List Flaw
-leaf_flaws bounds (Leads_to row) = target_flaws bounds.rows row
-leaf_flaws bounds Ends = []
-leaf_flaws bounds (Traps kind line) = []
+leaf_flaws bounds (Goto row) = target_flaws bounds.rows row
+leaf_flaws bounds Stop = []
+leaf_flaws bounds (Trap kind line) = []
 
--- of a tree, or of the part of one that stands behind these counts and under this path
+-- of a tree, or of the part of one that stands after these counts and under this path
 abbrev pub row_flaws : Bounds → Counts → Above → CodeRow → List Flaw
 row_flaws bounds counts above (Then item rest) =
     item_flaws bounds counts above item ++ row_flaws bounds (counts_with_item (is_memory item) counts) (above_with item above) rest

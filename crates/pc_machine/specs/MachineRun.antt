@@ -2,7 +2,9 @@
 use Rattle.std.specs.Prelude.{ℕ, ℤ, List, [], Option, Some, None, slice_get}
 use Rattle.pc_word.specs.declared.item.End.TheVariants.{Ended, Trapped, Fault}
 use Rattle.pc_word.specs.Run.{Run, Step, Goes, Stops, run_from}
-use Rattle.pc_machine.specs.MachineCode.{Leaf, Leads_to, Ends, Traps, CodeRow, RowCode}
+use Rattle.pc_machine.specs.declared.tree.Leaf.{Leaf}
+use Rattle.pc_machine.specs.declared.tree.Leaf.TheVariants.{Goto, Stop, Trap}
+use Rattle.pc_machine.specs.MachineCode.{CodeRow, RowCode}
 use Rattle.pc_word.specs.State.{State, start_state}
 use Rattle.pc_word.specs.Row.{RowOutcome, Faults, Commits, row_step}
 
@@ -13,9 +15,9 @@ pub record Cycle : Type 0 where
 
 -- a goto leads to its row, stop ends and trap traps
 abbrev pub follow_leaf : List ℤ → State → Leaf → Step Cycle
-follow_leaf out new (Leads_to row) = Goes out (record { row = row; state = new })
-follow_leaf out new Ends = Stops out Ended
-follow_leaf out new (Traps kind line) = Stops out (Trapped kind line)
+follow_leaf out new (Goto row) = Goes out (record { row = row; state = new })
+follow_leaf out new Stop = Stops out Ended
+follow_leaf out new (Trap kind line) = Stops out (Trapped kind line)
 
 -- a fault ends the run, and nothing of its row is printed
 abbrev pub after_row : RowOutcome Leaf → Step Cycle

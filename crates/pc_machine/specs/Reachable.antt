@@ -1,11 +1,12 @@
 -- Which rows of a code can come next at all: the entry, and each row that a leaf of such a row leads to.
 use Rattle.std.specs.Prelude.{◌≡◌, ℕ, List, Contains, Some, slice_get}
-use Rattle.pc_machine.specs.MachineCode.{CodeRow, Leads_to}
+use Rattle.pc_machine.specs.declared.tree.Leaf.TheVariants.{Goto}
+use Rattle.pc_machine.specs.MachineCode.{CodeRow}
 use Rattle.pc_word.specs.Row.{leaves_of}
 
 -- a leaf of this row leads to the row with this number
 abbrev pub HasLeafTo : CodeRow → ℕ → Type 0
-HasLeafTo row number = Contains (leaves_of row) (Leads_to number)
+HasLeafTo row number = Contains (leaves_of row) (Goto number)
 
 -- the row with this number is row 0, or leaves lead to it from row 0
 pub data IsReachable (rows : List CodeRow) : (number : ℕ) → Type 0 where

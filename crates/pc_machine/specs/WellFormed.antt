@@ -6,7 +6,9 @@ use Rattle.pc_word.specs.declared.item.Item.TheVariants.{Bin, Copy, Load, Store,
 use Rattle.pc_word.specs.declared.item.Operand.{Operand}
 use Rattle.pc_word.specs.declared.item.Operand.TheVariants.{Name, Lit}
 use Rattle.pc_word.specs.declared.item.Limits.{Limits}
-use Rattle.pc_machine.specs.MachineCode.{Leaf, Leads_to, Ends, Traps, CodeRow, RowCode}
+use Rattle.pc_machine.specs.declared.tree.Leaf.{Leaf}
+use Rattle.pc_machine.specs.declared.tree.Leaf.TheVariants.{Goto, Stop, Trap}
+use Rattle.pc_machine.specs.MachineCode.{CodeRow, RowCode}
 use Rattle.pc_word.specs.Row.{items_of, leaves_of, paths_of, tests_of}
 use Rattle.pc_word.specs.Items.{dest_of, is_effect, is_memory}
 use Rattle.pc_word.specs.MachineLimits.{most_arrays, most_elements, most_length, registers}
@@ -31,9 +33,9 @@ IsItem arrays (More dest) = dest < registers
 
 -- a goto leads to one of so many rows
 abbrev pub IsLeaf : ℕ → Leaf → Type 0
-IsLeaf rows (Leads_to row) = row < rows
-IsLeaf rows Ends = Unit {0}
-IsLeaf rows (Traps kind line) = Unit {0}
+IsLeaf rows (Goto row) = row < rows
+IsLeaf rows Stop = Unit {0}
+IsLeaf rows (Trap kind line) = Unit {0}
 
 -- no register is written twice, and at most one item is a print, read or more
 pub record IsPath (path : List Item) : Type 0 where

@@ -6,16 +6,16 @@ ghost use Rattle.pc_machine.specs.WellFormed.{WellFormed};
 ghost use Rattle.pc_machine.specs.Flaws.{limit_flaws, array_count_flaws, length_flaws, lengths_flaws, row_count_flaws, header_flaws, nothing_above};
 ghost use Rattle.pc_machine.specs.Flaws.{above_with, no_counts, counts_with_item, counts_with_test, counts_after, item_tag_flaws, test_tag_flaws};
 ghost use Rattle.pc_machine.specs.Flaws.{register_flaws, dest_flaws, operand_flaws, array_flaws, target_flaws, field_flaws, item_flaws, test_flaws};
-ghost use Rattle.pc_machine.specs.Flaws.{row_flaws, flaws_of};
+ghost use Rattle.pc_machine.specs.Flaws.{leaf_flaws, row_flaws, flaws_of};
 ghost use Rattle.pc_word.specs.Exact.{checked};
 ghost use Rattle.pc_machine.specs.Checks.{above_of, IsDest};
 ghost use Rattle.pc_word.specs.MachineLimits.{most_elements};
 
 use crate::code::{Code, Flaw};
-use crate::tree::Tree;
+use crate::tree::{Leaf, Tree};
 use pc_word::{
     Item, Limits, MOST_ARRAYS, MOST_ELEMENTS, MOST_LENGTH, MOST_MEM, MOST_OPS, MOST_TESTS, Operand,
-    REGISTERS,
+    REGISTERS, RowTree,
 };
 
 /// What each row of a code is held against: its limits, its number of arrays and its number of rows.
@@ -97,7 +97,7 @@ impl Path {
 impl Bounds {
     /// Checks the tag of an item, which is or is not a load or store, and a print, read or more:
     /// `TooManyOps` or `TooManyMem` where the tree has as many already, and then `EffectTwice`
-    /// where the path has a print, read or more. Gives the counts behind the item.
+    /// where the path has a print, read or more. Gives the counts after the item.
     pub fn item_tag(
         &self,
         counts: Counts,
@@ -124,7 +124,7 @@ impl Bounds {
     }
 
     /// Checks the tag of a test: `TooManyTests` where the tree has as many already. Gives the
-    /// counts behind the test.
+    /// counts after the test.
     pub fn test_tag(&self, counts: Counts) -> Result<Counts, Flaw>
         ensures { result ≡ checked (test_tag_flaws self.now.limits counts) (counts_with_test counts) }
     {
@@ -158,7 +158,7 @@ impl Bounds {
         Ok(())
     }
 
-    /// Checks the fields behind the tag of an item.
+    /// Checks the fields after the tag of an item.
     fn fields(&self, path: &Path, item: &Item) -> Result<(), Flaw>
         ensures { result ≡ checked (field_flaws self.now.arrays (above_of path.now) item.now) tt }
     {
@@ -197,7 +197,7 @@ impl Bounds {
         }
     }
 
-    /// Checks an item, and gives the counts behind it.
+    /// Checks an item, and gives the counts after it.
     fn item(&self, counts: Counts, path: &Path, item: &Item) -> Result<Counts, Flaw>
         ensures { result ≡ checked (item_flaws self.now counts (above_of path.now) item.now) (counts_with_item (is_memory item.now) counts) }
     {
@@ -206,7 +206,7 @@ impl Bounds {
         Ok(counts)
     }
 
-    /// Checks a test, and gives the counts behind it.
+    /// Checks a test, and gives the counts after it.
     fn test(&self, counts: Counts, on: &Operand) -> Result<Counts, Flaw>
         ensures { result ≡ checked (test_flaws self.now counts on.now) (counts_with_test counts) }
     {
@@ -215,28 +215,37 @@ impl Bounds {
         Ok(counts)
     }
 
-    /// Checks a tree, or the part of one that stands behind these counts and under this path, and
-    /// gives the counts behind it.
+    /// Checks a leaf.
+    fn leaf(&self, leaf: &Leaf) -> Result<(), Flaw>
+        ensures { result ≡ checked (leaf_flaws self.now leaf.now) tt }
+    {
+        match leaf {
+            Leaf::Goto { row } => self.target(*row),
+            Leaf::Stop | Leaf::Trap { .. } => Ok(()),
+        }
+    }
+
+    /// Checks a tree, or the part of one that stands after these counts and under this path, and
+    /// gives the counts after it.
     ///
     /// It goes no deeper than the limits let a tree be, since it stops at the first tag too many.
     fn row(&self, counts: Counts, path: &Path, tree: &Tree) -> Result<Counts, Flaw>
         ensures { result ≡ checked (row_flaws self.now counts (above_of path.now) (row_of tree.now)) (counts_after (row_of tree.now) counts) }
     {
         match tree {
-            Tree::Step { item, next } => {
+            RowTree::Step { item, next } => {
                 let counts = self.item(counts, path, item)?;
                 self.row(counts, &path.below(item), next)
             }
-            Tree::Test { on, yes, no } => {
+            RowTree::Test { on, yes, no } => {
                 let counts = self.test(counts, on)?;
                 let counts = self.row(counts, path, yes)?;
                 self.row(counts, path, no)
             }
-            Tree::Goto { row } => {
-                self.target(*row)?;
+            RowTree::Leaf { leaf } => {
+                self.leaf(leaf)?;
                 Ok(counts)
             }
-            Tree::Stop | Tree::Trap { .. } => Ok(counts),
         }
     }
 
@@ -292,7 +301,7 @@ pub fn array_count(count: usize) -> Result<(), Flaw>
     Ok(())
 }
 
-/// Checks the length of an array behind arrays of so many elements: `ArrayLength` where it is not
+/// Checks the length of an array after arrays of so many elements: `ArrayLength` where it is not
 /// from 1 to 65,536, and then `Elements` where there are more than 1,048,576 elements with it.
 /// Gives the elements with it.
 pub fn array_length(before: u32, length: u32) -> Result<u32, Flaw>

@@ -1,31 +1,43 @@
-use pc_word::{Item, Operand, TrapKind};
+use pc_word::{RowTree, TrapKind};
+
+/// What stands at the end of a path of a row: what comes next.
+#[derive(Clone, Copy, Debug, PartialEq, Eq)]
+pub enum Leaf {
+    /// The row that comes next, by its number.
+    Goto { row: u32 },
+    /// The end of the run.
+    Stop,
+    /// The end of the run by a trap, which stands for a line of the source.
+    Trap { kind: TrapKind, line: u32 },
+}
 
 /// A tree instruction: a tree of items and tests whose leaves say what comes next.
 ///
 /// All operands and tests read the values from before the row. One path from the root to a leaf is
 /// taken, and its items commit together. Names are registers, from 0 to 127.
-#[derive(Debug, Drop)]
-pub enum Tree {
-    /// An item, and what stands below it.
-    Step {
-        item: Item,
-        next: Box<Tree>,
-    },
-    /// Goes to `yes` where the operand is not 0, and else to `no`.
-    Test {
-        on: Operand,
-        yes: Box<Tree>,
-        no: Box<Tree>,
-    },
-    /// The row that comes next, by its number.
-    Goto {
-        row: u32,
-    },
-    /// The end of the run.
-    Stop,
-    /// The end of the run by a trap, which stands for a line of the source.
-    Trap {
-        kind: TrapKind,
-        line: u32,
-    },
+pub type Tree = RowTree<Leaf>;
+
+impl Leaf {
+    ghost use Rattle.std.specs.Prelude.{◌≡◌};
+    ghost use Rattle.pc_machine.specs.MachineCode.{target_of, is_goto};
+
+    /// The row to which a goto leads; `None` at an end.
+    pub fn target(&self) -> Option<u32>
+        ensures { result ≡ target_of self.now }
+    {
+        match self {
+            Leaf::Goto { row } => Some(*row),
+            Leaf::Stop | Leaf::Trap { .. } => None,
+        }
+    }
+
+    /// Whether it is a goto to the row with this number.
+    pub fn is_goto(&self, target: usize) -> bool
+        ensures { result ≡ is_goto target self.now }
+    {
+        match self {
+            Leaf::Goto { row } => *row as usize == target,
+            Leaf::Stop | Leaf::Trap { .. } => false,
+        }
+    }
 }

@@ -1,7 +1,7 @@
 //! Codes that are well formed, and the flaws of others.
 
-use pc_machine::{Code, Flaw, Tree, well_formed};
-use pc_word::{Item, LengthList, Limits, OpCode, Operand, Seq, TrapKind};
+use pc_machine::{Code, Flaw, Leaf, Tree, well_formed};
+use pc_word::{Item, LengthList, Limits, OpCode, Operand, RowTree, Seq, TrapKind};
 use std::alloc::{AllocError, Global};
 use std::test::Fail;
 
@@ -15,24 +15,29 @@ enum Part {
     Halt,
 }
 
-/// The tree of a part, on top of the trees that stand behind it.
+/// A leaf alone.
+fn leaf(leaf: Leaf) -> Tree {
+    RowTree::Leaf { leaf }
+}
+
+/// The tree of a part, on top of the trees that stand after it.
 fn planted(alloc: Global, part: Part, behind: &mut Vec<Tree>) -> Result<Tree, AllocError> {
     match part {
         Part::Do(item) => {
-            let next = Box::new(alloc, behind.pop().unwrap_or(Tree::Stop))?;
-            Ok(Tree::Step { item, next })
+            let next = Box::new(alloc, behind.pop().unwrap_or(leaf(Leaf::Stop)))?;
+            Ok(RowTree::Step { item, next })
         }
         Part::If(on) => {
-            let yes = Box::new(alloc, behind.pop().unwrap_or(Tree::Stop))?;
-            let no = Box::new(alloc, behind.pop().unwrap_or(Tree::Stop))?;
-            Ok(Tree::Test { on, yes, no })
+            let yes = Box::new(alloc, behind.pop().unwrap_or(leaf(Leaf::Stop)))?;
+            let no = Box::new(alloc, behind.pop().unwrap_or(leaf(Leaf::Stop)))?;
+            Ok(RowTree::Test { on, yes, no })
         }
-        Part::Jump(row) => Ok(Tree::Goto { row }),
-        Part::Fail(line) => Ok(Tree::Trap {
+        Part::Jump(row) => Ok(leaf(Leaf::Goto { row })),
+        Part::Fail(line) => Ok(leaf(Leaf::Trap {
             kind: TrapKind::OutOfBounds,
             line,
-        }),
-        Part::Halt => Ok(Tree::Stop),
+        })),
+        Part::Halt => Ok(leaf(Leaf::Stop)),
     }
 }
 
@@ -43,7 +48,7 @@ fn code(alloc: Global, parts: &[Part]) -> Result<Code, AllocError> {
         let tree = planted(alloc, *part, &mut trees)?;
         trees.push(tree)?;
     }
-    trees.push(Tree::Stop)?;
+    trees.push(leaf(Leaf::Stop))?;
     trees.reverse();
     Ok(Code {
         limits: Limits {
@@ -353,7 +358,7 @@ fn with_header(
         rows: Seq::new(alloc),
     };
     for _ in 0..rows {
-        code.rows.push(Tree::Goto { row: 3 })?;
+        code.rows.push(leaf(Leaf::Goto { row: 3 }))?;
     }
     Ok(code)
 }

@@ -4,9 +4,9 @@ ghost use Rattle.pc_object.specs.ObjectText.{object_of, IsObject};
 ghost use Rattle.pc_word.specs.Exact.{IsExact};
 ghost use Rattle.pc_object.specs.Cause.{object_cause};
 
-use pc_machine::{Code, Flaw, Tree};
+use pc_machine::{Code, Flaw, Leaf};
 use pc_object::{Object, ObjectError, decode, encode};
-use pc_word::{Item, Limits, Operand, Seq};
+use pc_word::{Item, Limits, Operand, RowTree, Seq};
 use std::alloc::{AllocError, Global};
 use std::test::Fail;
 
@@ -59,9 +59,9 @@ fn seven(alloc: Global) -> Result<Object, AllocError>
     let item = Item::Print {
         value: Operand::Lit(7),
     };
-    let next = Box::new(alloc, Tree::Stop)?;
+    let next = Box::new(alloc, RowTree::Leaf { leaf: Leaf::Stop })?;
     let mut rows = Seq::new(alloc);
-    rows.push(Tree::Step { item, next })?;
+    rows.push(RowTree::Step { item, next })?;
     let limits = Limits {
         ops: 8,
         tests: 3,

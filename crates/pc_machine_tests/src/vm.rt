@@ -1,9 +1,11 @@
 //! Codes that are run. What operators give was computed with C17, by gcc with wrapping arithmetic.
 
-use pc_machine::{Code, Tree, TreeList, well_formed};
+use pc_machine::{Code, Leaf, Tree, TreeList, well_formed};
 use pc_outside::SureSink;
 use pc_vm::{Machine, Outcome, RunError};
-use pc_word::{End, Item, LengthList, Limits, MachineFault, OpCode, Operand, TrapKind, WordList};
+use pc_word::{
+    End, Item, LengthList, Limits, MachineFault, OpCode, Operand, RowTree, TrapKind, WordList,
+};
 use std::alloc::{AllocError, Global};
 use std::test::Fail;
 
@@ -15,10 +17,10 @@ struct Shown {
 }
 
 /// The items one after the other, and then a leaf.
-fn chain(alloc: Global, items: &[Item], leaf: Tree) -> Result<Tree, AllocError> {
-    let mut tree = leaf;
+fn chain(alloc: Global, items: &[Item], leaf: Leaf) -> Result<Tree, AllocError> {
+    let mut tree = RowTree::Leaf { leaf };
     for item in items.iter().rev() {
-        tree = Tree::Step {
+        tree = RowTree::Step {
             item: *item,
             next: Box::new(alloc, tree)?,
         };
@@ -34,9 +36,9 @@ fn rows_of(alloc: Global, lists: &[&[Item]]) -> Result<TreeList, AllocError> {
     for (at, items) in lists.iter().enumerate() {
         next = next.wrapping_add(1);
         let leaf = if at + 1 < count {
-            Tree::Goto { row: next }
+            Leaf::Goto { row: next }
         } else {
-            Tree::Stop
+            Leaf::Stop
         };
         rows.push(chain(alloc, items, leaf)?)?;
     }
@@ -196,7 +198,7 @@ fn operators(rt: HostRuntime) -> Result<(), Fail> {
 }
 
 /// Two registers change places, and an element is loaded and stored in one row; the registers are
-/// printed behind it. Then loads from all sides of the arrays, and theirs.
+/// printed after it. Then loads from all sides of the arrays, and theirs.
 fn exchanges(alloc: Global) -> Result<TreeList, AllocError> {
     let swap = [
         Item::Copy {
@@ -293,7 +295,7 @@ fn faults_in_their_order(rt: HostRuntime) -> Result<(), Fail> {
     ];
     for (items, fault) in table.iter() {
         let mut rows = TreeList::new(alloc);
-        rows.push(chain(alloc, items, Tree::Stop)?)?;
+        rows.push(chain(alloc, items, Leaf::Stop)?)?;
         let answer = Outcome::Over {
             end: End::Fault { fault: *fault },
         };
@@ -304,17 +306,17 @@ fn faults_in_their_order(rt: HostRuntime) -> Result<(), Fail> {
 
 /// The first row reads; the second goes on for ever, or prints and traps where 0 was read.
 fn choice(alloc: Global) -> Result<TreeList, AllocError> {
-    let trap = Tree::Trap {
+    let trap = Leaf::Trap {
         kind: TrapKind::OutOfBounds,
         line: 4294967295,
     };
     let no = Box::new(alloc, chain(alloc, &[print(5)], trap)?)?;
-    let yes = Box::new(alloc, Tree::Goto { row: 1 })?;
+    let yes = Box::new(alloc, chain(alloc, &[], Leaf::Goto { row: 1 })?)?;
     let mut rows = TreeList::new(alloc);
     let read = Item::Read { dest: 5 };
-    rows.push(chain(alloc, &[read], Tree::Goto { row: 1 })?)?;
+    rows.push(chain(alloc, &[read], Leaf::Goto { row: 1 })?)?;
     let on = Operand::Name(5);
-    rows.push(Tree::Test { on, yes, no })?;
+    rows.push(RowTree::Test { on, yes, no })?;
     Ok(rows)
 }
 
@@ -330,7 +332,7 @@ fn leaves(rt: HostRuntime) -> Result<(), Fail> {
     assert!(rt; shows(alloc, choice(alloc)?, &[0], b"0\n", trapped)?);
     assert!(rt; shows(alloc, choice(alloc)?, &[1], b"", Outcome::Going)?);
     let mut rows = TreeList::new(alloc);
-    rows.push(Tree::Goto { row: 0 })?;
+    rows.push(chain(alloc, &[], Leaf::Goto { row: 0 })?)?;
     assert!(rt; shows(alloc, rows, &[], b"", Outcome::Going)?);
     Ok(())
 }

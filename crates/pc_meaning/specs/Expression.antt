@@ -17,7 +17,7 @@ use Rattle.pc_meaning.specs.ProgramState.{ProgramState, set_left}
 pub data Evaluated : Type 0 where
   -- its value
   Given : (value : ℤ) → (state : ProgramState) → Evaluated
-  -- a trap, with the line that it is told by
+  -- a trap, with its line in the source
   Caught : (kind : TrapKind) → (line : ℕ) → (state : ProgramState) → Evaluated
 
 -- the state after an expression

@@ -20,7 +20,7 @@ pub data Completion : Type 0 where
   Continues : (state : ProgramState) → Completion
   -- the program ends
   Returns : (state : ProgramState) → Completion
-  -- the program ends by a trap, with the line that it is told by
+  -- the program ends by a trap, with its line in the source
   Traps : (kind : TrapKind) → (line : ℕ) → (state : ProgramState) → Completion
   -- a loop would start a turn, and none is left
   Spent : (state : ProgramState) → Completion

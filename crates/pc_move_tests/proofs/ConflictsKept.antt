@@ -3,7 +3,7 @@ use Rattle.std.proofs.Common.{◌≡◌, ℕ, ℤ, pos, zero, suc, ◌+◌, ◌<
 use Rattle.std.specs.Prelude.{nat_eq, slice_get, not, ◌&&◌, ◌||◌}
 use Rattle.std.specs.List.{list_any}
 use Rattle.pc_table.specs.RegionRun.{arrive}
-use Rattle.pc_table.specs.Table.{TableRegion, region_tree, region_live}
+use Rattle.pc_table.specs.Table.{Table, TableRegion, region_tree, region_live}
 use Rattle.pc_word.specs.declared.item.OpCode.TheVariants.{Add}
 use Rattle.pc_word.specs.declared.item.Item.TheVariants.{Bin, Load, Store, Print}
 use Rattle.pc_word.specs.declared.item.Operand.TheVariants.{Lit}
@@ -81,4 +81,8 @@ conflicts_keep = record {
     begins zero = refl
     begins (suc region) = refl
 
-pub ruleset conflicts = (conflicts_keep)
+-- and so does one that is equal to it
+pub conflicts_made : (table : Table) → table ≡ conflicts_table → TableKeeps table
+conflicts_made table is = subst TableKeeps (sym is) conflicts_keep
+
+pub ruleset conflicts = (conflicts_made)

@@ -6,9 +6,7 @@ use Rattle.pc_table.specs.RegionRun.{arrive}
 use Rattle.pc_word.specs.declared.item.Item.TheVariants.{Bin, Print}
 use Rattle.pc_word.specs.declared.item.OpCode.TheVariants.{Add}
 use Rattle.pc_word.specs.declared.item.Operand.TheVariants.{Lit}
-use Rattle.std.proofs.lemmas.List.{length-map}
-use Rattle.pc_table.specs.declared.table.RegionTable.{RegionTable}
-use Rattle.pc_table.specs.Table.{Table, table_of, table_region, TableRegion, Does, Stops_here, region_tree, region_live}
+use Rattle.pc_table.specs.Table.{Table, TableRegion, Does, Stops_here, region_tree, region_live}
 use Rattle.pc_table.specs.TableKeeps.{RegionKeeps, TableKeeps, ComesUntested, By_one, By_more, untested, needs}
 use Rattle.pc_move_tests.specs.DeadStep.{dead_step_table}
 
@@ -62,11 +60,8 @@ dead_step_keeps = record {
     begins zero = refl
     begins (suc region) = refl
 
--- and its region is there
-pub dead_step_there : (table : RegionTable) → table_of table ≡ dead_step_table → 0 < length table.regions
-dead_step_there table is =
-    let as_many : length (table_of table).regions ≡ length table.regions = length-map table.regions table_region in
-    let one : length (table_of table).regions ≡ 1 = ap (λ (t : Table). length t.regions) is in
-    omega arith
+-- and so does one that is equal to it
+pub dead_step_made : (table : Table) → table ≡ dead_step_table → TableKeeps table
+dead_step_made table is = subst TableKeeps (sym is) dead_step_keeps
 
-pub ruleset dead_step = (dead_step_keeps, dead_step_there)
+pub ruleset dead_step = (dead_step_made)

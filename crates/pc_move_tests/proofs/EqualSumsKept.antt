@@ -3,10 +3,8 @@ use Rattle.std.proofs.Common.{◌≡◌, ℕ, zero, suc, ◌+◌, ◌<◌, lengt
 use Rattle.std.specs.Prelude.{Bool, true, false, not, ◌&&◌, ◌||◌, nat_eq, slice_get}
 use Rattle.std.specs.List.{list_any}
 use Rattle.std.specs.List.Sorted.{IsStrictlyIncreasing}
-use Rattle.std.proofs.lemmas.List.{length-map}
-use Rattle.pc_table.specs.declared.table.RegionTable.{RegionTable}
 use Rattle.pc_table.specs.RegionRun.{arrive}
-use Rattle.pc_table.specs.Table.{Table, table_of, table_region, TableRegion, region_tree, region_live}
+use Rattle.pc_table.specs.Table.{Table, TableRegion, region_tree, region_live}
 use Rattle.pc_table.specs.TableKeeps.{TreeIsThere, RegionKeeps, TableKeeps, ComesUntested, By_one, By_more, untested, needs}
 use Rattle.pc_move_tests.specs.EqualSums.{sum_tree, equal_sums_region, equal_sums_table}
 
@@ -82,11 +80,8 @@ equal_sums_keep = record {
     begins zero = refl
     begins (suc region) = refl
 
--- and its region is there
-pub equal_sums_there : (table : RegionTable) → table_of table ≡ equal_sums_table → 0 < length table.regions
-equal_sums_there table is =
-    let as_many : length (table_of table).regions ≡ length table.regions = length-map table.regions table_region in
-    let one : length (table_of table).regions ≡ 1 = ap (λ (t : Table). length t.regions) is in
-    omega arith
+-- and so does one that is equal to it
+pub equal_sums_made : (table : Table) → table ≡ equal_sums_table → TableKeeps table
+equal_sums_made table is = subst TableKeeps (sym is) equal_sums_keep
 
-pub ruleset equal_sums = (equal_sums_keep, equal_sums_there)
+pub ruleset equal_sums = (equal_sums_made)

@@ -3,7 +3,7 @@ use Rattle.std.proofs.Common.{◌≡◌, ℕ, zero, suc, ◌+◌, ◌≤◌, ◌
 use Rattle.std.specs.Prelude.{nat_eq, slice_get}
 use Rattle.std.specs.List.{list_any}
 use Rattle.pc_table.specs.RegionRun.{arrive}
-use Rattle.pc_table.specs.Table.{TableRegion, region_tree, region_live}
+use Rattle.pc_table.specs.Table.{Table, TableRegion, region_tree, region_live}
 use Rattle.pc_table.specs.TableKeeps.{RegionKeeps, TableKeeps, ComesUntested, By_one, By_more, untested, needs}
 use Rattle.pc_window.specs.declared.window.Window.{Window as StoredWindow}
 use Rattle.pc_window.specs.Tree.{tree_size}
@@ -69,6 +69,10 @@ opened_names w h = let a = h.names in omega arith
 pub opened_variables : (w : StoredWindow) → IsJustOpened w → w.names.next_variable < 2 ^ 31
 opened_variables w h = let a = h.variables in omega arith
 
-pub ruleset guarded_store = (guarded_store_keeps)
+-- and so does one that is equal to it
+pub guarded_store_made : (table : Table) → table ≡ guarded_store_table → TableKeeps table
+guarded_store_made table is = subst TableKeeps (sym is) guarded_store_keeps
+
+pub ruleset guarded_store = (guarded_store_made)
 
 pub ruleset opened_windows = (opened_size, opened_names, opened_variables)

@@ -1,6 +1,7 @@
 //! What comes into the front of a window that is filled.
 ghost use Rattle.std.specs.Prelude.{◌≡◌, IfOk};
-ghost use Rattle.pc_table.specs.Table.{table_of, table_tree};
+ghost use Rattle.pc_table.specs.Table.{table_tree};
+ghost use Rattle.pc_table.specs.StoredTable.{table_of};
 ghost use Rattle.pc_word.specs.declared.item.Item.TheVariants.{Load, Store, Print};
 ghost use Rattle.pc_word.specs.declared.item.Operand.TheVariants.{Lit};
 ghost use Rattle.pc_word.specs.Ranges.{AreLimits};
@@ -74,6 +75,7 @@ fn conflicts(alloc: Global) -> Result<RegionTree, AllocError>
 }
 
 /// The same as one region.
+#[tactic(auto, using(crate::proofs::ConflictsKept::conflicts))]
 fn table(alloc: Global) -> Result<RegionTable, AllocError>
     ensures { IfOk result (λ table. table_of table ≡ conflicts_table) }
 {
@@ -125,7 +127,7 @@ fn place_of(found: Option<ReadyNode>) -> Option<u32> {
 }
 
 /// The place of what comes first, and the origins of what stands in the front of the window filled.
-#[tactic(auto, using(crate::proofs::ConflictsKept::conflicts, pc_fill::proofs::Opened::opened_windows))]
+#[tactic(auto, using(pc_table::proofs::StoredRegions::some_region, pc_fill::proofs::Opened::opened_windows))]
 fn filled(alloc: Global, limits: Limits) -> Result<(Option<u32>, Vec<u32>), WindowError>
     requires { AreLimits limits }
 {

@@ -1,6 +1,7 @@
 //! Tables of regions that several tests use, and a window of one of them.
 ghost use Rattle.std.specs.Prelude.{◌≡◌, IfOk};
-ghost use Rattle.pc_table.specs.Table.{table_of, table_tree, Does, Asks};
+ghost use Rattle.pc_table.specs.Table.{table_tree, Does, Asks};
+ghost use Rattle.pc_table.specs.StoredTable.{table_of};
 ghost use Rattle.pc_window.specs.Steps.{IsProper};
 ghost use Rattle.pc_window.specs.StoredWindow.{window_in, IsJustOpened};
 ghost use Rattle.pc_move_tests.specs.GuardedStore.{guarded_store_table};
@@ -44,6 +45,7 @@ pub(crate) fn asks(
 }
 
 /// `print(1); if (1) a[0] = 2;`, as one region.
+#[tactic(auto, using(crate::proofs::GuardedStoreKept::guarded_store))]
 fn guarded_store(alloc: Global) -> Result<RegionTable, AllocError>
     ensures { IfOk result (λ table. table_of table ≡ guarded_store_table) }
 {
@@ -76,7 +78,7 @@ fn guarded_store(alloc: Global) -> Result<RegionTable, AllocError>
 }
 
 /// The window of that region.
-#[tactic(auto, using(crate::proofs::GuardedStoreKept::guarded_store))]
+#[tactic(auto, using(pc_table::proofs::StoredRegions::some_region))]
 pub(crate) fn opened(alloc: Global) -> Result<Window, WindowError>
     ensures proper { IfOk result (λ window. IsProper (window_in window)) }
     ensures small { IfOk result (λ window. IsJustOpened window) }

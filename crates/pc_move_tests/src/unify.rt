@@ -1,6 +1,7 @@
 //! What is not used is deleted, and equal items become one.
 ghost use Rattle.std.specs.Prelude.{◌≡◌, ◌<◌, ◌^◌, IfOk};
-ghost use Rattle.pc_table.specs.Table.{table_of, table_tree};
+ghost use Rattle.pc_table.specs.Table.{table_tree};
+ghost use Rattle.pc_table.specs.StoredTable.{table_of};
 ghost use Rattle.pc_window.specs.Tree.{tree_size};
 ghost use Rattle.pc_window.specs.Steps.{IsProper};
 ghost use Rattle.pc_window.specs.StoredWindow.{tree_in, window_in, IsJustOpened};
@@ -18,6 +19,7 @@ use std::alloc::{AllocError, Global};
 use std::test::Fail;
 
 /// `a = 1 + 2; print(7);`, as one region.
+#[tactic(auto, using(crate::proofs::DeadStepKept::dead_step))]
 fn dead_step(alloc: Global) -> Result<RegionTable, AllocError>
     ensures { IfOk result (λ table. table_of table ≡ dead_step_table) }
 {
@@ -48,9 +50,8 @@ fn dead_step(alloc: Global) -> Result<RegionTable, AllocError>
 }
 
 /// Its window.
-#[tactic(auto, using(crate::proofs::DeadStepKept::dead_step))]
+#[tactic(auto, using(pc_table::proofs::StoredRegions::some_region))]
 fn opened_step(alloc: Global, table: &RegionTable) -> Result<Window, WindowError>
-    requires { table_of table.now ≡ dead_step_table }
     ensures proper { IfOk result (λ window. IsProper (window_in window)) }
     ensures small { IfOk result (λ window. IsJustOpened window) }
 {
@@ -63,16 +64,14 @@ fn opened_step(alloc: Global, table: &RegionTable) -> Result<Window, WindowError
 }
 
 /// Its window, tidied.
-fn tidied(alloc: Global, table: &RegionTable) -> Result<Window, WindowError>
-    requires { table_of table.now ≡ dead_step_table }
-{
+fn tidied(alloc: Global, table: &RegionTable) -> Result<Window, WindowError> {
     let window = opened_step(alloc, table)?;
     tidy(alloc, window)
 }
 
-/// Whether the sum alone is deleted, and the print is not.
+/// Whether the sum alone is deleted, and the print, which is not, comes to the front.
 #[tactic(auto, using(crate::proofs::GuardedStoreKept::opened_windows))]
-fn deletes_the_sum(window: Window) -> bool
+fn deletes_the_sum(alloc: Global, window: Window) -> bool
     requires proper { IsProper (window_in window) }
     requires small { IsJustOpened window }
 {
@@ -81,17 +80,9 @@ fn deletes_the_sum(window: Window) -> bool
     if why_not_delete(&window, &print, 0) != Some(MoveError::NotThere) {
         return false;
     }
-    match delete(&mut window, &[], 0) {
-        Ok(_) => leads_to_print(&window.tree),
+    match delete(alloc, &mut window, &[], 0) {
+        Ok(_) => begins_with_print(&window.tree),
         Err(_) => false,
-    }
-}
-
-/// Whether a tree is a leaf that leads to the print.
-fn leads_to_print(tree: &WindowTree) -> bool {
-    match tree {
-        WindowTree::Node { below } => begins_with_print(below),
-        _ => false,
     }
 }
 
@@ -123,7 +114,7 @@ fn what_is_not_used_is_deleted(rt: HostRuntime) -> Result<(), Fail> {
 fn one_item_is_deleted(rt: HostRuntime) -> Result<(), Fail> {
     let table = dead_step(rt.alloc())?;
     let is_so = match opened_step(rt.alloc(), &table) {
-        Ok(window) => deletes_the_sum(window),
+        Ok(window) => deletes_the_sum(rt.alloc(), window),
         Err(_) => false,
     };
     assert!(&rt; is_so);
@@ -149,6 +140,7 @@ fn sum_and_print(alloc: Global, sum_node: u32, print_node: u32) -> Result<Region
 
 /// `if (x) { a = y + 1; print(a); } else { a = y + 1; print(a); }`, as one region, where x is
 /// variable 0.
+#[tactic(auto, using(crate::proofs::EqualSumsKept::equal_sums))]
 fn equal_sums(alloc: Global) -> Result<RegionTable, AllocError>
     ensures { IfOk result (λ table. table_of table ≡ equal_sums_table) }
 {
@@ -180,9 +172,8 @@ fn equal_sums(alloc: Global) -> Result<RegionTable, AllocError>
 }
 
 /// Its window.
-#[tactic(auto, using(crate::proofs::EqualSumsKept::equal_sums))]
+#[tactic(auto, using(pc_table::proofs::StoredRegions::some_region))]
 fn opened_sums(alloc: Global, table: &RegionTable) -> Result<Window, WindowError>
-    requires { table_of table.now ≡ equal_sums_table }
     ensures proper { IfOk result (λ window. IsProper (window_in window)) }
     ensures small { IfOk result (λ window. IsJustOpened window) }
 {

@@ -5,7 +5,7 @@ ghost use Rattle.pc_window.specs.Filled.{test_count};
 ghost use Rattle.pc_window.specs.Steps.{IsProper};
 ghost use Rattle.pc_window.specs.StoredWindow.{tree_in, window_in};
 ghost use Rattle.pc_moveop.specs.NodeTree.{nodes_in, node_at, node_front, NoEmptyNode};
-ghost use Rattle.pc_moveop.specs.Moving.{NodeChanges, TreeKept, Fails, WalkKept};
+ghost use Rattle.pc_moveop.specs.Moving.{NodeChanges, Fails, WalkKept};
 ghost use Rattle.pc_movecj.specs.Dividing.{MovingTest, divided};
 ghost use Rattle.pc_movecj.specs.MovingTest.{no_room_for_test, test_of, refusal_of_test, IsWhyNotTest, TestHasMoved};
 ghost use Rattle.pc_movecj.specs.models.TestClimbs.{FindsTest, items_behind};
@@ -128,7 +128,7 @@ fn bring(tree: &mut WindowTree, parent: &[u16], leaf: u32, climb: TestClimb, spa
     swap_node(tree, parent, node);
 }
 
-/// What may move moves. On `Err` the tree is as before.
+/// What may move moves. On `Err` the window is as before.
 #[tactic(auto, using(crate::proofs::TestClimbs::carrying))]
 fn carry(
     alloc: Global,
@@ -140,7 +140,7 @@ fn carry(
     requires small { tree_size (tree_in window.old.tree) < 2 ^ 31 }
     requires found { FindsTest (test_of window.old parent.now leaf) (Some climb) }
     ensures moved { OnOk result (TestHasMoved window.old window.new parent.now leaf) }
-    ensures kept { OnErr result (window.new ≡ window.old) }
+    ensures undone { OnErr result (window.new ≡ window.old) }
 {
     let spare = prepared(alloc, window, parent, leaf)?;
     bring(&mut window.tree, parent, leaf, climb, spare);
@@ -151,7 +151,8 @@ fn carry(
 ///
 /// `parent` is the path of leaves that leads from the front to the node above; the front's own path
 /// is empty. `leaf` is a leaf of that node that leads to the test's node; leaves are counted in
-/// preorder, from 0. The items before the test then stand on both of its sides.
+/// preorder, from 0. The items before the test then stand on both of its sides. On `Err` the window
+/// is as before.
 pub fn move_cj(
     alloc: Global,
     window: &mut Window,

@@ -22,7 +22,7 @@ use Rattle.pc_window.proofs.Parameters.{parameters_known, scoped_parameters, ind
 use Rattle.pc_window.proofs.Proper.{StaysNew, jump_below, given_next, proper_fresh}
 use Rattle.pc_window.proofs.Soundness.{TreeBelow-later}
 use Rattle.pc_moveop.specs.NodeTree.{NodeTree, Item_node, Test_node, Leads_to, Leads_out, whole_tree, node_front, leaf_count, child_at, led_on, node_at, child_changed, with_node}
-use Rattle.pc_moveop.specs.Moving.{KeepsWalk}
+use Rattle.pc_window.specs.Kept.{KeepsWalk}
 use Rattle.pc_moveop.proofs.Comes.{Enters}
 use Rattle.pc_moveop.proofs.Fronts.{front_changed, same_counts, same_independent}
 use Rattle.pc_moveop.proofs.Paths.{whole_front}

@@ -19,7 +19,8 @@ use Rattle.pc_moveop.specs.NodeTree.{NodeTree, nodes_in, whole_tree, node_front,
 use Rattle.pc_moveop.specs.Climbing.{Mover, mover_at, crosses_test}
 use Rattle.pc_moveop.specs.Taking.{landed}
 use Rattle.pc_moveop.specs.Refusing.{refusal_of_way, no_room_for, no_room_at, mover_behind, RefusesFound, IsWhyNot}
-use Rattle.pc_moveop.specs.Moving.{moved_item, moved_name, coming_of, NodeChanges, SameBounds, HasMoved, KeepsWalk, WalkKept}
+use Rattle.pc_moveop.specs.Moving.{moved_item, moved_name, coming_of, NodeChanges, SameBounds, HasMoved, WalkKept}
+use Rattle.pc_window.specs.Kept.{KeepsWalk}
 use Rattle.pc_moveop.specs.declared.error.MoveError.{MoveError}
 use Rattle.pc_moveop.specs.declared.error.MoveError.TheVariants.{Full}
 use Rattle.pc_moveop.specs.declared.error.RoomKind.TheVariants.{Ops, Mem}

@@ -5,8 +5,7 @@ use Rattle.pc_word.specs.State.{State}
 use Rattle.pc_word.specs.Items.{dest_of}
 use Rattle.pc_linear.specs.Form.{Form}
 use Rattle.pc_window.specs.Tree.{Tree}
-use Rattle.pc_window.specs.Walk.{IsWhole, walk}
-use Rattle.pc_window.specs.Hold.{TreeHolds}
+use Rattle.pc_window.specs.Kept.{KeepsWalk}
 use Rattle.pc_window.specs.Filled.{given_supply}
 use Rattle.pc_window.specs.declared.window.Window.{Window as StoredWindow}
 use Rattle.pc_window.specs.StoredWindow.{tree_in, forms_in, supply_in}
@@ -49,13 +48,7 @@ pub record HasMoved (w v : StoredWindow) (parent : List ℕ) (leaf place : ℕ) 
   pub names : supply_in v.names ≡ given_supply (supply_in w.names) (moved_name (length w.names.forms) mover) (Some (moved_item (length w.names.forms) mover))
   pub bounds : SameBounds w v
 
--- the tree stays too
-pub record TreeKept (w v : StoredWindow) : Type 0 where
-  pub tree : v.tree ≡ w.tree
-  pub bounds : SameBounds w v
-
--- a window that is left by a move that fails: as it was, where the move is refused; and of want of memory its tree, limits and
--- loop are as they were
+-- a window that is left by a move that fails is as it was: the move is refused for a reason, or memory ran out
 abbrev pub Fails : (Option MoveError → Type 0) → (w v : StoredWindow) → MoveError → Type 0
 Fails IsReason w v NotThere = (v ≡ w) × IsReason (Some NotThere)
 Fails IsReason w v (Depends name) = (v ≡ w) × IsReason (Some (Depends name))
@@ -63,13 +56,8 @@ Fails IsReason w v (MemoryOrder origin) = (v ≡ w) × IsReason (Some (MemoryOrd
 Fails IsReason w v EffectAboveTest = (v ≡ w) × IsReason (Some EffectAboveTest)
 Fails IsReason w v EffectOrder = (v ≡ w) × IsReason (Some EffectOrder)
 Fails IsReason w v (Full kind) = (v ≡ w) × IsReason (Some (Full kind))
-Fails IsReason w v Memory = TreeKept w v
+Fails IsReason w v Memory = v ≡ w
 
--- from each state in which forms hold and the walk is no fault, another tree has the same walk, and its forms hold
-abbrev pub KeepsWalk : (ℕ → Form) → Tree → (ℕ → Form) → Tree → Type 0
-KeepsWalk forms from forms' to = (lengths : List ℕ) (s : State) → TreeHolds forms lengths from s → IsWhole (walk lengths from s)
-    → (walk lengths to s ≡ walk lengths from s) × TreeHolds forms' lengths to s
-
--- so does a window in place of another
+-- a window in place of another keeps the walk on each state in which forms hold and the walk is no fault
 abbrev pub WalkKept : (w v : StoredWindow) → Type 0
 WalkKept w v = KeepsWalk (forms_in w.names.forms) (tree_in w.tree) (forms_in v.names.forms) (tree_in v.tree)

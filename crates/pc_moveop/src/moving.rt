@@ -8,7 +8,7 @@ ghost use Rattle.pc_moveop.specs.NodeTree.{nodes_in, node_at, NoEmptyNode};
 ghost use Rattle.pc_moveop.specs.Climbing.{Mover};
 ghost use Rattle.pc_moveop.specs.Taking.{landed};
 ghost use Rattle.pc_moveop.specs.Refusing.{mover_of, IsWhyNot};
-ghost use Rattle.pc_moveop.specs.Moving.{NodeChanges, TreeKept, HasMoved, Fails, WalkKept};
+ghost use Rattle.pc_moveop.specs.Moving.{NodeChanges, HasMoved, Fails, WalkKept};
 ghost use Rattle.pc_moveop.specs.models.Climbs.{Finds, IsNamed};
 ghost use Rattle.pc_moveop.specs.models.Landing.{coming_in};
 
@@ -46,6 +46,7 @@ fn named(names: &mut NameTable, climb: Climb) -> Result<Item, AllocError>
     ensures named { IfOk result (λ it. (forms : ℕ → Form) (m : Mover) → Finds forms (Some m) (Some climb) → IsNamed names.old names.new m it) }
     ensures count { IfOk result (λ it. length names.new.forms ≤ length names.old.forms + 1) }
     ensures variables { IfOk result (λ it. names.new.next_variable ≤ names.old.next_variable + 1) }
+    ensures undone { OnErr result (names.new ≡ names.old) }
 {
     if !climb.crosses {
         return Ok(climb.item);
@@ -72,7 +73,7 @@ fn bring(
     swap_node(tree, parent, node);
 }
 
-/// What may move moves. On `Err` the tree is as before.
+/// What may move moves. On `Err` the window is as before.
 #[tactic(auto, using(crate::proofs::Brought::bringing))]
 fn carry(
     alloc: Global,
@@ -87,7 +88,7 @@ fn carry(
     requires variables { window.old.names.next_variable < 2 ^ 31 }
     requires found { Finds (forms_in window.old.names.forms) (mover_of window.old parent.now leaf place) (Some climb) }
     ensures moved { OnOk result (HasMoved window.old window.new parent.now leaf place) }
-    ensures kept { OnErr result (TreeKept window.old window.new) }
+    ensures undone { OnErr result (window.new ≡ window.old) }
     ensures count { OnOk result (length window.new.names.forms ≤ length window.old.names.forms + 1) }
     ensures variables { OnOk result (window.new.names.next_variable ≤ window.old.names.next_variable + 1) }
 {
@@ -107,7 +108,8 @@ fn carry(
 /// `parent` is the path of leaves that leads from the front to the node above; the front's own path
 /// is empty. `leaf` is a leaf of that node that leads to the item's node, and `place` the item's
 /// place there; leaves, and items and tests together, are counted in preorder, from 0. Where a test
-/// stands before the item it gets a new name, and what reads it below reads the new one.
+/// stands before the item it gets a new name, and what reads it below reads the new one. On `Err`
+/// the window is as before.
 pub fn move_op(
     alloc: Global,
     window: &mut Window,

@@ -17,7 +17,9 @@ use Rattle.pc_machine.specs.declared.code.Flaw.{Flaw}
 use Rattle.pc_machine.specs.declared.code.Flaw.TheVariants as flaws
 use Rattle.pc_machine.specs.declared.check.Bounds.{Bounds}
 use Rattle.pc_machine.specs.declared.check.Counts.{Counts}
-use Rattle.pc_machine.specs.MachineCode.{Leaf, Leads_to, Ends, Traps, CodeRow, RowCode}
+use Rattle.pc_machine.specs.declared.tree.Leaf.{Leaf}
+use Rattle.pc_machine.specs.declared.tree.Leaf.TheVariants.{Goto, Stop, Trap}
+use Rattle.pc_machine.specs.MachineCode.{CodeRow, RowCode}
 use Rattle.pc_machine.specs.Flaws.{limit_flaws, limits_flaws, array_count_flaws, length_flaws, lengths_flaws, row_count_flaws, header_flaws, Above}
 use Rattle.pc_machine.specs.Flaws.{above_with, nothing_above, no_counts, counts_with_item, counts_with_test, counts_after, item_tag_flaws}
 use Rattle.pc_machine.specs.Flaws.{test_tag_flaws, register_flaws, dest_flaws, operand_flaws, array_flaws, target_flaws, field_flaws, item_flaws}
@@ -53,7 +55,7 @@ abbrev Stops : {A : Type 0} → List Flaw → Result A Refusal → Type 0
 Stops [] read = Unit {0}
 Stops (flaw ∷ flaws) read = Refuses flaw read
 
--- one reading after another: flaws behind flaws
+-- one reading after another: flaws after flaws
 tells_then : {A B : Type 0} (fs gs : List Flaw) (x : A) (y : B) (m : Result A Refusal) (k : A → Result B Refusal) → Tells fs x m → (fs ≡ [] → Tells gs y (k x)) → Tells (fs ++ gs) y (m >>= k)
 tells_then [] gs x y m k h g = subst (λ (r : Result _ Refusal). Tells gs y (r >>= k)) (sym h) (g refl)
 tells_then (f ∷ fs) gs x y m k h g = (h.0, ap (λ (r : Result _ Refusal). r >>= k) h.1)
@@ -105,7 +107,7 @@ operand_tells (Name register) rest fits =
     tells_last (register_flaws register) (register, rest) (Name register, rest) (register_at (register ∷ rest)) (λ r. Ok (Name r.0, r.1)) (register_tells register rest) refl
 operand_tells (Lit value) rest fits = operand_again (Lit value) rest refl fits
 
--- the fields of an item behind its tag
+-- the fields of an item after its tag
 fields_tell : (arrays : ℕ) (above : Above) (item : Item) (rest : List ℕ) → ItemNumbersFit item
     → Tells (field_flaws arrays above item) (item, rest) (fields_at arrays above (kind_of item) (fields_text item ++ rest))
 unfolding fields_at
@@ -153,25 +155,25 @@ fields_tell arrays above (items.More dest) rest fits =
 
 -- ---- rows
 
-goto_tells : (rows row : ℕ) (rest : List ℕ) → row < 2 ^ 32 → Tells (target_flaws rows row) (At_leaf (Leads_to row), rest) (goto_at rows (u32_text row ++ rest))
+goto_tells : (rows row : ℕ) (rest : List ℕ) → row < 2 ^ 32 → Tells (target_flaws rows row) (At_leaf (Goto row), rest) (goto_at rows (u32_text row ++ rest))
 unfolding goto_at
 goto_tells rows row rest fits =
     let bytes : List ℕ = u32_text row ++ rest in
-    tells_next (target_flaws rows row) (row, rest) (At_leaf (Leads_to row), rest) (number_at w32 bytes) (λ n. unflawed bytes (target_flaws rows n.0) >> Ok (At_leaf (Leads_to n.0), n.1))
-    (number_again w32 (2 ^ 32) wide32 row rest fits) (passes_tells bytes (target_flaws rows row) (At_leaf (Leads_to row), rest))
+    tells_next (target_flaws rows row) (row, rest) (At_leaf (Goto row), rest) (number_at w32 bytes) (λ n. unflawed bytes (target_flaws rows n.0) >> Ok (At_leaf (Goto n.0), n.1))
+    (number_again w32 (2 ^ 32) wide32 row rest fits) (passes_tells bytes (target_flaws rows row) (At_leaf (Goto row), rest))
 
 leaf_tells : (bounds : Bounds) (depth : ℕ) (counts : Counts) (above : Above) (leaf : Leaf) (rest : List ℕ) → bounds.rows ≤ 2 ^ 32 → LeafFits leaf → TargetFits leaf
     → Tells (leaf_flaws bounds leaf) (At_leaf leaf, counts, rest) (row_at bounds (suc depth) counts above (leaf_text leaf ++ rest))
 unfolding behind_tag
-leaf_tells bounds depth counts above (Leads_to row) rest few fits target =
+leaf_tells bounds depth counts above (Goto row) rest few fits target =
     let bytes : List ℕ = u32_text row ++ rest in
-    subst (Tells (target_flaws bounds.rows row) (At_leaf (Leads_to row), counts, rest)) (sym (at_tag bounds depth counts above tags.Goto bytes))
-    (tells_last (target_flaws bounds.rows row) (At_leaf (Leads_to row), rest) (At_leaf (Leads_to row), counts, rest) (goto_at bounds.rows bytes)
+    subst (Tells (target_flaws bounds.rows row) (At_leaf (Goto row), counts, rest)) (sym (at_tag bounds depth counts above tags.Goto bytes))
+    (tells_last (target_flaws bounds.rows row) (At_leaf (Goto row), rest) (At_leaf (Goto row), counts, rest) (goto_at bounds.rows bytes)
     (λ leaf. Ok (leaf.0, counts, leaf.1)) (goto_tells bounds.rows row rest target) refl)
-leaf_tells bounds depth counts above Ends rest few fits target = leaf_again bounds depth counts above Ends rest few refl fits
-leaf_tells bounds depth counts above (Traps kind line) rest few fits target = leaf_again bounds depth counts above (Traps kind line) rest few refl fits
+leaf_tells bounds depth counts above Stop rest few fits target = leaf_again bounds depth counts above Stop rest few refl fits
+leaf_tells bounds depth counts above (Trap kind line) rest few fits target = leaf_again bounds depth counts above (Trap kind line) rest few refl fits
 
--- what stands behind the tag of an item, where the part below it tells its flaws
+-- what stands after the tag of an item, where the part below it tells its flaws
 item_tells : (bounds : Bounds) (below : ReadsPart) (counts : Counts) (above : Above) (item : Item) (bytes tail : List ℕ) (gs : List Flaw) (next : CodeRow) (after : Counts) (rest : List ℕ)
     → ItemNumbersFit item
     → (item_tag_flaws bounds.limits counts above (is_memory item) (is_effect item) ≡ []
@@ -193,7 +195,7 @@ item_tells bounds below counts above item bytes tail gs next after rest fits dee
     (λ i. below behind (above_with i.0 above) i.1 >>= λ n. Ok (Then i.0 n.0, n.1, n.2)) (fields_tell bounds.arrays above item tail fits) (λ none2.
     tells_last gs (next, after, rest) (Then item next, after, rest) (below behind (above_with item above) tail) (λ n. Ok (Then item n.0, n.1, n.2)) (deeper none) refl)))))
 
--- what stands behind the tag of a test, where both sides tell theirs
+-- what stands after the tag of a test, where both sides tell theirs
 test_tells : (bounds : Bounds) (below : ReadsPart) (counts : Counts) (above : Above) (on : Operand) (bytes behind_on behind_yes : List ℕ) (fs gs : List Flaw) (on_yes on_no : CodeRow)
     (between after : Counts) (rest : List ℕ)
     → OperandFits on

@@ -379,7 +379,7 @@ is_object bytes object fits few e =
     let t = object_takes bytes object fits e in
     (record { code = well_formed_without_flaw object.code t.sound; choices = t.choices; few_notes = t.few_notes; few_bytes = subst (λ (b : List ℕ). length b ≤ 16777216) t.text few }, t.words, t.text)
 
--- the text of an object, and bytes behind it
+-- the text of an object, and bytes after it
 pub object_again : (object : CodeWithNotes) (rest : List ℕ) → IsObject object → HasWords object → object_at (object_text object ++ rest) ≡ (end_at rest >> Ok object)
 unfolding object_at
 object_again object rest h words =

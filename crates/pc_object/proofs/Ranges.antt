@@ -5,8 +5,10 @@ use Rattle.std.proofs.lemmas.List.Elements.{All-from_recursion, recursion_from_A
 use Rattle.pc_word.specs.declared.item.Item.{Item}
 use Rattle.pc_word.specs.declared.item.Item.TheVariants.{Bin, Copy, Load, Store, Print, Read, More}
 use Rattle.pc_word.specs.declared.item.Limits.{Limits}
-use Rattle.pc_machine.specs.declared.tree.Tree.{Tree}
-use Rattle.pc_machine.specs.MachineCode.{Leaf, Leads_to, Ends, Traps, CodeRow, row_of, rows_of}
+use Rattle.pc_word.specs.declared.row_tree.RowTree.{RowTree}
+use Rattle.pc_machine.specs.declared.tree.Leaf.{Leaf}
+use Rattle.pc_machine.specs.declared.tree.Leaf.TheVariants.{Goto, Stop, Trap}
+use Rattle.pc_machine.specs.MachineCode.{CodeRow, row_of, rows_of}
 use Rattle.pc_word.specs.Row.{Then, Either, At_leaf, items_of, tests_of, leaves_of}
 use Rattle.pc_machine.specs.WellFormed.{IsOperand, IsItem, IsLeaf, IsRow}
 use Rattle.pc_object.specs.declared.object.Object.{Object}
@@ -29,9 +31,9 @@ item_of_more few many (Read dest) le h = h
 item_of_more few many (More dest) le h = h
 
 leaf_of_more : (few many : ℕ) (leaf : Leaf) → few ≤ many → IsLeaf few leaf → IsLeaf many leaf
-leaf_of_more few many (Leads_to row) le h = omega arith
-leaf_of_more few many Ends le h = tt
-leaf_of_more few many (Traps kind line) le h = tt
+leaf_of_more few many (Goto row) le h = omega arith
+leaf_of_more few many Stop le h = tt
+leaf_of_more few many (Trap kind line) le h = tt
 
 pub range_of_more : (arrays rows some many : ℕ) (row : CodeRow) → arrays ≤ some → rows ≤ many → IsInRange arrays rows row → IsInRange some many row
 range_of_more arrays rows some many (Then item rest) le le2 h = (item_of_more arrays some item le h.0, range_of_more arrays rows some many rest le le2 h.1)
@@ -51,7 +53,7 @@ range_from_lists arrays rows (Either on on_yes on_no) items tests leaves = (
 )
 range_from_lists arrays rows (At_leaf leaf) items tests leaves = leaves.0
 
-ranges_of : (limits : Limits) (arrays rows : ℕ) (trees : List Tree) → arrays ≤ most_arrays → rows ≤ 2 ^ 32 → AllByRecursion (IsRow limits arrays rows) (rows_of trees)
+ranges_of : (limits : Limits) (arrays rows : ℕ) (trees : List (RowTree Leaf)) → arrays ≤ most_arrays → rows ≤ 2 ^ 32 → AllByRecursion (IsRow limits arrays rows) (rows_of trees)
     → AllByRecursion (λ tree. IsInRange most_arrays (2 ^ 32) (row_of tree)) trees
 ranges_of limits arrays rows [] le le2 h = tt
 ranges_of limits arrays rows (tree ∷ trees) le le2 h =
@@ -72,15 +74,15 @@ item_text_some (More dest) = omega arith
 row_text_some : (row : CodeRow) → 1 ≤ length (row_text row)
 row_text_some (Then item rest) = omega (arith, length-append (item_text item) (row_text rest), item_text_some item)
 row_text_some (Either on on_yes on_no) = omega arith
-row_text_some (At_leaf (Leads_to row)) = omega arith
-row_text_some (At_leaf Ends) = omega arith
-row_text_some (At_leaf (Traps kind line)) = omega arith
+row_text_some (At_leaf (Goto row)) = omega arith
+row_text_some (At_leaf Stop) = omega arith
+row_text_some (At_leaf (Trap kind line)) = omega arith
 
 pub length-rows : (rows : List CodeRow) → length rows ≤ length (flat_map row_text rows)
 length-rows [] = omega arith
 length-rows (row ∷ rows) = omega (arith, length-append (row_text row) (flat_map row_text rows), row_text_some row, length-rows rows)
 
-length-rows_of : (trees : List Tree) → length (rows_of trees) ≡ length trees
+length-rows_of : (trees : List (RowTree Leaf)) → length (rows_of trees) ≡ length trees
 length-rows_of [] = refl
 length-rows_of (tree ∷ trees) = omega (arith, length-rows_of trees)
 
@@ -107,7 +109,7 @@ all_in_range object h =
 
 -- ---- words
 
-rows_fit : (trees : List Tree) → AllByRecursion (λ tree. RowNumbersFit (row_of tree)) trees → AllByRecursion RowNumbersFit (rows_of trees)
+rows_fit : (trees : List (RowTree Leaf)) → AllByRecursion (λ tree. RowNumbersFit (row_of tree)) trees → AllByRecursion RowNumbersFit (rows_of trees)
 rows_fit [] h = tt
 rows_fit (tree ∷ trees) h = (h.0, rows_fit trees h.1)
 

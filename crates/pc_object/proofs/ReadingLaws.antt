@@ -42,7 +42,7 @@ one_object a b ha hb wa wb e =
     let both : object_reading (object_text a) ≡ Ok b = ap object_reading e ∙ reads_text b hb wb in
     let same = sym (reads_text a ha wa) ∙ both in cc
 
--- bytes behind the text of an object
+-- bytes after the text of an object
 pub reads_longer : (object : CodeWithNotes) (byte : ℕ) (more : List ℕ) → IsObject object → HasWords object
     → object_reading (object_text object ++ byte ∷ more) ≡ Err (Trailing (length (object_text object)))
 unfolding object_reading

@@ -9,7 +9,9 @@ use Rattle.pc_machine.specs.declared.code.Flaw.{Flaw}
 use Rattle.pc_machine.specs.declared.code.Flaw.TheVariants as flaws
 use Rattle.pc_machine.specs.declared.check.Bounds.{Bounds}
 use Rattle.pc_machine.specs.declared.check.Counts.{Counts}
-use Rattle.pc_machine.specs.MachineCode.{Leaf, Leads_to, Ends, Traps, CodeRow}
+use Rattle.pc_machine.specs.declared.tree.Leaf.{Leaf}
+use Rattle.pc_machine.specs.declared.tree.Leaf.TheVariants.{Goto, Stop, Trap}
+use Rattle.pc_machine.specs.MachineCode.{CodeRow}
 use Rattle.pc_word.specs.Row.{Then, Either, At_leaf}
 use Rattle.pc_word.specs.Items.{is_memory, is_effect}
 use Rattle.pc_machine.specs.Flaws.{flaw_where, Above, above_with, counts_with_item, counts_with_test, counts_after, item_tag_flaws, test_tag_flaws}
@@ -48,7 +50,7 @@ kind_of (items.Print value) = kinds.Print
 kind_of (items.Read dest) = kinds.Read
 kind_of (items.More dest) = kinds.More
 
--- an item's text behind its tag
+-- an item's text after its tag
 abbrev pub fields_text : Item → List ℕ
 fields_text (items.Bin op dest left right) = operator_byte op ∷ dest ∷ (operand_text left ++ operand_text right)
 fields_text (items.Copy dest from) = dest ∷ operand_text from
@@ -224,7 +226,7 @@ Part bounds counts above bytes read = IsReadRow bounds counts above bytes read.0
 abbrev pub ReadsWell : Bounds → ReadsPart → Type 0
 ReadsWell bounds below = (counts : Counts) (above : Above) (bytes : List ℕ) (read : PartOfRow) → IsBytes bytes → below counts above bytes ≡ Ok read → Part bounds counts above bytes read
 
--- behind the tag of an item
+-- after the tag of an item
 step_takes : (bounds : Bounds) (below : ReadsPart) → ReadsWell bounds below → (counts more : Counts) (above : Above) (bytes : List ℕ) (kind : ItemKind) (rest : List ℕ) (read : PartOfRow)
     → Takes bytes (tag_byte (tags.Item kind) ∷ []) rest → at_field bytes (counted_item bounds.limits counts above (is_memory_kind kind) (is_effect_kind kind)) ≡ Ok more
     → step_at bounds below more above kind rest ≡ Ok read → Part bounds counts above bytes read
@@ -255,7 +257,7 @@ step_takes bounds below well counts more above bytes kind rest read tag counted 
       counted = n.counted ∙ ap (counts_after b.0.0) more_is;
     })
 
--- behind the tag of a test
+-- after the tag of a test
 test_takes : (bounds : Bounds) (below : ReadsPart) → ReadsWell bounds below → (counts more : Counts) (above : Above) (bytes rest : List ℕ) (read : PartOfRow)
     → Takes bytes (tag_byte tags.Test ∷ []) rest → at_field bytes (counted_test bounds.limits counts) ≡ Ok more
     → test_at below more above rest ≡ Ok read → Part bounds counts above bytes read
@@ -293,10 +295,10 @@ goto_takes : (bounds : Bounds) (counts : Counts) (above : Above) (bytes rest : L
 unfolding goto_at
 goto_takes bounds counts above bytes rest read tag e =
     let a = bind_ok (goto_at bounds.rows rest) (λ leaf. Ok (leaf.0, counts, leaf.1)) read e in
-    let b = bind_ok (number_at w32 rest) (λ row. unflawed rest (target_flaws bounds.rows row.0) >> Ok (At_leaf (Leads_to row.0), row.1)) a.0 a.1 in
-    let p = passes_then rest (target_flaws bounds.rows b.0.0) (At_leaf (Leads_to b.0.0), b.0.1) a.0 b.2 in
+    let b = bind_ok (number_at w32 rest) (λ row. unflawed rest (target_flaws bounds.rows row.0) >> Ok (At_leaf (Goto row.0), row.1)) a.0 a.1 in
+    let p = passes_then rest (target_flaws bounds.rows b.0.0) (At_leaf (Goto b.0.0), b.0.1) a.0 b.2 in
     let t = number_takes w32 (2 ^ 32) wide32 rest b.0.0 b.0.1 tag.rest_fits b.1 in
-    let part = leaf_part bounds counts above bytes (Leads_to b.0.0) b.0.1 (Takes-then bytes (0x01 ∷ []) rest (u32_text b.0.0) b.0.1 tag t.0) p.0 tt in
+    let part = leaf_part bounds counts above bytes (Goto b.0.0) b.0.1 (Takes-then bytes (0x01 ∷ []) rest (u32_text b.0.0) b.0.1 tag t.0) p.0 tt in
     let whole : Part bounds counts above bytes (a.0.0, counts, a.0.1) = subst (λ (y : CodeRow × List ℕ). Part bounds counts above bytes (y.0, counts, y.1)) p.1 part in
     subst (Part bounds counts above bytes) (ok_is (a.0.0, counts, a.0.1) read a.2) whole
 
@@ -305,14 +307,14 @@ trap_row_takes : (bounds : Bounds) (counts : Counts) (above : Above) (bytes rest
 unfolding trap_fields_at
 trap_row_takes bounds counts above bytes rest read tag e =
     let a = bind_ok (trap_fields_at rest) (λ leaf. Ok (leaf.0, counts, leaf.1)) read e in
-    let b = bind_ok (trap_at rest) (λ kind. number_at w32 kind.1 >>= λ line. Ok (At_leaf (Traps kind.0 line.0), line.1)) a.0 a.1 in
-    let c = bind_ok (number_at w32 b.0.1) (λ line. Ok (At_leaf (Traps b.0.0 line.0), line.1)) a.0 b.2 in
+    let b = bind_ok (trap_at rest) (λ kind. number_at w32 kind.1 >>= λ line. Ok (At_leaf (Trap kind.0 line.0), line.1)) a.0 a.1 in
+    let c = bind_ok (number_at w32 b.0.1) (λ line. Ok (At_leaf (Trap b.0.0 line.0), line.1)) a.0 b.2 in
     let k = trap_takes rest b.0.0 b.0.1 tag.rest_fits b.1 in
     let t = number_takes w32 (2 ^ 32) wide32 b.0.1 c.0.0 c.0.1 k.rest_fits c.1 in
     let kt = Takes-then rest (trap_byte b.0.0 ∷ []) b.0.1 (u32_text c.0.0) c.0.1 k t.0 in
-    let part = leaf_part bounds counts above bytes (Traps b.0.0 c.0.0) c.0.1 (Takes-then bytes (0x03 ∷ []) rest (trap_byte b.0.0 ∷ u32_text c.0.0) c.0.1 tag kt) refl t.1 in
+    let part = leaf_part bounds counts above bytes (Trap b.0.0 c.0.0) c.0.1 (Takes-then bytes (0x03 ∷ []) rest (trap_byte b.0.0 ∷ u32_text c.0.0) c.0.1 tag kt) refl t.1 in
     let whole : Part bounds counts above bytes (a.0.0, counts, a.0.1) =
-    subst (λ (y : CodeRow × List ℕ). Part bounds counts above bytes (y.0, counts, y.1)) (ok_is (At_leaf (Traps b.0.0 c.0.0), c.0.1) a.0 c.2) part in
+    subst (λ (y : CodeRow × List ℕ). Part bounds counts above bytes (y.0, counts, y.1)) (ok_is (At_leaf (Trap b.0.0 c.0.0), c.0.1) a.0 c.2) part in
     subst (Part bounds counts above bytes) (ok_is (a.0.0, counts, a.0.1) read a.2) whole
 
 behind_takes : (bounds : Bounds) (below : ReadsPart) → ReadsWell bounds below → (counts : Counts) (above : Above) (bytes : List ℕ) (tag : Tag) (rest : List ℕ) (read : PartOfRow)
@@ -320,7 +322,7 @@ behind_takes : (bounds : Bounds) (below : ReadsPart) → ReadsWell bounds below 
 unfolding behind_tag
 behind_takes bounds below well counts above bytes tags.Goto rest read tag e = goto_takes bounds counts above bytes rest read tag e
 behind_takes bounds below well counts above bytes tags.Stop rest read tag e =
-    subst (Part bounds counts above bytes) (ok_is (At_leaf Ends, counts, rest) read e) (leaf_part bounds counts above bytes Ends rest tag refl tt)
+    subst (Part bounds counts above bytes) (ok_is (At_leaf Stop, counts, rest) read e) (leaf_part bounds counts above bytes Stop rest tag refl tt)
 behind_takes bounds below well counts above bytes tags.Trap rest read tag e = trap_row_takes bounds counts above bytes rest read tag e
 behind_takes bounds below well counts above bytes tags.Test rest read tag e =
     let a = bind_ok (at_field bytes (counted_test bounds.limits counts)) (λ more. test_at below more above rest) read e in
@@ -387,11 +389,11 @@ at_sides below counts above bytes on rest on_yes between more on_no after end h 
 pub leaf_again : (bounds : Bounds) (depth : ℕ) (counts : Counts) (above : Above) (leaf : Leaf) (rest : List ℕ) → bounds.rows ≤ 2 ^ 32 → leaf_flaws bounds leaf ≡ [] → LeafFits leaf
     → row_at bounds (suc depth) counts above (leaf_text leaf ++ rest) ≡ Ok (At_leaf leaf, counts, rest)
 unfolding behind_tag goto_at trap_fields_at
-leaf_again bounds depth counts above (Leads_to row) rest few none fits =
+leaf_again bounds depth counts above (Goto row) rest few none fits =
     let there : row < bounds.rows = leb-false _ _ (where_nil (leb bounds.rows row) flaws.Target none) in
     at_tag bounds depth counts above tags.Goto (u32_text row ++ rest) ∙ rw (number_again w32 (2 ^ 32) wide32 row rest (omega (arith, there)), none) refl
-leaf_again bounds depth counts above Ends rest few none fits = at_tag bounds depth counts above tags.Stop rest
-leaf_again bounds depth counts above (Traps kind line) rest few none fits =
+leaf_again bounds depth counts above Stop rest few none fits = at_tag bounds depth counts above tags.Stop rest
+leaf_again bounds depth counts above (Trap kind line) rest few none fits =
     at_tag bounds depth counts above tags.Trap (trap_byte kind ∷ (u32_text line ++ rest)) ∙ rw (trap_again kind (u32_text line ++ rest), number_again w32 (2 ^ 32) wide32 line rest fits) refl
 
 -- a row without a flaw is read, where the reader may go deep enough

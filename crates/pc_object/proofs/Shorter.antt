@@ -15,7 +15,8 @@ use Rattle.pc_machine.specs.declared.code.Flaw.{Flaw}
 use Rattle.pc_machine.specs.declared.code.Flaw.TheVariants as flaws
 use Rattle.pc_machine.specs.declared.check.Bounds.{Bounds}
 use Rattle.pc_machine.specs.declared.check.Counts.{Counts}
-use Rattle.pc_machine.specs.MachineCode.{CodeRow, Leads_to, Traps}
+use Rattle.pc_machine.specs.declared.tree.Leaf.TheVariants.{Goto, Trap}
+use Rattle.pc_machine.specs.MachineCode.{CodeRow}
 use Rattle.pc_machine.specs.Flaws.{limit_flaws, array_count_flaws, length_flaws, row_count_flaws, Above, above_with, nothing_above, no_counts}
 use Rattle.pc_machine.specs.Flaws.{register_flaws, dest_flaws, array_flaws, target_flaws, flaw_where}
 use Rattle.pc_object.specs.declared.object.Note.{Note}
@@ -51,15 +52,15 @@ Extends value (Err NotMagic) longer = IsRefused longer
 Extends value (Err (Flawed left flaw)) longer = IsRefused longer
 Extends value (Err (Longer left)) longer = IsRefused longer
 
--- the same value is read, but for what is left behind it
+-- the same value is read, but for what is left after it
 abbrev Gives : {A : Type 0} → (A → A) → A → Result A Refusal → Type 0
 Gives more x longer = longer ≡ Ok (more x)
 
--- more bytes are left behind a value
+-- more bytes are left after a value
 abbrev with_more : {A : Type 0} → List ℕ → A × List ℕ → A × List ℕ
 with_more q x = (x.0, x.1 ++ q)
 
--- and behind a part of a row
+-- and after a part of a row
 abbrev part_more : List ℕ → PartOfRow → PartOfRow
 part_more q x = (x.0, x.1, x.2 ++ q)
 
@@ -287,17 +288,17 @@ goto_extends : (rows : ℕ) (bytes q : List ℕ) → Extends (Gives (with_more q
 unfolding goto_at
 goto_extends rows bytes q =
     both_extend (with_more q) (Gives (with_more q)) (number_at w32 bytes) (number_at w32 (bytes ++ q))
-    (λ row. unflawed bytes (target_flaws rows row.0) >> Ok (At_leaf (Leads_to row.0), row.1)) (λ row. unflawed (bytes ++ q) (target_flaws rows row.0) >> Ok (At_leaf (Leads_to row.0), row.1))
+    (λ row. unflawed bytes (target_flaws rows row.0) >> Ok (At_leaf (Goto row.0), row.1)) (λ row. unflawed (bytes ++ q) (target_flaws rows row.0) >> Ok (At_leaf (Goto row.0), row.1))
     (number_extends w32 bytes q) (λ row.
     both_extend same (Gives (with_more q)) (unflawed bytes (target_flaws rows row.0)) (unflawed (bytes ++ q) (target_flaws rows row.0))
-    (λ u. Ok (At_leaf (Leads_to row.0), row.1)) (λ u. Ok (At_leaf (Leads_to row.0), row.1 ++ q))
+    (λ u. Ok (At_leaf (Goto row.0), row.1)) (λ u. Ok (At_leaf (Goto row.0), row.1 ++ q))
     (field_extends bytes (bytes ++ q) (checked {X = Unit {0}} (target_flaws rows row.0) tt)) (λ u. refl))
 
 trap_fields_extend : (bytes q : List ℕ) → Extends (Gives (with_more q)) (trap_fields_at bytes) (trap_fields_at (bytes ++ q))
 unfolding trap_fields_at
 trap_fields_extend bytes q =
-    then_extends q (Gives (with_more q)) (trap_at bytes) (trap_at (bytes ++ q)) (λ kind. number_at w32 kind.1 >>= λ line. Ok (At_leaf (Traps kind.0 line.0), line.1)) (trap_extends bytes q) (λ kind.
-    then_extends q (Gives (with_more q)) (number_at w32 kind.1) (number_at w32 (kind.1 ++ q)) (λ line. Ok (At_leaf (Traps kind.0 line.0), line.1)) (number_extends w32 kind.1 q) (λ line. refl))
+    then_extends q (Gives (with_more q)) (trap_at bytes) (trap_at (bytes ++ q)) (λ kind. number_at w32 kind.1 >>= λ line. Ok (At_leaf (Trap kind.0 line.0), line.1)) (trap_extends bytes q) (λ kind.
+    then_extends q (Gives (with_more q)) (number_at w32 kind.1) (number_at w32 (kind.1 ++ q)) (λ line. Ok (At_leaf (Trap kind.0 line.0), line.1)) (number_extends w32 kind.1 q) (λ line. refl))
 
 -- ---- rows
 

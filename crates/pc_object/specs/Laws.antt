@@ -15,7 +15,8 @@ use Rattle.pc_word.specs.declared.item.Item.{Item}
 use Rattle.pc_word.specs.declared.item.Operand.{Operand}
 use Rattle.pc_word.specs.declared.item.TrapKind.{TrapKind}
 use Rattle.pc_word.specs.Row.{Either}
-use Rattle.pc_machine.specs.MachineCode.{Leads_to, Ends, Traps, CodeRow, RowCode}
+use Rattle.pc_machine.specs.declared.tree.Leaf.TheVariants.{Goto, Stop, Trap}
+use Rattle.pc_machine.specs.MachineCode.{CodeRow, RowCode}
 
 -- each text is the text of one object
 abbrev pub OneTextOneObject : Type 0
@@ -52,8 +53,8 @@ pub record SizesAreLengths : Type 0 where
   pub operand : (o : Operand) → length (operand_text o) ≡ operand_bytes o
   pub item : (x : Item) → length (item_text x) ≡ item_bytes x
   pub test : (on : Operand) (p q : CodeRow) → length (row_text (Either on p q)) ≡ test_bytes on + (length (row_text p) + length (row_text q))
-  pub goto : (row : ℕ) → length (leaf_text (Leads_to row)) ≡ goto_bytes
-  pub end : length (leaf_text Ends) ≡ end_bytes
-  pub trap : (kind : TrapKind) (line : ℕ) → length (leaf_text (Traps kind line)) ≡ trap_bytes
+  pub goto : (row : ℕ) → length (leaf_text (Goto row)) ≡ goto_bytes
+  pub end : length (leaf_text Stop) ≡ end_bytes
+  pub trap : (kind : TrapKind) (line : ℕ) → length (leaf_text (Trap kind line)) ≡ trap_bytes
   pub header : (code : RowCode) → length (header_text code) ≡ header_bytes + length_bytes * length code.arrays
   pub notes : (ns : List Note) → length (notes_text ns) ≡ count_bytes + note_bytes * length ns

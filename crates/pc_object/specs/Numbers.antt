@@ -6,7 +6,9 @@ use Rattle.pc_word.specs.declared.item.Item.{Item}
 use Rattle.pc_word.specs.declared.item.Item.TheVariants.{Bin, Copy, Load, Store, Print, Read, More}
 use Rattle.pc_word.specs.declared.item.Operand.{Operand}
 use Rattle.pc_word.specs.declared.item.Operand.TheVariants.{Name, Lit}
-use Rattle.pc_machine.specs.MachineCode.{Leaf, Leads_to, Ends, Traps, CodeRow, RowCode}
+use Rattle.pc_machine.specs.declared.tree.Leaf.{Leaf}
+use Rattle.pc_machine.specs.declared.tree.Leaf.TheVariants.{Goto, Stop, Trap}
+use Rattle.pc_machine.specs.MachineCode.{CodeRow, RowCode}
 use Rattle.pc_word.specs.Row.{Then, Either, At_leaf}
 use Rattle.pc_object.specs.declared.object.Note.{Note}
 use Rattle.pc_object.specs.ObjectText.{CodeWithNotes}
@@ -28,9 +30,9 @@ ItemNumbersFit (More dest) = Unit {0}
 
 -- a line is below 2^32
 abbrev pub LeafFits : Leaf → Type 0
-LeafFits (Leads_to row) = Unit {0}
-LeafFits Ends = Unit {0}
-LeafFits (Traps kind line) = line < 2 ^ 32
+LeafFits (Goto row) = Unit {0}
+LeafFits Stop = Unit {0}
+LeafFits (Trap kind line) = line < 2 ^ 32
 
 -- each literal of a row is a word, and each line is below 2^32
 abbrev pub RowNumbersFit : CodeRow → Type 0
@@ -51,9 +53,9 @@ pub record HasWords (object : CodeWithNotes) : Type 0 where
 
 -- the row that a goto leads to is below 2^32
 abbrev pub TargetFits : Leaf → Type 0
-TargetFits (Leads_to row) = row < 2 ^ 32
-TargetFits Ends = Unit {0}
-TargetFits (Traps kind line) = Unit {0}
+TargetFits (Goto row) = row < 2 ^ 32
+TargetFits Stop = Unit {0}
+TargetFits (Trap kind line) = Unit {0}
 
 -- each row that a goto of a row leads to is below 2^32
 abbrev pub TargetsFit : CodeRow → Type 0

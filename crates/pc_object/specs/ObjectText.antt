@@ -10,7 +10,9 @@ use Rattle.pc_word.specs.declared.item.Operand.{Operand}
 use Rattle.pc_word.specs.declared.item.Operand.TheVariants.{Name, Lit}
 use Rattle.pc_word.specs.declared.item.TrapKind.{TrapKind}
 use Rattle.pc_word.specs.declared.item.TrapKind.TheVariants.{DivideByZero, OutOfBounds, EndOfInput}
-use Rattle.pc_machine.specs.MachineCode.{Leaf, Leads_to, Ends, Traps, CodeRow, RowCode, code_of}
+use Rattle.pc_machine.specs.declared.tree.Leaf.{Leaf}
+use Rattle.pc_machine.specs.declared.tree.Leaf.TheVariants.{Goto, Stop, Trap}
+use Rattle.pc_machine.specs.MachineCode.{CodeRow, RowCode, code_of}
 use Rattle.pc_word.specs.Row.{Then, Either, At_leaf}
 use Rattle.pc_machine.specs.WellFormed.{WellFormed}
 use Rattle.pc_object.specs.declared.object.Note.{Note}
@@ -83,9 +85,9 @@ item_text (More dest) = 0x26 ∷ dest ∷ []
 
 -- a leaf: its tag and its fields
 abbrev pub leaf_text : Leaf → List ℕ
-leaf_text (Leads_to row) = 0x01 ∷ u32_text row
-leaf_text Ends = 0x02 ∷ []
-leaf_text (Traps kind line) = 0x03 ∷ trap_byte kind ∷ u32_text line
+leaf_text (Goto row) = 0x01 ∷ u32_text row
+leaf_text Stop = 0x02 ∷ []
+leaf_text (Trap kind line) = 0x03 ∷ trap_byte kind ∷ u32_text line
 
 -- a row in preorder, the yes side first
 abbrev pub row_text : CodeRow → List ℕ

@@ -1,5 +1,5 @@
 -- The reading of an object's text: field by field from the left, up to the first that is wrong.
--- A reader takes the bytes that are left, and gives a value and the bytes behind its fields.
+-- A reader takes the bytes that are left, and gives a value and the bytes after its fields.
 use Rattle.std.specs.Prelude.{ℕ, zero, suc, ◌+◌, ◌-◌, ℤ, Bool, true, false, if◌then◌else◌, ◌==◌, nat_lt, List, [], ◌∷◌, length, take, drop, find, Option, Some, None, Result, Ok, Err}
 use Rattle.std.specs.Int.{Width, w16, w32, byte_len, from_be_bytes, cast_signed}
 use Rattle.pc_word.specs.declared.item.OpCode.{OpCode}
@@ -15,7 +15,8 @@ use Rattle.pc_machine.specs.declared.code.Flaw.{Flaw}
 use Rattle.pc_machine.specs.declared.code.Flaw.TheVariants as flaws
 use Rattle.pc_machine.specs.declared.check.Bounds.{Bounds}
 use Rattle.pc_machine.specs.declared.check.Counts.{Counts}
-use Rattle.pc_machine.specs.MachineCode.{Leads_to, Ends, Traps, CodeRow}
+use Rattle.pc_machine.specs.declared.tree.Leaf.TheVariants.{Goto, Stop, Trap}
+use Rattle.pc_machine.specs.MachineCode.{CodeRow}
 use Rattle.pc_word.specs.Row.{Then, Either, At_leaf}
 use Rattle.pc_machine.specs.Flaws.{flaw_where, limit_flaws, array_count_flaws, length_flaws, row_count_flaws, Above, nothing_above, above_with}
 use Rattle.pc_machine.specs.Flaws.{no_counts, counts_with_item, counts_with_test, item_tag_flaws, test_tag_flaws, register_flaws, dest_flaws}
@@ -100,7 +101,7 @@ limits_at bytes = do
   mem ← limit_at most_mem tests.1
   Ok (record { ops = ops.0; tests = tests.0; mem = mem.0 }, mem.1)
 
--- the lengths of so many arrays, behind arrays of so many elements
+-- the lengths of so many arrays, after arrays of so many elements
 unfoldable pub lengths_at : ℕ → ℕ → List ℕ → Result (List ℕ × List ℕ) Refusal
 lengths_at zero before bytes = Ok ([], bytes)
 lengths_at (suc count) before bytes = do
@@ -176,7 +177,7 @@ array_at arrays bytes = do
   unflawed bytes (array_flaws arrays array.0)
   Ok array
 
--- a register behind 00, or a literal behind 01
+-- a register after 00, or a literal after 01
 unfoldable pub operand_at : List ℕ → Result (Operand × List ℕ) Refusal
 operand_at [] = Err Short
 operand_at (zero ∷ rest) = do
@@ -233,7 +234,7 @@ is_effect_kind kinds.Read = true
 is_effect_kind kinds.More = true
 is_effect_kind _ = false
 
--- the fields of an item behind its tag
+-- the fields of an item after its tag
 unfoldable pub fields_at : ℕ → Above → ItemKind → List ℕ → Result (Item × List ℕ) Refusal
 fields_at arrays above kinds.Bin bytes = do
   op ← operator_at bytes
@@ -270,16 +271,16 @@ unfoldable pub goto_at : ℕ → List ℕ → Result (CodeRow × List ℕ) Refus
 goto_at rows bytes = do
   row ← number_at w32 bytes
   unflawed bytes (target_flaws rows row.0)
-  Ok (At_leaf (Leads_to row.0), row.1)
+  Ok (At_leaf (Goto row.0), row.1)
 
 -- the kind and the line of a trap
 unfoldable pub trap_fields_at : List ℕ → Result (CodeRow × List ℕ) Refusal
 trap_fields_at bytes = do
   kind ← trap_at bytes
   line ← number_at w32 kind.1
-  Ok (At_leaf (Traps kind.0 line.0), line.1)
+  Ok (At_leaf (Trap kind.0 line.0), line.1)
 
--- A part of a row: what is read, the counts of the whole row behind it, and the bytes behind it.
+-- A part of a row: what is read, the counts of the whole row after it, and the bytes after it.
 abbrev pub PartOfRow : Type 0
 PartOfRow = CodeRow × Counts × List ℕ
 
@@ -287,14 +288,14 @@ PartOfRow = CodeRow × Counts × List ℕ
 abbrev pub ReadsPart : Type 0
 ReadsPart = Counts → Above → List ℕ → Result PartOfRow Refusal
 
--- behind an item's tag: its fields, and what follows under the path with the item
+-- after an item's tag: its fields, and what follows under the path with the item
 unfoldable pub step_at : Bounds → ReadsPart → Counts → Above → ItemKind → List ℕ → Result PartOfRow Refusal
 step_at bounds below counts above kind bytes = do
   item ← fields_at bounds.arrays above kind bytes
   next ← below counts (above_with item.0 above) item.1
   Ok (Then item.0 next.0, next.1, next.2)
 
--- behind a test's tag: its operand, and both sides under the same path, of which the second counts on from the first
+-- after a test's tag: its operand, and both sides under the same path, of which the second counts on from the first
 unfoldable pub test_at : ReadsPart → Counts → Above → List ℕ → Result PartOfRow Refusal
 test_at below counts above bytes = do
   on ← operand_at bytes
@@ -302,20 +303,20 @@ test_at below counts above bytes = do
   on_no ← below on_yes.1 above on_yes.2
   Ok (Either on.0 on_yes.0 on_no.0, on_no.1, on_no.2)
 
--- the counts behind the tag of an item that is or is not a load or store, and a print, read or more
+-- the counts after the tag of an item that is or is not a load or store, and a print, read or more
 abbrev pub counted_item : Limits → Counts → Above → Bool → Bool → Result Counts Flaw
 counted_item limits counts above memory effect = checked (item_tag_flaws limits counts above memory effect) (counts_with_item memory counts)
 
--- the counts behind the tag of a test
+-- the counts after the tag of a test
 abbrev pub counted_test : Limits → Counts → Result Counts Flaw
 counted_test limits counts = checked (test_tag_flaws limits counts) (counts_with_test counts)
 
--- behind a tag, which began where these bytes do: a leaf, or an item or a test, which is counted before its fields are read
+-- after a tag, which began where these bytes do: a leaf, or an item or a test, which is counted before its fields are read
 unfoldable pub behind_tag : Bounds → ReadsPart → Counts → Above → List ℕ → Tag → List ℕ → Result PartOfRow Refusal
 behind_tag bounds below counts above bytes tags.Goto rest = do
   leaf ← goto_at bounds.rows rest
   Ok (leaf.0, counts, leaf.1)
-behind_tag bounds below counts above bytes tags.Stop rest = Ok (At_leaf Ends, counts, rest)
+behind_tag bounds below counts above bytes tags.Stop rest = Ok (At_leaf Stop, counts, rest)
 behind_tag bounds below counts above bytes tags.Trap rest = do
   leaf ← trap_fields_at rest
   Ok (leaf.0, counts, leaf.1)
@@ -398,7 +399,7 @@ header_at bytes = do
 abbrev pub header_bounds : Header → Bounds
 header_bounds header = record { limits = header.limits; arrays = length header.arrays; rows = header.rows }
 
--- the header, the rows, the number of notes and the notes, and nothing behind them
+-- the header, the rows, the number of notes and the notes, and nothing after them
 unfoldable pub object_at : List ℕ → Result CodeWithNotes Refusal
 object_at bytes = do
   header ← header_at bytes

@@ -4,16 +4,16 @@ ghost use Rattle.std.specs.Prelude.{◌≡◌, ◌++◌, ◌∷◌, [], ◌<◌,
 ghost use Rattle.std.specs.List.{flat_map};
 ghost use Rattle.pc_machine.specs.MachineCode.{row_of, rows_of, code_of};
 ghost use Rattle.pc_machine.specs.WellFormed.{IsOperand, IsItem};
-ghost use Rattle.pc_object.specs.ObjectText.{object_of, IsObject, object_text, header_text, notes_text, note_text, row_text, item_text, operand_text};
+ghost use Rattle.pc_object.specs.ObjectText.{object_of, IsObject, object_text, header_text, notes_text, note_text, row_text, leaf_text, item_text, operand_text};
 ghost use Rattle.pc_object.specs.ObjectText.{word_text, u16_text, u32_text, operator_byte, trap_byte};
 ghost use Rattle.pc_object.specs.models.InRange.{IsInRange};
-ghost use Rattle.pc_object.specs.Numbers.{OperandFits, ItemNumbersFit, RowNumbersFit, NoteFits, HasWords};
+ghost use Rattle.pc_object.specs.Numbers.{OperandFits, ItemNumbersFit, LeafFits, RowNumbersFit, NoteFits, HasWords};
 ghost use Rattle.pc_word.specs.MachineLimits.{most_arrays};
 
 use crate::object::{Note, Object};
 use byteorder::{BigEndian, ByteOrder};
-use pc_machine::{Code, Tree};
-use pc_word::{Item, OpCode, Operand, OutOfMemory, TrapKind};
+use pc_machine::{Code, Leaf, Tree};
+use pc_word::{Item, OpCode, Operand, OutOfMemory, RowTree, TrapKind};
 use std::alloc::{AllocError, Global};
 
 /// Why an object could not be written.
@@ -94,24 +94,33 @@ fn push_row(out: &mut Vec<u8>, row: &Tree) -> Result<(), AllocError>
     ensures words { OnOk result (RowNumbersFit (row_of row.now)) }
 {
     match row {
-        Tree::Step { item, next } => {
+        RowTree::Step { item, next } => {
             push_item(out, *item)?;
             push_row(out, next)
         }
-        Tree::Test { on, yes, no } => {
+        RowTree::Test { on, yes, no } => {
             out.push(0x10)?;
             push_operand(out, *on)?;
             push_row(out, yes)?;
             push_row(out, no)
         }
-        Tree::Goto { row } => {
+        RowTree::Leaf { leaf } => push_leaf(out, *leaf),
+    }
+}
+
+fn push_leaf(out: &mut Vec<u8>, leaf: Leaf) -> Result<(), AllocError>
+    ensures text { OnOk result (out.new.items ≡ out.old.items ++ leaf_text leaf) }
+    ensures words { OnOk result (LeafFits leaf) }
+{
+    match leaf {
+        Leaf::Goto { row } => {
             out.push(0x01)?;
-            push_u32(out, *row)
+            push_u32(out, row)
         }
-        Tree::Stop => Ok(out.push(0x02)?),
-        Tree::Trap { kind, line } => {
-            out.extend_from_slice(&[0x03, trap_byte(*kind)])?;
-            push_u32(out, *line)
+        Leaf::Stop => Ok(out.push(0x02)?),
+        Leaf::Trap { kind, line } => {
+            out.extend_from_slice(&[0x03, trap_byte(kind)])?;
+            push_u32(out, line)
         }
     }
 }
@@ -150,7 +159,7 @@ fn push_item(out: &mut Vec<u8>, item: Item) -> Result<(), AllocError>
     }
 }
 
-/// Two operands behind the bytes in front of them.
+/// Two operands after the bytes in front of them.
 fn push_operands(
     out: &mut Vec<u8>,
     front: &[u8],

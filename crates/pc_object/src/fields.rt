@@ -1,5 +1,5 @@
 //! The readers of single fields. Each takes the bytes that are left, and gives a value and the
-//! bytes behind it.
+//! bytes after it.
 
 ghost use Rattle.std.specs.Prelude.{◌≡◌, ◌<◌, ◌≤◌, length, Result, Ok, Err, IfOk};
 ghost use Rattle.std.specs.Int.{w16, w32};

@@ -12,8 +12,8 @@ ghost use Rattle.pc_object.specs.Reading.{at_field, counted_item, is_memory_kind
 use crate::fields::{array, at_field, dest, flawed, number, operand, operator, tag, trap_kind};
 use crate::refusal::Halt;
 use crate::tag::{ItemKind, Tag};
-use pc_machine::{Bounds, Counts, Flaw, Path, Tree};
-use pc_word::{Item, MOST_OPS, MOST_TESTS};
+use pc_machine::{Bounds, Counts, Flaw, Leaf, Path, Tree};
+use pc_word::{Item, MOST_OPS, MOST_TESTS, RowTree};
 use std::alloc::Global;
 
 /// How many items and tests of a row stand above each other at most, and a leaf below them.
@@ -38,7 +38,7 @@ pub fn rows<'a>(
     Ok((rows, rest))
 }
 
-/// A row, or the part of one that stands behind these counts and under this path.
+/// A row, or the part of one that stands after these counts and under this path.
 ///
 /// It goes no deeper than `depth`, which the limits of a row never let it reach.
 #[cycle(row)]
@@ -62,7 +62,7 @@ fn row<'a>(
             let (tree, rest) = goto(bounds, rest)?;
             Ok((tree, counts, rest))
         }
-        Tag::Stop => Ok((Tree::Stop, counts, rest)),
+        Tag::Stop => Ok((RowTree::Leaf { leaf: Leaf::Stop }, counts, rest)),
         Tag::Trap => {
             let (tree, rest) = trap(rest)?;
             Ok((tree, counts, rest))
@@ -78,7 +78,7 @@ fn row<'a>(
     }
 }
 
-/// The counts behind the tag of an item, which began where `bytes` do.
+/// The counts after the tag of an item, which began where `bytes` do.
 fn count_item(
     bounds: &Bounds,
     counts: Counts,
@@ -95,7 +95,7 @@ fn count_item(
     )
 }
 
-/// What stands behind the tag of an item.
+/// What stands after the tag of an item.
 #[cycle(row)]
 #[tactic(auto, unfolding(crate::specs::Reading::step_at))]
 fn step<'a>(
@@ -112,10 +112,10 @@ fn step<'a>(
 {
     let (item, rest) = item_fields(bounds, path, kind, bytes)?;
     let (next, counts, rest) = boxed_row(alloc, bounds, depth, counts, &path.below(&item), rest)?;
-    Ok((Tree::Step { item, next }, counts, rest))
+    Ok((RowTree::Step { item, next }, counts, rest))
 }
 
-/// What stands behind the tag of a test.
+/// What stands after the tag of a test.
 #[cycle(row)]
 #[tactic(auto, unfolding(crate::specs::Reading::test_at))]
 fn test<'a>(
@@ -132,7 +132,7 @@ fn test<'a>(
     let (on, rest) = operand(bytes)?;
     let (yes, counts, rest) = boxed_row(alloc, bounds, depth, counts, path, rest)?;
     let (no, counts, rest) = boxed_row(alloc, bounds, depth, counts, path, rest)?;
-    Ok((Tree::Test { on, yes, no }, counts, rest))
+    Ok((RowTree::Test { on, yes, no }, counts, rest))
 }
 
 #[cycle(row)]
@@ -236,7 +236,8 @@ fn goto<'a>(bounds: &Bounds, bytes: &'a [u8]) -> Result<(Tree, &'a [u8]), Halt>
 {
     let (row, rest) = number(bytes)?;
     at_field(bytes, bounds.target(row))?;
-    Ok((Tree::Goto { row }, rest))
+    let leaf = Leaf::Goto { row };
+    Ok((RowTree::Leaf { leaf }, rest))
 }
 
 #[tactic(auto, unfolding(crate::specs::Reading::trap_fields_at))]
@@ -245,5 +246,6 @@ fn trap(bytes: &[u8]) -> Result<(Tree, &[u8]), Halt>
 {
     let (kind, rest) = trap_kind(bytes)?;
     let (line, rest) = number(rest)?;
-    Ok((Tree::Trap { kind, line }, rest))
+    let leaf = Leaf::Trap { kind, line };
+    Ok((RowTree::Leaf { leaf }, rest))
 }

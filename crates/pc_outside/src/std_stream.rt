@@ -59,7 +59,7 @@ impl<R: Read> Source for StdSource<R> {
 pub struct StdSink<W> {
     writer: W,
     faults: u64,
-    /// How many bytes the writer took last, where the flush behind them failed.
+    /// How many bytes the writer took last, where the flush after them failed.
     unflushed: usize,
 }
 

@@ -22,18 +22,18 @@ use Rattle.pc_parser.proofs.Tokens.{is_mark-of, is_mark-true}
 use Rattle.pc_parser.proofs.Finds.{allowed-yes, expect-yes, after-parsed, cond-yes, cond-no, false_from, operator_from-higher, operator_from-found, operator_from-passed, operator_from-unary}
 use Rattle.pc_parser.proofs.Finds.{climb-ends, climb-turns}
 
--- what may stand behind an operand of a level
+-- what may stand after an operand of a level
 pub record Follows (level : ℕ) (kind : Option TokenKind) : Type 0 where
   pub bracket : is_mark marks.LeftBracket kind ≡ false
   pub operator : operator_from (level + 1) kind ≡ None
 
--- what may stand behind an expression
+-- what may stand after an expression
 pub record FollowsWhole (kind : Option TokenKind) : Type 0 where
   pub bracket : is_mark marks.LeftBracket kind ≡ false
   pub operator : operator_from 1 kind ≡ None
   pub question : is_mark marks.Question kind ≡ false
 
--- the marks that stand behind an expression
+-- the marks that stand after an expression
 pub follows-paren : (kind : Option TokenKind) → kind ≡ Some (kinds.Mark marks.RightParen) → FollowsWhole kind
 unfolding operator_from operator_of
 follows-paren kind is = subst FollowsWhole (sym is) record { bracket = refl; operator = refl; question = refl }
@@ -54,7 +54,7 @@ pub follows-colon : (kind : Option TokenKind) → kind ≡ Some (kinds.Mark mark
 unfolding operator_from operator_of
 follows-colon kind is = subst FollowsWhole (sym is) record { bracket = refl; operator = refl; question = refl }
 
--- `?` stands behind the operands of every level
+-- `?` stands after the operands of every level
 pub question-bracket : (kind : Option TokenKind) → kind ≡ Some (kinds.Mark marks.Question) → is_mark marks.LeftBracket kind ≡ false
 question-bracket kind is = ap (is_mark marks.LeftBracket) is
 

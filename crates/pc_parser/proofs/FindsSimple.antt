@@ -28,7 +28,7 @@ use Rattle.pc_parser.proofs.FindsExpressions.{FollowsWhole, follows-paren, follo
 use Rattle.pc_parser.proofs.Starts.{expression-begins, simple-begins}
 use Rattle.pc_parser.proofs.Onward.{inside, declarator-onward}
 
--- what stands behind a simple statement
+-- what stands after a simple statement
 pub record Closes (kind : Option TokenKind) : Type 0 where
   pub follows : FollowsWhole kind
   pub assignment_not : assignment_from kind ≡ None
@@ -194,7 +194,7 @@ module _ (tokens : List Token) where
         ap (λ k. after (after (primary_on tokens (below tokens e) e k p) (λ tree height to. climb tokens (below tokens e) e 1 e tree height to)) (choice tokens (below tokens e) e)) is ∙
         ap (λ o. after (after o (λ tree height to. climb tokens (below tokens e) e 1 e tree height to)) (choice tokens (below tokens e) e)) (allowed-yes 1 e p _ low)
 
-    -- behind a target with which an expression goes on, nothing is assigned
+    -- after a target with which an expression goes on, nothing is assigned
     goes-on : (e at : ℕ) (tree : SourceExpression) (height : ℕ) (value : SourceExpression) (h q : ℕ) → Closes (kind_at tokens q) →
         after (climb tokens (below tokens e) e 1 e tree height at) (choice tokens (below tokens e) e) ≡ Parsed value h q →
         (assignment_from (kind_at tokens at) ≡ None) × (step_from (kind_at tokens at) ≡ None)

@@ -24,7 +24,7 @@ use Rattle.pc_parser.proofs.Onward.{inside, declaration-onward, statement-onward
 use Rattle.pc_parser.proofs.FindsSimple.{finds-test, test-positive, finds-ended, finds-declaration, declaration-int, finds-first, finds-condition, finds-step}
 
 module _ (tokens : List Token) where
-  -- what begins behind a statement in a block is no `else`
+  -- what begins after a statement in a block is no `else`
   items-else : (p : ℕ) (trees : SourceList) (h q : ℕ) → ReadsItems tokens p trees h q → is_key keys.Else (kind_at tokens p) ≡ false
   items-else p trees h q (ReadsItems.close is) = ap (is_key keys.Else) is
   items-else p trees h q (ReadsItems.declared {i = i} {q = r} {trees = some} d e) = ap (is_key keys.Else) (declaration-int tokens 0 p some i r d)

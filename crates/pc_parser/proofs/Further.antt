@@ -1,4 +1,4 @@
--- A tree that is given ends behind its beginning.
+-- A tree that is given ends after its beginning.
 use Rattle.std.proofs.Common.{◌≡◌, refl, subst, ℕ, ◌+◌, ◌<◌, ◌≤◌, List, arith}
 use Rattle.pc_lexer.specs.declared.token.Token.{Token}
 use Rattle.pc_syntax.specs.Source.{SourceExpression, SourceStatement}

@@ -74,7 +74,7 @@ module _ (tokens : List Token) where
     pub long : h + p ≤ q + 1
     pub within : q ≤ length tokens
 
-  -- a simple statement with the mark behind it
+  -- a simple statement with the mark after it
   pub record IsClosed (mark : Mark) (b p : ℕ) (s : SourceStatement) (h q : ℕ) : Type 0 where
     pub at : ℕ
     pub is : at + 1 ≡ q

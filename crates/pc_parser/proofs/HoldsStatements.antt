@@ -26,7 +26,7 @@ use Rattle.pc_parser.proofs.HoldsSimple.{IsTest, IsClosed, IsDeclaration, FirstP
 use Rattle.pc_parser.proofs.HoldsSimple.{condition_at-holds, step_at-holds}
 
 module _ (tokens : List Token) where
-  -- a statement that the budget allows, and behind which no `else` stands that would be its own
+  -- a statement that the budget allows, and after which no `else` stands that would be its own
   pub record IsStatement (b p : ℕ) (s : SourceStatement) (h q : ℕ) : Type 0 where
     pub reads : ReadsStatement tokens p s h q
     pub low : h ≤ b
@@ -34,7 +34,7 @@ module _ (tokens : List Token) where
     pub onward : p ≤ q
     pub shut : ends_open s ≡ true → is_key keys.Else (kind_at tokens q) ≡ false
 
-  -- items, with the `}` behind them
+  -- items, with the `}` after them
   pub record IsItems (b p : ℕ) (trees : SourceList) (h q : ℕ) : Type 0 where
     pub reads : ReadsItems tokens p trees h q
     pub low : h ≤ b
@@ -275,7 +275,7 @@ module _ (tokens : List Token) where
   below-holds (suc b) from within = let same : b ≡ suc b - 1 = omega arith in
       subst (λ n. Good (length tokens) (n - 1 + from) (IsStatement n from) (statement_at tokens b from)) same (statement_at-holds b from within)
 
-  -- the block of a program, with nothing behind it
+  -- the block of a program, with nothing after it
   record IsMain (b p : ℕ) (items : SourceList) (h q : ℕ) : Type 0 where
     pub height : ℕ
     pub is : height + 1 ≡ h

@@ -21,7 +21,7 @@ appended-none : (list : SourceList) → appended list No_more ≡ list
 appended-none No_more = refl
 appended-none (More first rest) = ap (More first) (appended-none rest)
 
--- what is read, behind items of some height
+-- what is read, after items of some height
 abbrev pub gathered : SourceList → ℕ → ParseOutcome SourceList → ParseOutcome SourceList
 gathered front height outcome = after outcome (λ rest other to. Parsed (appended front rest) (max height other) to)
 
@@ -45,7 +45,7 @@ gathered-more front more height raised (Unreadable at) = refl
 gathered-more front more height raised (TooHigh at) = refl
 
 module _ (tokens : List Token) (budget : ℕ) where
-  -- the declarators so far, and what goes on behind them
+  -- the declarators so far, and what goes on after them
   abbrev pub continued : SourceList → (height at turns : ℕ) → ParseOutcome SourceList
   continued front height at turns =
       cond (is_mark marks.Comma (kind_at tokens at)) (gathered front height (declarators_at tokens budget turns (at + 1)))
@@ -85,7 +85,7 @@ module _ (tokens : List Token) (budget : ℕ) where
   declarators-fail front height zero p failure some fails = absurd (omega arith)
   declarators-fail front height (suc turns) p failure some fails = fails-after failure _ _ (fails-after failure (declarator_at tokens budget p) _ fails)
 
-  -- the first declarator, behind the items before it
+  -- the first declarator, after the items before it
   pub declarators-init : (front list : SourceList) (p : ℕ) (tree : SourceStatement) (raised at : ℕ) → declarator_at tokens budget p ≡ Parsed tree raised at →
       list ≡ appended front (More tree No_more) →
       behind front (declarators_at tokens budget (length tokens + 1) p) ≡ continued list raised at (length tokens)

@@ -23,7 +23,7 @@ is_high (Parsed tree height to) = false
 is_high (Unreadable at) = false
 is_high (TooHigh at) = true
 
--- it stops at its place or behind it, and a tree ends so much behind it
+-- it stops at its place or after it, and a tree ends so much after it
 abbrev pub Goes : {A : Type 0} → (by from : ℕ) → ParseOutcome A → Type 0
 Goes by from (Parsed tree height to) = from + by ≤ to
 Goes by from (Unreadable at) = from ≤ at

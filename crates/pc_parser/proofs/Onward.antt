@@ -1,4 +1,4 @@
--- A reading ends behind its beginning, which is among the tokens.
+-- A reading ends after its beginning, which is among the tokens.
 use Rattle.std.proofs.Common.{◌≡◌, ℕ, zero, suc, ◌+◌, ◌<◌, List, [], ◌∷◌, length, arith}
 use Rattle.std.specs.Prelude.{Some}
 use Rattle.pc_lexer.specs.declared.token.Token.{Token}

@@ -1,5 +1,5 @@
 -- How the tokens of a list are read as expressions: one case a rule. `from` is the place of the first
--- token, `to` the place behind the last. The height is measured on the text: a number, a name and
+-- token, `to` the place after the last. The height is measured on the text: a number, a name and
 -- `read()` have 1, and parentheses, an index, an operator and `?:` one more than their highest part.
 use Rattle.std.specs.Prelude.{◌≡◌, ℕ, ℤ, ◌+◌, max, Option, Some, List}
 use Rattle.pc_lexer.specs.declared.token.Token.{Token}

@@ -238,7 +238,7 @@ mutual
         ReadsItems tokens q rest j to →
         ReadsItems tokens from (More tree rest) (max i j) to
 
--- unit: `int` `main` `(` [`void`] `)` block, and nothing behind it
+-- unit: `int` `main` `(` [`void`] `)` block, and nothing after it
 pub data ReadsProgram (tokens : List Token) : (program : SourceProgram) → (height : ℕ) → Type 0 where
   without_void : {height to : ℕ} {items : SourceList} →
       HasKeyword tokens 0 keys.Int →

@@ -13,7 +13,7 @@ use pc_lexer::{Mark, Token};
 use pc_syntax::{Stmt, StmtList};
 use std::alloc::Global;
 
-/// Reads a declaration, whose `int` stands at the place, and puts a statement for each declarator behind
+/// Reads a declaration, whose `int` stands at the place, and puts a statement for each declarator after
 /// the items before it. The height is that of the declarators.
 #[tactic(auto, using(crate::proofs::Budgets::budgets), unfolding(crate::specs::models::StatementParser::declaration_at))]
 pub(crate) fn declaration(
@@ -33,7 +33,7 @@ pub(crate) fn declaration(
     declarators(alloc, tokens, budget, items, place + 1)
 }
 
-/// Reads declarators up to a `;`, and puts them behind the items before them.
+/// Reads declarators up to a `;`, and appends them to the items before them.
 fn declarators(
     alloc: Global,
     tokens: &[Token],

@@ -44,7 +44,7 @@ pub(crate) fn expression(
     operand(alloc, tokens, budget, level, place)
 }
 
-/// Reads the rest of `?:` behind its test, where it follows.
+/// Reads the rest of `?:` after its test, where it follows.
 #[cycle(expression)]
 #[tactic(auto, using(crate::proofs::Budgets::budgets), unfolding(crate::specs::models::ExpressionParser::choice))]
 pub(crate) fn choice(
@@ -117,7 +117,7 @@ pub(crate) fn climb(
     Ok(left)
 }
 
-/// Reads the operand behind an operator, and joins the two.
+/// Reads the operand after an operator, and joins the two.
 #[cycle(expression)]
 #[tactic(auto, using(crate::proofs::Budgets::budgets), unfolding(crate::specs::models::ExpressionParser::infixed_at))]
 fn join(

@@ -95,7 +95,7 @@ pub(crate) fn for_loop(
     for_body(alloc, tokens, budget, head, height, step.next)
 }
 
-/// Reads the body of a `for`, behind its `)`.
+/// Reads the body of a `for`, after its `)`.
 #[cycle(statement)]
 #[tactic(auto, using(crate::proofs::Budgets::budgets), unfolding(crate::specs::models::StatementParser::for_body))]
 fn for_body(

@@ -3,7 +3,7 @@ ghost use Rattle.pc_parser.specs.declared.outcome.Failure.TheVariants.{Memory};
 
 use std::alloc::{AllocError, AllocFailed};
 
-/// What was read: a tree, its height and the place behind it.
+/// What was read: a tree, its height and the place after it.
 #[derive(Debug, Drop)]
 pub(crate) struct Parsed<T> {
     pub(crate) tree: T,

@@ -39,7 +39,7 @@ pub(crate) fn test(
     })
 }
 
-/// Goes past the mark behind a simple statement. Its height is compared only here: a lone name is one
+/// Goes past the mark after a simple statement. Its height is compared only here: a lone name is one
 /// higher than `x++;`, and is told apart from it by what follows.
 #[tactic(auto, using(crate::proofs::Budgets::budgets), unfolding(crate::specs::models::StatementParser::closed_behind))]
 pub(crate) fn close(
@@ -125,7 +125,7 @@ fn evaluation(
     Ok(evaluated(tokens, place, value))
 }
 
-/// Reads the expression that goes on behind a target, as a statement.
+/// Reads the expression that goes on after a target, as a statement.
 #[tactic(auto, using(crate::proofs::Budgets::budgets), unfolding(crate::specs::models::StatementParser::evaluation_from))]
 fn evaluation_from(
     alloc: Global,
@@ -274,7 +274,7 @@ fn assign(target: Target, op: Option<BinaryOp>, at: u32, value: Expr) -> Stmt
     }
 }
 
-/// Reads what goes on behind a target that is not assigned to: `++` or `--`, or an expression.
+/// Reads what goes on after a target that is not assigned to: `++` or `--`, or an expression.
 #[tactic(auto, using(crate::proofs::Budgets::budgets), unfolding(crate::specs::models::StatementParser::behind_target))]
 fn behind_target(
     alloc: Global,

@@ -174,7 +174,7 @@ fn items(
     })
 }
 
-/// Reads a declaration or a statement, and puts what it gives behind the items before it. The height is
+/// Reads a declaration or a statement, and appends what it gives to the items before it. The height is
 /// that of what was read.
 #[cycle(statement)]
 #[tactic(auto, using(crate::proofs::Budgets::budgets, crate::proofs::Budgets::tree_forms), unfolding(crate::specs::models::StatementParser::item_at))]

@@ -43,7 +43,7 @@ pub fn parse(alloc: Global, tokens: &TokenList) -> Result<Program, ParseError>
     ensures read { IfOk result (λ program. IsReadWithin most_height tokens.now (program_of program)) }
     // A refusal, other than for want of memory, comes only where there is no such program.
     ensures refused { RefusesTokens result → (program : SourceProgram) → IsReadWithin most_height tokens.now program → ⊥ }
-    // Where it comes, and why: whatever stands behind the place, nothing reads it.
+    // Where it comes, and why: whatever stands after the place, nothing reads it.
     ensures syntax { (at line : ℕ) → IsErrOf result (ParseError.Syntax at line) → IsPlaceOfLine tokens.now at line × NothingReads tokens.now at }
     ensures too_nested { (at line : ℕ) → IsErrOf result (ParseError.TooNested at line) → IsPlaceOfLine tokens.now at line × NothingReadsWithin most_height tokens.now at × (250 ≤ at) }
 {
@@ -100,7 +100,7 @@ fn translation_unit(alloc: Global, tokens: &[Token]) -> Result<Parsed<StmtList>,
     main_block(alloc, tokens, 3)
 }
 
-/// Reads the block of `main`, behind its parentheses, with nothing behind it.
+/// Reads the block of `main`, after its parentheses, with nothing after it.
 #[tactic(auto, using(crate::proofs::Budgets::budgets), unfolding(crate::specs::models::StatementParser::main_block, crate::specs::models::StatementParser::nothing_behind))]
 fn main_block(alloc: Global, tokens: &[Token], place: usize) -> Result<Parsed<StmtList>, Failure>
     requires few { length tokens.now ≤ most_tokens }

@@ -1,12 +1,13 @@
--- A graph that is made of another one node by node shows what that one shows.
+-- A graph that is made of another one node by node shows what that one shows, and is no slower.
 use Rattle.std.proofs.Common.{◌≡◌, ◌⊎◌, inl, inr, ℕ, zero, suc, ◌<◌, Bool, true, false, List}
 use Rattle.std.proofs.Common.{[], ◌∷◌, length, Option, Some, None, refl, sym, ◌∙◌, ap, subst, append-nil, arith}
 use Rattle.std.specs.Prelude.{ℤ, if◌then◌else◌, slice_get, slice_index}
 use Rattle.pc_word.specs.declared.item.Item.{Item}
 use Rattle.pc_word.specs.declared.item.MachineFault.{MachineFault}
+use Rattle.pc_word.specs.declared.item.End.{End}
 use Rattle.pc_word.specs.declared.item.End.TheVariants.{Fault}
 use Rattle.pc_word.specs.Word.{holds}
-use Rattle.pc_word.specs.Run.{Step, Goes, Stops, AgreeOnInputs, reach, reached_of, run_from}
+use Rattle.pc_word.specs.Run.{Answers, AgreeOnInputs, Step, Goes, Stops, after_printing, seen_of, run_from, reach, reached_of}
 use Rattle.pc_word.specs.State.{State}
 use Rattle.pc_word.specs.Items.{operand_value, operands_of, dest_of}
 use Rattle.pc_word.specs.Commit.{writes, fault_of}
@@ -14,14 +15,14 @@ use Rattle.pc_word.specs.Row.{RowOutcome, Faults, Commits, commit_of, item_step}
 use Rattle.pc_word.specs.Laws.{does_alone}
 use Rattle.pc_word.specs.models.Simulation.{Meet, MeetsAgain, MeetsLower}
 use Rattle.pc_word.proofs.Items.{item_step-is}
-use Rattle.pc_word.proofs.Runs.{Agree-sym, Agree-simulated_in_time}
+use Rattle.pc_word.proofs.Runs.{Begins-refl, Answers-after, Answers-trans, run_from-answers, Agree-sym, Agree-simulated_in_time}
 use Rattle.pc_flow.specs.declared.node.FlowNode.{FlowNode}
 use Rattle.pc_flow.specs.declared.node.FlowNode.TheVariants.{Op, Test, Stop, Trap}
 use Rattle.pc_flow.specs.FlowGraph.{FlowGraph, IsFlow, IsTarget, HasEdge, TestFits, NodeFits}
 use Rattle.pc_flow.specs.FlowRun.{FlowState, step_after_item, run_node, flow_step, flow_start, flow_run}
 use Rattle.pc_live.proofs.Dead.{Same, operand_same, operands_same, StatesAlike, OutcomesAlike, does_alike}
 use Rattle.pc_flow.specs.Reachable.{IsReachableNode, Entry, Behind}
-use Rattle.pc_pass.specs.models.Change.{Change, Way, Here, Past, LeadsPast, AlikeIn, Corresponds, ItemBecomes, SideBecomes, Becomes, Does, Tests, Stops_too, Traps_too}
+use Rattle.pc_pass.specs.models.Change.{Change, Way, Here, Past, AlikeIn, Corresponds, ItemBecomes, SideBecomes, Becomes, Does, Tests, Stops_too, Traps_too}
 use Rattle.pc_pass.specs.models.Change.{IsChange}
 
 -- ---- nodes that can be reached
@@ -53,6 +54,13 @@ node_there (node ∷ nodes) zero lt = (node, refl)
 node_there (node ∷ nodes) (suc at) lt = node_there nodes at (omega arith)
 
 -- ---- one unit of each
+
+-- the old graph passes a node that is skipped: it prints nothing and comes to a place of lower rank, which corresponds to the same
+record PassesSkipped (change : Change) (here there : FlowState) : Type 0 where
+  next : FlowState
+  steps : flow_step change.old here ≡ Goes [] next
+  corresponds : Corresponds change next there
+  lower : slice_index change.old.ranks next.node < slice_index change.old.ranks here.node
 
 module _ (change : Change) where
   abbrev lengths : List ℕ
@@ -90,7 +98,7 @@ module _ (change : Change) where
 
   module _ (at to onward : ℕ) (item other : Item) (becomes : ItemBecomes change at item other to onward) (s t : State)
       (reached : IsReachableNode change.old to) (known : change.Knows at s) (alike : AlikeIn (change.Matters at) s t) where
-    -- the states behind the two items correspond
+    -- the states after the two items correspond
     behind_items : (printed : List ℤ) (after more moved : State) (leaf last : ℕ)
         → item_step lengths item to s ≡ Commits printed after leaf → StatesAlike to (dest_of other) s t after more leaf last → moved ≡ more
         → Corresponds change (record { node = leaf; state = after }) (record { node = onward; state = moved })
@@ -186,47 +194,68 @@ module _ (change : Change) where
         (subst (λ (l : List ℕ). StepsCorrespond (run_node lengths s (Some found.0)) (run_node l t (slice_get change.new.nodes at))) (sym is.same_arrays)
         (subst (λ (o : Option FlowNode). StepsCorrespond (run_node lengths s (Some found.0)) (run_node lengths t o)) (sym made.there) both))
 
+    -- both graphs do the same, or the old one passes a node that is skipped and the new one stands still
+    moves_along : (at to : ℕ) (s t : State) → Way change.Skips at to → ((next : ℕ) → change.Skips to next → ⊥)
+        → IsReachableNode change.old at → change.Knows at s → AlikeIn (change.Matters at) s t
+        → StepsCorrespond (flow_step change.old (record { node = at; state = s })) (flow_step change.new (record { node = to; state = t }))
+        ⊎ PassesSkipped change (record { node = at; state = s }) (record { node = to; state = t })
+    moves_along _ _ s t (Here {at = at}) stays reached known alike = inl (units_correspond at s t stays reached known alike)
+    moves_along _ _ s t (Past {at = at} {next = next} {to = to} skips rest) stays reached known alike =
+        let skipped = is.skips at next reached skips in
+        let nothing = skipped.does_nothing s known in
+        inr (record {
+          next = record { node = next; state = nothing.after };
+          steps = nothing.steps;
+          corresponds = record {
+            leads = record { way = rest; stays = stays };
+            reached = skipped.reached reached;
+            known = nothing.known;
+            alike = record {
+              same_cells = alike.same_cells ∙ sym nothing.same_cells;
+              same_input = alike.same_input ∙ sym nothing.same_input;
+              same_names = λ x m. alike.same_names x (skipped.passes x m) ∙ sym (nothing.same_names x m);
+            };
+          };
+          lower = skipped.lower;
+        })
+
+    -- from places that correspond: agreement and pace both follow from this
+    moves : (here there : FlowState) → Corresponds change here there
+        → StepsCorrespond (flow_step change.old here) (flow_step change.new there) ⊎ PassesSkipped change here there
+    moves here there c = moves_along here.node there.node here.state there.state c.leads.way c.leads.stays c.reached c.known c.alike
+
+    -- the graphs begin where they correspond
+    start_corresponds : (input : List ℤ) → Corresponds change (flow_start change.old.entry input) (flow_start change.new.entry input)
+    start_corresponds input = record {
+      leads = is.begins;
+      reached = Entry;
+      known = is.known_first input;
+      alike = record { same_cells = refl; same_input = refl; same_names = λ x m. refl };
+    }
+
+    -- ---- agreement
+
     -- how far the old graph is from the next test of a loop
     abbrev rank_of : FlowState → FlowState → ℕ
     rank_of here there = slice_index change.old.ranks here.node
 
-    -- a step of the old graph that nothing prints, to a place that still corresponds
-    meets_lower : (here next there : FlowState) → flow_step change.old here ≡ Goes [] next → Corresponds change next there
-        → slice_index change.old.ranks next.node < slice_index change.old.ranks here.node
-        → MeetsLower (flow_step change.old) (flow_step change.new) (Corresponds change) rank_of here there
-    meets_lower here next there steps corresponds lower = record {
+    -- so they meet again, or where the rank is lower
+    meet_in_time : (here there : FlowState)
+        → StepsCorrespond (flow_step change.old here) (flow_step change.new there) ⊎ PassesSkipped change here there
+        → MeetsAgain (flow_step change.old) (flow_step change.new) (Corresponds change) here there
+        ⊎ MeetsLower (flow_step change.old) (flow_step change.new) (Corresponds change) rank_of here there
+    meet_in_time here there (inl both) = inl (record {
+      more_steps = 0;
+      other_steps = 0;
+      meet = steps_meet (flow_step change.old) (flow_step change.new) (flow_step change.old here) (flow_step change.new there) both;
+    })
+    meet_in_time here there (inr skipped) = inr (record {
       steps = 1;
       other_steps = 0;
       meet = subst (λ (x : Step FlowState). Meet (λ (a : FlowState) (b : FlowState). Corresponds change a b × (rank_of a b < rank_of here there))
-          (reached_of x (reach (flow_step change.old) 0)) (reach (flow_step change.new) 0 there)) (sym steps)
-          (refl, (corresponds, lower));
-    }
-
-    -- the old graph passes a node that is skipped, or both do the same
-    moves : (at to : ℕ) (s t : State) → Way change.Skips at to → ((next : ℕ) → change.Skips to next → ⊥)
-        → IsReachableNode change.old at → change.Knows at s → AlikeIn (change.Matters at) s t
-        → MeetsAgain (flow_step change.old) (flow_step change.new) (Corresponds change) (record { node = at; state = s }) (record { node = to; state = t })
-        ⊎ MeetsLower (flow_step change.old) (flow_step change.new) (Corresponds change) rank_of (record { node = at; state = s }) (record { node = to; state = t })
-    moves _ _ s t (Here {at = at}) stays reached known alike = inl (record {
-      more_steps = 0;
-      other_steps = 0;
-      meet = steps_meet (flow_step change.old) (flow_step change.new) (flow_step change.old (record { node = at; state = s })) (flow_step change.new (record { node = at; state = t }))
-          (units_correspond at s t stays reached known alike);
+          (reached_of x (reach (flow_step change.old) 0)) (reach (flow_step change.new) 0 there)) (sym skipped.steps)
+          (refl, (skipped.corresponds, skipped.lower));
     })
-    moves _ _ s t (Past {at = at} {next = next} {to = to} skips rest) stays reached known alike =
-        let skipped = is.skips at next reached skips in
-        let nothing = skipped.does_nothing s known in
-        inr (meets_lower (record { node = at; state = s }) (record { node = next; state = nothing.after }) (record { node = to; state = t }) nothing.steps
-        (record {
-          leads = record { way = rest; stays = stays };
-          reached = skipped.reached reached;
-          known = nothing.known;
-          alike = record {
-            same_cells = alike.same_cells ∙ sym nothing.same_cells;
-            same_input = alike.same_input ∙ sym nothing.same_input;
-            same_names = λ x m. alike.same_names x (skipped.passes x m) ∙ sym (nothing.same_names x m);
-          };
-        }) skipped.lower)
 
     -- THE LAW: a graph whose nodes are changed one at a time shows what it showed, on every input of words and in both directions
     pub change_agrees : AgreeOnInputs (flow_run change.new) (flow_run change.old)
@@ -235,10 +264,43 @@ module _ (change : Change) where
         let new_start = flow_start change.new.entry input in
         Agree-sym (λ n. run_from (flow_step change.old) n start) (λ n. run_from (flow_step change.new) n new_start)
         (Agree-simulated_in_time (flow_step change.old) (flow_step change.new) (Corresponds change) rank_of
-        (λ here there c. moves here.node there.node here.state there.state c.leads.way c.leads.stays c.reached c.known c.alike) start new_start
-        (record {
-          leads = is.begins;
-          reached = Entry;
-          known = is.known_first input words;
-          alike = record { same_cells = refl; same_input = refl; same_names = λ x m. refl };
-        }))
+        (λ here there c. meet_in_time here there (moves here there c)) start new_start (start_corresponds input))
+
+    -- ---- pace
+
+    -- n units of the new graph, from a place that corresponds, show at least what n units of the old one show
+    abbrev Paced : ℕ → FlowState → FlowState → Type 0
+    Paced n here there = Answers (run_from (flow_step change.old) n here) (run_from (flow_step change.new) n there) (run_from (flow_step change.old) n here).end
+
+    -- one unit of each, and then n
+    steps_paced : (n : ℕ) (one other : Step FlowState) → StepsCorrespond one other → ((here there : FlowState) → Corresponds change here there → Paced n here there)
+        → Answers (seen_of one (run_from (flow_step change.old) n)) (seen_of other (run_from (flow_step change.new) n)) (seen_of one (run_from (flow_step change.old) n)).end
+    steps_paced n (Goes printed here) (Goes again there) h paced =
+        let old = run_from (flow_step change.old) n here in
+        let new = run_from (flow_step change.new) n there in
+        subst (λ (out : List ℤ). Answers (after_printing printed old) (after_printing out new) old.end) (sym h.0)
+        (Answers-after printed old new old.end (paced here there h.1))
+    steps_paced n (Stops printed end) (Stops again last) h paced = (h.0, ap (λ (e : End). Some e) h.1)
+    steps_paced n (Goes printed here) (Stops again last) h paced = absurd h
+    steps_paced n (Stops printed end) (Goes again there) h paced = absurd h
+
+    -- where the old graph alone takes a unit, n units of the new one have shown enough, and one more shows no less
+    skip_paced : (n : ℕ) (here there : FlowState) (skipped : PassesSkipped change here there) → Paced n skipped.next there → Paced (suc n) here there
+    skip_paced n here there skipped paced =
+        let old = run_from (flow_step change.old) n skipped.next in
+        let new = run_from (flow_step change.new) n there in
+        let more = run_from (flow_step change.new) (suc n) there in
+        subst (λ (x : Step FlowState). Answers (seen_of x (run_from (flow_step change.old) n)) more (seen_of x (run_from (flow_step change.old) n)).end) (sym skipped.steps)
+        (Answers-trans old new more old.end new.end refl paced (run_from-answers (flow_step change.new) n (suc n) there (omega arith)))
+
+    -- from any two places that correspond
+    paced_from : (n : ℕ) (here there : FlowState) → Corresponds change here there → Paced n here there
+    paced_from zero here there c = Begins-refl []
+    paced_from (suc n) here there c = elim (moves here there c) [
+      | inl both ↦ steps_paced n (flow_step change.old here) (flow_step change.new there) both (λ x y r. paced_from n x y r)
+      | inr skipped ↦ skip_paced n here there skipped (paced_from n skipped.next there skipped.corresponds)
+    ]
+
+    -- THE LAW OF PACE: such a graph is no slower, on any input
+    pub change_paces : (input : List ℤ) (n : ℕ) → Answers (flow_run change.old input n) (flow_run change.new input n) (flow_run change.old input n).end
+    change_paces input n = paced_from n (flow_start change.old.entry input) (flow_start change.new.entry input) (start_corresponds input)

@@ -2,7 +2,7 @@
 use Rattle.std.proofs.Common.{◌≡◌, inl, inr, ℕ, ◌+◌, ◌<◌, ◌≤◌, List, length, map, set, get_or, refl, sym, ◌∙◌, ap, subst, arith, get_or-set_same, get_or-set_other}
 use Rattle.std.proofs.lemmas.Bool.{cases_eq}
 use Rattle.std.proofs.lemmas.List.{map-set, set-get_or, get_or-map, length-map}
-use Rattle.pc_word.proofs.Runs.{AgreeOnInputs-refl, AgreeOnInputs-trans}
+use Rattle.pc_word.proofs.Runs.{Answers-refl, Answers-trans, AgreeOnInputs-refl, AgreeOnInputs-trans}
 use Rattle.pc_flow.specs.FlowGraph.{FlowGraph}
 use Rattle.pc_flow.specs.FlowRun.{flow_run}
 use Rattle.pc_pass.specs.Pass.{Keeps, NoneFell}
@@ -12,12 +12,21 @@ use Rattle.pc_word.specs.Count.{Rose}
 
 -- a graph keeps itself
 pub keeps_refl : (flow : FlowGraph) → Keeps flow flow
-keeps_refl flow = record { agrees = AgreeOnInputs-refl (flow_run flow); as_many = refl; same_loops = refl; same_inside = refl; same_arrays = refl }
+keeps_refl flow = record {
+  agrees = AgreeOnInputs-refl (flow_run flow);
+  pace = λ input n. Answers-refl (flow_run flow input n);
+  as_many = refl;
+  same_loops = refl;
+  same_inside = refl;
+  same_arrays = refl;
+}
 
 -- what keeps a graph that keeps a graph keeps that
 pub keeps_trans : (old mid new : FlowGraph) → Keeps old mid → Keeps mid new → Keeps old new
 keeps_trans old mid new p q = record {
   agrees = AgreeOnInputs-trans (flow_run new) (flow_run mid) (flow_run old) q.agrees p.agrees;
+  pace = λ input n. Answers-trans (flow_run old input n) (flow_run mid input n) (flow_run new input n) (flow_run old input n).end (flow_run mid input n).end refl
+      (p.pace input n) (q.pace input n);
   as_many = q.as_many ∙ p.as_many;
   same_loops = q.same_loops ∙ p.same_loops;
   same_inside = q.same_inside ∙ p.same_inside;

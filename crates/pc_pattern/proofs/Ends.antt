@@ -12,7 +12,8 @@ use Rattle.pc_window.specs.Opening.{Supply, Grafted, opened, first_supply, first
 use Rattle.pc_window.specs.Unwinding.{Unwinds, unwinds_no_more, unwinds_once}
 use Rattle.pc_window.specs.Tidying.{above, tidied}
 use Rattle.pc_window.specs.WindowRun.{Window}
-use Rattle.pc_window.specs.Steps.{loop_of, opened_window, UnwindsTo, IsProper}
+use Rattle.pc_table.specs.Loops.{innermost_loop}
+use Rattle.pc_window.specs.Steps.{opened_window, UnwindsTo, IsProper}
 use Rattle.pc_window.proofs.CutRows.{whole_front_of}
 use Rattle.pc_window.proofs.Proper.{proper_sound}
 use Rattle.pc_window.proofs.Once.{Sound}
@@ -100,7 +101,7 @@ module _ (table : Table) (loop : Option ℕ) where
 pub unwound_untested : (table : Table) (limits : Limits) (number region to : ℕ) (v : Window) → UnwindsTo table number (opened_window table limits region) v
     → ends_in (whole v.front) ≡ Some to → ComesUntested table region to
 unwound_untested table limits number region to v unwinds e =
-    let loop = loop_of table region in
+    let loop = innermost_loop table region in
     let tree = (opened table loop region).tree in
     let same : ends_in (whole (opened_window table limits region).front) ≡ untested (region_tree table region) =
     ap ends_in (whole_front_of tree) ∙ brought_ends table loop (graft_brings table loop 0 (region_tree table region) first_supply first_home) in

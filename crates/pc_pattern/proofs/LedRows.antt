@@ -19,7 +19,7 @@ use Rattle.pc_table.specs.TableKeeps.{TableKeeps}
 use Rattle.pc_window.specs.declared.home.Home.{Home}
 use Rattle.pc_window.specs.Tree.{Tree, Pending, Undecided, Exit, Stop_exit, Trap_exit, Front, Issued, Split, Unfinished, whole}
 use Rattle.pc_window.specs.Names.{uses, IsKnown, HomesKnown, and_dest, Scoped, parameters_of}
-use Rattle.pc_window.specs.Opening.{is_inside}
+use Rattle.pc_table.specs.Loops.{is_inside}
 use Rattle.pc_window.specs.Rebasing.{is_in}
 use Rattle.pc_window.specs.WindowRun.{Window}
 use Rattle.pc_window.specs.Kept.{Left, Rest, Gone, Finished, Trapped_at}

@@ -64,7 +64,7 @@ row_keys (leads_written some leads) = row_keys leads
 row_keys (leads_test one other) = λ i key there. row_keys other i key (row_keys one i key there)
 row_keys (leads_leaf leads) = left_keys leads
 
--- ---- what is led to
+-- ---- what is reachable
 
 -- a leaf of a row leads to a state
 abbrev pub LeadsTo : Row AutomatonLeaf → ℕ → Type 0

@@ -65,9 +65,9 @@ made_state rules keeps final w pool state after proper m each stand =
       once = subst (λ (l : List ℕ). IsDistinct nat_eq (l ++ names_written state.row)) (sym m.parameters) once;
     }
 
--- ---- states that are led to
+-- ---- reachable states
 
--- a state that is led to is so among more states
+-- a state that is reachable is so among more states
 led_still : (states more : List AutomatonState) (to : ℕ) → IsLedTo states to → IsLedTo (states ++ more) to
 led_still states more to h = record {
   from = h.from;
@@ -208,7 +208,7 @@ module _ (rules : Rules) (keeps : TableKeeps rules.table) (few_regions : length 
     regrouped : (ys : List Window) → (s.took ++ (w ∷ rest)) ++ ys ≡ (s.took ++ (w ∷ [])) ++ (rest ++ ys)
     regrouped ys = append_assoc s.took (w ∷ rest) ys ∙ sym (append_assoc s.took (w ∷ []) (rest ++ ys))
 
-    -- each that waits then is led to, as each that waited
+    -- each that waits then is reachable, as each that waited
     led_on : (state : AutomatonState) (after : Pool) → Made rules w left_pool state after → (at : ℕ) → suc at < length after.keys
         → IsLedTo (states ++ (state ∷ [])) (suc at)
     led_on state after m at below = elim (either_side (suc at) (length keys)) [
@@ -260,7 +260,7 @@ module _ (rules : Rules) (keeps : TableKeeps rules.table) (few_regions : length 
         row_refused rules keeps room region (suc (length states)) rows (suc s.steps) (s.took ++ (w ∷ rest)) [] refused s.keys
         (taken cut (record { filled = filled; fills = fills; cuts = cuts }))
 
--- where no window waits, each state but the first is led to
+-- where no window waits, each state but the first is reachable
 pub states_led : (rules : Rules) (region rows : ℕ) (states : List AutomatonState) (keys : List (List ℕ))
     → Searching rules region rows states (record { keys = keys; waiting = [] }) → EachIsReachable states
 states_led rules region rows states keys s at below =

@@ -11,7 +11,7 @@ use Rattle.pc_word.proofs.Lists.{all_both, all_at, count_more, count_both}
 use Rattle.pc_table.specs.Table.{Table}
 use Rattle.pc_table.specs.TableKeeps.{TableKeeps}
 use Rattle.pc_window.specs.Tree.{Tree, Pending, Undecided, Exit, Stop_exit, Trap_exit, Front, Issued, Split, Unfinished, whole, tree_size}
-use Rattle.pc_window.specs.Opening.{is_inside}
+use Rattle.pc_table.specs.Loops.{is_inside}
 use Rattle.pc_window.specs.WindowRun.{Window}
 use Rattle.pc_window.specs.Filled.{MostBehind}
 use Rattle.pc_window.specs.Kept.{Left, Rest, Gone}

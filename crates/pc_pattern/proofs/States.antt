@@ -5,8 +5,9 @@ use Rattle.pc_word.specs.MachineLimits.{most_rows}
 use Rattle.pc_word.specs.Ranges.{AreLimits}
 use Rattle.pc_word.specs.Row.{Row}
 use Rattle.pc_table.specs.declared.table.RegionTable.{RegionTable}
-use Rattle.pc_table.specs.Table.{Table, table_of}
-use Rattle.pc_table.specs.TableKeeps.{TableKeeps, most_region_nodes}
+use Rattle.pc_table.specs.Table.{Table}
+use Rattle.pc_table.specs.StoredTable.{table_of}
+use Rattle.pc_table.specs.TableKeeps.{most_region_nodes}
 use Rattle.pc_window.specs.declared.window.Window.{Window as StoredWindow}
 use Rattle.pc_window.specs.Tree.{Tree, whole, tree_size}
 use Rattle.pc_window.specs.Names.{uses, parameters_of}
@@ -15,7 +16,8 @@ use Rattle.pc_window.specs.WindowRun.{Window}
 use Rattle.pc_window.specs.Kept.{Left}
 use Rattle.pc_window.specs.Steps.{EachLeft, FillsTo, Cuts, UnwindsTo, Tidies, IsProper, opened_window}
 use Rattle.pc_window.specs.StoredWindow.{tree_in, window_in, IsJustOpened}
-use Rattle.pc_window.proofs.WindowsStored.{whole_in, as_many, in_nodes_behind}
+use Rattle.pc_table.proofs.StoredRegions.{as_many}
+use Rattle.pc_window.proofs.WindowsStored.{whole_in, in_nodes_behind}
 use Rattle.pc_window.proofs.Filling.{filling_limits}
 use Rattle.pc_fill.specs.Fillable.{IsFillable, FilledFrom}
 use Rattle.pc_unwind.specs.Unwindable.{CanUnwind}
@@ -32,11 +34,11 @@ use Rattle.pc_pattern.proofs.Steps.{names_there}
 
 -- ---- the first member
 
-pub opened_can : (table : Table) → TableKeeps table → (limits : Limits) (region : ℕ) (stored : RegionTable) (w : StoredWindow) → region < length stored.regions
-    → table ≡ table_of stored → window_in w ≡ opened_window table limits region → CanUnwind table (window_in w)
-opened_can table keeps limits region stored w there same is =
-    let many : length table.regions ≡ length stored.regions = ap (λ (t : Table). length t.regions) same ∙ as_many stored.regions in
-    subst (CanUnwind table) (sym is) (opened_unwinds table keeps limits region (omega (arith, there, many)))
+pub opened_can : (table : RegionTable) (limits : Limits) (region : ℕ) (w : StoredWindow) → region < length table.regions
+    → window_in w ≡ opened_window (table_of table) limits region → CanUnwind (table_of table) (window_in w)
+opened_can table limits region w there is =
+    let many = as_many table.regions in
+    subst (CanUnwind (table_of table)) (sym is) (opened_unwinds (table_of table) table.kept limits region (omega (arith, there, many)))
 
 -- a window that was just opened is not too large
 pub opened_size : (w : StoredWindow) → IsJustOpened w → tree_size (whole (window_in w).front) ≤ most_unwound

@@ -16,7 +16,8 @@ use Rattle.pc_window.specs.Filled.{Full}
 use Rattle.pc_window.specs.Unwinding.{unwound_below, unwinds_no_more}
 use Rattle.pc_window.specs.WindowRun.{Window}
 use Rattle.pc_window.specs.Kept.{Left, Rest, Trapped_at}
-use Rattle.pc_window.specs.Steps.{loop_of, grafted_of, Opens, opened_window, window_of}
+use Rattle.pc_table.specs.Loops.{innermost_loop}
+use Rattle.pc_window.specs.Steps.{grafted_of, Opens, opened_window, window_of}
 use Rattle.pc_automaton.specs.declared.automaton.AutomatonLeaf.{AutomatonLeaf}
 use Rattle.pc_automaton.specs.declared.automaton.AutomatonLeaf.TheVariants.{Trap}
 use Rattle.pc_automaton.specs.Automaton.{AutomatonState}
@@ -62,11 +63,11 @@ module _ (rules : Rules) (region : ℕ) (kind : TrapKind) (line : ℕ) (is : reg
 
   -- the window of the trap
   abbrev trap_window : Window
-  trap_window = window_of (Trap_exit kind line) first_supply limits (loop_of table region)
+  trap_window = window_of (Trap_exit kind line) first_supply limits (innermost_loop table region)
 
   opened_is : opened_window table limits region ≡ trap_window
-  opened_is = ap (λ (t : TableTree). window_of (graft table (loop_of table region) 0 t first_supply first_home).tree
-      (graft table (loop_of table region) 0 t first_supply first_home).names limits (loop_of table region)) is
+  opened_is = ap (λ (t : TableTree). window_of (graft table (innermost_loop table region) 0 t first_supply first_home).tree
+      (graft table (innermost_loop table region) 0 t first_supply first_home).names limits (innermost_loop table region)) is
 
   -- its row is the trap
   trap_row : RowFor rules trap_window (At_leaf (Trapped_at kind line))
@@ -93,7 +94,7 @@ module _ (rules : Rules) (region : ℕ) (kind : TrapKind) (line : ℕ) (is : reg
   }
 
   -- nothing is unwound in it
-  no_step : (b : Bool) → (if b then None else unwound_below table (loop_of table region) (0 + rules.number) None (grafted_of trap_window)) ≡ None
+  no_step : (b : Bool) → (if b then None else unwound_below table (innermost_loop table region) (0 + rules.number) None (grafted_of trap_window)) ≡ None
   no_step true = refl
   no_step false = refl
 

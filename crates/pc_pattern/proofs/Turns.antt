@@ -8,13 +8,13 @@ use Rattle.pc_word.specs.MachineLimits.{most_rows}
 use Rattle.pc_word.specs.SourceLimits.{most_nodes}
 use Rattle.pc_word.specs.Ranges.{AreLimits, IsExtent}
 use Rattle.pc_table.specs.declared.table.RegionTable.{RegionTable}
-use Rattle.pc_table.specs.Table.{Table, table_of}
-use Rattle.pc_table.specs.TableKeeps.{TableKeeps}
+use Rattle.pc_table.specs.Table.{Table}
+use Rattle.pc_table.specs.StoredTable.{table_of}
 use Rattle.pc_window.specs.declared.window.Window.{Window as StoredWindow}
 use Rattle.pc_window.specs.Steps.{Positive, IsProper}
 use Rattle.pc_window.specs.StoredWindow.{window_in}
 use Rattle.pc_canon.specs.Key.{key_of}
-use Rattle.pc_window.proofs.WindowsStored.{as_many}
+use Rattle.pc_table.proofs.StoredRegions.{as_many}
 use Rattle.pc_automaton.specs.declared.automaton.AutomatonState.{AutomatonState as StoredState}
 use Rattle.pc_automaton.specs.Automaton.{AutomatonState, state_in, states_in}
 use Rattle.pc_automaton.specs.Reachable.{EachIsReachable}
@@ -38,8 +38,7 @@ pub all_of_more : (P : StoredWindow → Type 0) (old rest : List StoredWindow) (
     → P w × AllByRecursion P rest
 all_of_more P old rest w is h = subst (λ (l : List StoredWindow). AllByRecursion P l) is h
 
-module _ (stored : RegionTable) (keeps : TableKeeps (table_of stored)) (few : length stored.regions ≤ most_nodes) (bounds : Bounds)
-    (limits : AreLimits bounds.limits) (extent : IsExtent bounds.extent) (region : ℕ) where
+module _ (stored : RegionTable) (bounds : Bounds) (limits : AreLimits bounds.limits) (extent : IsExtent bounds.extent) (region : ℕ) where
   abbrev table : Table
   table = table_of stored
 
@@ -50,7 +49,7 @@ module _ (stored : RegionTable) (keeps : TableKeeps (table_of stored)) (few : le
   rows = bounds.extent.rows
 
   few_regions : length table.regions ≤ most_nodes
-  few_regions = let many = as_many stored.regions in omega (arith, few, many)
+  few_regions = let few = stored.few in let many = as_many stored.regions in omega (arith, few, many)
 
   room : Positive bounds.limits
   room = room_of bounds.limits limits
@@ -64,7 +63,7 @@ module _ (stored : RegionTable) (keeps : TableKeeps (table_of stored)) (few : le
       subst (Searching rules region rows (states_in states)) (sym same)
       (subst (λ (l : List StoredState). Searching rules region rows (states_in l) (record { keys = key_of (window_in first) ∷ []; waiting = window_in first ∷ [] }))
       (sym none)
-      (begins_searching rules keeps few_regions extent.window.1 room region rows (window_in first) extent.rows.0 is.settles is.size is.names))
+      (begins_searching rules stored.kept few_regions extent.window.1 room region rows (window_in first) extent.rows.0 is.settles is.size is.names))
 
   module _ (states : List StoredState) (old new : StoredPool) (w : StoredWindow) (first : old.waiting.items ≡ w ∷ new.waiting.items) (same : new.keys ≡ old.keys)
       (s : Searching rules region rows (states_in states) (pool_in old)) where
@@ -76,25 +75,25 @@ module _ (stored : RegionTable) (keeps : TableKeeps (table_of stored)) (few : le
 
     pub turn_proper : IsProper (window_in w)
     turn_proper =
-        next_proper rules keeps few_regions extent.window.1 room region rows (states_in states) (window_in w) (map window_in new.waiting.items)
+        next_proper rules stored.kept few_regions extent.window.1 room region rows (states_in states) (window_in w) (map window_in new.waiting.items)
         (keys_in new.keys.keys) here
 
     pub turn_limits : AreLimits w.limits
     turn_limits =
         let is : w.limits ≡ bounds.limits =
-        next_limits rules keeps few_regions extent.window.1 room region rows (states_in states) (window_in w) (map window_in new.waiting.items)
+        next_limits rules stored.kept few_regions extent.window.1 room region rows (states_in states) (window_in w) (map window_in new.waiting.items)
         (keys_in new.keys.keys) here in
         subst AreLimits (sym is) limits
 
     pub turn_small : IsSmall table most_rows (window_in w)
     turn_small =
-        next_small rules keeps few_regions extent.window.1 room region rows (states_in states) (window_in w) (map window_in new.waiting.items)
+        next_small rules stored.kept few_regions extent.window.1 room region rows (states_in states) (window_in w) (map window_in new.waiting.items)
         (keys_in new.keys.keys) here extent.rows.1
 
     -- not all rows that there may be were made
     pub turn_left : length states < rows
     turn_left =
-        let left = some_left rules keeps few_regions extent.window.1 room region rows (states_in states) (window_in w) (map window_in new.waiting.items)
+        let left = some_left rules stored.kept few_regions extent.window.1 room region rows (states_in states) (window_in w) (map window_in new.waiting.items)
         (keys_in new.keys.keys) here in
         let many = length-map states state_in in
         omega (arith, left, many)
@@ -104,7 +103,7 @@ module _ (stored : RegionTable) (keeps : TableKeeps (table_of stored)) (few : le
         → Unmade rules rows (window_in w) (pool_in new) error → IfErr result (λ e. IsNotFound rules region rows e)
     turn_refused result error at unmade =
         subst (λ (r : Result (List StoredState) SearchError). IfErr r (λ e. IsNotFound rules region rows e)) (sym at)
-        (too_far rules keeps few_regions extent.window.1 room region rows (states_in states) (window_in w) (map window_in new.waiting.items)
+        (too_far rules stored.kept few_regions extent.window.1 room region rows (states_in states) (window_in w) (map window_in new.waiting.items)
         (keys_in new.keys.keys) here error unmade)
 
     -- the search goes on with one state more
@@ -114,7 +113,7 @@ module _ (stored : RegionTable) (keeps : TableKeeps (table_of stored)) (few : le
     turn_on state after states' more made within =
         let many = length-map after.keys.keys (λ key. key.bytes.items) in
         subst (λ (l : List AutomatonState). Searching rules region rows l (pool_in after)) (sym more)
-        (searching_on rules keeps few_regions extent.window.1 room region rows (states_in states) (window_in w) (map window_in new.waiting.items)
+        (searching_on rules stored.kept few_regions extent.window.1 room region rows (states_in states) (window_in w) (map window_in new.waiting.items)
         (keys_in new.keys.keys) here (state_in state) (pool_in after) made (omega (arith, many, within)))
 
     -- then fewer may be made

@@ -1,11 +1,8 @@
 //! Rows of states: a cut row with new names, whose leaves lead on.
 ghost use Rattle.std.specs.Prelude.{◌≡◌, ◌+◌, ◌<◌, ◌≤◌, ◌^◌, length, true, IfOk, IfErr, OnOk};
 ghost use Rattle.std.specs.List.{AllByRecursion};
-ghost use Rattle.pc_word.specs.MachineLimits.{most_rows};
-ghost use Rattle.pc_word.specs.SourceLimits.{most_nodes};
 ghost use Rattle.pc_word.specs.Row.{Then, Either, items_of};
-ghost use Rattle.pc_table.specs.Table.{table_of};
-ghost use Rattle.pc_table.specs.TableKeeps.{TableKeeps};
+ghost use Rattle.pc_table.specs.StoredTable.{table_of};
 ghost use Rattle.pc_window.specs.Tree.{tree_size};
 ghost use Rattle.pc_window.specs.Unwinding.{most_unwound};
 ghost use Rattle.pc_window.specs.Steps.{IsProper, EachLeft, LeftIs};
@@ -49,8 +46,6 @@ fn brought_on(
     window: Window,
     bounds: Bounds,
 ) -> Result<Window, WindowError>
-    requires kept { TableKeeps (table_of table.now) }
-    requires few { length table.now.regions ≤ most_nodes }
     requires able { CanBringOn (table_of table.now) (window_in window) }
     requires nodes { InNodes true window.tree }
     ensures brought { IfOk result (λ later. BringsOn (rules_within (table_of table.now) bounds) (window_in window) (window_in later)) }
@@ -109,7 +104,6 @@ fn led_window(
     requires size { tree_size (tree_in window.tree) ≤ most_unwound }
     requires names { length window.names.forms < 2 ^ 31 }
     requires room { length pool.old.keys.keys ≤ rows }
-    requires rows { rows ≤ most_rows }
     ensures leads { IfOk result (λ leaf. WindowLeads (pairs_in names.now) (pool_in pool.old) (window_in window) leaf (pool_in pool.new)) }
     ensures settled { OnOk result (AllByRecursion IsSettled pool.old.waiting.items → AllByRecursion IsSettled pool.new.waiting.items) }
     ensures room { OnOk result (length pool.new.keys.keys ≤ rows) }
@@ -140,12 +134,9 @@ fn led_left(
     pool: &mut Pool,
     bounds: Bounds,
 ) -> Result<AutomatonLeaf, SearchError>
-    requires kept { TableKeeps (table_of table.now) }
-    requires few { length table.now.regions ≤ most_nodes }
     requires able { LeftIs (CanBringOn (table_of table.now)) (left_in left) }
     requires nodes { LeftInNodes left }
     requires room { length pool.old.keys.keys ≤ bounds.extent.rows }
-    requires rows { bounds.extent.rows ≤ most_rows }
     ensures leads { IfOk result (λ leaf. LeftLeads (rules_within (table_of table.now) bounds) (pairs_in names.now) (pool_in pool.old) (left_in left) leaf (pool_in pool.new)) }
     ensures settled { OnOk result (AllByRecursion IsSettled pool.old.waiting.items → AllByRecursion IsSettled pool.new.waiting.items) }
     ensures room { OnOk result (length pool.new.keys.keys ≤ bounds.extent.rows) }
@@ -205,13 +196,10 @@ pub(crate) fn led(
     pool: &mut Pool,
     bounds: Bounds,
 ) -> Result<RowTree<AutomatonLeaf>, SearchError>
-    requires kept { TableKeeps (table_of table.now) }
-    requires few { length table.now.regions ≤ most_nodes }
     requires able { EachLeft (CanBringOn (table_of table.now)) (row_in left_in row) }
     requires nodes { EachLeaf LeftInNodes row }
     requires fits { next.old + length (items_of (row_in left_in row)) < 2 ^ 32 }
     requires room { length pool.old.keys.keys ≤ bounds.extent.rows }
-    requires rows { bounds.extent.rows ≤ most_rows }
     ensures leads { IfOk result (λ later. RowLeads (rules_within (table_of table.now) bounds) (pairs_in names.now) next.old (pool_in pool.old) (row_in left_in row) (row_in (λ leaf. leaf) later) next.new (pool_in pool.new)) }
     ensures counted { OnOk result (next.new ≡ next.old + length (items_of (row_in left_in row))) }
     ensures settled { OnOk result (AllByRecursion IsSettled pool.old.waiting.items → AllByRecursion IsSettled pool.new.waiting.items) }

@@ -2,10 +2,8 @@
 ghost use Rattle.std.specs.Prelude.{◌≡◌, ◌<◌, ◌≤◌, ◌^◌, ◌++◌, ◌∷◌, [], length, IfOk, IfErr, OnOk};
 ghost use Rattle.std.specs.List.{AllByRecursion};
 ghost use Rattle.pc_word.specs.MachineLimits.{most_rows};
-ghost use Rattle.pc_word.specs.SourceLimits.{most_nodes};
 ghost use Rattle.pc_word.specs.Ranges.{AreLimits, IsExtent};
-ghost use Rattle.pc_table.specs.Table.{table_of};
-ghost use Rattle.pc_table.specs.TableKeeps.{TableKeeps};
+ghost use Rattle.pc_table.specs.StoredTable.{table_of};
 ghost use Rattle.pc_window.specs.Tree.{tree_size};
 ghost use Rattle.pc_window.specs.Unwinding.{most_unwound};
 ghost use Rattle.pc_window.specs.Steps.{IsProper};
@@ -47,8 +45,6 @@ pub fn search(
     limits: Limits,
     extent: Extent,
 ) -> Result<Automaton, SearchError>
-    requires kept { TableKeeps (table_of table.now) }
-    requires few { length table.now.regions ≤ most_nodes }
     requires there { region < length table.now.regions }
     requires limits { AreLimits limits }
     requires extent { IsExtent extent }
@@ -70,8 +66,6 @@ fn closed(
     region: u32,
     bounds: Bounds,
 ) -> Result<StateList, SearchError>
-    requires kept { TableKeeps (table_of table.now) }
-    requires few { length table.now.regions ≤ most_nodes }
     requires there { region < length table.now.regions }
     requires limits { AreLimits bounds.limits }
     requires extent { IsExtent bounds.extent }
@@ -97,8 +91,6 @@ fn first(
     region: u32,
     bounds: Bounds,
 ) -> Result<Window, WindowError>
-    requires kept { TableKeeps (table_of table.now) }
-    requires few { length table.now.regions ≤ most_nodes }
     requires there { region < length table.now.regions }
     requires limits { AreLimits bounds.limits }
     ensures first { IfOk result (λ window. IsFirst (rules_within (table_of table.now) bounds) region (window_in window)) }
@@ -130,14 +122,11 @@ fn state(
     pool: &mut Pool,
     bounds: Bounds,
 ) -> Result<AutomatonState, SearchError>
-    requires kept { TableKeeps (table_of table.now) }
-    requires few { length table.now.regions ≤ most_nodes }
     requires proper { IsProper (window_in window) }
     requires settled { IsSettled window }
     requires limits { AreLimits window.limits }
     requires small { IsSmall (table_of table.now) most_rows (window_in window) }
     requires room { length pool.old.keys.keys ≤ bounds.extent.rows }
-    requires rows { bounds.extent.rows ≤ most_rows }
     ensures made { IfOk result (λ state. Made (rules_within (table_of table.now) bounds) (window_in window) (pool_in pool.old) (state_in state) (pool_in pool.new)) }
     ensures settled { OnOk result (AllByRecursion IsSettled pool.old.waiting.items → AllByRecursion IsSettled pool.new.waiting.items) }
     ensures room { OnOk result (length pool.new.keys.keys ≤ bounds.extent.rows) }

@@ -40,7 +40,7 @@ in_list operand x h rest = first (reads_name operand x) (list_any (λ o. reads_n
     first true b e = refl
     first false b e = cc
 
--- or of what is behind it
+-- or of what is after it
 behind_list : (operand : Operand) (x : ℕ) (rest : List Operand) → list_any (λ o. reads_name o x) rest ≡ true → list_any (λ o. reads_name o x) (operand ∷ rest) ≡ true
 behind_list operand x rest h = second (reads_name operand x) (list_any (λ o. reads_name o x) rest) h
   where

@@ -1,6 +1,6 @@
 -- A cut shows what its graph shows, unit by unit.
 use Rattle.std.proofs.Common.{◌≡◌, ℕ, zero, suc, Bool, true, false, List, [], ◌∷◌, Option, Some, None, refl, sym, ◌∙◌, ap, subst}
-use Rattle.std.specs.Prelude.{ℤ, if◌then◌else◌, slice_get}
+use Rattle.std.specs.Prelude.{if◌then◌else◌, slice_get}
 use Rattle.pc_word.specs.declared.item.Item.{Item}
 use Rattle.pc_word.specs.declared.item.MachineFault.{MachineFault}
 use Rattle.pc_word.specs.Word.{holds}
@@ -16,6 +16,7 @@ use Rattle.pc_flow.specs.FlowRun.{step_after_item, run_node, flow_step, flow_run
 use Rattle.pc_table.specs.Table.{TableTree, TableRegion, Table, tree_of, region_tree}
 use Rattle.pc_table.specs.RegionRun.{arrive, place_at, lead_on, region_step, region_step_at, table_run}
 use Rattle.pc_regions.specs.Cut.{IsTreeOf, An_item, A_test, A_stop, A_trap, IsBehind, Taken, Not_taken, IsRegionOf, IsCutOf, heads_of}
+use Rattle.pc_regions.specs.Laws.{ACutRunsAsItsGraph, RegionsRunAsTheirNodes}
 
 -- the region whose head stands at a place among the heads
 pub region_at : (regions : List TableRegion) (number head : ℕ) → slice_get (heads_of regions) number ≡ Some head
@@ -97,11 +98,15 @@ module _ (flow : FlowGraph) (Head : ℕ → Type 0) (table : Table) (same_arrays
   trees_show zero tree node is s = refl
   trees_show (suc n) tree node is s = unit_shows n (λ t to at. trees_show n t to at) is.room node is.left tree is.is_tree s
 
--- the table shows what the graph shows
-pub cut_shows : (flow : FlowGraph) (table : Table) → IsCutOf flow table → (input : List ℤ) (n : ℕ) → table_run table input n ≡ flow_run flow input n
-cut_shows flow table cut input n =
-    let is_at = region_is_at flow _ table cut.arrays cut.each 0 flow.entry cut.entry in
-    trees_show flow _ table cut.arrays cut.each n (region_tree table 0) flow.entry is_at (start_state input)
+-- each region shows what the nodes from its head show
+pub region_shows : RegionsRunAsTheirNodes
+region_shows flow table cut number head there s n =
+    let is_at = region_is_at flow _ table cut.arrays cut.each number head there in
+    trees_show flow _ table cut.arrays cut.each n (region_tree table number) head is_at s
+
+-- so the table shows what the graph shows
+pub cut_shows : ACutRunsAsItsGraph
+cut_shows flow table cut input n = region_shows flow table cut 0 flow.entry cut.entry (start_state input) n
 
 -- so they agree
 pub cut_agrees : (flow : FlowGraph) (table : Table) → IsCutOf flow table → AgreeOnInputs (table_run table) (flow_run flow)

@@ -41,7 +41,7 @@ pub live_none : (sets : List VariableSet) (at : ℕ) → live_below sets at 0 �
 unfolding live_below
 live_none sets at = refl
 
--- one that is live is put behind them
+-- one that is live is put after them
 pub live_more : (sets : List VariableSet) (at n : ℕ) → member (set_at sets at) n ≡ true → live_below sets at (n + 1) ≡ live_below sets at n ++ n ∷ []
 unfolding live_below
 live_more sets at n passes =

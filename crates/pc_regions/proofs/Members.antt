@@ -63,7 +63,7 @@ same_sum f xs ys one other forth back =
 
 -- ---- lists that rise
 
--- what is behind the first rises
+-- what is after the first rises
 rising_rest : (x : ℕ) (xs : List ℕ) → IsStrictlyIncreasing (x ∷ xs) → IsStrictlyIncreasing xs
 rising_rest x xs rising k lt =
     let h = rising (suc k) (omega (arith, lt)) in

@@ -176,7 +176,7 @@ module _ (flow : FlowGraph) (is : IsFlow flow) (one other : Table) (cut : IsCutO
   steps_too : Steps other.regions (length other.regions)
   steps_too = found_steps other.regions (length other.regions) cut_too.found
 
-  -- the first regions are the same, as many are known behind them, and their heads are the same
+  -- the first regions are the same, as many are known after them, and their heads are the same
   record SameSoFar (known known_too : ℕ → ℕ) (number : ℕ) : Type 0 where
     known_is : known number ≡ known_too number
     below : Below (known number)

@@ -19,7 +19,7 @@ use Rattle.pc_word.proofs.Places.{get_front, get_more, found_within, none_left}
 
 -- ---- where edges lead
 
--- the node behind an item is there
+-- the node after an item is there
 pub item_leads : (flow : FlowGraph) (at next : ℕ) (item : Item) → IsFlow flow → slice_get flow.nodes at ≡ Some (Op item next) → IsTarget flow next
 item_leads flow at next item is here = (is.nodes_fit at (Op item next) here).1.target
 

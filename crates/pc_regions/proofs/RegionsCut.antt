@@ -122,6 +122,7 @@ so_far_whole flow marks it regions h is none =
       once = λ one other at p q. let e = sym (is.node_there one at (rw heads at p)) ∙ is.node_there other at (rw heads at q) in (cc);
       each = λ number region e. subst (λ (order : List ℕ). IsRegionOf flow (IsMarked marks) order region) (sym heads) (h.each number region e it.order (λ place at there. there));
       found = subst (λ (n : ℕ). AreFound regions n) (sym as_many) h.found;
+      few = let counted = count_by-le-length is_some it.numbers in let met = is.as_many in let nodes = h.nodes in omega (arith, few, counted, met, nodes);
     }
 
 -- a head that was met is a node
@@ -142,7 +143,7 @@ regions_within flow marks it regions head h is there =
 
 -- ---- regions in memory
 
--- what stands behind the regions so far, in terms of the regions in memory
+-- what stands after the regions so far, in terms of the regions in memory
 pub behind_regions : (order : List ℕ) (regions : List Region) (count : ℕ) (found : Option ℕ) → found ≡ slice_get order count → count ≡ length regions
     → slice_get order (length (table_regions regions)) ≡ found
 behind_regions order regions count found e same = ap (λ (n : ℕ). slice_get order n) (length-map regions table_region ∙ sym same) ∙ sym e

@@ -11,7 +11,7 @@ use Rattle.pc_table.specs.Table.{TableTree, Does, Asks, Next, Traps_here}
 use Rattle.pc_regions.specs.Cut.{IsTreeOf, An_item, A_test, A_stop, A_trap, IsBehind, Taken, Not_taken, AreMet, None_met, Known, Met, nexts_of}
 use Rattle.pc_regions.proofs.Members.{Once}
 
--- names behind others, parted
+-- names after others, parted
 pub met_parted : (known after : ℕ) (one other : List ℕ) → AreMet known (one ++ other) after → (mid : ℕ) × AreMet known one mid × AreMet mid other after
 met_parted known after [] other h = (known, None_met, h)
 met_parted known after (_ ∷ names) other (Known less rest) = let parts = met_parted known after names other rest in (parts.0, Known less parts.1, parts.2)
@@ -30,7 +30,7 @@ module _ (flow : FlowGraph) (P Q : ℕ → Type 0) (forth : (at : ℕ) → P at 
   abbrev pub SameBelow : ℕ → Type 0
   SameBelow known = (i : ℕ) → i < known → slice_get heads i ≡ slice_get others i
 
-  -- two trees are the same, and so is what is left and known behind them
+  -- two trees are the same, and so is what is left and known after them
   pub record SameTree (tree other : TableTree) (left rest after last : ℕ) : Type 0 where
     pub tree_is : tree ≡ other
     pub left_is : left ≡ rest

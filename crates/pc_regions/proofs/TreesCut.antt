@@ -17,7 +17,7 @@ use Rattle.pc_word.proofs.Places.{length_more}
 
 -- ---- numbers that are named
 
--- names behind others
+-- names after others
 met_both : (known mid after : ℕ) (one other : List ℕ) → AreMet known one mid → AreMet mid other after → AreMet known (one ++ other) after
 met_both known mid after _ other None_met h = h
 met_both known mid after _ other (Known {region} {names} less rest) h = Known less (met_both known mid after names other rest h)
@@ -77,7 +77,7 @@ test_tree flow marks mid order room at on yes_side no_side between left turn on_
 
 pub ruleset trees = (item_leads, test_leads, item_tree, test_tree, stop_tree, trap_tree, names_both, names_none)
 
--- ---- what stands behind an edge
+-- ---- what stands after an edge
 
 -- a node that is taken
 pub taken_behind : (flow : FlowGraph) (marks : List Bool) (order : List ℕ) (room to left : ℕ) (tree : TableTree) → mark_at marks to ≡ false

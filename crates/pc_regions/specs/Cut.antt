@@ -73,7 +73,7 @@ pub data AreMet : (known : ℕ) → (names : List ℕ) → (after : ℕ) → Typ
   Known : {known region after : ℕ} {names : List ℕ} → region < known → AreMet known names after → AreMet known (region ∷ names) after
   Met : {known after : ℕ} {names : List ℕ} → AreMet (suc known) names after → AreMet known (known ∷ names) after
 
--- the first regions, each of which was known before it was gone over, and how many are known behind them
+-- the first regions, each of which was known before it was gone over, and how many are known after them
 pub data AreFound : (regions : List TableRegion) → (known : ℕ) → Type 0 where
   First : AreFound [] 1
   Found : {known after : ℕ} →

@@ -12,5 +12,5 @@ mod reachable;
 mod table;
 
 pub use error::RegionError;
-pub use laws::law_of_one_cut;
+pub use laws::{law_of_one_cut, laws_of_cut_runs};
 pub use table::regions;

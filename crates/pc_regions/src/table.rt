@@ -3,7 +3,7 @@ ghost use Rattle.std.specs.Prelude.{◌≡◌, ℕ, ℤ, List, IfOk};
 ghost use Rattle.pc_word.specs.Run.{AgreeOnInputs};
 ghost use Rattle.pc_flow.specs.FlowRun.{flow_run};
 ghost use Rattle.pc_live.specs.Liveness.{IsLivenessOf};
-ghost use Rattle.pc_table.specs.Table.{table_of};
+ghost use Rattle.pc_table.specs.StoredTable.{table_of};
 ghost use Rattle.pc_table.specs.RegionRun.{table_run};
 ghost use Rattle.pc_table.specs.TableKeeps.{TableKeeps};
 ghost use Rattle.pc_regions.specs.Cut.{IsCutOf};

@@ -1,11 +1,12 @@
 -- What the table of the tests keeps.
-use Rattle.std.proofs.Common.{◌≡◌, ℕ, zero, suc, ◌+◌, ◌≤◌, ◌<◌, length, ap, Some, None, refl, sym, ◌∙◌, subst, arith}
+use Rattle.std.proofs.Common.{◌≡◌, ℕ, zero, suc, ◌+◌, ◌≤◌, ◌<◌, length, List, ap, Some, None, refl, sym, ◌∙◌, subst, arith}
 use Rattle.std.specs.Prelude.{pos, Bool, true, false, not, ◌&&◌, ◌||◌, nat_eq, slice_get}
 use Rattle.std.specs.List.{list_any}
-use Rattle.std.proofs.lemmas.List.{length-map}
-use Rattle.pc_table.specs.declared.table.RegionTable.{RegionTable}
 use Rattle.pc_table.specs.RegionRun.{arrive}
-use Rattle.pc_table.specs.Table.{Table, TableTree, TableRegion, table_of, table_region, region_tree, region_live}
+use Rattle.pc_table.specs.Table.{Table, TableTree, TableRegion, table_regions, region_tree, region_live}
+use Rattle.pc_table.specs.declared.table.Region.{Region}
+use Rattle.pc_table.proofs.StoredRegions.{as_many}
+use Rattle.pc_word.specs.SourceLimits.{most_nodes}
 use Rattle.pc_word.specs.declared.item.Item.TheVariants.{Print}
 use Rattle.pc_word.specs.declared.item.Operand.TheVariants.{Lit}
 use Rattle.pc_table.specs.TableKeeps.{ItemIsThere, TreeIsThere, RegionKeeps, TableKeeps, ComesUntested, By_one, By_more, untested, needs, units}
@@ -102,11 +103,15 @@ jumping_keeps = record {
     begins (suc (suc (suc zero))) = refl
     begins (suc (suc (suc (suc region)))) = refl
 
--- and its regions are there
-pub jumping_there : (table : RegionTable) (region : ℕ) → table_of table ≡ jumping_table → region < 4 → region < length table.regions
-jumping_there table region is lt =
-    let as_many : length (table_of table).regions ≡ length table.regions = length-map table.regions table_region in
-    let four : length (table_of table).regions ≡ 4 = ap (λ (t : Table). length t.regions) is in
-    omega arith
+-- and so does one that is equal to it
+pub jumping_made : (table : Table) → table ≡ jumping_table → TableKeeps table
+jumping_made table is = subst TableKeeps (sym is) jumping_keeps
 
-pub ruleset jumping = (jumping_keeps, jumping_there)
+-- it has four regions
+pub jumping_few : (regions : List Region) → table_regions regions ≡ jumping_table.regions → length regions ≤ most_nodes
+jumping_few regions is =
+    let many = as_many regions in
+    let four : length (table_regions regions) ≡ 4 = ap (λ (rs : List TableRegion). length rs) is in
+    omega (arith, many, four)
+
+pub ruleset jumping = (jumping_made, jumping_few)

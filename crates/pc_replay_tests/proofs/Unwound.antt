@@ -1,10 +1,9 @@
 -- Windows that may be unwound or filled.
 use Rattle.std.proofs.Common.{◌≡◌, ℕ, ◌≤◌, ◌<◌, ◌^◌, true, length, sym, ap, subst, arith}
-use Rattle.std.proofs.lemmas.List.{length-map}
 use Rattle.pc_word.specs.declared.item.Limits.{Limits}
 use Rattle.pc_table.specs.declared.table.RegionTable.{RegionTable}
-use Rattle.pc_table.specs.Table.{table_of, table_region}
-use Rattle.pc_table.specs.TableKeeps.{TableKeeps}
+use Rattle.pc_table.proofs.StoredRegions.{as_many}
+use Rattle.pc_table.specs.StoredTable.{table_of}
 use Rattle.pc_window.specs.declared.window.Window.{Window as StoredWindow}
 use Rattle.pc_window.specs.Steps.{opened_window}
 use Rattle.pc_window.specs.StoredWindow.{tree_in, window_in, InNodes}
@@ -17,11 +16,11 @@ use Rattle.pc_unwind.specs.Unwindable.{CanUnwind}
 use Rattle.pc_unwind.proofs.Opened.{opened_unwinds}
 
 -- one that was just opened
-pub opened_can : (table : RegionTable) (limits : Limits) (region : ℕ) (w : StoredWindow) → TableKeeps (table_of table) → region < length table.regions
+pub opened_can : (table : RegionTable) (limits : Limits) (region : ℕ) (w : StoredWindow) → region < length table.regions
     → window_in w ≡ opened_window (table_of table) limits region → CanUnwind (table_of table) (window_in w)
-opened_can table limits region w keeps there is =
-    let as_many : length (table_of table).regions ≡ length table.regions = length-map table.regions table_region in
-    subst (λ (u : Window). CanUnwind (table_of table) u) (sym is) (opened_unwinds (table_of table) keeps limits region (omega arith))
+opened_can table limits region w there is =
+    let many = as_many table.regions in
+    subst (λ (u : Window). CanUnwind (table_of table) u) (sym is) (opened_unwinds (table_of table) table.kept limits region (omega (arith, there, many)))
 
 -- a small one that names what is there
 pub small_can : (table : RegionTable) (w : StoredWindow) → PartsAreThere (table_of table) (2 ^ 30) (tree_in w.tree) → tree_size (tree_in w.tree) ≤ 2048

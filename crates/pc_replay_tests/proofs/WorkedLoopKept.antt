@@ -4,15 +4,12 @@ use Rattle.std.specs.Prelude.{pos, Bool, true, false, nat_eq, [], ◌∷◌, ◌
 use Rattle.std.specs.List.{list_any}
 use Rattle.std.specs.List.Sorted.{IsStrictlyIncreasing}
 use Rattle.std.proofs.lemmas.Bool.{eqb-true}
-use Rattle.std.proofs.lemmas.List.{length-map}
-use Rattle.pc_word.specs.SourceLimits.{most_nodes}
 use Rattle.pc_word.specs.declared.item.Item.TheVariants.{Bin, Copy, Load, Print}
 use Rattle.pc_word.specs.declared.item.OpCode.TheVariants.{Add, Mul, Less}
 use Rattle.pc_word.specs.declared.item.Operand.TheVariants.{Name, Lit}
 use Rattle.pc_word.specs.declared.loop_mark.LoopMark.{LoopMark}
-use Rattle.pc_table.specs.declared.table.RegionTable.{RegionTable}
 use Rattle.pc_table.specs.RegionRun.{arrive}
-use Rattle.pc_table.specs.Table.{Table, TableRegion, region_tree, region_live, table_of, table_region}
+use Rattle.pc_table.specs.Table.{Table, TableRegion, region_tree, region_live}
 use Rattle.pc_table.specs.TableKeeps.{ItemIsThere, TreeIsThere, RegionKeeps, TableKeeps, ComesUntested, By_one, By_more, untested, needs}
 use Rattle.pc_replay_tests.specs.WorkedLoop.{body_tree, loop_tree, loop_region, loop_table}
 
@@ -128,17 +125,8 @@ loop_keeps = record {
     begins zero = refl
     begins (suc region) = refl
 
--- and its region is there
-pub one_there : (table : RegionTable) → table_of table ≡ loop_table → 0 < length table.regions
-one_there table is =
-    let as_many : length (table_of table).regions ≡ length table.regions = length-map table.regions table_region in
-    let one : length (table_of table).regions ≡ 1 = ap (λ (t : Table). length t.regions) is in
-    omega arith
+-- and so does one that is equal to it
+pub worked_made : (table : Table) → table ≡ loop_table → TableKeeps table
+worked_made table is = subst TableKeeps (sym is) loop_keeps
 
-pub few_there : (table : RegionTable) → table_of table ≡ loop_table → length table.regions ≤ most_nodes
-few_there table is =
-    let as_many : length (table_of table).regions ≡ length table.regions = length-map table.regions table_region in
-    let one : length (table_of table).regions ≡ 1 = ap (λ (t : Table). length t.regions) is in
-    omega arith
-
-pub ruleset worked = (loop_keeps, one_there, few_there)
+pub ruleset worked = (worked_made)

@@ -1,9 +1,7 @@
 //! Windows that follow one another: each is left behind the front of one that was filled.
 ghost use Rattle.std.specs.Prelude.{◌≡◌, ◌<◌, ◌≤◌, ◌^◌, true, length, IfOk};
-ghost use Rattle.pc_word.specs.SourceLimits.{most_nodes};
 ghost use Rattle.pc_word.specs.Ranges.{AreLimits};
-ghost use Rattle.pc_table.specs.Table.{table_of};
-ghost use Rattle.pc_table.specs.TableKeeps.{TableKeeps};
+ghost use Rattle.pc_table.specs.StoredTable.{table_of};
 ghost use Rattle.pc_window.specs.Tree.{tree_size};
 ghost use Rattle.pc_window.specs.Steps.{IsProper};
 ghost use Rattle.pc_window.specs.StoredWindow.{tree_in, window_in, InNodes};
@@ -34,8 +32,6 @@ pub(crate) fn unwound(
     limits: Limits,
     turns: u8,
 ) -> Result<Window, WindowError>
-    requires kept { TableKeeps (table_of table.now) }
-    requires few { length table.now.regions ≤ most_nodes }
     requires there { region < length table.now.regions }
     requires limits { AreLimits limits }
     ensures proper { IfOk result (λ window. IsProper (window_in window)) }
@@ -77,8 +73,6 @@ pub(crate) fn brought_on(
     table: &RegionTable,
     window: Window,
 ) -> Result<Window, ReplayError>
-    requires kept { TableKeeps (table_of table.now) }
-    requires few { length table.now.regions ≤ most_nodes }
     requires proper { IsProper (window_in window) }
     requires nodes { InNodes true window.tree }
     ensures proper { IfOk result (λ later. IsProper (window_in later)) }

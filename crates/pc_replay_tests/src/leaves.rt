@@ -1,9 +1,6 @@
 //! The windows at all leaves, of one window and of those that follow it.
-ghost use Rattle.std.specs.Prelude.{◌≡◌, ◌≤◌, ◌++◌, ◌∷◌, [], true, length, IfSome, OnOk};
+ghost use Rattle.std.specs.Prelude.{◌≡◌, ◌++◌, ◌∷◌, [], true, IfSome, OnOk};
 ghost use Rattle.std.specs.List.{AllByRecursion};
-ghost use Rattle.pc_word.specs.SourceLimits.{most_nodes};
-ghost use Rattle.pc_table.specs.Table.{table_of};
-ghost use Rattle.pc_table.specs.TableKeeps.{TableKeeps};
 ghost use Rattle.pc_window.specs.Steps.{IsProper, EachLeft};
 ghost use Rattle.pc_window.specs.StoredWindow.{window_in, InNodes};
 ghost use Rattle.pc_automaton.specs.StoredLeft.{left_in, LeftInNodes};
@@ -76,8 +73,6 @@ fn put_leaves(
     row: RowTree<Left>,
     met: &mut Met,
 ) -> Result<(), ReplayError>
-    requires kept { TableKeeps (table_of table.now) }
-    requires few { length table.now.regions ≤ most_nodes }
     requires proper { EachLeft IsProper (row_in left_in row) }
     requires nodes { EachLeaf LeftInNodes row }
     requires all { AllByRecursion CanBeFilled met.old.waiting.items }
@@ -111,8 +106,6 @@ pub(crate) fn compare_leaves(
     most: u32,
     all: &mut Compared,
 ) -> Result<(), ReplayError>
-    requires kept { TableKeeps (table_of table.now) }
-    requires few { length table.now.regions ≤ most_nodes }
     requires proper { IsProper (window_in window) }
     requires nodes { InNodes true window.tree }
 {

@@ -1,6 +1,6 @@
 //! Whether what a window names is there in its table.
-ghost use Rattle.std.specs.Prelude.{◌≡◌, ◌<◌, ◌^◌, true, length, map, IfOk};
-ghost use Rattle.pc_table.specs.Table.{table_of, region_live};
+ghost use Rattle.std.specs.Prelude.{◌≡◌, ◌^◌, true, map, IfOk};
+ghost use Rattle.pc_table.specs.StoredTable.{table_of};
 ghost use Rattle.pc_window.specs.There.{ArrayIsThere, PartsAreThere, StubIsThere};
 ghost use Rattle.pc_window.specs.StoredWindow.{tree_in};
 
@@ -38,16 +38,6 @@ fn variables_of(alloc: Global, homes: &[Home]) -> Result<VarList, AllocError>
     Ok(variables)
 }
 
-/// The variables that are live at the head of a region.
-#[tactic(auto, using(crate::proofs::NamedThere::live))]
-fn live_at(table: &RegionTable, region: u32) -> &[u32]
-    requires { region < length table.now.regions }
-    ensures { result.now ≡ region_live (table_of table.now) region }
-{
-    let there = &table.regions.as_slice()[region as usize];
-    there.live.as_slice()
-}
-
 /// Whether two lists of variables are the same.
 fn are_same(some: &[u32], others: &[u32]) -> bool
     ensures { (result ≡ true) → some.now ≡ others.now }
@@ -70,7 +60,7 @@ fn stub_is_there(
     if region as usize >= table.regions.len() {
         return Ok(false);
     }
-    Ok(are_same(variables.as_slice(), live_at(table, region)))
+    Ok(are_same(variables.as_slice(), table.live(region).as_slice()))
 }
 
 /// Whether what a tree names is there, and its tags are low.

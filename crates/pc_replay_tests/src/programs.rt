@@ -1,9 +1,6 @@
 //! Filling the windows of programs, replayed by single moves.
-ghost use Rattle.std.specs.Prelude.{◌<◌, ◌≤◌, length, IfOk};
-ghost use Rattle.pc_word.specs.SourceLimits.{most_nodes};
+ghost use Rattle.std.specs.Prelude.{◌<◌, length};
 ghost use Rattle.pc_word.specs.Ranges.{AreLimits};
-ghost use Rattle.pc_table.specs.Table.{table_of};
-ghost use Rattle.pc_table.specs.TableKeeps.{TableKeeps};
 
 use crate::comparing::{Compared, NONE_COMPARED};
 use crate::following::{TURNS, unwound};
@@ -18,7 +15,7 @@ use pc_regions::regions;
 use pc_replay::ReplayError;
 use pc_sample::sample;
 use pc_table::RegionTable;
-use pc_word::{Limits, MOST_NODES, MOST_SOURCE, MOST_TOKENS};
+use pc_word::{Limits, MOST_SOURCE, MOST_TOKENS};
 use std::alloc::Global;
 use std::test::Fail;
 
@@ -54,9 +51,7 @@ fn narrow() -> Limits
 }
 
 /// The regions of a source.
-fn regions_of(alloc: Global, text: &[u8]) -> Result<RegionTable, Fail>
-    ensures { IfOk result (λ table. TableKeeps (table_of table)) }
-{
+fn regions_of(alloc: Global, text: &[u8]) -> Result<RegionTable, Fail> {
     if text.len() > MOST_SOURCE {
         Err(ReplayError::TooLarge)?;
     }
@@ -80,8 +75,6 @@ fn compare_region(
     limits: Limits,
     all: &mut Compared,
 ) -> Result<(), ReplayError>
-    requires kept { TableKeeps (table_of table.now) }
-    requires few { length table.now.regions ≤ most_nodes }
     requires there { region < length table.now.regions }
     requires limits { AreLimits limits }
 {
@@ -99,9 +92,6 @@ fn compare_source(
     requires { AreLimits limits }
 {
     let table = regions_of(alloc, text)?;
-    if table.regions.len() > MOST_NODES as usize {
-        Err(ReplayError::TooLarge)?;
-    }
     for region in 0..table.regions.len() {
         compare_region(alloc, &table, region as u32, limits, all)?;
     }

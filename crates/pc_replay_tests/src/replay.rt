@@ -1,8 +1,9 @@
 //! Windows of small regions, filled at once and by single moves.
-ghost use Rattle.std.specs.Prelude.{◌≡◌, ◌<◌, true, IfOk};
+ghost use Rattle.std.specs.Prelude.{◌≡◌, ◌<◌, true, length, IfOk};
 ghost use Rattle.pc_word.specs.declared.item.Item.TheVariants.{Print};
 ghost use Rattle.pc_word.specs.declared.item.Operand.TheVariants.{Lit};
-ghost use Rattle.pc_table.specs.Table.{table_of, table_tree, table_region};
+ghost use Rattle.pc_table.specs.Table.{table_tree, table_region, table_regions};
+ghost use Rattle.pc_table.specs.StoredTable.{table_of};
 ghost use Rattle.pc_window.specs.Steps.{IsProper};
 ghost use Rattle.pc_window.specs.StoredWindow.{window_in, IsJustOpened, InNodes};
 ghost use Rattle.pc_replay_tests.specs.JumpingTrees.{sum_tree, load_tree, over_print, over_tests, test_over_print, two_sums, region_of, jumping_table};
@@ -121,8 +122,8 @@ fn region(alloc: Global, tree: RegionTree) -> Region
 }
 
 /// The four, each as a region.
-fn four_regions(alloc: Global) -> Result<RegionTable, AllocError>
-    ensures { IfOk result (λ table. table_of table ≡ jumping_table) }
+fn four_regions(alloc: Global) -> Result<RegionList, AllocError>
+    ensures { IfOk result (λ regions. table_regions regions ≡ jumping_table.regions) }
 {
     let mut regions = RegionList::new(alloc);
     let tree = sum_below_print(alloc)?;
@@ -133,6 +134,15 @@ fn four_regions(alloc: Global) -> Result<RegionTable, AllocError>
     regions.push(region(alloc, tree))?;
     let tree = sums_on_both_sides(alloc)?;
     regions.push(region(alloc, tree))?;
+    Ok(regions)
+}
+
+/// The table of the four.
+#[tactic(auto, using(crate::proofs::JumpingTreesKept::jumping))]
+fn four_region_table(alloc: Global) -> Result<RegionTable, AllocError>
+    ensures { IfOk result (λ table. table_of table ≡ jumping_table) }
+{
+    let regions = four_regions(alloc)?;
     let mut arrays = LengthList::new(alloc);
     arrays.push(4)?;
     Ok(RegionTable {
@@ -143,10 +153,8 @@ fn four_regions(alloc: Global) -> Result<RegionTable, AllocError>
 }
 
 /// The window of a region. Its front has room for one test.
-#[tactic(auto, using(crate::proofs::JumpingTreesKept::jumping))]
 fn opened(alloc: Global, table: &RegionTable, region: u32) -> Result<Window, WindowError>
-    requires table { table_of table.now ≡ jumping_table }
-    requires region { region < 4 }
+    requires { region < length table.now.regions }
     ensures proper { IfOk result (λ window. IsProper (window_in window)) }
     ensures small { IfOk result (λ window. IsJustOpened window) }
     ensures nodes { IfOk result (λ window. InNodes true window.tree) }
@@ -167,8 +175,7 @@ fn compare_region(
     region: u32,
     all: &mut Compared,
 ) -> Result<(), ReplayError>
-    requires table { table_of table.now ≡ jumping_table }
-    requires region { region < 4 }
+    requires { region < length table.now.regions }
 {
     let window = opened(alloc, table, region)?;
     compare(alloc, window, all)?;
@@ -177,10 +184,10 @@ fn compare_region(
 
 /// Whether each of the regions is changed by filling, and so by single moves.
 fn are_replayed(alloc: Global) -> Result<bool, ReplayError> {
-    let table = four_regions(alloc)?;
+    let table = four_region_table(alloc)?;
     let mut all = NONE_COMPARED;
-    for region in 0..4 {
-        compare_region(alloc, &table, region, &mut all)?;
+    for region in 0..table.regions.len() {
+        compare_region(alloc, &table, region as u32, &mut all)?;
     }
     Ok(all.alike && all.changed == 4)
 }

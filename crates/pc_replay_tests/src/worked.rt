@@ -1,6 +1,7 @@
 //! A loop's windows, opened, unwound and rebased, against windows that were worked out by hand.
 ghost use Rattle.std.specs.Prelude.{◌≡◌, true, IfSome, IfOk};
-ghost use Rattle.pc_table.specs.Table.{table_of, table_tree};
+ghost use Rattle.pc_table.specs.Table.{table_tree};
+ghost use Rattle.pc_table.specs.StoredTable.{table_of};
 ghost use Rattle.pc_window.specs.Steps.{IsProper, EachLeft};
 ghost use Rattle.pc_window.specs.StoredWindow.{window_in, InNodes};
 ghost use Rattle.pc_automaton.specs.StoredLeft.{left_in, LeftInNodes};
@@ -84,6 +85,7 @@ fn turn(alloc: Global) -> Result<RegionTree, AllocError>
 }
 
 /// The loop as a table of one region.
+#[tactic(auto, using(crate::proofs::WorkedLoopKept::worked))]
 fn looping(alloc: Global) -> Result<RegionTable, AllocError>
     ensures { IfOk result (λ table. table_of table ≡ loop_table) }
 {
@@ -319,7 +321,7 @@ fn rebased(alloc: Global, table: &RegionTable, window: Window) -> Result<Window,
 }
 
 /// Whether the loop's windows are those that were worked out.
-#[tactic(auto, using(crate::proofs::WorkedLoopKept::worked))]
+#[tactic(auto, using(pc_table::proofs::StoredRegions::some_region))]
 fn are_worked(alloc: Global) -> Result<bool, ReplayError> {
     let table = looping(alloc)?;
     let opened = Window::of_region(alloc, &table, 0, LIMITS)?;

@@ -37,7 +37,7 @@ pub fn report_text(alloc: Global, facts: &ReportFacts) -> Result<Vec<u8>, Report
     Ok(text.into_bytes())
 }
 
-/// Puts the lines of passes behind a text.
+/// Appends the lines of passes to a text.
 fn push_passes(text: &mut String, passes: &[PassFact]) -> Result<(), AllocError>
     ensures { OnOk result (string_bytes text.new ≡ string_bytes text.old ++ flat_map pass_line (map pass_of passes.now)) }
 {
@@ -47,7 +47,7 @@ fn push_passes(text: &mut String, passes: &[PassFact]) -> Result<(), AllocError>
     Ok(())
 }
 
-/// Puts the line of a pass behind a text.
+/// Appends the line of a pass to a text.
 fn push_pass(text: &mut String, pass: &PassFact) -> Result<(), AllocError>
     ensures { OnOk result (string_bytes text.new ≡ string_bytes text.old ++ pass_line (pass_of pass.now)) }
 {
@@ -55,7 +55,7 @@ fn push_pass(text: &mut String, pass: &PassFact) -> Result<(), AllocError>
     writeln!(text, "pass {name} {changes}")
 }
 
-/// Puts the lines of notes behind a text.
+/// Appends the lines of notes to a text.
 fn push_notes(text: &mut String, notes: &[Note]) -> Result<(), AllocError>
     requires { AllByRecursion IsChoice notes.now }
     ensures { OnOk result (string_bytes text.new ≡ string_bytes text.old ++ flat_map note_line notes.now) }
@@ -66,7 +66,7 @@ fn push_notes(text: &mut String, notes: &[Note]) -> Result<(), AllocError>
     Ok(())
 }
 
-/// Puts the line of a note behind a text.
+/// Appends the line of a note to a text.
 fn push_note(text: &mut String, note: Note) -> Result<(), AllocError>
     requires { IsChoice note }
     ensures { OnOk result (string_bytes text.new ≡ string_bytes text.old ++ note_line note) }
@@ -75,7 +75,7 @@ fn push_note(text: &mut String, note: Note) -> Result<(), AllocError>
     text.push_str("\n")
 }
 
-/// Puts a note in words behind a text, without a line feed.
+/// Appends a note in words to a text, without a line feed.
 pub fn push_note_words(text: &mut String, note: Note) -> Result<(), AllocError>
     requires { IsChoice note }
     ensures { OnOk result (string_bytes text.new ≡ string_bytes text.old ++ note_words note) }

@@ -9,7 +9,7 @@ use Rattle.pc_word.specs.Line.{line}
 two_digits : (n : ℕ) → n < 100 → length (decimal n) ≤ 2
 two_digits n small = length-decimal-le 2 n (lit< tt) small (omega arith)
 
--- texts behind one another, of which each is short
+-- texts after one another, of which each is short
 both_short : (xs ys : List ℕ) (m n : ℕ) → length xs ≤ m → length ys ≤ n → length (xs ++ ys) ≤ m + n
 both_short xs ys m n first second = let e = length-append xs ys in omega (arith, e)
 

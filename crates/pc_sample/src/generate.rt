@@ -41,7 +41,7 @@ fn head(alloc: Global, number: u32) -> Result<String, AllocError>
     Ok(text)
 }
 
-/// Puts the blocks of a source behind a text.
+/// Appends the blocks of a source to a text.
 fn push_blocks(text: &mut String, number: u32) -> Result<(), AllocError>
     ensures { OnOk result (string_bytes text.new ≡ string_bytes text.old ++ blocks_text number (block_count number)) }
 {
@@ -53,7 +53,7 @@ fn push_blocks(text: &mut String, number: u32) -> Result<(), AllocError>
     Ok(())
 }
 
-/// Puts the line of a block behind a text.
+/// Appends the line of a block to a text.
 fn push_block(text: &mut String, kind: u64, place: u32) -> Result<(), AllocError>
     ensures { OnOk result (string_bytes text.new ≡ string_bytes text.old ++ block_line kind place) }
 {
@@ -64,14 +64,14 @@ fn push_block(text: &mut String, kind: u64, place: u32) -> Result<(), AllocError
     }
 }
 
-/// Puts the block of differences of neighbours behind a text.
+/// Appends the block of differences of neighbours to a text.
 fn push_difference(text: &mut String, place: u32) -> Result<(), AllocError>
     ensures { OnOk result (string_bytes text.new ≡ string_bytes text.old ++ difference_line place) }
 {
     writeln!(text, "for(i=0;i<63;i++)a[i]=a[i+1]-b[i];print(a[{place}]);")
 }
 
-/// Puts the block of sums into every second element behind a text.
+/// Appends the block of sums into every second element to a text.
 fn push_gather(text: &mut String, place: u32) -> Result<(), AllocError>
     ensures { OnOk result (string_bytes text.new ≡ string_bytes text.old ++ gather_line place) }
 {

@@ -22,24 +22,24 @@ use Rattle.pc_flow.specs.FlowRun.{step_after_item, run_node}
 use Rattle.pc_live.specs.declared.variable_set.VariableSet.{VariableSet}
 use Rattle.pc_live.specs.Live.{node_reads, node_writes, IsLive, Read_here, Read_later}
 use Rattle.pc_live.specs.Liveness.{member, set_at}
-use Rattle.pc_live.specs.models.Rounds.{behind}
+use Rattle.pc_live.specs.Backward.{behind, reads_counted, needs_of}
 use Rattle.pc_live.proofs.Logic.{place_within}
 use Rattle.pc_live.proofs.Rounds.{some_behind}
 use Rattle.pc_pass.specs.Pass.{Keeps}
 use Rattle.pc_flow.specs.Reachable.{IsReachableNode, Behind}
 use Rattle.pc_pass.specs.models.Change.{Change, LeadsPast, Past, Becomes, Does, Tests, Stops_too, Traps_too, IsSkipped, IsChange}
-use Rattle.pc_pass.proofs.Changes.{change_agrees, node_there, reachable_there}
+use Rattle.pc_pass.proofs.Changes.{change_agrees, change_paces, node_there, reachable_there}
 use Rattle.pc_scalar.specs.declared.plan.Plan.{Plan}
 use Rattle.pc_scalar.specs.Cleared.{only_writes, WritesAreLive}
 use Rattle.pc_scalar.specs.LoopTests.{KeepsLoopTests}
 use Rattle.pc_scalar.specs.Tally.{AreMany, IsWorkedOn}
 use Rattle.pc_scalar.specs.models.Plan.{Fits, planned}
 use Rattle.pc_scalar.specs.models.Ends.{Jump, FallsAlong, AreEnds, led}
-use Rattle.pc_scalar.specs.models.Needed.{IsNeeded, Read_always, Read_for, Read_behind, is_unwanted, is_needless, node_only_writes, node_needless, wants_of, AreNeeded, cleared, AreCleared, IsClearing}
+use Rattle.pc_scalar.specs.models.Needed.{IsNeeded, Read_always, Read_for, Read_behind, is_unwanted, is_needless, node_only_writes, node_needless, kept_reads, AreNeeded, cleared, AreCleared, IsClearing}
 use Rattle.pc_scalar.proofs.Chains.{one_end, stays_end, edge_led}
 use Rattle.pc_scalar.proofs.Skipping.{sides_there, KeepsEdges, IsSkipping, new_there, new_made_of, new_as_many, skipping_fits, end_leads, reachable_stays, skipping_keeps_tests}
 use Rattle.pc_scalar.proofs.Skipped.{Tells, skipping_counts}
-use Rattle.pc_scalar.proofs.Needs.{only_fits}
+use Rattle.pc_scalar.proofs.Needs.{only_fits, kept_counted}
 
 -- ---- sets that lack nothing
 
@@ -48,23 +48,23 @@ module _ (flow : FlowGraph) (sets : List VariableSet) (are : AreNeeded flow sets
   pub reads_in : (at variable : ℕ) (node : FlowNode) → slice_get flow.nodes at ≡ Some node → variable < variables → node_needless sets node ≡ false
       → node_reads node variable ≡ true → member (set_at sets at) variable ≡ true
   reads_in at variable node there small kept reads =
-      (are.lack at (place_within flow.nodes at node there)).lacks_none variable small
-      (ap (λ (o : Option FlowNode). wants_of sets o variable) there
-      ∙ or_first (not (node_needless sets node) && node_reads node variable) (not (node_writes node variable) && behind sets node variable)
-      (and_made (not (node_needless sets node)) (node_reads node variable) (ap not kept) reads))
+      (are.closed at (place_within flow.nodes at node there)).lacks_none variable small
+      (ap (λ (o : Option FlowNode). needs_of kept_reads sets o variable) there
+      ∙ or_first (reads_counted kept_reads sets node variable) (not (node_writes node variable) && behind sets node variable)
+      (kept_counted sets node variable kept reads))
 
-  -- so is what is in a set behind it, if it does not write that
+  -- so is what is in a set after it, if it does not write that
   pub passes_in : (at next variable : ℕ) (node : FlowNode) → slice_get flow.nodes at ≡ Some node → variable < variables → node_writes node variable ≡ false
       → HasEdge node next → member (set_at sets next) variable ≡ true → member (set_at sets at) variable ≡ true
   passes_in at next variable node there small passed edge later =
-      (are.lack at (place_within flow.nodes at node there)).lacks_none variable small
-      (ap (λ (o : Option FlowNode). wants_of sets o variable) there
-      ∙ or_second (not (node_needless sets node) && node_reads node variable) (not (node_writes node variable) && behind sets node variable)
+      (are.closed at (place_within flow.nodes at node there)).lacks_none variable small
+      (ap (λ (o : Option FlowNode). needs_of kept_reads sets o variable) there
+      ∙ or_second (reads_counted kept_reads sets node variable) (not (node_writes node variable) && behind sets node variable)
       (and_made (not (node_writes node variable)) (behind sets node variable) (ap not passed) (some_behind sets node variable next edge later)))
 
 -- ---- items that are kept, and items that are not
 
--- the node behind an item has a set
+-- the node after an item has a set
 pub behind_has_set : (flow : FlowGraph) (sets : List VariableSet) (at to : ℕ) (item : Item) → AreNeeded flow sets → slice_get flow.nodes at ≡ Some (Op item to)
     → to < length sets
 behind_has_set flow sets at to item are there = let target = (are.is_flow.nodes_fit at (Op item to) there).1.target in omega (arith, target, are.as_many)
@@ -102,7 +102,7 @@ only_does lengths (Print value) to s dest e = absurd (cc)
 only_does lengths (Read d) to s dest e = absurd (cc)
 only_does lengths (More d) to s dest e = written lengths (More d) to s d dest e _ (item_step-is lengths (More d) to s)
 
--- an item that only writes a variable that is not in the set behind it
+-- an item that only writes a variable that is not in the set after it
 record IsNeedlessAt (flow : FlowGraph) (sets : List VariableSet) (at next : ℕ) : Type 0 where
   item : Item
   dest : ℕ
@@ -165,7 +165,7 @@ kept_wanted : (b : Bool) → not b ≡ false → b ≡ true
 kept_wanted true e = refl
 kept_wanted false e = cc
 
--- nor is an item that writes what is in the set behind it
+-- nor is an item that writes what is in the set after it
 wanted_kept : (sets : List VariableSet) (item : Item) (to dest : ℕ) → only_writes item ≡ Some dest → member (set_at sets to) dest ≡ true
     → node_needless sets (Op item to) ≡ false
 wanted_kept sets item to dest only wanted = ap (is_unwanted (set_at sets to)) only ∙ ap not wanted
@@ -311,7 +311,7 @@ module _ (flow : FlowGraph) (plan : Plan) (is : IsClearing flow plan) where
   node_becomes at Stop there fits kept = Stops_too
   node_becomes at (Trap kind line) there fits kept = Traps_too
 
-  -- an item that is needless writes nothing that matters behind it
+  -- an item that is needless writes nothing that matters after it
   skips : (at next : ℕ) → IsReachableNode flow at → Jump is.table at next → IsSkipped change at next
   skips at next reached jump =
       let there = reachable_there flow at is_flow reached in
@@ -345,7 +345,7 @@ module _ (flow : FlowGraph) (plan : Plan) (is : IsClearing flow plan) where
     is_flow = is_flow;
     same_arrays = refl;
     begins = rw is.entry (leads flow.entry is_flow.begins);
-    known_first = λ input words. tt;
+    known_first = λ input. tt;
     skips = skips;
     becomes = λ at node reached there none. record {
       other = led is.ends node;
@@ -357,6 +357,7 @@ module _ (flow : FlowGraph) (plan : Plan) (is : IsClearing flow plan) where
   pub clearing_keeps : Keeps flow new
   clearing_keeps = record {
     agrees = change_agrees change is_change;
+    pace = change_paces change is_change;
     as_many = new_as_many flow plan is.table is.ends (λ node. node) (is_skipping flow plan is);
     same_loops = refl;
     same_inside = refl;
@@ -416,7 +417,7 @@ module _ (flow : FlowGraph) (plan : Plan) (is : IsClearing flow plan) where
   needed_live x _ (Read_behind {at = at} {next = next} {node = node} there passed edge needed) =
       pass_live x at next node there edge passed (needed_live x next needed)
 
-  -- so what an item that is kept writes is live behind it
+  -- so what an item that is kept writes is live after it
   kept_live : (at to dest : ℕ) (item : Item) (node : FlowNode) → slice_get flow.nodes at ≡ Some node → led is.ends node ≡ Op item to → slice_index is.table at ≡ at
       → only_writes item ≡ Some dest → IsLive new dest to
   kept_live at to dest item (Op old next) there e stays only =
@@ -426,7 +427,7 @@ module _ (flow : FlowGraph) (plan : Plan) (is : IsClearing flow plan) where
       let fits = (is_flow.nodes_fit at (Op old next) there).0.writes in
       let kept = stays_kept at (Op old next) there stays in
       let wanted : member (set_at is.sets next) dest ≡ true = kept_wanted (member (set_at is.sets next) dest) (sym (ap (is_unwanted (set_at is.sets next)) only_old) ∙ kept) in
-      subst (IsLive new dest) end (needed_live dest next (is.are_needed.hold.needed next dest (only_fits old fits dest only_old) wanted))
+      subst (IsLive new dest) end (needed_live dest next (is.are_needed.needed next dest (only_fits old fits dest only_old) wanted))
   kept_live at to dest item (Test on on_yes on_no turn) there e stays only = absurd (cc)
   kept_live at to dest item Stop there e stays only = absurd (cc)
   kept_live at to dest item (Trap kind line) there e stays only = absurd (cc)

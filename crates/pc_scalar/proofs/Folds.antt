@@ -18,7 +18,7 @@ use Rattle.pc_flow.specs.FlowRun.{FlowState, run_node}
 use Rattle.pc_pass.specs.Pass.{Keeps}
 use Rattle.pc_flow.specs.Reachable.{IsReachableNode, Behind}
 use Rattle.pc_pass.specs.models.Change.{Change, LeadsPast, Becomes, Does, Tests, Stops_too, Traps_too, IsSkipped, IsChange}
-use Rattle.pc_pass.proofs.Changes.{change_agrees, node_there, reachable_there}
+use Rattle.pc_pass.proofs.Changes.{change_agrees, change_paces, node_there, reachable_there}
 use Rattle.pc_scalar.specs.declared.plan.Plan.{Plan}
 use Rattle.pc_scalar.specs.Folded.{IsFolded, is_foldable}
 use Rattle.pc_scalar.specs.Tally.{AreMany, without_edges, IsWorkedOn}
@@ -249,7 +249,7 @@ module _ (flow : FlowGraph) (plan : Plan) (is : IsFolding flow plan) where
     is_flow = is.taken_sides.is_flow;
     same_arrays = refl;
     begins = rw is.entry (leads flow.entry is.taken_sides.is_flow.begins);
-    known_first = λ input words. tt;
+    known_first = λ input. tt;
     skips = skips;
     becomes = λ at node reached there stays. record {
       other = led is.ends (folded node);
@@ -261,6 +261,7 @@ module _ (flow : FlowGraph) (plan : Plan) (is : IsFolding flow plan) where
   pub folding_keeps : Keeps flow new
   folding_keeps = record {
     agrees = change_agrees change is_change;
+    pace = change_paces change is_change;
     as_many = new_as_many flow plan is.table is.ends folded (is_skipping flow plan is);
     same_loops = refl;
     same_inside = refl;

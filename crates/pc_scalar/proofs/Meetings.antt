@@ -223,7 +223,7 @@ meeting_begins flow n new later e meets =
     let went = meets_went flow (replicate n false) new [] later 0 flow.entry begins (omega arith) Entry meets in
     (went.0.meeting, went.1)
 
--- ---- the nodes behind one node
+-- ---- the nodes after one node
 
 -- an edge leads to a node that has a flag
 pub op_target : (flow : FlowGraph) (at : ℕ) (count : ℕ) (node : FlowNode) → IsFlow flow → count ≡ length flow.nodes → slice_get flow.nodes at ≡ Some node
@@ -238,7 +238,7 @@ op_target flow at count (Test on on_yes on_no (Some turn)) is e there =
 op_target flow at count Stop is e there = tt
 op_target flow at count (Trap kind line) is e there = tt
 
--- what was met behind a node
+-- what was met after a node
 pub met_behind : (nodes : List FlowNode) (at : ℕ) (this : FlowNode) (flags new : List Bool) (met later : List ℕ) → slice_get nodes at ≡ Some this
     → MeetsAll (edges_of this) flags new met later → (node : FlowNode) → slice_get nodes at ≡ Some node → MeetsAll (edges_of node) flags new met later
 met_behind nodes at this flags new met later is all node e =

@@ -235,7 +235,7 @@ of_item_writes flow rule known at next item is long of =
     let same : dest_of item ≡ dest_of of.old = ap dest_of (sym of.is) ∙ rewritten_dest rule known of.old in
     rw (same, long) fits
 
--- what is known behind it
+-- what is known after it
 pub of_item_known : (flow : FlowGraph) (rule : Rule) (known new : List (Option Item)) (at next : ℕ) (item : Item) → OfItem flow rule known at next item
     → FollowsAlone flow at next → KnownAt flow rule at known → new ≡ after item known → KnownAt flow rule next new
 of_item_known flow rule known new at next item of f before e =

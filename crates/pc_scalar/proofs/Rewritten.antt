@@ -12,7 +12,7 @@ use Rattle.pc_flow.specs.FlowGraph.{FlowGraph, HasEdge, tested_loop, variables}
 use Rattle.pc_pass.specs.Pass.{Keeps}
 use Rattle.pc_flow.specs.Reachable.{IsReachableNode, Entry, Behind}
 use Rattle.pc_pass.specs.models.Change.{Change, Here, LeadsPast, Becomes, Does, Tests, Stops_too, Traps_too, IsChange}
-use Rattle.pc_pass.proofs.Changes.{change_agrees}
+use Rattle.pc_pass.proofs.Changes.{change_agrees, change_paces}
 use Rattle.pc_scalar.specs.declared.plan.Plan.{Plan}
 use Rattle.pc_scalar.specs.declared.rule.Rule.{Rule}
 use Rattle.pc_scalar.specs.LoopTests.{KeepsLoopTests}
@@ -77,7 +77,7 @@ module _ (flow : FlowGraph) (rule : Rule) (plan : Plan) (is : IsRewriting flow r
     Matters = λ at x. Unit {0};
   }
 
-  -- what is known behind an item
+  -- what is known after an item
   knows_behind : (at to : ℕ) (item : Item) (s t : State) (printed : List ℤ) → IsReachableNode flow at → slice_get flow.nodes at ≡ Some (Op item to)
       → ((known : List (Option Item)) → KnownAt flow rule at known → KnownHolds known s) → item_step flow.arrays item to s ≡ Commits printed t to
       → (known : List (Option Item)) → KnownAt flow rule to known → KnownHolds known t
@@ -126,7 +126,7 @@ module _ (flow : FlowGraph) (rule : Rule) (plan : Plan) (is : IsRewriting flow r
     is_flow = is.is_flow;
     same_arrays = refl;
     begins = subst (LeadsPast no_skip flow.entry) (sym is.entry) (leads_there flow.entry);
-    known_first = λ input words. known_entry (start_state input) flow.entry refl;
+    known_first = λ input. known_entry (start_state input) flow.entry refl;
     skips = λ at next reached h. absurd h;
     becomes = λ at node reached there none.
         let w = is.written at reached in
@@ -141,6 +141,7 @@ module _ (flow : FlowGraph) (rule : Rule) (plan : Plan) (is : IsRewriting flow r
   pub rewriting_keeps : Keeps flow new
   rewriting_keeps = record {
     agrees = change_agrees change is_change;
+    pace = change_paces change is_change;
     as_many = is.rewrites.as_many;
     same_loops = refl;
     same_inside = refl;

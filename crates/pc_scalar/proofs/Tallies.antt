@@ -4,7 +4,9 @@ use Rattle.std.specs.Prelude.{slice_get}
 use Rattle.std.proofs.lemmas.Option.{slice_get_within, slice_get-get_or}
 use Rattle.pc_flow.specs.declared.node.FlowNode.{FlowNode}
 use Rattle.pc_flow.specs.FlowGraph.{FlowGraph}
-use Rattle.pc_scalar.specs.Tally.{counted, AreMany, None_below, One_is, One_is_not, IsWorkedOn, Tallied}
+use Rattle.pc_scalar.specs.Leaves.{Leaves}
+use Rattle.pc_scalar.specs.LoopTests.{KeepsLoopTests}
+use Rattle.pc_scalar.specs.Tally.{counted, AreMany, None_below, One_is, One_is_not, IsWorkedOn}
 use Rattle.pc_scalar.specs.models.Counted.{IsReachedAnd, Differ, differs_from, TellByOperands}
 use Rattle.pc_scalar.specs.models.Met.{AreReached}
 use Rattle.pc_scalar.proofs.Operands.{differs_not}
@@ -37,10 +39,11 @@ few_are Is _ _ None_below = omega arith
 few_are Is _ _ (One_is {bound = bound} {many = many} rest here) = let few = few_are Is bound many rest in omega (arith, few)
 few_are Is _ _ (One_is_not {bound = bound} {many = many} rest apart) = let few = few_are Is bound many rest in omega (arith, few)
 
--- a count that rose so is tallied
-pub are_tallied : (old new : FlowGraph) (before now many : ℕ) → AreMany (IsWorkedOn old new) (length old.nodes) many → now ≡ counted before many
-    → Tallied old new before now
-are_tallied old new before now many are rose = record { many = many; are_many = are; rose = rose }
+-- a pass that leaves such a graph, and whose count rose so, does what it is to do
+pub leaves : (IsLeft : FlowGraph → Type 0) (old new : FlowGraph) (before now many : ℕ) → IsLeft new → KeepsLoopTests old new
+    → AreMany (IsWorkedOn old new) (length old.nodes) many → now ≡ counted before many → Leaves IsLeft old new before now
+leaves IsLeft old new before now many left tests are rose =
+    record { left = left; loop_tests = tests; tallied = record { many = many; are_many = are; rose = rose } }
 
 -- ---- nodes that can be reached and pass a test
 

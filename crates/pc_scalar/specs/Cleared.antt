@@ -17,7 +17,7 @@ only_writes (Print value) = None
 only_writes (Read dest) = None
 only_writes (More dest) = Some dest
 
--- each item that can be reached and only writes a variable writes one that is live behind it
+-- each item that can be reached and only writes a variable writes one that is live after it
 pub record WritesAreLive (flow : FlowGraph) : Type 0 where
   pub live : (at to dest : ℕ) (item : Item) → IsReachableNode flow at → slice_get flow.nodes at ≡ Some (Op item to) → only_writes item ≡ Some dest
       → IsLive flow dest to

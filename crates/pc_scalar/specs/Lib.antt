@@ -3,6 +3,8 @@ pub mod Chain
 pub mod Cleared
 pub mod Copied
 pub mod Folded
+pub mod Leaves
 pub mod LoopTests
+pub mod Passes
 pub mod Tally
 pub mod Valued

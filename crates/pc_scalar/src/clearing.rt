@@ -105,7 +105,7 @@ fn places(alloc: Global, flow: &Flow, sets: &[VariableSet]) -> Result<Vec<u32>, 
     Ok(table)
 }
 
-/// The node that takes a node's place: the one behind an item that is needless, and else the node itself.
+/// The node that takes a node's place: the one after an item that is needless, and else the node itself.
 #[tactic(auto, using(crate::proofs::Clears::place_laws))]
 fn place(flow: &Flow, sets: &[VariableSet], at: u32) -> u32
     requires needed { AreNeeded flow.now sets.now }

@@ -1,10 +1,7 @@
 //! The pass that removes dead writes.
-ghost use Rattle.std.specs.Prelude.{◌≡◌, ◌≤◌, codes, OnOk, OnErr};
-ghost use Rattle.pc_word.specs.Count.{Rose};
-ghost use Rattle.pc_pass.specs.Pass.{Keeps};
+ghost use Rattle.std.specs.Prelude.{◌≡◌, codes};
 ghost use Rattle.pc_scalar.specs.Cleared.{WritesAreLive};
-ghost use Rattle.pc_scalar.specs.LoopTests.{KeepsLoopTests};
-ghost use Rattle.pc_scalar.specs.Tally.{Tallied};
+ghost use Rattle.pc_scalar.specs.Leaves.{Leaves};
 
 use crate::clearing::clear_flow;
 use crate::tally::Tally;
@@ -12,7 +9,7 @@ use pc_flow::Flow;
 use pc_pass::{Pass, PassMemory};
 use std::alloc::Global;
 
-/// Skips each item that only writes a variable that is not live behind it.
+/// Skips each item that only writes a variable that is not live after it.
 #[derive(Drop)]
 pub struct Dead {
     alloc: Global,
@@ -38,6 +35,8 @@ impl Pass for Dead {
 
     ghost runs = { λ it. it.tally.runs };
 
+    ghost does = { λ it. Leaves WritesAreLive };
+
     fn name(&self) -> &str {
         "dead"
     }
@@ -46,18 +45,8 @@ impl Pass for Dead {
         self.tally.changes
     }
 
-    #[tactic(auto, using(crate::proofs::Tallies::are_tallied))]
-    fn apply(&mut self, flow: &mut Flow) -> Result<(), PassMemory>
-        ensures keeps { OnOk result (Keeps flow.old flow.new) }
-        ensures undone { OnErr result (flow.new ≡ flow.old) }
-        ensures named { codes "dead" ≡ codes "dead" }
-        ensures counted { self.old.tally.changes ≤ self.new.tally.changes }
-        ensures ran { OnOk result (Rose self.old.tally.runs self.new.tally.runs) }
-        ensures no_fall { self.old.tally.runs ≤ self.new.tally.runs }
-        ensures cleared { OnOk result (WritesAreLive flow.new) }
-        ensures loop_tests { OnOk result (KeepsLoopTests flow.old flow.new) }
-        ensures tallied { OnOk result (Tallied flow.old flow.new self.old.tally.changes self.new.tally.changes) }
-    {
+    #[tactic(auto, using(crate::proofs::Tallies::leaves))]
+    fn apply(&mut self, flow: &mut Flow) -> Result<(), PassMemory> {
         let nodes = clear_flow(self.alloc, flow)?;
         self.tally.add(nodes);
         Ok(())

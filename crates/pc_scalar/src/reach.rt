@@ -59,7 +59,7 @@ fn meet_behind(
     }
 }
 
-/// Meets a node: where it was not met before, it is flagged and put behind those that were.
+/// Meets a node: where it was not met before, it is flagged and appended to those that were.
 fn meet(flags: &mut Seq<bool>, met: &mut Seq<u32>, node: u32) -> Result<(), AllocError>
     requires { node < length flags.old }
     ensures { OnOk result (Meets flags.old flags.new met.old met.new node) }

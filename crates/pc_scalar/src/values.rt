@@ -1,10 +1,7 @@
 //! The pass that reuses values.
-ghost use Rattle.std.specs.Prelude.{◌≡◌, ◌≤◌, codes, OnOk, OnErr};
-ghost use Rattle.pc_word.specs.Count.{Rose};
-ghost use Rattle.pc_pass.specs.Pass.{Keeps};
+ghost use Rattle.std.specs.Prelude.{◌≡◌, codes};
 ghost use Rattle.pc_scalar.specs.Valued.{ComputesNoneAgain};
-ghost use Rattle.pc_scalar.specs.LoopTests.{KeepsLoopTests};
-ghost use Rattle.pc_scalar.specs.Tally.{Tallied};
+ghost use Rattle.pc_scalar.specs.Leaves.{Leaves};
 
 use crate::tally::Tally;
 use crate::valuing::value_flow;
@@ -38,6 +35,8 @@ impl Pass for Values {
 
     ghost runs = { λ it. it.tally.runs };
 
+    ghost does = { λ it. Leaves ComputesNoneAgain };
+
     fn name(&self) -> &str {
         "values"
     }
@@ -46,18 +45,8 @@ impl Pass for Values {
         self.tally.changes
     }
 
-    #[tactic(auto, using(crate::proofs::Tallies::are_tallied))]
-    fn apply(&mut self, flow: &mut Flow) -> Result<(), PassMemory>
-        ensures keeps { OnOk result (Keeps flow.old flow.new) }
-        ensures undone { OnErr result (flow.new ≡ flow.old) }
-        ensures named { codes "values" ≡ codes "values" }
-        ensures counted { self.old.tally.changes ≤ self.new.tally.changes }
-        ensures ran { OnOk result (Rose self.old.tally.runs self.new.tally.runs) }
-        ensures no_fall { self.old.tally.runs ≤ self.new.tally.runs }
-        ensures valued { OnOk result (ComputesNoneAgain flow.new) }
-        ensures loop_tests { OnOk result (KeepsLoopTests flow.old flow.new) }
-        ensures tallied { OnOk result (Tallied flow.old flow.new self.old.tally.changes self.new.tally.changes) }
-    {
+    #[tactic(auto, using(crate::proofs::Tallies::leaves))]
+    fn apply(&mut self, flow: &mut Flow) -> Result<(), PassMemory> {
         let nodes = value_flow(self.alloc, flow)?;
         self.tally.add(nodes);
         Ok(())

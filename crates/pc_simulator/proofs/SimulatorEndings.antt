@@ -90,7 +90,7 @@ module _ (request : SimulateRequest) (old new : Shelved) (input input_now out ou
       seen_ends due ready.object ready.placed.numbers (record { in_file = ready.in_file; in_input = ready.placed.in_input })
       (subst (λ (seen : Seen). RunEnds request.cycles seen out out_now due) (same_seen ready) ends)
 
--- ---- what is due at a stop and behind a run
+-- ---- what is due at a stop and after a run
 
 pub due_memory : (name : List ℕ) → StopEnds name stop.Memory (fault.NoMemory Pvm)
 due_memory name = Due_memory
@@ -135,7 +135,7 @@ ends_lacking given old new input input_now out out_now due (Broke {request} {obj
     Telling loaded (sends_part out out_now (text_of (run_seen request object numbers).printed) part)
 ends_lacking given old new input input_now out out_now due (Lacking lacks) = lacks
 
--- what the simulator came to is what it promises, once it is told
+-- what the simulator came to is what it promises, once it is reported
 pub simulator_promise : (given : Option SimulateRequest) (old new : Outside) (due : Option ToolFault) (code : ℕ)
     → SimulatorEnds old.shelf new.shelf old.input new.input old.out new.out given due → ReadKeeps old.shelf new.shelf
     → LosesFront old.input.told new.input.told (most_input + 1)

@@ -1,4 +1,4 @@
--- What is simulated: an object on an input; and why an input is refused, as a user is told it.
+-- What is simulated: an object on an input; and why an input is refused, as it is reported to a user.
 use Rattle.std.specs.Prelude.{◌≡◌, ℕ, ◌<◌, ◌≤◌, ℤ, List, length, Option, Some, None, IfSome, Ok, Err}
 use Rattle.pc_word.specs.declared.item.End.{End}
 use Rattle.pc_word.specs.declared.item.End.TheVariants.{Ended, Fault, Trapped}

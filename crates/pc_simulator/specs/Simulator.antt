@@ -87,7 +87,7 @@ pub data SimulatorEnds (old new : Shelved) (input input_now out out_now : Stream
       SimulatorLacks old new input input_now out out_now given →
       SimulatorEnds old new input input_now out out_now given (Some (fault.NoMemory Pvm))
 
--- What the simulator promises of the outside before and after it: it came to an end, and what was due then is told; whatever
+-- What the simulator promises of the outside before and after it: it came to an end, and what was due then is reported; whatever
 -- the end, the shelf's files are as before, and the input lost bytes from its front alone, at most one more than it may have.
 pub record SimulatorPromise (given : Option SimulateRequest) (old new : Outside) (code : ℕ) : Type 0 where
   pub due : Option ToolFault

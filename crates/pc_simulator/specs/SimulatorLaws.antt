@@ -81,7 +81,7 @@ pub record SimulatorStatuses (given : Option SimulateRequest) (old new : Outside
   pub known : (code ≤ 5) ⊎ IsEndStatus code
   -- with 2, 3 and 4 nothing was sent to the output
   pub silent : (2 ≤ code) → (code ≤ 4) → new.out ≡ old.out
-  -- what is no command is told so, but for want of memory and a fault of the error output
+  -- what is no command is reported so, but for want of memory and a fault of the error output
   pub usage : given ≡ None → (code ≡ 2) ⊎ (code ≡ 1) ⊎ ((code ≡ 5) × HasErrorFault old new)
   -- an object that loads is run on an input of numbers, but for want of memory and faults
   pub complete : (request : SimulateRequest) (text left : List ℕ) (object : CodeWithNotes) (numbers : List ℤ) →

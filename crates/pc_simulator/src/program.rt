@@ -14,7 +14,7 @@ use std::alloc::Global;
 /// The whole simulator, over the outside that is lent, and the status that it ends with. `words` are those of the
 /// command line without the simulator's own name: `OBJ [--cycles N]`. It loads the object at OBJ, takes the whole
 /// input, runs the object's code for at most so many cycles, and sends the line of each number that is printed.
-/// What is due then is told on the error output.
+/// What is due then is reported on the error output.
 pub fn simulator<H: Shelf, I: Source, O: Sink, E: Sink>(
     alloc: Global,
     words: &[String],

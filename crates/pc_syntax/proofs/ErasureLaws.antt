@@ -241,7 +241,7 @@ unfolding list_of
 list_of-append [] rest = refl
 list_of-append (first ∷ front) rest = ap (More (statement_of first)) (list_of-append front rest)
 
--- a list with one more tree behind it
+-- a list with one more tree after it
 pub list_of-push : (front : List Stmt) (last : Stmt) → list_of (front ++ last ∷ []) ≡ appended (list_of front) (More (statement_of last) No_more)
 unfolding list_of
 list_of-push front last = list_of-append front (last ∷ [])

@@ -1,4 +1,4 @@
-//! The syntax tree of a source program, with the lines that faults and traps are told by.
+//! The syntax tree of a source program, with the lines of the source that faults and traps name.
 #![tactic(auto)]
 
 mod expression;

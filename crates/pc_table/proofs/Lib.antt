@@ -1,2 +1,3 @@
+pub mod StoredRegions
 pub mod Live
 pub mod Tests

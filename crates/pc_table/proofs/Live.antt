@@ -31,7 +31,7 @@ module _ (table : Table) (keeps : TableKeeps table) where
   arrive_needs Stops_here x h = h
   arrive_needs (Traps_here kind line) x h = h
 
-  -- an item that prints the same, with the same seen behind it
+  -- an item that prints the same, with the same seen after it
   item_same : (item : Item) (tree : TableTree) (s t : State) (rest : Place → Seen) (f : Option MachineFault)
       → prints_of s (item ∷ []) ≡ prints_of t (item ∷ [])
       → rest (place_at table tree (state_after table.arrays s (item ∷ []))) ≡ rest (place_at table tree (state_after table.arrays t (item ∷ [])))

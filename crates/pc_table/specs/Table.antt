@@ -7,7 +7,6 @@ use Rattle.pc_word.specs.declared.loop_mark.LoopMark.{LoopMark}
 use Rattle.pc_table.specs.declared.tree.RegionTree.{RegionTree}
 use Rattle.pc_table.specs.declared.tree.RegionTree.TheVariants as tree
 use Rattle.pc_table.specs.declared.table.Region.{Region}
-use Rattle.pc_table.specs.declared.table.RegionTable.{RegionTable}
 
 -- a region's tree: an item before the rest, a test between two sides, the region that comes next, the end, or a trap
 pub data TableTree : Type 0 where
@@ -16,6 +15,7 @@ pub data TableTree : Type 0 where
   Next : (region : ℕ) → TableTree
   Stops_here : TableTree
   Traps_here : (kind : TrapKind) → (line : ℕ) → TableTree
+  deriving IsSet as TableTree-set
 
 -- a region: the graph's node at its head, its tree, the variables live at its head, the innermost loop that the head
 -- stands in, and the loop whose header the head is
@@ -50,7 +50,7 @@ region_tree table region = tree_of (slice_get table.regions region)
 abbrev pub region_live : Table → ℕ → List ℕ
 region_live table region = live_of (slice_get table.regions region)
 
--- ---- tables in memory
+-- ---- regions in memory
 
 -- the tree that a tree in memory is
 abbrev pub table_tree : RegionTree → TableTree
@@ -73,7 +73,3 @@ table_region region = record {
 -- the regions of a list
 abbrev pub table_regions : List Region → List TableRegion
 table_regions regions = map table_region regions
-
--- the table that a table in memory is
-abbrev pub table_of : RegionTable → Table
-table_of table = record { regions = table_regions table.regions; loops = table.loops; arrays = table.arrays }

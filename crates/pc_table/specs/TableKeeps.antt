@@ -15,7 +15,7 @@ use Rattle.pc_table.specs.RegionRun.{arrive}
 
 -- ---- what a tree names
 
--- an operand names a variable that there is, 64 scalars and behind them 32 temporaries, or it is a literal
+-- an operand names a variable that there is, 64 scalars and after them 32 temporaries, or it is a literal
 abbrev pub NamesVariable : Operand → Type 0
 NamesVariable (Name name) = name < most_scalars + most_temporaries
 NamesVariable (Lit value) = Unit {0}
@@ -25,6 +25,7 @@ pub record ItemIsThere (arrays : ℕ) (item : Item) : Type 0 where
   pub reads : AllByRecursion NamesVariable (operands_of item)
   pub writes : IfSome (dest_of item) (λ name. name < most_scalars + most_temporaries)
   pub array : IfSome (array_of item) (λ array. array < arrays)
+  deriving IsProp as ItemIsThere-once
 
 -- all that a tree names is there, in a table with so many arrays and regions
 abbrev pub TreeIsThere : (arrays regions : ℕ) → TableTree → Type 0
@@ -81,6 +82,7 @@ pub record RegionKeeps (table : Table) (region : TableRegion) : Type 0 where
   pub rising : IsStrictlyIncreasing region.live
   pub inside_there : IfSome region.inside (λ loop. loop < length table.loops)
   pub heads_there : IfSome region.heads (λ loop. loop < length table.loops)
+  deriving IsProp as RegionKeeps-once
 
 -- What every table keeps that is cut from a flow graph.
 pub record TableKeeps (table : Table) : Type 0 where
@@ -96,3 +98,4 @@ pub record TableKeeps (table : Table) : Type 0 where
   pub begins : (region : ℕ) → arrive table (region_tree table region) ≡ region_tree table region
   -- each cycle of regions passes a test
   pub tested : (region : ℕ) → ComesUntested table region region → ⊥
+  deriving IsProp as TableKeeps-once

@@ -2,6 +2,7 @@
 #![tactic(auto)]
 
 mod laws;
+mod loops;
 mod table;
 mod tree;
 

@@ -6,7 +6,7 @@ use pc_word::{Item, Operand, TrapKind};
 /// comes from.
 #[derive(Debug, Drop)]
 pub enum RegionTree {
-    /// An item, and what comes behind it.
+    /// An item, and what comes after it.
     Step {
         origin: u32,
         item: Item,
@@ -25,7 +25,7 @@ pub enum RegionTree {
     },
     /// The end of the program.
     Stop,
-    /// A trap, with the line that it is told by.
+    /// A trap, with its line in the source.
     Trap {
         kind: TrapKind,
         line: u32,

@@ -9,7 +9,9 @@ use Rattle.std.proofs.lemmas.List.Folds.{list_any-append}
 use Rattle.pc_word.specs.declared.item.Item.{Item}
 use Rattle.pc_word.specs.declared.item.Operand.{Operand}
 use Rattle.pc_word.specs.declared.item.Limits.{Limits}
-use Rattle.pc_machine.specs.MachineCode.{Leaf, Leads_to, Ends, Traps, CodeRow, RowCode, is_goto}
+use Rattle.pc_machine.specs.declared.tree.Leaf.{Leaf}
+use Rattle.pc_machine.specs.declared.tree.Leaf.TheVariants.{Goto, Stop, Trap}
+use Rattle.pc_machine.specs.MachineCode.{CodeRow, RowCode, is_goto}
 use Rattle.pc_word.specs.Row.{Then, Either, At_leaf, items_of, tests_of, leaves_of}
 use Rattle.pc_word.specs.Items.{is_memory}
 use Rattle.pc_word.proofs.Lists.{count_more, count_both, all_imply}
@@ -48,18 +50,18 @@ module _ (t u : ℕ) where
 
   -- a leaf that leads to a row other than t and u
   leads-elsewhere : (i : ℕ) → u ≢ t → i ≢ t → u ≢ i → (leaf : Leaf) → is_goto (shifted t i) (sent_leaf t u leaf) ≡ is_goto i leaf
-  leads-elsewhere i a b c (Leads_to row) = elim (same_or_apart row t) [
+  leads-elsewhere i a b c (Goto row) = elim (same_or_apart row t) [
     | inl here ↦ same_test (sent t u row) (shifted t i) row i
         (λ e. absurd (c (shifted-injective t u i a b (sym (ap (λ (k : ℕ). sent t u k) here ∙ sent-self) ∙ e)))) (λ e. absurd (b (sym e ∙ here)))
     | inr apart ↦ same_test (sent t u row) (shifted t i) row i
         (λ e. shifted-injective t row i apart b (sym (sent-other row apart) ∙ e)) (λ e. sent-other row apart ∙ ap (shifted t) e)
   ]
-  leads-elsewhere i a b c Ends = refl
-  leads-elsewhere i a b c (Traps kind line) = refl
+  leads-elsewhere i a b c Stop = refl
+  leads-elsewhere i a b c (Trap kind line) = refl
 
   -- one that leads to u now led to u or t
   leads-here : u ≢ t → (leaf : Leaf) → is_goto (shifted t u) (sent_leaf t u leaf) ≡ false → (is_goto u leaf ≡ false) × (is_goto t leaf ≡ false)
-  leads-here a (Leads_to row) e = (
+  leads-here a (Goto row) e = (
     elim (same_or_apart row u) [
       | inl same ↦ absurd (clash (nat_eq (sent t u row) (shifted t u)) e
           (ap (λ (k : ℕ). nat_eq k (shifted t u)) (ap (λ (k : ℕ). sent t u k) same ∙ sent-other u a) ∙ nat_eq-refl (shifted t u)))
@@ -74,8 +76,8 @@ module _ (t u : ℕ) where
       clash : (b : Bool) → b ≡ false → b ≡ true → ⊥
       clash true p q = absurd (cc)
       clash false p q = absurd (cc)
-  leads-here a Ends e = (refl, refl)
-  leads-here a (Traps kind line) e = (refl, refl)
+  leads-here a Stop e = (refl, refl)
+  leads-here a (Trap kind line) e = (refl, refl)
 
   module _ (p q : Leaf → Bool) (same : (leaf : Leaf) → p (sent_leaf t u leaf) ≡ q leaf) where
     any-sent : (row : CodeRow) → list_any p (leaves_of (sent_row t u row)) ≡ list_any q (leaves_of row)
@@ -102,9 +104,9 @@ module _ (t u : ℕ) where
   paths-sent i same (Then item rest) = ap (map (λ path. item ∷ path)) (paths-sent i same rest)
   paths-sent i same (Either on on_yes on_no) = ap (λ (l : List (List Item)). l ++ paths_to (shifted t i) (sent_row t u on_no)) (paths-sent i same on_yes)
       ∙ ap (λ (l : List (List Item)). paths_to i on_yes ++ l) (paths-sent i same on_no)
-  paths-sent i same (At_leaf (Leads_to row)) = ap (λ (b : Bool). (if b then [] ∷ [] else [])) (same (Leads_to row))
-  paths-sent i same (At_leaf Ends) = refl
-  paths-sent i same (At_leaf (Traps kind line)) = refl
+  paths-sent i same (At_leaf (Goto row)) = ap (λ (b : Bool). (if b then [] ∷ [] else [])) (same (Goto row))
+  paths-sent i same (At_leaf Stop) = refl
+  paths-sent i same (At_leaf (Trap kind line)) = refl
 
   -- the items that stayed below a row stay below one that has no fewer items, at the end of a longer path
   stays-sent : (limits : Limits) (m more : CodeRow) (path end before : List Item) (row : CodeRow)
@@ -168,7 +170,7 @@ module _ (code : RowCode) (t u : ℕ) (may : IsGotoAlone code.rows t u) (all : E
             | inl here ↦
                 let a = ap (λ (n : ℕ). slice_get code.rows n) here in
                 let b = may.at in
-                let is : At_leaf (Leads_to u) ≡ other = (cc) in
+                let is : At_leaf (Goto u) ≡ other = (cc) in
                 subst (λ (r : CodeRow). list_any (is_goto i) (leaves_of r) ≡ false) is (ap (λ (b : Bool). b || false) (nat_eq-apart u i elsewhere))
             | inr not_t ↦ sym (any-sent t u (is_goto (shifted t i)) (is_goto i) same other) ∙ none-else k other not_t apart at
           ];
@@ -204,10 +206,10 @@ module _ (code : RowCode) (t u : ℕ) (may : IsGotoAlone code.rows t u) (all : E
         let d = count_both (is_goto u) (leaves_of on_yes) (leaves_of on_no) in
         let e = count_both (is_goto t) (leaves_of on_yes) (leaves_of on_no) in
         omega arith
-    led (At_leaf (Leads_to row)) =
-        let a = count_more (is_goto (shifted t u)) (Leads_to (sent t u row)) [] in
-        let b = count_more (is_goto u) (Leads_to row) [] in
-        let c = count_more (is_goto t) (Leads_to row) [] in
+    led (At_leaf (Goto row)) =
+        let a = count_more (is_goto (shifted t u)) (Goto (sent t u row)) [] in
+        let b = count_more (is_goto u) (Goto row) [] in
+        let c = count_more (is_goto t) (Goto row) [] in
         elim (same_or_apart row t) [
           | inl is ↦
               let p = ap (λ (v : Bool). cond {A = ℕ} v 1 0) (ap (λ (k : ℕ). nat_eq k (shifted t u)) (ap (λ (k : ℕ). sent t u k) is ∙ sent-self t u) ∙ nat_eq-refl (shifted t u)) in
@@ -220,8 +222,8 @@ module _ (code : RowCode) (t u : ℕ) (may : IsGotoAlone code.rows t u) (all : E
               let r = ap (λ (v : Bool). cond {A = ℕ} v 1 0) (nat_eq-apart row t apart) in
               omega (arith, a, b, c, p, r)
         ]
-    led (At_leaf Ends) = refl
-    led (At_leaf (Traps kind line)) = refl
+    led (At_leaf Stop) = refl
+    led (At_leaf (Trap kind line)) = refl
 
     none-now : (row : CodeRow) → list_any (is_goto (shifted t u)) (leaves_of (sent_row t u row)) ≡ false
         → (list_any (is_goto u) (leaves_of row) ≡ false) × (list_any (is_goto t) (leaves_of row) ≡ false)
@@ -245,7 +247,7 @@ module _ (code : RowCode) (t u : ℕ) (may : IsGotoAlone code.rows t u) (all : E
 
     -- t is reached, so m leads to it
     leads_to_t : list_any (is_goto t) (leaves_of above) ≡ true
-    leads_to_t = by (all t (At_leaf (Leads_to u)) may.at) refl
+    leads_to_t = by (all t (At_leaf (Goto u)) may.at) refl
       where
         clash : (b : Bool) → b ≡ false → b ≡ true → ⊥
         clash true p q = absurd (cc)
@@ -264,7 +266,7 @@ module _ (code : RowCode) (t u : ℕ) (may : IsGotoAlone code.rows t u) (all : E
                 | inl itself ↦
                     let a = ap (λ (n : ℕ). slice_get code.rows n) itself in
                     let b = may.at in
-                    let is : row ≡ At_leaf (Leads_to u) = (cc) in
+                    let is : row ≡ At_leaf (Goto u) = (cc) in
                     absurd (clash (nat_eq u t || false) (ap (λ (v : Bool). v || false) (nat_eq-apart u t may.not_itself)) (subst
                     (λ (r : CodeRow). list_any (is_goto t) (leaves_of r) ≡ true) is to))
                 | inr not_t ↦ absurd (clash (list_any (is_goto t) (leaves_of row)) (else-none k row not_t not_m at).1 to)
@@ -278,12 +280,12 @@ module _ (code : RowCode) (t u : ℕ) (may : IsGotoAlone code.rows t u) (all : E
         let c = pair.only.once in
         any-counted (is_goto u) (leaves_of above) (omega arith)
 
-    pair_of_t : IsPair code t u (At_leaf (Leads_to u)) under
+    pair_of_t : IsPair code t u (At_leaf (Goto u)) under
     pair_of_t = record {
       at_m = may.at;
       at_t = at_u;
       only = record {
-        once = count_more (is_goto u) (Leads_to u) [] ∙ ap (λ (v : Bool). cond {A = ℕ} v 1 0 + 0) (nat_eq-refl u);
+        once = count_more (is_goto u) (Goto u) [] ∙ ap (λ (v : Bool). cond {A = ℕ} v 1 0 + 0) (nat_eq-refl u);
         alone = λ k other at not_t. elim (same_or_apart k m) [
           | inl here ↦
               let a = ap (λ (n : ℕ). slice_get code.rows n) here in
@@ -299,19 +301,19 @@ module _ (code : RowCode) (t u : ℕ) (may : IsGotoAlone code.rows t u) (all : E
     stay-here : AllByRecursion (λ path. EachStays code.limits (sent_row t u above) path [] (sent_row t u under)) (paths_to (shifted t u) (sent_row t u above))
     stay-here = each (paths_to (shifted t u) (sent_row t u above))
       where
-        first : AllByRecursion (λ path. EachStays code.limits (At_leaf (Leads_to u)) path [] under) (paths_to u (At_leaf (Leads_to u)))
-        first = compact t u (At_leaf (Leads_to u)) under (all t (At_leaf (Leads_to u)) may.at) pair_of_t
+        first : AllByRecursion (λ path. EachStays code.limits (At_leaf (Goto u)) path [] under) (paths_to u (At_leaf (Goto u)))
+        first = compact t u (At_leaf (Goto u)) under (all t (At_leaf (Goto u)) may.at) pair_of_t
 
-        alone : EachStays code.limits (At_leaf (Leads_to u)) [] [] under
-        alone = (elim (nat_eq u u) as (λ b. b ≡ true → AllByRecursion (λ path. EachStays code.limits (At_leaf (Leads_to u)) path [] under) (if b then [] ∷ [] else [])
-            → EachStays code.limits (At_leaf (Leads_to u)) [] [] under) [
+        alone : EachStays code.limits (At_leaf (Goto u)) [] [] under
+        alone = (elim (nat_eq u u) as (λ b. b ≡ true → AllByRecursion (λ path. EachStays code.limits (At_leaf (Goto u)) path [] under) (if b then [] ∷ [] else [])
+            → EachStays code.limits (At_leaf (Goto u)) [] [] under) [
               | true ↦ λ e h. h.0
               | false ↦ λ e h. absurd (cc)
             ]) (nat_eq-refl u) first
 
         each : (paths : List (List Item)) → AllByRecursion (λ path. EachStays code.limits (sent_row t u above) path [] (sent_row t u under)) paths
         each [] = tt
-        each (path ∷ paths) = (stays-sent t u code.limits (At_leaf (Leads_to u)) (sent_row t u above) [] path [] under (omega arith) (omega arith) alone, each paths)
+        each (path ∷ paths) = (stays-sent t u code.limits (At_leaf (Goto u)) (sent_row t u above) [] path [] under (omega arith) (omega arith) alone, each paths)
 
   pub removal_keeps_compact : Compact (removed code t u)
   removal_keeps_compact m' i' above' under' reached pair =

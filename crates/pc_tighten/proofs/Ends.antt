@@ -3,7 +3,8 @@ use Rattle.std.proofs.Common.{◌≡◌, ℕ, suc, ◌+◌, Bool, true, false, c
 use Rattle.std.specs.Prelude.{if◌then◌else◌, nat_eq}
 use Rattle.std.specs.List.{AllByRecursion, count_by}
 use Rattle.pc_word.specs.declared.item.Item.{Item}
-use Rattle.pc_machine.specs.MachineCode.{Leads_to, Ends, Traps, CodeRow, RowCode, is_goto}
+use Rattle.pc_machine.specs.declared.tree.Leaf.TheVariants.{Goto, Stop, Trap}
+use Rattle.pc_machine.specs.MachineCode.{CodeRow, RowCode, is_goto}
 use Rattle.pc_word.specs.Row.{Then, Either, At_leaf, items_of, tests_of, leaves_of}
 use Rattle.pc_word.proofs.Lists.{count_more, count_both}
 use Rattle.pc_tighten.specs.Compact.{stays, paths_to, IsPair, EachStays, Compact}
@@ -22,14 +23,14 @@ paths-count t (Either on on_yes on_no) =
     let b = paths-count t on_no in
     let c = count_both (is_goto t) (leaves_of on_yes) (leaves_of on_no) in
     omega (arith, length-append (paths_to t on_yes) (paths_to t on_no))
-paths-count t (At_leaf (Leads_to row)) = by_test (nat_eq row t) (count_more (is_goto t) (Leads_to row) [])
+paths-count t (At_leaf (Goto row)) = by_test (nat_eq row t) (count_more (is_goto t) (Goto row) [])
   where
-    by_test : (b : Bool) → count_by (is_goto t) (Leads_to row ∷ []) ≡ cond b 1 0 + count_by (is_goto t) []
-        → length {A = List Item} (if b then [] ∷ [] else []) ≡ count_by (is_goto t) (Leads_to row ∷ [])
+    by_test : (b : Bool) → count_by (is_goto t) (Goto row ∷ []) ≡ cond b 1 0 + count_by (is_goto t) []
+        → length {A = List Item} (if b then [] ∷ [] else []) ≡ count_by (is_goto t) (Goto row ∷ [])
     by_test true e = omega arith
     by_test false e = omega arith
-paths-count t (At_leaf Ends) = refl
-paths-count t (At_leaf (Traps kind line)) = refl
+paths-count t (At_leaf Stop) = refl
+paths-count t (At_leaf (Trap kind line)) = refl
 
 -- one element alone
 pub each_alone : (xs : List (List Item)) (P : List Item → Type 0) → length xs ≡ 1 → ((x : List Item) → xs ≡ x ∷ [] → P x) → AllByRecursion P xs

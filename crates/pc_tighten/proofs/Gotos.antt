@@ -7,8 +7,10 @@ use Rattle.std.proofs.lemmas.Bool.Decides.{nat_tests}
 use Rattle.std.proofs.lemmas.Option.{slice_get-map, slice_get_past, slice_get_within}
 use Rattle.std.proofs.lemmas.List.{length-map, map-append, reverse-append}
 use Rattle.pc_word.specs.Row.{Then, Either, At_leaf}
-use Rattle.pc_machine.specs.MachineCode.{Leads_to, Ends, Traps, CodeRow, RowCode, row_of, rows_of}
-use Rattle.pc_machine.specs.declared.tree.Tree.{Tree}
+use Rattle.pc_machine.specs.declared.tree.Leaf.TheVariants.{Goto, Stop, Trap}
+use Rattle.pc_machine.specs.MachineCode.{CodeRow, RowCode, row_of, rows_of}
+use Rattle.pc_word.specs.declared.row_tree.RowTree.{RowTree}
+use Rattle.pc_machine.specs.declared.tree.Leaf.{Leaf}
 use Rattle.pc_tighten.specs.declared.removing.Places.{Places}
 use Rattle.pc_tighten.specs.Removals.{IsGotoAlone, HasNoGotoAlone}
 use Rattle.pc_tighten.specs.Removing.{unmarked_rows, rank, placed_row, Shrinks, AreMarks}
@@ -265,14 +267,14 @@ place_sent_on gotos it now t u are to low gone set = record {
 
 -- ---- a round
 
-goto_is : (row : CodeRow) (u : ℕ) → goto_of row ≡ Some u → row ≡ At_leaf (Leads_to u)
+goto_is : (row : CodeRow) (u : ℕ) → goto_of row ≡ Some u → row ≡ At_leaf (Goto u)
 goto_is (Then item rest) u e = absurd (cc)
 goto_is (Either on on_yes on_no) u e = absurd (cc)
-goto_is (At_leaf (Leads_to row)) u e = let same : row ≡ u = (cc) in ap (λ (k : ℕ). At_leaf (Leads_to k)) same
-goto_is (At_leaf Ends) u e = absurd (cc)
-goto_is (At_leaf (Traps kind line)) u e = absurd (cc)
+goto_is (At_leaf (Goto row)) u e = let same : row ≡ u = (cc) in ap (λ (k : ℕ). At_leaf (Goto k)) same
+goto_is (At_leaf Stop) u e = absurd (cc)
+goto_is (At_leaf (Trap kind line)) u e = absurd (cc)
 
-row_there : (rows : List CodeRow) (t u : ℕ) → slice_get (gotos_of rows) t ≡ Some (Some u) → slice_get rows t ≡ Some (At_leaf (Leads_to u))
+row_there : (rows : List CodeRow) (t u : ℕ) → slice_get (gotos_of rows) t ≡ Some (Some u) → slice_get rows t ≡ Some (At_leaf (Goto u))
 row_there [] t u e = absurd (cc)
 row_there (row ∷ rows) zero u e = ap Some (goto_is row u (cc))
 row_there (row ∷ rows) (suc t) u e = row_there rows t u e
@@ -298,29 +300,29 @@ rows_shrink : (rows : List CodeRow) (it : Places) → ArePlacesFrom (gotos_of ro
 rows_shrink rows it are limits arrays = marked_go (code_with limits arrays rows) (new_place it) (goes (gotos_of rows)) (length rows) (are_marks rows it are)
 
 -- the last row, if it goes
-pub left_without : (gotos : List (Option ℕ)) (it : Places) (before rows left : List Tree) (tree : Tree) → before ≡ rows ++ tree ∷ [] → goes gotos (length rows) ≡ true
+pub left_without : (gotos : List (Option ℕ)) (it : Places) (before rows left : List (RowTree Leaf)) (tree : RowTree Leaf) → before ≡ rows ++ tree ∷ [] → goes gotos (length rows) ≡ true
     → rows_left gotos it (rows_of rows) ++ rows_of (reverse left) ≡ rows_left gotos it (rows_of before) ++ rows_of (reverse left)
 left_without gotos it before rows left tree is gone = ap (λ (l : List CodeRow). l ++ rows_of (reverse left)) (sym last)
   where
     last : rows_left gotos it (rows_of before) ≡ rows_left gotos it (rows_of rows)
     last =
-        ap (λ (l : List Tree). rows_left gotos it (rows_of l)) is ∙ ap (rows_left gotos it) (map-append row_of rows (tree ∷ []))
+        ap (λ (l : List (RowTree Leaf)). rows_left gotos it (rows_of l)) is ∙ ap (rows_left gotos it) (map-append row_of rows (tree ∷ []))
         ∙ ap (map (placed_row (new_place it))) (kept_last (goes gotos) (rows_of rows) (row_of tree)
         ∙ ap (λ (b : Bool). if b then unmarked_rows (goes gotos) (rows_of rows) else unmarked_rows (goes gotos) (rows_of rows) ++ row_of tree ∷ []) (ap (goes gotos) (length-map rows row_of) ∙ gone))
 
 -- and if it stays
-pub left_with : (gotos : List (Option ℕ)) (it : Places) (before rows left : List Tree) (tree now : Tree) → before ≡ rows ++ tree ∷ [] → goes gotos (length rows) ≡ false
+pub left_with : (gotos : List (Option ℕ)) (it : Places) (before rows left : List (RowTree Leaf)) (tree now : RowTree Leaf) → before ≡ rows ++ tree ∷ [] → goes gotos (length rows) ≡ false
     → row_of now ≡ placed_row (new_place it) (row_of tree)
     → rows_left gotos it (rows_of rows) ++ rows_of (reverse (left ++ now ∷ [])) ≡ rows_left gotos it (rows_of before) ++ rows_of (reverse left)
 left_with gotos it before rows left tree now is stays sent =
-    ap (λ (l : List Tree). rows_left gotos it (rows_of rows) ++ rows_of l) (reverse-append left (now ∷ []))
+    ap (λ (l : List (RowTree Leaf)). rows_left gotos it (rows_of rows) ++ rows_of l) (reverse-append left (now ∷ []))
     ∙ ap (λ (r : CodeRow). rows_left gotos it (rows_of rows) ++ (r ∷ rows_of (reverse left))) sent
     ∙ sym (append_assoc (rows_left gotos it (rows_of rows)) (placed_row (new_place it) (row_of tree) ∷ []) (rows_of (reverse left)))
     ∙ ap (λ (l : List CodeRow). l ++ rows_of (reverse left)) (sym last)
   where
     last : rows_left gotos it (rows_of before) ≡ rows_left gotos it (rows_of rows) ++ placed_row (new_place it) (row_of tree) ∷ []
     last =
-        ap (λ (l : List Tree). rows_left gotos it (rows_of l)) is ∙ ap (rows_left gotos it) (map-append row_of rows (tree ∷ []))
+        ap (λ (l : List (RowTree Leaf)). rows_left gotos it (rows_of l)) is ∙ ap (rows_left gotos it) (map-append row_of rows (tree ∷ []))
         ∙ ap (map (placed_row (new_place it))) (kept_last (goes gotos) (rows_of rows) (row_of tree)
         ∙ ap (λ (b : Bool). if b then unmarked_rows (goes gotos) (rows_of rows) else unmarked_rows (goes gotos) (rows_of rows) ++ row_of tree ∷ []) (ap (goes gotos) (length-map rows row_of) ∙ stays))
         ∙ map-append (placed_row (new_place it)) (unmarked_rows (goes gotos) (rows_of rows)) (row_of tree ∷ [])
@@ -370,7 +372,7 @@ none_left rows it counted none = none_alone rows up
     up : (t u : ℕ) → IsGotoAlone rows t u → (u < t) × ((w : ℕ) × IsGotoAlone rows u w)
     up t u alone =
         by_parts t u (nat_lt t u) (goto_target (gotos_of rows) u) refl refl alone.not_itself
-        (sym (ap (λ (o : Option ℕ). is_some (if_at_end (gotos_of rows) t o)) (target t u alone)) ∙ stays t (slice_get_within rows t (At_leaf (Leads_to u)) alone.at))
+        (sym (ap (λ (o : Option ℕ). is_some (if_at_end (gotos_of rows) t o)) (target t u alone)) ∙ stays t (slice_get_within rows t (At_leaf (Goto u)) alone.at))
 
 -- ---- rounds
 

@@ -31,7 +31,7 @@ any_more p xs ys h = list_any-append p xs ys ∙ ap (λ (b : Bool). b || list_an
 at_most : (n a b : ℕ) → a ≤ b → Implies (nat_le n a) (nat_le n b)
 at_most n a b le h = grind (arith, nat_tests)
 
--- the row above has no fewer items, its path has more behind, and each test that an item of the row passed one passes
+-- the row above has no fewer items, its path has more after, and each test that an item of the row passed one passes
 pub stays_longer : (limits : Limits) (above more : CodeRow) (path end : List Item) (x : Item) (others others' : List Item) (tests : List Operand)
     → length (items_of above) ≤ length (items_of more) → count_by is_memory (items_of above) ≤ count_by is_memory (items_of more)
     → ((p : Item → Bool) → Implies (list_any p others) (list_any p others'))

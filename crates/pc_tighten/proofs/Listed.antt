@@ -8,7 +8,9 @@ use Rattle.std.proofs.lemmas.List.Sums.{count_by-le-length}
 use Rattle.std.proofs.lemmas.List.{get_or-replicate, length-replicate}
 use Rattle.pc_word.proofs.Lists.{count_more, set_at, set_length}
 use Rattle.pc_word.specs.Row.{leaves_of}
-use Rattle.pc_machine.specs.MachineCode.{Leaf, Leads_to, Ends, Traps, CodeRow, is_goto}
+use Rattle.pc_machine.specs.declared.tree.Leaf.{Leaf}
+use Rattle.pc_machine.specs.declared.tree.Leaf.TheVariants.{Goto, Stop, Trap}
+use Rattle.pc_machine.specs.MachineCode.{CodeRow, is_goto}
 use Rattle.pc_machine.specs.Reachable.{Entry, Behind}
 use Rattle.pc_tighten.specs.models.Listing.{Listed, put_row, with_listed, with_target, with_targets, LeadsFrom, IsBehind, IsListing, IsList, AreListed, nothing_listed, AllListed}
 use Rattle.pc_tighten.proofs.Lists.{nat_eq-refl}
@@ -61,7 +63,7 @@ none_counted (suc count) =
 abbrev Keeps : Listed → Listed → Type 0
 Keeps old new = (row place : ℕ) → slice_get old.places row ≡ Some (Some place) → slice_get new.places row ≡ Some (Some place)
 
--- the list with a row behind the others
+-- the list with a row after the others
 abbrev next_listed : Listed → ℕ → Listed
 next_listed it t = record { places = slice_set it.places t (Some (length it.order)); order = it.order ++ (t ∷ []) }
 
@@ -148,33 +150,33 @@ module _ (rows : List CodeRow) where
         → Grows it (with_targets leaves it) done
         × ((t : ℕ) → list_any (is_goto t) leaves ≡ true → t < length rows → (k : ℕ) × (slice_get (with_targets leaves it).places t ≡ Some (Some k)))
     targets_grow [] it among is there low = (record { is = is; keeps = λ r place e. e }, (λ t e inside. absurd (cc)))
-    targets_grow (Leads_to to ∷ leaves) it among is there low =
+    targets_grow (Goto to ∷ leaves) it among is there low =
         let leads : list_any (is_goto to) (leaves_of row) ≡ true = among to (ap (λ (b : Bool). b || list_any (is_goto to) leaves) (nat_eq-refl to)) in
         let first = with_listed_grows it done to is (inr (m, done, there, low, record { row = row; at = at_m; leads = leads })) in
         let kept = first.0.keeps m done there in
         let low_then = slice_get_within (with_listed to it).order done m (first.0.is.place_there m done kept) in
-        let rest = targets_grow leaves (with_listed to it) (λ t e. among t (later (is_goto t (Leads_to to)) (list_any (is_goto t) leaves) e)) first.0.is kept low_then in (
+        let rest = targets_grow leaves (with_listed to it) (λ t e. among t (later (is_goto t (Goto to)) (list_any (is_goto t) leaves) e)) first.0.is kept low_then in (
           record { is = rest.0.is; keeps = λ r place e. rest.0.keeps r place (first.0.keeps r place e) },
-          (λ t e inside. by_test t (is_goto t (Leads_to to)) refl e first.1 rest.1 rest.0.keeps inside),
+          (λ t e inside. by_test t (is_goto t (Goto to)) refl e first.1 rest.1 rest.0.keeps inside),
         )
       where
         later : (a b : Bool) → b ≡ true → (a || b) ≡ true
         later true b e = refl
         later false b e = e
 
-        by_test : (t : ℕ) (b : Bool) → is_goto t (Leads_to to) ≡ b → (b || list_any (is_goto t) leaves) ≡ true
+        by_test : (t : ℕ) (b : Bool) → is_goto t (Goto to) ≡ b → (b || list_any (is_goto t) leaves) ≡ true
             → (to < length rows → (k : ℕ) × (slice_get (with_listed to it).places to ≡ Some (Some k)))
             → ((u : ℕ) → list_any (is_goto u) leaves ≡ true → u < length rows → (k : ℕ) × (slice_get (with_targets leaves (with_listed to it)).places u ≡ Some (Some k)))
             → Keeps (with_listed to it) (with_targets leaves (with_listed to it)) → t < length rows
             → (k : ℕ) × (slice_get (with_targets leaves (with_listed to it)).places t ≡ Some (Some k))
         by_test t true e h here more keeps inside =
-            let is_to : Leads_to to ≡ Leads_to t = goto_leaf t (Leads_to to) e in
+            let is_to : Goto to ≡ Goto t = goto_leaf t (Goto to) e in
             let same : to ≡ t = (cc) in
             subst (λ (n : ℕ). (k : ℕ) × (slice_get (with_targets leaves (with_listed to it)).places n ≡ Some (Some k))) same
             (let led = here (subst (λ (n : ℕ). n < length rows) (sym same) inside) in (led.0, keeps to led.0 led.1))
         by_test t false e h here more keeps inside = more t h inside
-    targets_grow (Ends ∷ leaves) it among is there low = targets_grow leaves it among is there low
-    targets_grow (Traps kind line ∷ leaves) it among is there low = targets_grow leaves it among is there low
+    targets_grow (Stop ∷ leaves) it among is there low = targets_grow leaves it among is there low
+    targets_grow (Trap kind line ∷ leaves) it among is there low = targets_grow leaves it among is there low
 
   -- ---- the loop
 

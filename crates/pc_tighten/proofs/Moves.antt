@@ -9,7 +9,9 @@ use Rattle.pc_word.specs.declared.item.Operand.{Operand}
 use Rattle.pc_word.specs.declared.item.End.TheVariants.{Ended}
 use Rattle.pc_word.specs.declared.item.MachineFault.{MachineFault}
 use Rattle.pc_word.specs.Run.{Answers, Agree, Step, Goes, Stops, seen_of, run_from}
-use Rattle.pc_machine.specs.MachineCode.{Leaf, Leads_to, Ends, Traps, CodeRow, RowCode, is_goto}
+use Rattle.pc_machine.specs.declared.tree.Leaf.{Leaf}
+use Rattle.pc_machine.specs.declared.tree.Leaf.TheVariants.{Goto, Stop, Trap}
+use Rattle.pc_machine.specs.MachineCode.{CodeRow, RowCode, is_goto}
 use Rattle.pc_word.specs.Row.{Then, path_of, leaf_of, commit_of, items_of, tests_of, leaves_of}
 use Rattle.pc_word.specs.State.{State}
 use Rattle.pc_word.specs.Items.{dest_of, is_effect}
@@ -57,10 +59,10 @@ commits_along code here row path leaf at p q none =
     ∙ ap (λ (l : List Item). follow_leaf (prints_of here.state l) (state_after code.arrays here.state l) (leaf_of here.state.names row)) p
     ∙ ap (λ (l : Leaf). follow_leaf (prints_of here.state path) (state_after code.arrays here.state path) l) q
 
-is_leaf : (t : ℕ) (leaf : Leaf) → is_goto t leaf ≡ true → leaf ≡ Leads_to t
-is_leaf t (Leads_to row) e = ap Leads_to (nat_eq-sound row t e)
-is_leaf t Ends e = absurd (cc)
-is_leaf t (Traps kind line) e = absurd (cc)
+is_leaf : (t : ℕ) (leaf : Leaf) → is_goto t leaf ≡ true → leaf ≡ Goto t
+is_leaf t (Goto row) e = ap Goto (nat_eq-sound row t e)
+is_leaf t Stop e = absurd (cc)
+is_leaf t (Trap kind line) e = absurd (cc)
 
 pub same_or_apart : (n m : ℕ) → (n ≡ m) ⊎ (n ≢ m)
 same_or_apart n m = grind arith
@@ -142,11 +144,11 @@ module _ (code : RowCode) (well : WellFormed code) (m t : ℕ) (above : CodeRow)
   follow_alike : (p out more : List ℤ) (new : State) (leaf : Leaf) → p ++ more ≡ out → is_goto t leaf ≡ false
       → ((next : Cycle) → follow_leaf out new leaf ≡ Goes out next → NeverFaultsFrom (machine_step code) next)
       → StepsAhead HasDone p (follow_leaf out new leaf) (follow_leaf more new leaf)
-  follow_alike p out more new (Leads_to row) e other safe =
+  follow_alike p out more new (Goto row) e other safe =
       let apart : row ≢ t = grind (arith, nat_tests) in
       ([], e ∙ sym (append-nil out), (more, e), (safe (cycle row new) refl, inl (refl, apart, refl)))
-  follow_alike p out more new Ends e other safe = (e, refl)
-  follow_alike p out more new (Traps kind line) e other safe = (e, refl)
+  follow_alike p out more new Stop e other safe = (e, refl)
+  follow_alike p out more new (Trap kind line) e other safe = (e, refl)
 
   safe_next : (here : Cycle) (out : List ℤ) (new : State) (leaf : Leaf) → machine_step code here ≡ follow_leaf out new leaf → NeverFaultsFrom (machine_step code) here
       → (next : Cycle) → follow_leaf out new leaf ≡ Goes out next → NeverFaultsFrom (machine_step code) next
@@ -238,12 +240,12 @@ module _ (code : RowCode) (well : WellFormed code) (m t : ℕ) (above : CodeRow)
             let sound = under_sound mid never' in
             let one = one-faultless L mid xs x (path_of mid.names rest) (begins mid.names) sound in
             let ends = (path_taken_to s.names t above (λ p. IsFree p x (xs ++ items_of rest) (tests_of rest)) frees leads).ends in
-            let b = commits_along after (cycle m s) (with_item t x above) (path ++ (x ∷ [])) (Leads_to t) at_m_after (with_item-path s.names t x above leads)
+            let b = commits_along after (cycle m s) (with_item t x above) (path ++ (x ∷ [])) (Goto t) at_m_after (with_item-path s.names t x above leads)
             (with_item-leaf s.names t x above ∙ is)
             (no_fault L s (path ++ (x ∷ [])) (last-faultless L s path x ends (faultless L s path none) one)) in
             let d : machine_step after (cycle m s) ≡ Goes (out ++ prints_of mid (x ∷ [])) (cycle t (state_after L mid (x ∷ []))) =
-            b ∙ ap (λ (l : List ℤ). follow_leaf l (state_after L s (path ++ (x ∷ []))) (Leads_to t)) (last-prints L s path x ends)
-            ∙ ap (λ (u : State). follow_leaf (out ++ prints_of mid (x ∷ [])) u (Leads_to t)) (last-state L s path x ends) in
+            b ∙ ap (λ (l : List ℤ). follow_leaf l (state_after L s (path ++ (x ∷ []))) (Goto t)) (last-prints L s path x ends)
+            ∙ ap (λ (u : State). follow_leaf (out ++ prints_of mid (x ∷ [])) u (Goto t)) (last-state L s path x ends) in
             steps_by [] (machine_step code (cycle m s)) (Goes out (cycle t mid)) (machine_step after (cycle m s)) (Goes (out ++ prints_of mid (x ∷ [])) (cycle t (state_after L mid (x ∷ [])))) a' d
             (prints_of mid (x ∷ []), refl, (out, refl), (never', inr (refl, refl, refl)))
         | false ↦ λ other.

@@ -10,7 +10,9 @@ use Rattle.std.proofs.lemmas.Option.{slice_get_within, slice_get-get_or}
 use Rattle.pc_word.proofs.Lists.{count_more}
 use Rattle.pc_word.proofs.Truth.{less_of}
 use Rattle.pc_word.specs.Row.{leaves_of}
-use Rattle.pc_machine.specs.MachineCode.{Leaf, Leads_to, Ends, Traps, CodeRow, is_goto}
+use Rattle.pc_machine.specs.declared.tree.Leaf.{Leaf}
+use Rattle.pc_machine.specs.declared.tree.Leaf.TheVariants.{Goto, Stop, Trap}
+use Rattle.pc_machine.specs.MachineCode.{CodeRow, is_goto}
 use Rattle.pc_machine.specs.Reachable.{IsReachable, Behind}
 use Rattle.pc_tighten.specs.declared.parents.Naming.{Naming}
 use Rattle.pc_tighten.specs.declared.parents.Naming.TheVariants.{Never, Once, Often}
@@ -45,17 +47,17 @@ counted_more from (suc (suc count)) n = refl
 
 module _ (from t : ℕ) where
   entry-with_name : (leaf : Leaf) (table : List Naming) → slice_get (with_name from leaf table) t ≡ option_map (λ n. if is_goto t leaf then named_again from n else n) (slice_get table t)
-  entry-with_name Ends table = same (slice_get table t)
+  entry-with_name Stop table = same (slice_get table t)
     where
       same : (e : Option Naming) → e ≡ option_map (λ n. n) e
       same None = refl
       same (Some n) = refl
-  entry-with_name (Traps kind line) table = same (slice_get table t)
+  entry-with_name (Trap kind line) table = same (slice_get table t)
     where
       same : (e : Option Naming) → e ≡ option_map (λ n. n) e
       same None = refl
       same (Some n) = refl
-  entry-with_name (Leads_to row) table = elim (same_or_apart row t) [
+  entry-with_name (Goto row) table = elim (same_or_apart row t) [
     | inl here ↦
         subst (λ (r : ℕ). slice_get (put_name from (slice_get table r) r table) t ≡ option_map (λ n. if nat_eq r t then named_again from n else n) (slice_get table t)) (sym here)
         (by_entry (slice_get table t) refl)

@@ -10,26 +10,28 @@ use Rattle.std.specs.Result.{OnOk}
 use Rattle.std.proofs.Math.Nat.{suc-mul}
 use Rattle.std.proofs.lemmas.Option.{slice_get-map, slice_get_read, slice_get_within}
 use Rattle.std.proofs.lemmas.List.{length-map}
-use Rattle.pc_word.proofs.Lists.{set_length}
+use Rattle.pc_word.proofs.Lists.{all_at, set_length}
 use Rattle.pc_word.specs.declared.item.Item.{Item}
 use Rattle.pc_word.specs.declared.item.Operand.{Operand}
 use Rattle.pc_word.specs.declared.item.Limits.{Limits}
 use Rattle.pc_word.specs.Items.{dest_of}
 use Rattle.pc_word.specs.Row.{Then, items_of, tests_of, leaves_of}
-use Rattle.pc_machine.specs.MachineCode.{Leaf, CodeRow, is_goto}
+use Rattle.pc_word.specs.declared.row_tree.RowTree.{RowTree}
+use Rattle.pc_machine.specs.declared.tree.Leaf.{Leaf}
+use Rattle.pc_machine.specs.MachineCode.{CodeRow, row_of, is_goto}
 use Rattle.pc_tighten.specs.declared.draft.Draft.{Draft}
 use Rattle.pc_tighten.specs.declared.parents.Parents.{Parents}
 use Rattle.pc_tighten.specs.Compact.{is_dest, is_full, comes_after, is_awaited_by, stays, paths_to, IsPair}
 use Rattle.pc_tighten.specs.Moves.{below, with_item, MayMove}
 use Rattle.pc_tighten.specs.Tightened.{Tightens, Done, Moves}
-use Rattle.pc_tighten.specs.models.Drafts.{below_row, draft_row, draft_rows, held, items_but, FirstStay, MayGoUp}
+use Rattle.pc_tighten.specs.models.Drafts.{draft_row, draft_rows, BeginsWithNoItem, IsSplit, held, items_but, FirstStay, MayGoUp}
 use Rattle.pc_tighten.specs.models.Parents.{HasParent, StandAbove, parent_of}
 use Rattle.pc_tighten.specs.models.Raising.{place_by, place_of, weigh, code_with, Raises, CanRise, MovesUp, MayRise, IsSettled}
 use Rattle.pc_tighten.proofs.Drafting.{below_append, items_below}
 use Rattle.pc_tighten.proofs.Ends.{paths-count, each_alone}
 use Rattle.pc_tighten.proofs.Rows.{below-leaves, set_elsewhere}
 use Rattle.pc_tighten.proofs.Tightened.{tightens_on}
-use Rattle.pc_tighten.proofs.WellMoved.{with_item-leaves, with_item-length, below-tests}
+use Rattle.pc_tighten.proofs.WellMoved.{set_all, with_item-leaves, with_item-length, below-tests}
 use Rattle.pc_word.proofs.Places.{set_elsewhere as set_other}
 
 -- ---- one path alone
@@ -116,7 +118,7 @@ module _ (limits : Limits) (places : List (Option ℕ)) (old new : List Draft) (
   xs = take i can.under.items.items
 
   abbrev rest : CodeRow
-  rest = below (drop (i + 1) can.under.items.items) (below_row can.under.rest)
+  rest = below (drop (i + 1) can.under.items.items) (row_of can.under.rest)
 
   abbrev above : CodeRow
   above = draft_row can.above
@@ -126,8 +128,8 @@ module _ (limits : Limits) (places : List (Option ℕ)) (old new : List Draft) (
 
   is_under : draft_row can.under ≡ below xs (Then can.free.0 rest)
   is_under =
-      ap (λ (l : List Item). below l (below_row can.under.rest)) (sym (parted can.under.items.items i can.free.0 can.free.1))
-      ∙ below_append xs (can.free.0 ∷ drop (i + 1) can.under.items.items) (below_row can.under.rest)
+      ap (λ (l : List Item). below l (row_of can.under.rest)) (sym (parted can.under.items.items i can.free.0 can.free.1))
+      ∙ below_append xs (can.free.0 ∷ drop (i + 1) can.under.items.items) (row_of can.under.rest)
 
   at_t : slice_get (draft_rows old) t ≡ Some (below xs (Then can.free.0 rest))
   at_t = slice_get-map draft_row old t ∙ ap (option_map draft_row) can.at_t ∙ ap (λ (r : CodeRow). Some r) is_under
@@ -152,17 +154,17 @@ module _ (limits : Limits) (places : List (Option ℕ)) (old new : List Draft) (
     pair = is_pair arrays;
     free = each_alone (paths_to t above) (λ path. stays limits above path can.free.0 (xs ++ items_of rest) (tests_of rest) ≡ false) (paths-count t above ∙ once)
         (λ path alone.
-        subst (λ (l : List Item). stays limits above path can.free.0 (xs ++ l) (tests_of rest) ≡ false) (sym (items_below (drop (i + 1) can.under.items.items) (below_row can.under.rest)))
-        (subst (λ (l : List Operand). stays limits above path can.free.0 (items_but can.under i) l ≡ false) (sym (below-tests (drop (i + 1) can.under.items.items) (below_row can.under.rest)))
-        (sym (held_is limits above t can.free.0 (items_but can.under i) (tests_of (below_row can.under.rest)) path alone) ∙ can.free.2)));
+        subst (λ (l : List Item). stays limits above path can.free.0 (xs ++ l) (tests_of rest) ≡ false) (sym (items_below (drop (i + 1) can.under.items.items) (row_of can.under.rest)))
+        (subst (λ (l : List Operand). stays limits above path can.free.0 (items_but can.under i) l ≡ false) (sym (below-tests (drop (i + 1) can.under.items.items) (row_of can.under.rest)))
+        (sym (held_is limits above t can.free.0 (items_but can.under i) (tests_of (row_of can.under.rest)) path alone) ∙ can.free.2)));
   }
 
   new_is : draft_rows new ≡ slice_set (slice_set (draft_rows old) m (with_item t can.free.0 above)) t (below xs rest)
   new_is =
-      moves can.above can.under can.free.0 can.at_m can.at_t can.free.1
+      moves.rows can.above can.under can.free.0 can.at_m can.at_t can.free.1
       ∙ ap (λ (r : CodeRow). slice_set (slice_set (draft_rows old) m (with_item t can.free.0 above)) t r)
-      (ap (λ (l : List Item). below l (below_row can.under.rest)) (removed_is can.under.items.items i)
-      ∙ below_append xs (drop (i + 1) can.under.items.items) (below_row can.under.rest))
+      (ap (λ (l : List Item). below l (row_of can.under.rest)) (removed_is can.under.items.items i)
+      ∙ below_append xs (drop (i + 1) can.under.items.items) (row_of can.under.rest))
 
   at_t_then : slice_get (slice_set (draft_rows old) m (with_item t can.free.0 above)) t ≡ Some (below xs (Then can.free.0 rest))
   at_t_then = set_elsewhere m t (with_item t can.free.0 above) (draft_rows old) parent.parent.not_itself ∙ at_t
@@ -180,7 +182,7 @@ module _ (limits : Limits) (places : List (Option ℕ)) (old new : List Draft) (
       let h = parent.before in
       omega arith
 
-  pub move_raises : Raises limits places 1 (draft_rows old) (draft_rows new)
+  pub move_raises : Raises limits places 1 old new
   move_raises = record {
     tightens = λ arrays.
         subst (λ (rows : List CodeRow). Tightens (code_with limits arrays (draft_rows old)) (code_with limits arrays rows)) (sym new_is)
@@ -193,12 +195,13 @@ module _ (limits : Limits) (places : List (Option ℕ)) (old new : List Draft) (
     lower = subst (λ (rows : List CodeRow). weigh (place_of places) 0 rows + 1 ≤ weigh (place_of places) 0 (draft_rows old)) (sym new_is)
         (weigh-moved (place_of places) (draft_rows old) m t above (with_item t can.free.0 above) (below xs (Then can.free.0 rest)) (below xs rest)
         (λ e. parent.parent.not_itself (sym e)) at_m at_t (let h = with_item-length t can.free.0 above in let e = once in omega arith) lengths_less lower_place);
+    split = moves.split;
   }
 
 -- ---- one after another
 
-pub raises_none : (limits : Limits) (places : List (Option ℕ)) (rows : List CodeRow) → Raises limits places 0 rows rows
-raises_none limits places rows = record { tightens = λ arrays. Done; leaves = refl; lower = omega arith }
+pub raises_none : (limits : Limits) (places : List (Option ℕ)) (rows : List Draft) → Raises limits places 0 rows rows
+raises_none limits places rows = record { tightens = λ arrays. Done; leaves = refl; lower = omega arith; split = λ all. all }
 
 -- ---- rows with the same leaves
 
@@ -254,31 +257,46 @@ pub record IsMoved (old : List Draft) (m t i : ℕ) (above under then_under put 
   pub under_is : under ≡ get_or old t under
   pub item_is : item ≡ get_or under.items.items i item
   pub put_is : draft_row put ≡ with_item t item (draft_row above)
+  pub put_split : IsSplit above → IsSplit put
   pub then_is : then_under ≡ get_or (slice_set old m put) t then_under
   pub left_is : left.items.items ≡ remove then_under.items.items i
   pub rest_is : left.rest ≡ then_under.rest
 
 pub moved_up : (old : List Draft) (m t i : ℕ) (above under then_under put left : Draft) (item : Item) → IsMoved old m t i above under then_under put left item
     → MovesUp old (slice_set (slice_set old m put) t left) m t i
-moved_up old m t i above under then_under put left item h first second x at_m at_t at_i =
-    let one = slice_get_read old (length old) m above refl h.low_m h.above_is in
-    let two = slice_get_read old (length old) t under refl h.low_t h.under_is in
-    let size = set_length old m put in
-    let three = slice_get_read (slice_set old m put) (length old) t then_under (sym size) h.low_t h.then_is in
-    let four = set_other old m t put h.apart in
-    let same_m : above ≡ first = (cc) in
-    let same_t : under ≡ second = (cc) in
-    let same_then : then_under ≡ second = (cc) in
-    let five = slice_get_read under.items.items (length under.items.items) i item refl h.low_i h.item_is in
-    let at_item : slice_get under.items.items i ≡ Some x = ap (λ (d : Draft). slice_get d.items.items i) same_t ∙ at_i in
-    let same_x : item ≡ x = (cc) in
-    map_of_set draft_row (slice_set old m put) t left
-    ∙ ap (λ (l : List CodeRow). slice_set l t (draft_row left)) (map_of_set draft_row old m put)
-    ∙ ap (λ (r : CodeRow). slice_set (slice_set (draft_rows old) m r) t (draft_row left)) (h.put_is ∙ ap (λ (y : Item). with_item t y (draft_row above)) same_x
-    ∙ ap (λ (d : Draft). with_item t x (draft_row d)) same_m)
-    ∙ ap (λ (r : CodeRow). slice_set (slice_set (draft_rows old) m (with_item t x (draft_row first))) t r)
-    (ap (λ (l : List Item). below l (below_row left.rest)) (h.left_is ∙ ap (λ (d : Draft). remove d.items.items i) same_then)
-    ∙ ap (λ (r : CodeRow). below (remove second.items.items i) r) (ap below_row (h.rest_is ∙ ap (λ (d : Draft). d.rest) same_then)))
+moved_up old m t i above under then_under put left item h = record {
+  rows = λ first second x at_m at_t at_i.
+      let one = above_there in
+      let two = under_there in
+      let three = then_there in
+      let four = set_other old m t put h.apart in
+      let five = slice_get_read under.items.items (length under.items.items) i item refl h.low_i h.item_is in
+      let same_m : above ≡ first = (cc) in
+      let same_t : under ≡ second = (cc) in
+      let same_then : then_under ≡ second = (cc) in
+      let at_item : slice_get under.items.items i ≡ Some x = ap (λ (d : Draft). slice_get d.items.items i) same_t ∙ at_i in
+      let same_x : item ≡ x = (cc) in
+      map_of_set draft_row (slice_set old m put) t left
+      ∙ ap (λ (l : List CodeRow). slice_set l t (draft_row left)) (map_of_set draft_row old m put)
+      ∙ ap (λ (r : CodeRow). slice_set (slice_set (draft_rows old) m r) t (draft_row left)) (h.put_is ∙ ap (λ (y : Item). with_item t y (draft_row above)) same_x
+      ∙ ap (λ (d : Draft). with_item t x (draft_row d)) same_m)
+      ∙ ap (λ (r : CodeRow). slice_set (slice_set (draft_rows old) m (with_item t x (draft_row first))) t r)
+      (ap (λ (l : List Item). below l (row_of left.rest)) (h.left_is ∙ ap (λ (d : Draft). remove d.items.items i) same_then)
+      ∙ ap (λ (r : CodeRow). below (remove second.items.items i) r) (ap row_of (h.rest_is ∙ ap (λ (d : Draft). d.rest) same_then)));
+  split = λ all.
+      let put_split = set_all IsSplit m put old (h.put_split (all_at IsSplit old m above all above_there)) all in
+      let left_split = subst (λ (tree : RowTree Leaf). BeginsWithNoItem (row_of tree)) (sym h.rest_is) (all_at IsSplit (slice_set old m put) t then_under put_split then_there) in
+      set_all IsSplit t left (slice_set old m put) left_split put_split;
+}
+  where
+    above_there : slice_get old m ≡ Some above
+    above_there = slice_get_read old (length old) m above refl h.low_m h.above_is
+
+    under_there : slice_get old t ≡ Some under
+    under_there = slice_get_read old (length old) t under refl h.low_t h.under_is
+
+    then_there : slice_get (slice_set old m put) t ≡ Some then_under
+    then_there = slice_get_read (slice_set old m put) (length old) t then_under (sym (set_length old m put)) h.low_t h.then_is
 
 -- ---- what may rise
 
@@ -337,17 +355,17 @@ may_there limits it rows m t i draft may at =
     subst (λ (d : Draft). i < length d.items.items) same (slice_get_within may.1.under.items.items i may.1.free.0 may.1.free.1)
 
 pub may_raises : (limits : Limits) (it : Parents) (old new : List Draft) (m t i : ℕ) → StandAbove (draft_rows old) it → MayRise limits it old m t i → MovesUp old new m t i
-    → Raises limits it.listing.places.items 1 (draft_rows old) (draft_rows new)
+    → Raises limits it.listing.places.items 1 old new
 may_raises limits it old new m t i stand may moves = move_raises limits it.listing.places.items old new m t i moves (stand m t may.0) may.1
 
-pub as_many_rows : (limits : Limits) (places : List (Option ℕ)) (n : ℕ) (old new : List Draft) → Raises limits places n (draft_rows old) (draft_rows new) → length new ≡ length old
+pub as_many_rows : (limits : Limits) (places : List (Option ℕ)) (n : ℕ) (old new : List Draft) → Raises limits places n old new → length new ≡ length old
 as_many_rows limits places n old new raises =
     let a = ap length raises.leaves in
     let b = length-map (draft_rows new) leaves_of in
     let c = length-map (draft_rows old) leaves_of in
     omega (arith, a, b, c, length-map new draft_row, length-map old draft_row)
 
-pub stand_then : (limits : Limits) (it : Parents) (places : List (Option ℕ)) (n : ℕ) (old new : List Draft) → Raises limits places n (draft_rows old) (draft_rows new)
+pub stand_then : (limits : Limits) (it : Parents) (places : List (Option ℕ)) (n : ℕ) (old new : List Draft) → Raises limits places n old new
     → StandAbove (draft_rows old) it → StandAbove (draft_rows new) it
 stand_then limits it places n old new raises stand = still_above (draft_rows old) (draft_rows new) it raises.leaves stand
 
@@ -357,10 +375,11 @@ ok_then (Ok x) P Q f h = f h
 ok_then (Err e) P Q f h = tt
 
 -- at least as many moves
-pub raises_more : (limits : Limits) (places : List (Option ℕ)) (n k : ℕ) (old mid new : List CodeRow) → Raises limits places n old mid → Raises limits places k mid new
+pub raises_more : (limits : Limits) (places : List (Option ℕ)) (n k : ℕ) (old mid new : List Draft) → Raises limits places n old mid → Raises limits places k mid new
     → Raises limits places n old new
 raises_more limits places n k old mid new first more = record {
   tightens = λ arrays. tightens_on (first.tightens arrays) (more.tightens arrays);
   leaves = more.leaves ∙ first.leaves;
+  split = λ all. more.split (first.split all);
   lower = (let a = first.lower in let b = more.lower in omega arith);
 }

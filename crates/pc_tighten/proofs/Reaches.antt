@@ -8,7 +8,9 @@ use Rattle.std.proofs.lemmas.List.Folds.{list_any-append, list_any_at}
 use Rattle.pc_word.specs.declared.item.Item.{Item}
 use Rattle.pc_word.proofs.Lists.{set_at}
 use Rattle.pc_machine.specs.Reachable.{HasLeafTo, IsReachable, Entry, Behind}
-use Rattle.pc_machine.specs.MachineCode.{Leaf, Leads_to, Ends, Traps, CodeRow, RowCode, is_goto}
+use Rattle.pc_machine.specs.declared.tree.Leaf.{Leaf}
+use Rattle.pc_machine.specs.declared.tree.Leaf.TheVariants.{Goto, Stop, Trap}
+use Rattle.pc_machine.specs.MachineCode.{CodeRow, RowCode, is_goto}
 use Rattle.pc_word.specs.Row.{Then, Either, At_leaf, leaves_of}
 use Rattle.pc_tighten.specs.Tightened.{EachIsReachable}
 use Rattle.pc_tighten.specs.Moves.{below, with_item, moved, MayMove}
@@ -21,21 +23,21 @@ use Rattle.pc_tighten.proofs.Removals.{without-at, entry_stays}
 
 -- ---- a leaf that leads to a row
 
-pub goto_leaf : (t : ℕ) (leaf : Leaf) → is_goto t leaf ≡ true → leaf ≡ Leads_to t
-goto_leaf t (Leads_to row) e = ap Leads_to (nat_eq-sound row t e)
-goto_leaf t Ends e = absurd (cc)
-goto_leaf t (Traps kind line) e = absurd (cc)
+pub goto_leaf : (t : ℕ) (leaf : Leaf) → is_goto t leaf ≡ true → leaf ≡ Goto t
+goto_leaf t (Goto row) e = ap Goto (nat_eq-sound row t e)
+goto_leaf t Stop e = absurd (cc)
+goto_leaf t (Trap kind line) e = absurd (cc)
 
 -- where a leaf leads to a row, one of the leaves is that goto
 pub any_of_goto : (t : ℕ) (row : CodeRow) → HasLeafTo row t → list_any (is_goto t) (leaves_of row) ≡ true
-any_of_goto t row among = list_any_at (is_goto t) (leaves_of row) among.0 (Leads_to t) among.1 (ap (is_goto t) among.2 ∙ nat_eq-refl t)
+any_of_goto t row among = list_any_at (is_goto t) (leaves_of row) among.0 (Goto t) among.1 (ap (is_goto t) among.2 ∙ nat_eq-refl t)
 
-among_leaves : (t : ℕ) (leaves : List Leaf) → list_any (is_goto t) leaves ≡ true → Contains leaves (Leads_to t)
+among_leaves : (t : ℕ) (leaves : List Leaf) → list_any (is_goto t) leaves ≡ true → Contains leaves (Goto t)
 among_leaves t [] e = absurd (cc)
 among_leaves t (leaf ∷ leaves) e = by_test (is_goto t leaf) refl e (λ h. among_leaves t leaves h)
   where
     by_test : (b : Bool) → is_goto t leaf ≡ b → (b || list_any (is_goto t) leaves) ≡ true
-        → (list_any (is_goto t) leaves ≡ true → Contains leaves (Leads_to t)) → Contains (leaf ∷ leaves) (Leads_to t)
+        → (list_any (is_goto t) leaves ≡ true → Contains leaves (Goto t)) → Contains (leaf ∷ leaves) (Goto t)
     by_test true is h next = (0, omega arith, goto_leaf t leaf is)
     by_test false is h next = let there = next h in (suc there.0, (let low = there.1 in omega arith), there.2)
 
@@ -109,15 +111,15 @@ module _ (t u : ℕ) where
           → (list_any (is_goto (sent t u i)) (leaves_of (sent_row t u on_yes)) || list_any (is_goto (sent t u i)) (leaves_of (sent_row t u on_no))) ≡ true
       either true is first second e = ap (λ (b : Bool). b || list_any (is_goto (sent t u i)) (leaves_of (sent_row t u on_no))) (first is)
       either false is first second e = right (list_any (is_goto (sent t u i)) (leaves_of (sent_row t u on_yes))) (list_any (is_goto (sent t u i)) (leaves_of (sent_row t u on_no))) (second e)
-  sent-leads i (At_leaf (Leads_to row)) h =
+  sent-leads i (At_leaf (Goto row)) h =
       let same : row ≡ i = nat_eq-sound row i (left (nat_eq row i) h) in
       ap (λ (b : Bool). b || false) (ap (λ (k : ℕ). nat_eq (sent t u row) (sent t u k)) (sym same) ∙ nat_eq-refl (sent t u row))
     where
       left : (a : Bool) → (a || false) ≡ true → a ≡ true
       left true e = refl
       left false e = e
-  sent-leads i (At_leaf Ends) h = absurd (cc)
-  sent-leads i (At_leaf (Traps kind line)) h = absurd (cc)
+  sent-leads i (At_leaf Stop) h = absurd (cc)
+  sent-leads i (At_leaf (Trap kind line)) h = absurd (cc)
 
 module _ (code : RowCode) (t u : ℕ) (may : IsGotoAlone code.rows t u) where
   sent-at : (i : ℕ) (row : CodeRow) → i ≢ t → slice_get code.rows i ≡ Some row → slice_get (removed code t u).rows (sent t u i) ≡ Some (sent_row t u row)
@@ -133,7 +135,7 @@ module _ (code : RowCode) (t u : ℕ) (may : IsGotoAlone code.rows t u) where
   removal_keeps_reached (Behind {from = k} {number = i} {row = row} reached at leads) = elim (same_or_apart k t) [
     | inl here ↦
         let is = ap (λ (n : ℕ). slice_get code.rows n) here in
-        let same : row ≡ At_leaf (Leads_to u) = (let a = may.at in cc) in
+        let same : row ≡ At_leaf (Goto u) = (let a = may.at in cc) in
         let to : u ≡ i = only (subst (λ (r : CodeRow). list_any (is_goto i) (leaves_of r) ≡ true) same (any_of_goto i row leads)) in
         let e : sent t u k ≡ sent t u i =
         ap (λ (n : ℕ). sent t u n) here ∙ ap (λ (b : Bool). if b then shifted t u else shifted t t) (nat_eq-refl t)
@@ -146,7 +148,7 @@ module _ (code : RowCode) (t u : ℕ) (may : IsGotoAlone code.rows t u) where
       left true e = refl
       left false e = e
 
-      only : list_any (is_goto i) (leaves_of (At_leaf (Leads_to u))) ≡ true → u ≡ i
+      only : list_any (is_goto i) (leaves_of (At_leaf (Goto u))) ≡ true → u ≡ i
       only h = nat_eq-sound u i (left (nat_eq u i) h)
 
 -- each row that is left is one that was there

@@ -9,7 +9,9 @@ use Rattle.pc_word.specs.Word.{holds}
 use Rattle.pc_word.specs.Run.{Answers, Agree, Step, Goes, Stops, seen_of, run_from, reach, reached_of, reached_after}
 use Rattle.pc_word.specs.models.Simulation.{Meet, Simulates}
 use Rattle.pc_word.proofs.Runs.{Answers-after, Answers-trans, run_from-answers, Agree-simulated}
-use Rattle.pc_machine.specs.MachineCode.{Leaf, Leads_to, Ends, Traps, CodeRow, RowCode}
+use Rattle.pc_machine.specs.declared.tree.Leaf.{Leaf}
+use Rattle.pc_machine.specs.declared.tree.Leaf.TheVariants.{Goto, Stop, Trap}
+use Rattle.pc_machine.specs.MachineCode.{CodeRow, RowCode}
 use Rattle.pc_word.specs.Row.{Then, Either, At_leaf, path_of, leaf_of, commit_of}
 use Rattle.pc_word.specs.State.{State}
 use Rattle.pc_word.specs.Items.{operand_value}
@@ -117,9 +119,9 @@ module _ (code : RowCode) (t u : ℕ) (may : IsGotoAlone code.rows t u) where
   shorter = removed code t u
 
   follows : (out : List ℤ) (new : State) (leaf : Leaf) → follow_leaf out new (sent_leaf t u leaf) ≡ step_on placed (follow_leaf out new leaf)
-  follows out new (Leads_to row) = refl
-  follows out new Ends = refl
-  follows out new (Traps kind line) = refl
+  follows out new (Goto row) = refl
+  follows out new Stop = refl
+  follows out new (Trap kind line) = refl
 
   after_fault : (s : State) (items : List Item) (leaf : Leaf) (f : Option MachineFault)
       → after_row (commit_of code.arrays s items (sent_leaf t u leaf) f) ≡ step_on placed (after_row (commit_of code.arrays s items leaf f))

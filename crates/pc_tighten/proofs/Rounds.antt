@@ -3,28 +3,27 @@ use Rattle.std.proofs.Common.{◌≡◌, ℕ, suc, ◌+◌, ◌<◌, ◌≤◌, 
 use Rattle.std.proofs.Common.{◌++◌, map, length, take, drop, get_or, Option, Some, None, refl, sym, ◌∙◌, ap}
 use Rattle.std.proofs.Common.{subst, append_assoc, inl, inr, length-append, arith}
 use Rattle.std.specs.Prelude.{◌||◌, slice_get}
-use Rattle.std.specs.List.{count_by, list_any}
+use Rattle.std.specs.List.{AllByRecursion, count_by, list_any}
 use Rattle.std.specs.Option.{option_map}
 use Rattle.std.proofs.lemmas.Option.{slice_get-get_or, slice_get-map, slice_get_within}
 use Rattle.std.proofs.lemmas.List.{length-map}
+use Rattle.pc_word.proofs.Lists.{all_at}
 use Rattle.pc_word.specs.declared.item.Item.{Item}
 use Rattle.pc_word.specs.declared.item.Operand.{Operand}
 use Rattle.pc_word.specs.declared.item.Limits.{Limits}
-use Rattle.pc_word.specs.Row.{items_of, tests_of, leaves_of}
-use Rattle.pc_machine.specs.MachineCode.{CodeRow, is_goto}
+use Rattle.pc_word.specs.Row.{Then, Either, At_leaf, items_of, tests_of, leaves_of}
+use Rattle.pc_machine.specs.MachineCode.{CodeRow, row_of, is_goto}
 use Rattle.pc_tighten.specs.declared.draft.Draft.{Draft}
 use Rattle.pc_tighten.specs.declared.parents.Parents.{Parents}
 use Rattle.pc_tighten.specs.Compact.{paths_to, EachStays, Compact}
 use Rattle.pc_tighten.specs.Moves.{below}
-use Rattle.pc_tighten.specs.models.Drafts.{below_row, draft_row, draft_rows, held, items_but, FirstStay}
+use Rattle.pc_tighten.specs.models.Drafts.{draft_row, draft_rows, BeginsWithNoItem, IsSplit, held, items_but, FirstStay}
 use Rattle.pc_tighten.specs.models.Listing.{listed_of}
 use Rattle.pc_tighten.specs.models.Parents.{IsParent, StandAbove, AreParents}
 use Rattle.pc_tighten.proofs.Named.{has_parent, parent_has}
 use Rattle.pc_tighten.proofs.Moves.{same_or_apart}
 use Rattle.pc_tighten.proofs.Reaches.{any_of_goto, goto_of_any}
 use Rattle.pc_machine.specs.Reachable.{IsReachable, Entry, Behind}
-use Rattle.pc_tighten.specs.declared.draft.Below.{Below}
-use Rattle.pc_tighten.specs.declared.draft.Below.TheVariants.{Test, Goto, Stop, Trap}
 use Rattle.pc_tighten.specs.models.Raising.{place_of, weigh, code_with, Raises, IsSettled, HasRaised, AreSettledIf, IsAmongFirst, AreWithin, IsRaised}
 use Rattle.pc_tighten.proofs.Drafting.{items_below}
 use Rattle.pc_tighten.proofs.Ends.{paths-count, each_alone}
@@ -43,10 +42,10 @@ has_raised_count limits it old new true raised = as_many_rows limits it.listing.
 has_raised_count limits it old new false same = ap length same
 
 pub has_raised_more : (limits : Limits) (it : Parents) (old mid new : List Draft) (moved : Bool) → HasRaised limits it old mid moved
-    → Raises limits it.listing.places.items 1 (draft_rows mid) (draft_rows new) → Raises limits it.listing.places.items 1 (draft_rows old) (draft_rows new)
-has_raised_more limits it old mid new true raised more = raises_more limits it.listing.places.items 1 1 (draft_rows old) (draft_rows mid) (draft_rows new) raised more
+    → Raises limits it.listing.places.items 1 mid new → Raises limits it.listing.places.items 1 old new
+has_raised_more limits it old mid new true raised more = raises_more limits it.listing.places.items 1 1 old mid new raised more
 has_raised_more limits it old mid new false same more =
-    subst (λ (rows : List Draft). Raises limits it.listing.places.items 1 (draft_rows rows) (draft_rows new)) same more
+    subst (λ (rows : List Draft). Raises limits it.listing.places.items 1 rows new) same more
 
 pub has_raised_both : (limits : Limits) (it : Parents) (old mid new : List Draft) (first second both : Bool) → both ≡ (first || second)
     → HasRaised limits it old mid first → HasRaised limits it mid new second → HasRaised limits it old new both
@@ -83,23 +82,22 @@ settled_both limits it mid new false false both n t is two at before this = subs
 -- ---- compact
 
 -- where each item of a row before its first test stays, as it is said of places, each stays
-each_stays_below : (limits : Limits) (above : CodeRow) (path before : List Item) (rest : Below) → EachStays limits above path before (below_row rest)
-each_stays_below limits above path before (Test on on_yes on_no) = tt
-each_stays_below limits above path before (Goto row) = tt
-each_stays_below limits above path before Stop = tt
-each_stays_below limits above path before (Trap kind line) = tt
+each_stays_below : (limits : Limits) (above : CodeRow) (path before : List Item) (rest : CodeRow) → BeginsWithNoItem rest → EachStays limits above path before rest
+each_stays_below limits above path before (Then item rest) none = absurd none
+each_stays_below limits above path before (Either on on_yes on_no) none = tt
+each_stays_below limits above path before (At_leaf leaf) none = tt
 
 module _ (limits : Limits) (above : Draft) (t : ℕ) (path : List Item) (alone : paths_to t (draft_row above) ≡ path ∷ []) where
-  each_stays_from : (under : Draft) (before items : List Item) → under.items.items ≡ before ++ items → FirstStay limits above t under (length under.items.items)
-      → EachStays limits (draft_row above) path before (below items (below_row under.rest))
-  each_stays_from under before [] is stay = each_stays_below limits (draft_row above) path before under.rest
-  each_stays_from under before (x ∷ items) is stay = (
-    sym (held_is limits (draft_row above) t x (before ++ items_of (below items (below_row under.rest))) (tests_of (below items (below_row under.rest))) path alone)
-        ∙ ap (λ (l : List Item). held limits (draft_row above) t x (before ++ l) (tests_of (below items (below_row under.rest)))) (items_below items (below_row under.rest))
-        ∙ ap (λ (l : List Operand). held limits (draft_row above) t x (before ++ (items ++ items_of (below_row under.rest))) l) (below-tests items (below_row under.rest))
-        ∙ ap (λ (l : List Item). held limits (draft_row above) t x l (tests_of (below_row under.rest))) others
+  each_stays_from : (under : Draft) (before items : List Item) → IsSplit under → under.items.items ≡ before ++ items → FirstStay limits above t under (length under.items.items)
+      → EachStays limits (draft_row above) path before (below items (row_of under.rest))
+  each_stays_from under before [] split is stay = each_stays_below limits (draft_row above) path before (row_of under.rest) split
+  each_stays_from under before (x ∷ items) split is stay = (
+    sym (held_is limits (draft_row above) t x (before ++ items_of (below items (row_of under.rest))) (tests_of (below items (row_of under.rest))) path alone)
+        ∙ ap (λ (l : List Item). held limits (draft_row above) t x (before ++ l) (tests_of (below items (row_of under.rest)))) (items_below items (row_of under.rest))
+        ∙ ap (λ (l : List Operand). held limits (draft_row above) t x (before ++ (items ++ items_of (row_of under.rest))) l) (below-tests items (row_of under.rest))
+        ∙ ap (λ (l : List Item). held limits (draft_row above) t x l (tests_of (row_of under.rest))) others
         ∙ stay (length before) x low there,
-    each_stays_from under (before ++ (x ∷ [])) items (is ∙ sym (append_assoc before (x ∷ []) items)) stay,
+    each_stays_from under (before ++ (x ∷ [])) items split (is ∙ sym (append_assoc before (x ∷ []) items)) stay,
   )
     where
       low : length before < length under.items.items
@@ -112,11 +110,11 @@ module _ (limits : Limits) (above : Draft) (t : ℕ) (path : List Item) (alone :
           get_behind [] y ys = refl
           get_behind (z ∷ xs) y ys = get_behind xs y ys
 
-      others : before ++ (items ++ items_of (below_row under.rest)) ≡ items_but under (length before)
+      others : before ++ (items ++ items_of (row_of under.rest)) ≡ items_but under (length before)
       others =
-          ap (λ (l : List Item). l ++ (items ++ items_of (below_row under.rest))) (sym (take_front before (x ∷ items)))
-          ∙ ap (λ (l : List Item). take (length before) (before ++ (x ∷ items)) ++ (l ++ items_of (below_row under.rest))) (sym (drop_front before x items))
-          ∙ ap (λ (l : List Item). take (length before) l ++ (drop (length before + 1) l ++ items_of (below_row under.rest))) (sym is)
+          ap (λ (l : List Item). l ++ (items ++ items_of (row_of under.rest))) (sym (take_front before (x ∷ items)))
+          ∙ ap (λ (l : List Item). take (length before) (before ++ (x ∷ items)) ++ (l ++ items_of (row_of under.rest))) (sym (drop_front before x items))
+          ∙ ap (λ (l : List Item). take (length before) l ++ (drop (length before + 1) l ++ items_of (row_of under.rest))) (sym is)
         where
           take_front : (xs ys : List Item) → take (length xs) (xs ++ ys) ≡ xs
           take_front [] ys = refl
@@ -128,8 +126,8 @@ module _ (limits : Limits) (above : Draft) (t : ℕ) (path : List Item) (alone :
               let next : suc (length xs) + 1 ≡ suc (length xs + 1) = omega arith in
               ap (λ (k : ℕ). drop k (z ∷ (xs ++ (y ∷ ys)))) next ∙ drop_front xs y ys
 
-  pub each_stays : (under : Draft) → FirstStay limits above t under (length under.items.items) → EachStays limits (draft_row above) path [] (draft_row under)
-  each_stays under stay = each_stays_from under [] under.items.items refl stay
+  pub each_stays : (under : Draft) → IsSplit under → FirstStay limits above t under (length under.items.items) → EachStays limits (draft_row above) path [] (draft_row under)
+  each_stays under split stay = each_stays_from under [] under.items.items split refl stay
 
 -- rows with the same leaves have the same reachable rows
 still_reachable : (old new : List CodeRow) → map leaves_of new ≡ map leaves_of old → {i : ℕ} → IsReachable old i → IsReachable new i
@@ -149,8 +147,8 @@ draft_there rows i row at = by_entry (slice_get rows i) refl (sym (slice_get-map
 -- where all rows of the list are settled the code is compact
 pub settled_compact : (limits : Limits) (arrays : List ℕ) (it : Parents) (old new : List Draft)
     → AreParents (draft_rows old) it → map leaves_of (draft_rows new) ≡ map leaves_of (draft_rows old)
-    → AreSettledIf limits it (IsAmongFirst it.listing.order.items (length it.listing.order.items)) new false → Compact (code_with limits arrays (draft_rows new))
-settled_compact limits arrays it old new are e settled m t above under reached pair =
+    → AllByRecursion IsSplit new → AreSettledIf limits it (IsAmongFirst it.listing.order.items (length it.listing.order.items)) new false → Compact (code_with limits arrays (draft_rows new))
+settled_compact limits arrays it old new are e split settled m t above under reached pair =
     let one = draft_there new m above pair.at_m in
     let two = draft_there new t under pair.at_t in
     let was = same_leaves (draft_rows new) (draft_rows old) m above (sym e) pair.at_m in
@@ -174,7 +172,7 @@ settled_compact limits arrays it old new are e settled m t above under reached p
     (λ path alone.
     subst (λ (r : CodeRow). EachStays limits r path [] under) one.2
     (subst (λ (r : CodeRow). EachStays limits (draft_row one.0) path [] r) two.2
-    (each_stays limits one.0 t path (ap (λ (r : CodeRow). paths_to t r) one.2 ∙ alone) two.0 stay)))
+    (each_stays limits one.0 t path (ap (λ (r : CodeRow). paths_to t r) one.2 ∙ alone) two.0 (all_at IsSplit new t two.0 split two.1) stay)))
 
 -- the rows in the list are there
 pub listed_are_within : (rows : List Draft) (it : Parents) → AreParents (draft_rows rows) it → AreWithin it.listing.order.items (length rows)
@@ -198,9 +196,9 @@ settled_more limits it rows false n k le settled = λ t among. settled t (among.
 
 -- ---- round after round
 
-pub round_goes_on : (limits : Limits) (it : Parents) (old mid new : List Draft) (moved : Bool) → moved ≡ true → Raises limits it.listing.places.items 0 (draft_rows old) (draft_rows mid)
-    → HasRaised limits it mid new moved → Raises limits it.listing.places.items 0 (draft_rows old) (draft_rows new)
-round_goes_on limits it old mid new true is raises more = raises_more limits it.listing.places.items 0 1 (draft_rows old) (draft_rows mid) (draft_rows new) raises more
+pub round_goes_on : (limits : Limits) (it : Parents) (old mid new : List Draft) (moved : Bool) → moved ≡ true → Raises limits it.listing.places.items 0 old mid
+    → HasRaised limits it mid new moved → Raises limits it.listing.places.items 0 old new
+round_goes_on limits it old mid new true is raises more = raises_more limits it.listing.places.items 0 1 old mid new raises more
 round_goes_on limits it old mid new false is raises more = absurd (cc)
 
 pub round_lowers : (limits : Limits) (it : Parents) (mid new : List Draft) (moved : Bool) → moved ≡ true → HasRaised limits it mid new moved
@@ -208,21 +206,21 @@ pub round_lowers : (limits : Limits) (it : Parents) (mid new : List Draft) (move
 round_lowers limits it mid new true is more = let lower = more.lower in omega arith
 round_lowers limits it mid new false is more = absurd (cc)
 
-pub round_ends : (limits : Limits) (it : Parents) (old mid new : List Draft) (moved : Bool) → moved ≡ false → AreParents (draft_rows old) it
-    → Raises limits it.listing.places.items 0 (draft_rows old) (draft_rows mid) → HasRaised limits it mid new moved
+pub round_ends : (limits : Limits) (it : Parents) (old mid new : List Draft) (moved : Bool) → moved ≡ false → AreParents (draft_rows old) it → AllByRecursion IsSplit old
+    → Raises limits it.listing.places.items 0 old mid → HasRaised limits it mid new moved
     → AreSettledIf limits it (IsAmongFirst it.listing.order.items (length it.listing.order.items)) new moved → IsRaised limits (draft_rows old) (draft_rows new)
-round_ends limits it old mid new true is are raises same settled = absurd (cc)
-round_ends limits it old mid new false is are raises same settled =
-    let now = subst (λ (rows : List Draft). Raises limits it.listing.places.items 0 (draft_rows old) (draft_rows rows)) (sym same) raises in
-    record { tightens = now.tightens; compact = λ arrays. settled_compact limits arrays it old new are now.leaves settled }
+round_ends limits it old mid new true is are split raises same settled = absurd (cc)
+round_ends limits it old mid new false is are split raises same settled =
+    let now = subst (λ (rows : List Draft). Raises limits it.listing.places.items 0 old rows) (sym same) raises in
+    record { tightens = now.tightens; compact = λ arrays. settled_compact limits arrays it old new are now.leaves (now.split split) settled }
 
-pub rounds_within : (limits : Limits) (it : Parents) (old mid : List Draft) → AreParents (draft_rows old) it → Raises limits it.listing.places.items 0 (draft_rows old) (draft_rows mid)
+pub rounds_within : (limits : Limits) (it : Parents) (old mid : List Draft) → AreParents (draft_rows old) it → Raises limits it.listing.places.items 0 old mid
     → AreWithin it.listing.order.items (length mid)
 rounds_within limits it old mid are raises k row at =
     let within = listed_are_within old it are k row at in
     let count = as_many_rows limits it.listing.places.items 0 old mid raises in
     omega arith
 
-pub rounds_stand : (limits : Limits) (it : Parents) (old mid : List Draft) → AreParents (draft_rows old) it → Raises limits it.listing.places.items 0 (draft_rows old) (draft_rows mid)
+pub rounds_stand : (limits : Limits) (it : Parents) (old mid : List Draft) → AreParents (draft_rows old) it → Raises limits it.listing.places.items 0 old mid
     → StandAbove (draft_rows mid) it
 rounds_stand limits it old mid are raises = stand_then limits it it.listing.places.items 0 old mid raises (parents_stand old it are)

@@ -6,7 +6,9 @@ use Rattle.std.proofs.lemmas.Bool.Decides.{nat_tests}
 use Rattle.std.proofs.lemmas.List.Folds.{list_any-append}
 use Rattle.pc_word.specs.declared.item.Item.{Item}
 use Rattle.pc_word.specs.Word.{holds}
-use Rattle.pc_machine.specs.MachineCode.{Leaf, Leads_to, Ends, Traps, CodeRow, is_goto}
+use Rattle.pc_machine.specs.declared.tree.Leaf.{Leaf}
+use Rattle.pc_machine.specs.declared.tree.Leaf.TheVariants.{Goto, Stop, Trap}
+use Rattle.pc_machine.specs.MachineCode.{CodeRow, is_goto}
 use Rattle.pc_word.specs.Row.{Then, Either, At_leaf, path_of, leaf_of, items_of, tests_of, leaves_of}
 use Rattle.pc_word.specs.State.{State}
 use Rattle.pc_word.specs.Items.{operand_value, dest_of, is_effect}
@@ -83,10 +85,10 @@ path_taken_to names t (Either on on_yes on_no) P all h =
       | true ↦ path_taken_to names t on_yes P (all_front P (paths_to t on_yes) (paths_to t on_no) all)
       | false ↦ path_taken_to names t on_no P (all_back P (paths_to t on_yes) (paths_to t on_no) all)
     ]) h
-path_taken_to names t (At_leaf (Leads_to row)) P all h =
+path_taken_to names t (At_leaf (Goto row)) P all h =
     (elim (nat_eq row t) as (λ b. b ≡ true → AllByRecursion P (if b then [] ∷ [] else []) → P []) [ true ↦ λ e k. k.0 | false ↦ λ e k. absurd (cc) ]) h all
-path_taken_to names t (At_leaf Ends) P all h = absurd (cc)
-path_taken_to names t (At_leaf (Traps kind line)) P all h = absurd (cc)
+path_taken_to names t (At_leaf Stop) P all h = absurd (cc)
+path_taken_to names t (At_leaf (Trap kind line)) P all h = absurd (cc)
 
 -- where a leaf leads to t there is such a path
 pub some_path_to : (t : ℕ) (row : CodeRow) (P : List Item → Type 0) → AllByRecursion P (paths_to t row) → list_any (is_goto t) (leaves_of row) ≡ true → (path : List Item) × P path
@@ -99,11 +101,11 @@ some_path_to t (Either on on_yes on_no) P all h =
       | true ↦ λ e k. some_path_to t on_yes P (all_front P (paths_to t on_yes) (paths_to t on_no) all) e
       | false ↦ λ e k. some_path_to t on_no P (all_back P (paths_to t on_yes) (paths_to t on_no) all) k
     ]) refl both
-some_path_to t (At_leaf (Leads_to row)) P all h =
+some_path_to t (At_leaf (Goto row)) P all h =
     (elim (nat_eq row t) as (λ b. (b || false) ≡ true → AllByRecursion P (if b then [] ∷ [] else []) → (path : List Item) × P path)
     [ true ↦ λ e k. ([], k.0) | false ↦ λ e k. absurd (cc) ]) h all
-some_path_to t (At_leaf Ends) P all h = absurd (cc)
-some_path_to t (At_leaf (Traps kind line)) P all h = absurd (cc)
+some_path_to t (At_leaf Stop) P all h = absurd (cc)
+some_path_to t (At_leaf (Trap kind line)) P all h = absurd (cc)
 
 -- a leaf that is taken is one of the leaves
 pub other_leaf : (names : ℕ → ℤ) (t : ℕ) (row : CodeRow) → list_any (is_goto t) (leaves_of row) ≡ false → is_goto t (leaf_of names row) ≡ false

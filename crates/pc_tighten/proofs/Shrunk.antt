@@ -5,7 +5,8 @@ use Rattle.std.specs.Prelude.{if◌then◌else◌, slice_get}
 use Rattle.std.specs.Option.{option_map}
 use Rattle.std.proofs.lemmas.Option.{slice_get-map}
 use Rattle.std.proofs.lemmas.List.{length-map}
-use Rattle.pc_machine.specs.MachineCode.{Leads_to, Ends, Traps, CodeRow, RowCode}
+use Rattle.pc_machine.specs.declared.tree.Leaf.TheVariants.{Goto, Stop, Trap}
+use Rattle.pc_machine.specs.MachineCode.{CodeRow, RowCode}
 use Rattle.pc_word.specs.Row.{Then, Either, At_leaf}
 use Rattle.pc_tighten.specs.Removals.{shifted, sent, sent_row, without_row, removed, IsGotoAlone}
 use Rattle.pc_tighten.specs.Tightened.{Done, Removes}
@@ -83,9 +84,9 @@ placed_sent before now t u same (Then item rest) = ap (λ (r : CodeRow). Then it
 placed_sent before now t u same (Either on on_yes on_no) =
     ap (λ (r : CodeRow). Either on r (placed_row now (sent_row t u on_no))) (placed_sent before now t u same on_yes)
     ∙ ap (λ (r : CodeRow). Either on (placed_row before on_yes) r) (placed_sent before now t u same on_no)
-placed_sent before now t u same (At_leaf (Leads_to row)) = ap (λ (k : ℕ). At_leaf (Leads_to k)) (same row)
-placed_sent before now t u same (At_leaf Ends) = refl
-placed_sent before now t u same (At_leaf (Traps kind line)) = refl
+placed_sent before now t u same (At_leaf (Goto row)) = ap (λ (k : ℕ). At_leaf (Goto k)) (same row)
+placed_sent before now t u same (At_leaf Stop) = refl
+placed_sent before now t u same (At_leaf (Trap kind line)) = refl
 
 all_placed_sent : (before now : ℕ → ℕ) (t u : ℕ) → ((x : ℕ) → now (sent t u x) ≡ before x) → (rows : List CodeRow)
     → map (placed_row now) (map (sent_row t u) rows) ≡ map (placed_row before) rows
@@ -98,9 +99,9 @@ placed_same : (place : ℕ → ℕ) → ((x : ℕ) → place x ≡ x) → (row :
 placed_same place same (Then item rest) = ap (λ (r : CodeRow). Then item r) (placed_same place same rest)
 placed_same place same (Either on on_yes on_no) =
     ap (λ (r : CodeRow). Either on r (placed_row place on_no)) (placed_same place same on_yes) ∙ ap (λ (r : CodeRow). Either on on_yes r) (placed_same place same on_no)
-placed_same place same (At_leaf (Leads_to row)) = ap (λ (k : ℕ). At_leaf (Leads_to k)) (same row)
-placed_same place same (At_leaf Ends) = refl
-placed_same place same (At_leaf (Traps kind line)) = refl
+placed_same place same (At_leaf (Goto row)) = ap (λ (k : ℕ). At_leaf (Goto k)) (same row)
+placed_same place same (At_leaf Stop) = refl
+placed_same place same (At_leaf (Trap kind line)) = refl
 
 all_placed_same : (place : ℕ → ℕ) → ((x : ℕ) → place x ≡ x) → (rows : List CodeRow) → map (placed_row place) rows ≡ rows
 all_placed_same place same [] = refl
@@ -116,7 +117,7 @@ Absent x (y ∷ ys) = (x ≢ y) × Absent x ys
 -- a row that goes, before these others
 pub record IsGoing (rows : List CodeRow) (place : ℕ → ℕ) (marks : ℕ → Bool) (t : ℕ) (rest : List ℕ) : Type 0 where
   pub target : ℕ
-  pub at : slice_get rows t ≡ Some (At_leaf (Leads_to target))
+  pub at : slice_get rows t ≡ Some (At_leaf (Goto target))
   pub not_entry : t ≢ 0
   pub not_itself : target ≢ t
   pub target_stays : Absent target rest

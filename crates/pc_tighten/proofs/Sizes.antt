@@ -7,7 +7,8 @@ use Rattle.std.proofs.lemmas.List.Sums.{sum_by-cons}
 use Rattle.pc_word.specs.declared.item.Item.{Item}
 use Rattle.pc_word.specs.Row.{Then, Either, At_leaf, leaves_of}
 use Rattle.pc_word.proofs.Lists.{count_more, count_both}
-use Rattle.pc_machine.specs.MachineCode.{Leads_to, Ends, Traps, CodeRow, RowCode, is_goto}
+use Rattle.pc_machine.specs.declared.tree.Leaf.TheVariants.{Goto, Stop, Trap}
+use Rattle.pc_machine.specs.MachineCode.{CodeRow, RowCode, is_goto}
 use Rattle.pc_tighten.specs.Moves.{below, with_item, moved, MayMove}
 use Rattle.pc_tighten.specs.Removals.{sent, sent_row, without_row}
 use Rattle.pc_tighten.specs.Sizes.{Room, row_room, rows_room}
@@ -92,9 +93,9 @@ module _ (room : Room) where
   room-sent : (t u : ℕ) (row : CodeRow) → row_room room (sent_row t u row) ≡ row_room room row
   room-sent t u (Then item rest) = ap (λ (n : ℕ). room.of_item item + n) (room-sent t u rest)
   room-sent t u (Either on on_yes on_no) = let a = room-sent t u on_yes in let b = room-sent t u on_no in omega arith
-  room-sent t u (At_leaf (Leads_to row)) = room.alike (sent t u row) row
-  room-sent t u (At_leaf Ends) = refl
-  room-sent t u (At_leaf (Traps kind line)) = refl
+  room-sent t u (At_leaf (Goto row)) = room.alike (sent t u row) row
+  room-sent t u (At_leaf Stop) = refl
+  room-sent t u (At_leaf (Trap kind line)) = refl
 
   rooms-sent : (t u : ℕ) (rows : List CodeRow) → rows_room room (map (sent_row t u) rows) ≡ rows_room room rows
   rooms-sent t u [] = refl

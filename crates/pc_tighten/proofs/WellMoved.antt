@@ -7,7 +7,9 @@ use Rattle.std.proofs.lemmas.Bool.Decides.{nat_tests}
 use Rattle.std.proofs.lemmas.List.Elements.{filter_map-append}
 use Rattle.pc_word.specs.declared.item.Item.{Item}
 use Rattle.pc_word.specs.declared.item.Operand.{Operand}
-use Rattle.pc_machine.specs.MachineCode.{Leaf, Leads_to, Ends, Traps, CodeRow, RowCode, is_goto}
+use Rattle.pc_machine.specs.declared.tree.Leaf.{Leaf}
+use Rattle.pc_machine.specs.declared.tree.Leaf.TheVariants.{Goto, Stop, Trap}
+use Rattle.pc_machine.specs.MachineCode.{CodeRow, RowCode, is_goto}
 use Rattle.pc_word.specs.Row.{Then, Either, At_leaf, items_of, tests_of, leaves_of, paths_of}
 use Rattle.pc_word.specs.Items.{dest_of, is_memory, is_effect}
 use Rattle.pc_machine.specs.WellFormed.{IsOperand, IsItem, IsLeaf, IsPath, IsRow, WellFormed}
@@ -111,20 +113,20 @@ with_item-paths t x (Either on on_yes on_no) P h k =
     all_both P (paths_of (with_item t x on_yes)) (paths_of (with_item t x on_no))
     (with_item-paths t x on_yes P (all_front P (paths_of on_yes) (paths_of on_no) h) (all_front Q (paths_to t on_yes) (paths_to t on_no) k))
     (with_item-paths t x on_no P (all_back P (paths_of on_yes) (paths_of on_no) h) (all_back Q (paths_to t on_yes) (paths_to t on_no) k))
-with_item-paths t x (At_leaf (Leads_to row)) P h k =
+with_item-paths t x (At_leaf (Goto row)) P h k =
     (elim (nat_eq row t) as (λ b. AllByRecursion (λ path. P (path ++ (x ∷ []))) (if b then [] ∷ [] else [])
-    → AllByRecursion P (paths_of (if b then Then x (At_leaf (Leads_to row)) else At_leaf (Leads_to row)))) [ true ↦ λ p. (p.0, tt) | false ↦ λ p. h ]) k
-with_item-paths t x (At_leaf Ends) P h k = h
-with_item-paths t x (At_leaf (Traps kind line)) P h k = h
+    → AllByRecursion P (paths_of (if b then Then x (At_leaf (Goto row)) else At_leaf (Goto row)))) [ true ↦ λ p. (p.0, tt) | false ↦ λ p. h ]) k
+with_item-paths t x (At_leaf Stop) P h k = h
+with_item-paths t x (At_leaf (Trap kind line)) P h k = h
 
 paths_among : (t : ℕ) (row : CodeRow) (P : List Item → Type 0) → AllByRecursion P (paths_of row) → AllByRecursion P (paths_to t row)
 paths_among t (Then item rest) P h = map_of_all P (λ path. item ∷ path) (paths_to t rest) (paths_among t rest (λ path. P (item ∷ path)) (all_of_map P (λ path. item ∷ path) (paths_of rest) h))
 paths_among t (Either on on_yes on_no) P h =
     all_both P (paths_to t on_yes) (paths_to t on_no) (paths_among t on_yes P (all_front P (paths_of on_yes) (paths_of on_no) h)) (paths_among t on_no P (all_back P (paths_of on_yes)
     (paths_of on_no) h))
-paths_among t (At_leaf (Leads_to row)) P h = elim (nat_eq row t) as (λ b. AllByRecursion P (if b then [] ∷ [] else [])) [ true ↦ h | false ↦ tt ]
-paths_among t (At_leaf Ends) P h = tt
-paths_among t (At_leaf (Traps kind line)) P h = tt
+paths_among t (At_leaf (Goto row)) P h = elim (nat_eq row t) as (λ b. AllByRecursion P (if b then [] ∷ [] else [])) [ true ↦ h | false ↦ tt ]
+paths_among t (At_leaf Stop) P h = tt
+paths_among t (At_leaf (Trap kind line)) P h = tt
 
 all_two : {X : Type 0} (P Q : X → Type 0) (xs : List X) → AllByRecursion P xs → AllByRecursion Q xs → AllByRecursion (λ x. P x × Q x) xs
 all_two P Q [] h k = tt
@@ -227,10 +229,10 @@ path_less xs x ys is = record {
 
 -- ---- the rows
 
-pub set_all : (P : CodeRow → Type 0) (i : ℕ) (row : CodeRow) (rows : List CodeRow) → P row → AllByRecursion P rows → AllByRecursion P (slice_set rows i row)
-set_all P i row [] p h = tt
-set_all P zero row (r ∷ rows) p h = (p, h.1)
-set_all P (suc i) row (r ∷ rows) p h = (h.0, set_all P i row rows p h.1)
+pub set_all : {X : Type 0} (P : X → Type 0) (i : ℕ) (x : X) (xs : List X) → P x → AllByRecursion P xs → AllByRecursion P (slice_set xs i x)
+set_all P i x [] p h = tt
+set_all P zero x (y ∷ xs) p h = (p, h.1)
+set_all P (suc i) x (y ∷ xs) p h = (h.0, set_all P i x xs p h.1)
 
 pub below-tests : (xs : List Item) (row : CodeRow) → tests_of (below xs row) ≡ tests_of row
 below-tests [] row = refl

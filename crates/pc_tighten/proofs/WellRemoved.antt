@@ -5,7 +5,8 @@ use Rattle.std.specs.List.{AllByRecursion, count_by}
 use Rattle.std.proofs.lemmas.Bool.Decides.{nat_tests}
 use Rattle.pc_word.specs.declared.item.Item.{Item}
 use Rattle.pc_word.specs.declared.item.Operand.{Operand}
-use Rattle.pc_machine.specs.MachineCode.{Leads_to, Ends, Traps, CodeRow, RowCode}
+use Rattle.pc_machine.specs.declared.tree.Leaf.TheVariants.{Goto, Stop, Trap}
+use Rattle.pc_machine.specs.MachineCode.{CodeRow, RowCode}
 use Rattle.pc_word.specs.Row.{Then, Either, At_leaf, items_of, tests_of, leaves_of, paths_of}
 use Rattle.pc_word.specs.Items.{is_memory}
 use Rattle.pc_machine.specs.WellFormed.{IsOperand, IsItem, IsLeaf, IsPath, IsRow, WellFormed}
@@ -51,9 +52,9 @@ sent-leaves t u n (Either on on_yes on_no) low h =
     all_both (IsLeaf n) (leaves_of (sent_row t u on_yes)) (leaves_of (sent_row t u on_no))
     (sent-leaves t u n on_yes low (all_front (IsLeaf (suc n)) (leaves_of on_yes) (leaves_of on_no) h))
     (sent-leaves t u n on_no low (all_back (IsLeaf (suc n)) (leaves_of on_yes) (leaves_of on_no) h))
-sent-leaves t u n (At_leaf (Leads_to row)) low h = (low row h.0, tt)
-sent-leaves t u n (At_leaf Ends) low h = (tt, tt)
-sent-leaves t u n (At_leaf (Traps kind line)) low h = (tt, tt)
+sent-leaves t u n (At_leaf (Goto row)) low h = (low row h.0, tt)
+sent-leaves t u n (At_leaf Stop) low h = (tt, tt)
+sent-leaves t u n (At_leaf (Trap kind line)) low h = (tt, tt)
 
 without-length : (t : ℕ) (row : CodeRow) (rows : List CodeRow) → slice_get rows t ≡ Some row → length rows ≡ suc (length (without_row t rows))
 without-length t row [] e = absurd (cc)
@@ -75,15 +76,15 @@ module _ (code : RowCode) (well : WellFormed code) (t u : ℕ) (may : IsGotoAlon
   left = length (without_row t code.rows)
 
   one_less : length code.rows ≡ suc left
-  one_less = without-length t (At_leaf (Leads_to u)) code.rows may.at
+  one_less = without-length t (At_leaf (Goto u)) code.rows may.at
 
   leads_inside : u < length code.rows
-  leads_inside = (all_at (IsRow code.limits (length code.arrays) (length code.rows)) code.rows t (At_leaf (Leads_to u)) well.rows may.at).leaves.0
+  leads_inside = (all_at (IsRow code.limits (length code.arrays) (length code.rows)) code.rows t (At_leaf (Goto u)) well.rows may.at).leaves.0
 
   stays_inside : (i : ℕ) → i < suc left → sent t u i < left
   stays_inside i low =
       let a = leads_inside in
-      let b = within t (At_leaf (Leads_to u)) code.rows may.at in
+      let b = within t (At_leaf (Goto u)) code.rows may.at in
       let c = one_less in
       sent-below t u i left may.not_itself (omega arith) (omega arith) low
 
@@ -110,7 +111,7 @@ module _ (code : RowCode) (well : WellFormed code) (t u : ℕ) (may : IsGotoAlon
     limits = well.limits;
     arrays = well.arrays;
     entry = (
-        let a = within t (At_leaf (Leads_to u)) code.rows may.at in
+        let a = within t (At_leaf (Goto u)) code.rows may.at in
         let b = one_less in
         let c = same_length in
         let d = may.not_entry in

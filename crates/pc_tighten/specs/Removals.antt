@@ -1,11 +1,13 @@
 -- A removal: a row that is a goto alone goes, and those that led to it are sent on.
 use Rattle.std.specs.Prelude.{◌≡◌, ◌≢◌, ℕ, zero, suc, pred, nat_eq, List, [], ◌∷◌, map, if◌then◌else◌, Some, slice_get}
-use Rattle.pc_machine.specs.MachineCode.{Leaf, Leads_to, Ends, Traps, CodeRow, RowCode}
+use Rattle.pc_machine.specs.declared.tree.Leaf.{Leaf}
+use Rattle.pc_machine.specs.declared.tree.Leaf.TheVariants.{Goto, Stop, Trap}
+use Rattle.pc_machine.specs.MachineCode.{CodeRow, RowCode}
 use Rattle.pc_word.specs.Row.{Then, Either, At_leaf}
 
 -- a row other than row 0 that is a goto alone to another row
 pub record IsGotoAlone (rows : List CodeRow) (t u : ℕ) : Type 0 where
-  pub at : slice_get rows t ≡ Some (At_leaf (Leads_to u))
+  pub at : slice_get rows t ≡ Some (At_leaf (Goto u))
   pub not_entry : t ≢ 0
   pub not_itself : u ≢ t
 
@@ -25,9 +27,9 @@ sent t u row = if nat_eq row t then shifted t u else shifted t row
 
 -- the leaf then
 abbrev pub sent_leaf : ℕ → ℕ → Leaf → Leaf
-sent_leaf t u (Leads_to row) = Leads_to (sent t u row)
-sent_leaf t u Ends = Ends
-sent_leaf t u (Traps kind line) = Traps kind line
+sent_leaf t u (Goto row) = Goto (sent t u row)
+sent_leaf t u Stop = Stop
+sent_leaf t u (Trap kind line) = Trap kind line
 
 -- the row then
 abbrev pub sent_row : ℕ → ℕ → CodeRow → CodeRow

@@ -1,6 +1,8 @@
 -- Rows that go away, several at once.
 use Rattle.std.specs.Prelude.{◌≡◌, ◌≢◌, ◌⊎◌, ℕ, zero, suc, ◌<◌, ◌≤◌, Bool, true, false, if◌then◌else◌, List, [], ◌∷◌, map, Some, slice_get}
-use Rattle.pc_machine.specs.MachineCode.{Leaf, Leads_to, Ends, Traps, CodeRow, RowCode}
+use Rattle.pc_machine.specs.declared.tree.Leaf.{Leaf}
+use Rattle.pc_machine.specs.declared.tree.Leaf.TheVariants.{Goto, Stop, Trap}
+use Rattle.pc_machine.specs.MachineCode.{CodeRow, RowCode}
 use Rattle.pc_word.specs.Row.{Then, Either, At_leaf}
 use Rattle.pc_tighten.specs.Compact.{Compact}
 use Rattle.pc_tighten.specs.Tightened.{Tightens, EachIsReachable}
@@ -17,9 +19,9 @@ rank marks (suc i) = if marks 0 then rank (λ k. marks (suc k)) i else suc (rank
 
 -- a leaf that leads to the place of its row
 abbrev pub placed_leaf : (ℕ → ℕ) → Leaf → Leaf
-placed_leaf place (Leads_to row) = Leads_to (place row)
-placed_leaf place Ends = Ends
-placed_leaf place (Traps kind line) = Traps kind line
+placed_leaf place (Goto row) = Goto (place row)
+placed_leaf place Stop = Stop
+placed_leaf place (Trap kind line) = Trap kind line
 
 -- a row whose leaves lead to the places of rows
 abbrev pub placed_row : (ℕ → ℕ) → CodeRow → CodeRow
@@ -39,7 +41,7 @@ pub record Shrinks (code after : RowCode) : Type 0 where
 -- a marked row: a goto alone to another row, which stands further down or is not marked, and has its place
 pub record IsMarked (rows : List CodeRow) (place : ℕ → ℕ) (marks : ℕ → Bool) (t : ℕ) : Type 0 where
   pub target : ℕ
-  pub at : slice_get rows t ≡ Some (At_leaf (Leads_to target))
+  pub at : slice_get rows t ≡ Some (At_leaf (Goto target))
   pub not_entry : t ≢ 0
   pub not_itself : target ≢ t
   pub later : (t < target) ⊎ (marks target ≡ false)

@@ -3,7 +3,9 @@ use Rattle.std.specs.Prelude.{◌≡◌, ℕ, ◌+◌, List}
 use Rattle.std.specs.List.{sum_by}
 use Rattle.pc_word.specs.declared.item.Item.{Item}
 use Rattle.pc_word.specs.declared.item.Operand.{Operand}
-use Rattle.pc_machine.specs.MachineCode.{Leaf, Leads_to, CodeRow}
+use Rattle.pc_machine.specs.declared.tree.Leaf.{Leaf}
+use Rattle.pc_machine.specs.declared.tree.Leaf.TheVariants.{Goto}
+use Rattle.pc_machine.specs.MachineCode.{CodeRow}
 use Rattle.pc_word.specs.Row.{Then, Either, At_leaf}
 
 -- the room that the parts of a row take; a goto takes the same room whatever row it leads to
@@ -11,7 +13,7 @@ pub record Room : Type 0 where
   pub of_item : Item → ℕ
   pub of_test : Operand → ℕ
   pub of_leaf : Leaf → ℕ
-  pub alike : (i j : ℕ) → of_leaf (Leads_to i) ≡ of_leaf (Leads_to j)
+  pub alike : (i j : ℕ) → of_leaf (Goto i) ≡ of_leaf (Goto j)
 
 -- the room that a row takes
 abbrev pub row_room : Room → CodeRow → ℕ

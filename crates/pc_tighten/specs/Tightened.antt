@@ -35,6 +35,6 @@ pub record IsTightened (before after : RowCode) : Type 0 where
   -- its rows are written in no more room
   pub room : (room : Room) → rows_room room after.rows ≤ rows_room room before.rows
   pub reachable : EachIsReachable before.rows → EachIsReachable after.rows
-  -- where each row was reachable: a row that was not may go, and then one leaf alone may lead to the row behind it
+  -- where each row was reachable: a row that was not may go, and then one leaf alone may lead to the row after it
   pub compact : EachIsReachable before.rows → Compact after
   pub no_goto_alone : HasNoGotoAlone after.rows

@@ -6,61 +6,42 @@ ghost use Rattle.pc_word.specs.Row.{items_of, tests_of};
 ghost use Rattle.pc_machine.specs.MachineCode.{row_of};
 ghost use Rattle.pc_tighten.specs.Compact.{is_dest, is_full, comes_after, is_awaited_by, paths_to};
 ghost use Rattle.pc_tighten.specs.Moves.{below, with_item};
-ghost use Rattle.pc_tighten.specs.models.Drafts.{below_row, draft_row, comes_after_path, items_but, held_at, FirstStay, MayGoUp};
+ghost use Rattle.pc_tighten.specs.models.Drafts.{draft_row, BeginsWithNoItem, IsSplit, comes_after_path, items_but, held_at, FirstStay, MayGoUp};
 
 use crate::reasons::{comes_after, comes_after_some, is_awaited_by, is_awaited_by_some, is_tested};
 use pc_machine::Tree;
-use pc_word::{Item, Limits, Operand, TrapKind};
+use pc_word::{Item, Limits, RowTree};
 use std::alloc::{AllocError, Global};
-
-/// What stands below the items before the first test of a row.
-#[derive(Drop)]
-pub(crate) enum Below {
-    Test {
-        on: Operand,
-        yes: Box<Tree>,
-        no: Box<Tree>,
-    },
-    Goto {
-        row: u32,
-    },
-    Stop,
-    Trap {
-        kind: TrapKind,
-        line: u32,
-    },
-}
 
 /// A row: its items before its first test, and what stands below them.
 #[derive(Drop)]
 pub(crate) struct Draft {
     pub(crate) items: Vec<Item>,
-    pub(crate) rest: Below,
+    pub(crate) rest: Tree,
 }
 
 /// The draft of a row.
 pub(crate) fn drafted(alloc: Global, tree: Tree) -> Result<Draft, AllocError>
-    ensures { IfOk result (λ draft. draft_row draft ≡ row_of tree) }
+    ensures row { IfOk result (λ draft. draft_row draft ≡ row_of tree) }
+    ensures split { IfOk result (λ draft. IsSplit draft) }
 {
     let mut items = Vec::new(alloc);
     let rest = split(tree, &mut items)?;
     Ok(Draft { items, rest })
 }
 
-/// Puts the items before the first test behind others, and gives what stands below them.
+/// Appends the items before the first test to others, and gives what stands below them.
 #[tactic(auto, using(crate::proofs::Drafting::rows_below))]
-fn split(tree: Tree, items: &mut Vec<Item>) -> Result<Below, AllocError>
-    ensures { IfOk result (λ rest. below items.new.items (below_row rest) ≡ below items.old.items (row_of tree)) }
+fn split(tree: Tree, items: &mut Vec<Item>) -> Result<Tree, AllocError>
+    ensures row { IfOk result (λ rest. below items.new.items (row_of rest) ≡ below items.old.items (row_of tree)) }
+    ensures split { IfOk result (λ rest. BeginsWithNoItem (row_of rest)) }
 {
     match tree {
-        Tree::Step { item, next } => {
+        RowTree::Step { item, next } => {
             items.push(item)?;
             split(Box::into_inner(next), items)
         }
-        Tree::Test { on, yes, no } => Ok(Below::Test { on, yes, no }),
-        Tree::Goto { row } => Ok(Below::Goto { row }),
-        Tree::Stop => Ok(Below::Stop),
-        Tree::Trap { kind, line } => Ok(Below::Trap { kind, line }),
+        RowTree::Test { .. } | RowTree::Leaf { .. } => Ok(tree),
     }
 }
 
@@ -70,24 +51,12 @@ pub(crate) fn rebuilt(alloc: Global, draft: Draft) -> Result<Tree, AllocError>
     ensures { IfOk result (λ tree. row_of tree ≡ draft_row draft) }
 {
     let Draft { mut items, rest } = draft;
-    let mut tree = rest_tree(rest);
+    let mut tree = rest;
     while let Some(item) = items.pop() {
         let next = Box::new(alloc, tree)?;
-        tree = Tree::Step { item, next };
+        tree = RowTree::Step { item, next };
     }
     Ok(tree)
-}
-
-/// The tree of what stands below the items.
-fn rest_tree(rest: Below) -> Tree
-    ensures { row_of result ≡ below_row rest }
-{
-    match rest {
-        Below::Test { on, yes, no } => Tree::Test { on, yes, no },
-        Below::Goto { row } => Tree::Goto { row },
-        Below::Stop => Tree::Stop,
-        Below::Trap { kind, line } => Tree::Trap { kind, line },
-    }
 }
 
 /// Puts an item at the end of each path of a tree to the row `to`.
@@ -95,20 +64,19 @@ fn put_below(alloc: Global, tree: &mut Tree, to: usize, item: Item) -> Result<()
     ensures { OnOk result (row_of tree.new ≡ with_item to item (row_of tree.old)) }
 {
     match tree {
-        Tree::Step { next, .. } => put_below(alloc, next, to, item),
-        Tree::Test { yes, no, .. } => {
+        RowTree::Step { next, .. } => put_below(alloc, next, to, item),
+        RowTree::Test { yes, no, .. } => {
             put_below(alloc, yes, to, item)?;
             put_below(alloc, no, to, item)
         }
-        Tree::Goto { row } => {
-            let row = *row;
-            if row as usize == to {
-                let next = Box::new(alloc, Tree::Goto { row })?;
-                *tree = Tree::Step { item, next };
+        RowTree::Leaf { leaf } => {
+            let leaf = *leaf;
+            if leaf.is_goto(to) {
+                let next = Box::new(alloc, RowTree::Leaf { leaf })?;
+                *tree = RowTree::Step { item, next };
             }
             Ok(())
         }
-        Tree::Stop | Tree::Trap { .. } => Ok(()),
     }
 }
 
@@ -117,9 +85,9 @@ fn left_for_items(tree: &Tree, room: usize) -> usize
     ensures { result ≡ room - length (items_of (row_of tree.now)) }
 {
     match tree {
-        Tree::Step { next, .. } => left_for_items(next, room.saturating_sub(1)),
-        Tree::Test { yes, no, .. } => left_for_items(no, left_for_items(yes, room)),
-        Tree::Goto { .. } | Tree::Stop | Tree::Trap { .. } => room,
+        RowTree::Step { next, .. } => left_for_items(next, room.saturating_sub(1)),
+        RowTree::Test { yes, no, .. } => left_for_items(no, left_for_items(yes, room)),
+        RowTree::Leaf { .. } => room,
     }
 }
 
@@ -128,12 +96,12 @@ fn left_for_memory(tree: &Tree, room: usize) -> usize
     ensures { result ≡ room - count_by is_memory (items_of (row_of tree.now)) }
 {
     match tree {
-        Tree::Step { item, next } => {
+        RowTree::Step { item, next } => {
             let used = usize::from(item.is_memory());
             left_for_memory(next, room.saturating_sub(used))
         }
-        Tree::Test { yes, no, .. } => left_for_memory(no, left_for_memory(yes, room)),
-        Tree::Goto { .. } | Tree::Stop | Tree::Trap { .. } => room,
+        RowTree::Test { yes, no, .. } => left_for_memory(no, left_for_memory(yes, room)),
+        RowTree::Leaf { .. } => room,
     }
 }
 
@@ -143,15 +111,14 @@ fn comes_after_below(tree: &Tree, to: usize, x: Item, above: bool) -> bool
     ensures { result ≡ list_any (λ path. above || list_any (comes_after x) path) (paths_to to (row_of tree.now)) }
 {
     match tree {
-        Tree::Step { item, next } => {
+        RowTree::Step { item, next } => {
             let above = either(above, comes_after(x, *item));
             comes_after_below(next, to, x, above)
         }
-        Tree::Test { yes, no, .. } => {
+        RowTree::Test { yes, no, .. } => {
             comes_after_below(yes, to, x, above) || comes_after_below(no, to, x, above)
         }
-        Tree::Goto { row } => *row as usize == to && above,
-        Tree::Stop | Tree::Trap { .. } => false,
+        RowTree::Leaf { leaf } => leaf.is_goto(to) && above,
     }
 }
 
@@ -167,9 +134,9 @@ fn is_awaited_below(tree: &Tree, x: Item) -> bool
     ensures { result ≡ list_any (λ y. is_awaited_by x y) (items_of (row_of tree.now)) }
 {
     match tree {
-        Tree::Step { item, next } => is_awaited_by(x, *item) || is_awaited_below(next, x),
-        Tree::Test { yes, no, .. } => is_awaited_below(yes, x) || is_awaited_below(no, x),
-        Tree::Goto { .. } | Tree::Stop | Tree::Trap { .. } => false,
+        RowTree::Step { item, next } => is_awaited_by(x, *item) || is_awaited_below(next, x),
+        RowTree::Test { yes, no, .. } => is_awaited_below(yes, x) || is_awaited_below(no, x),
+        RowTree::Leaf { .. } => false,
     }
 }
 
@@ -178,31 +145,28 @@ fn is_tested_below(tree: &Tree, x: Item) -> bool
     ensures { result ≡ list_any (λ on. is_dest on (dest_of x)) (tests_of (row_of tree.now)) }
 {
     match tree {
-        Tree::Step { next, .. } => is_tested_below(next, x),
-        Tree::Test { on, yes, no } => {
+        RowTree::Step { next, .. } => is_tested_below(next, x),
+        RowTree::Test { on, yes, no } => {
             is_tested(x, *on) || is_tested_below(yes, x) || is_tested_below(no, x)
         }
-        Tree::Goto { .. } | Tree::Stop | Tree::Trap { .. } => false,
+        RowTree::Leaf { .. } => false,
     }
 }
 
 /// Puts an item at the end of each path of a row to the row `to`.
 #[tactic(auto, using(crate::proofs::Drafting::put_laws))]
 pub(crate) fn put(alloc: Global, draft: &mut Draft, to: usize, item: Item) -> Result<(), AllocError>
-    ensures { OnOk result (draft_row draft.new ≡ with_item to item (draft_row draft.old)) }
+    ensures row { OnOk result (draft_row draft.new ≡ with_item to item (draft_row draft.old)) }
+    ensures split { OnOk result (IsSplit draft.old → IsSplit draft.new) }
 {
     match &mut draft.rest {
-        Below::Test { yes, no, .. } => {
-            put_below(alloc, yes, to, item)?;
-            put_below(alloc, no, to, item)
-        }
-        Below::Goto { row } => {
-            if *row as usize == to {
+        RowTree::Leaf { leaf } => {
+            if leaf.is_goto(to) {
                 draft.items.push(item)?;
             }
             Ok(())
         }
-        Below::Stop | Below::Trap { .. } => Ok(()),
+        tree => put_below(alloc, tree, to, item),
     }
 }
 
@@ -219,7 +183,7 @@ fn has_no_room(limits: Limits, above: &Draft) -> bool
     ensures { result ≡ nat_le limits.ops (length (items_of (draft_row above.now))) }
 {
     let room = usize::from(limits.ops).saturating_sub(above.items.len());
-    left_in(&above.rest, room) == 0
+    left_for_items(&above.rest, room) == 0
 }
 
 /// Whether a row has as many loads and stores as a row may have.
@@ -229,27 +193,7 @@ fn has_no_room_for_memory(limits: Limits, above: &Draft) -> bool
 {
     let used = above.items.iter().filter(|item| item.is_memory()).count();
     let room = usize::from(limits.mem).saturating_sub(used);
-    left_for_memory_in(&above.rest, room) == 0
-}
-
-/// The room that is left once the items below are in it.
-fn left_in(rest: &Below, room: usize) -> usize
-    ensures { result ≡ room - length (items_of (below_row rest.now)) }
-{
-    match rest {
-        Below::Test { yes, no, .. } => left_for_items(no, left_for_items(yes, room)),
-        Below::Goto { .. } | Below::Stop | Below::Trap { .. } => room,
-    }
-}
-
-/// The room that is left once the loads and stores below are in it.
-fn left_for_memory_in(rest: &Below, room: usize) -> usize
-    ensures { result ≡ room - count_by is_memory (items_of (below_row rest.now)) }
-{
-    match rest {
-        Below::Test { yes, no, .. } => left_for_memory(no, left_for_memory(yes, room)),
-        Below::Goto { .. } | Below::Stop | Below::Trap { .. } => room,
-    }
+    left_for_memory(&above.rest, room) == 0
 }
 
 /// Whether an item comes after some item of a path of a row to the row `to`.
@@ -258,43 +202,7 @@ fn comes_after_path(above: &Draft, to: usize, x: Item) -> bool
     ensures { result ≡ comes_after_path x to (draft_row above.now) }
 {
     let found = comes_after_some(x, &above.items);
-    comes_after_in(&above.rest, to, x, found)
-}
-
-/// Whether an item comes after some item of a path below to the row `to`, or after one above.
-#[tactic(auto, using(crate::proofs::Drafting::path_laws))]
-fn comes_after_in(rest: &Below, to: usize, x: Item, above: bool) -> bool
-    ensures { result ≡ list_any (λ path. above || list_any (comes_after x) path) (paths_to to (below_row rest.now)) }
-{
-    match rest {
-        Below::Test { yes, no, .. } => {
-            comes_after_below(yes, to, x, above) || comes_after_below(no, to, x, above)
-        }
-        Below::Goto { row } => *row as usize == to && above,
-        Below::Stop | Below::Trap { .. } => false,
-    }
-}
-
-/// Whether an item below awaits another item.
-fn is_awaited_in(rest: &Below, x: Item) -> bool
-    ensures { result ≡ list_any (is_awaited_by x) (items_of (below_row rest.now)) }
-{
-    match rest {
-        Below::Test { yes, no, .. } => is_awaited_below(yes, x) || is_awaited_below(no, x),
-        Below::Goto { .. } | Below::Stop | Below::Trap { .. } => false,
-    }
-}
-
-/// Whether a test below reads what an item writes.
-fn is_tested_in(rest: &Below, x: Item) -> bool
-    ensures { result ≡ list_any (λ on. is_dest on (dest_of x)) (tests_of (below_row rest.now)) }
-{
-    match rest {
-        Below::Test { on, yes, no } => {
-            is_tested(x, *on) || is_tested_below(yes, x) || is_tested_below(no, x)
-        }
-        Below::Goto { .. } | Below::Stop | Below::Trap { .. } => false,
-    }
+    comes_after_below(&above.rest, to, x, found)
 }
 
 /// Whether another item of a row than the one at a place, which is this one, awaits it.
@@ -305,7 +213,7 @@ fn is_awaited(under: &Draft, at: usize, x: Item) -> bool
 {
     is_awaited_by_some(x, &under.items[..at])
         || is_awaited_by_some(x, &under.items[at + 1..])
-        || is_awaited_in(&under.rest, x)
+        || is_awaited_below(&under.rest, x)
 }
 
 /// Whether an item, the one at a place of the row `to`, has a reason to stay there.
@@ -323,7 +231,7 @@ pub(crate) fn is_held(
     is_full(limits, above, x)
         || comes_after_path(above, to, x)
         || is_awaited(under, at, x)
-        || is_tested_in(&under.rest, x)
+        || is_tested_below(&under.rest, x)
 }
 
 /// The first item of the row `to` before its first test that has no reason to stay there.

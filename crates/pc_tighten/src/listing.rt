@@ -1,12 +1,13 @@
-//! The rows that are reachable, in the order in which they are first led to.
+//! The rows that are reachable, in the order in which they are first reached.
 ghost use Rattle.std.specs.Prelude.{◌≡◌, [], None, replicate, IfOk, OnOk};
 ghost use Rattle.pc_word.specs.Row.{leaves_of};
 ghost use Rattle.pc_machine.specs.MachineCode.{row_of};
 ghost use Rattle.pc_tighten.specs.models.Drafts.{draft_row, draft_rows};
-ghost use Rattle.pc_tighten.specs.models.Listing.{listed_of, with_listed, with_targets, AreListed};
+ghost use Rattle.pc_tighten.specs.models.Listing.{listed_of, with_listed, with_target, with_targets, AreListed};
 
-use crate::draft::{Below, Draft};
-use pc_machine::Tree;
+use crate::draft::Draft;
+use pc_machine::{Leaf, Tree};
+use pc_word::RowTree;
 use std::alloc::{AllocError, Global};
 
 /// Rows in the order in which they were listed, and the place of each of them there.
@@ -16,7 +17,7 @@ pub(crate) struct Listing {
     pub(crate) order: Vec<u32>,
 }
 
-/// Puts a row behind the others if it is not there.
+/// Appends a row to the others if it is not there.
 fn list_row(listing: &mut Listing, row: u32) -> Result<(), AllocError>
     ensures { OnOk result (listed_of listing.new ≡ with_listed row (listed_of listing.old)) }
 {
@@ -29,35 +30,37 @@ fn list_row(listing: &mut Listing, row: u32) -> Result<(), AllocError>
     Ok(())
 }
 
-/// Puts the rows that a tree leads to behind the others.
-#[tactic(auto, using(crate::proofs::Listed::targets, crate::proofs::Drafting::leaves_laws))]
+/// Appends the row that a leaf leads to to the others if it is not there.
+fn list_target(listing: &mut Listing, leaf: Leaf) -> Result<(), AllocError>
+    ensures { OnOk result (listed_of listing.new ≡ with_target leaf (listed_of listing.old)) }
+{
+    match leaf.target() {
+        Some(row) => list_row(listing, row),
+        None => Ok(()),
+    }
+}
+
+/// Appends the rows that a tree leads to to the others.
+#[tactic(auto, using(crate::proofs::Listed::targets))]
 fn list_tree(listing: &mut Listing, tree: &Tree) -> Result<(), AllocError>
     ensures { OnOk result (listed_of listing.new ≡ with_targets (leaves_of (row_of tree.now)) (listed_of listing.old)) }
 {
     match tree {
-        Tree::Step { next, .. } => list_tree(listing, next),
-        Tree::Test { yes, no, .. } => {
+        RowTree::Step { next, .. } => list_tree(listing, next),
+        RowTree::Test { yes, no, .. } => {
             list_tree(listing, yes)?;
             list_tree(listing, no)
         }
-        Tree::Goto { row } => list_row(listing, *row),
-        Tree::Stop | Tree::Trap { .. } => Ok(()),
+        RowTree::Leaf { leaf } => list_target(listing, *leaf),
     }
 }
 
-/// Puts the rows that a row leads to behind the others.
-#[tactic(auto, using(crate::proofs::Listed::targets, crate::proofs::Drafting::leaves_laws))]
+/// Appends the rows that a row leads to to the others.
+#[tactic(auto, using(crate::proofs::Drafting::leaves_laws))]
 fn list_targets(listing: &mut Listing, draft: &Draft) -> Result<(), AllocError>
     ensures { OnOk result (listed_of listing.new ≡ with_targets (leaves_of (draft_row draft.now)) (listed_of listing.old)) }
 {
-    match &draft.rest {
-        Below::Test { yes, no, .. } => {
-            list_tree(listing, yes)?;
-            list_tree(listing, no)
-        }
-        Below::Goto { row } => list_row(listing, *row),
-        Below::Stop | Below::Trap { .. } => Ok(()),
-    }
+    list_tree(listing, &draft.rest)
 }
 
 /// The rows that are reachable, listed.

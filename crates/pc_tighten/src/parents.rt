@@ -1,14 +1,15 @@
 //! The row above each row: the one that alone leads to it, by one leaf.
-ghost use Rattle.std.specs.Prelude.{◌≡◌, ◌∷◌, [], Some, length, replicate, slice_get, IfOk};
+ghost use Rattle.std.specs.Prelude.{◌≡◌, Some, length, replicate, slice_get, IfOk};
 ghost use Rattle.pc_word.specs.Row.{leaves_of};
-ghost use Rattle.pc_machine.specs.MachineCode.{Leads_to, row_of};
+ghost use Rattle.pc_machine.specs.MachineCode.{row_of};
 ghost use Rattle.pc_tighten.specs.declared.parents.Naming.TheVariants.{Never, Once};
 ghost use Rattle.pc_tighten.specs.models.Drafts.{draft_row, draft_rows};
-ghost use Rattle.pc_tighten.specs.models.Parents.{named_again, with_names, with_all_names, if_before};
+ghost use Rattle.pc_tighten.specs.models.Parents.{named_again, with_name, with_names, with_all_names, if_before};
 
-use crate::draft::{Below, Draft};
+use crate::draft::Draft;
 use crate::listing::{Listing, reachable};
-use pc_machine::Tree;
+use pc_machine::{Leaf, Tree};
+use pc_word::RowTree;
 use std::alloc::{AllocError, Global};
 
 /// How often leaves lead to a row.
@@ -28,7 +29,7 @@ pub(crate) struct Parents {
 }
 
 impl Parents {
-    ghost use Rattle.pc_tighten.specs.models.Drafts.{draft_rows};
+    ghost use Rattle.pc_tighten.specs.models.Drafts.{draft_row, draft_rows};
     ghost use Rattle.pc_tighten.specs.models.Parents.{AreParents, parent_of, parent_by};
 
     /// Of these rows.
@@ -52,7 +53,7 @@ impl Parents {
         }
     }
 
-    /// This row, if the other is not row 0 nor itself, and is listed behind it.
+    /// This row, if the other is not row 0 nor itself, and is listed after it.
     fn unless_entry(&self, row: usize, above: usize) -> Option<usize>
         ensures { result ≡ parent_by self.now.listing.places.items row (Some (Once above)) }
     {
@@ -65,7 +66,7 @@ impl Parents {
         if_before(&self.listing.places, above, row)
     }
 
-    /// The reachable rows, in the order in which they are first led to.
+    /// The reachable rows, in the order in which they are first reached.
     pub(crate) fn rows(&self) -> &[u32]
         ensures { result.now ≡ self.now.listing.order.items }
     {
@@ -97,10 +98,13 @@ fn named_again(from: usize, naming: Naming) -> Naming
     }
 }
 
-/// Names the row to which a goto of the row `from` leads.
-fn name_row(names: &mut Vec<Naming>, from: usize, row: u32)
-    ensures { names.new.items ≡ with_names from (Leads_to row ∷ []) names.old.items }
+/// Names the row to which a leaf of the row `from` leads.
+fn name_target(names: &mut Vec<Naming>, from: usize, leaf: Leaf)
+    ensures { names.new.items ≡ with_name from leaf names.old.items }
 {
+    let Some(row) = leaf.target() else {
+        return;
+    };
     let at = row as usize;
     if at < names.len() {
         let naming = names[at];
@@ -109,34 +113,26 @@ fn name_row(names: &mut Vec<Naming>, from: usize, row: u32)
 }
 
 /// Names the rows to which a tree of the row `from` leads.
-#[tactic(auto, using(crate::proofs::Named::names, crate::proofs::Drafting::leaves_laws))]
+#[tactic(auto, using(crate::proofs::Named::names))]
 fn name_tree(names: &mut Vec<Naming>, from: usize, tree: &Tree)
     ensures { names.new.items ≡ with_names from (leaves_of (row_of tree.now)) names.old.items }
 {
     match tree {
-        Tree::Step { next, .. } => name_tree(names, from, next),
-        Tree::Test { yes, no, .. } => {
+        RowTree::Step { next, .. } => name_tree(names, from, next),
+        RowTree::Test { yes, no, .. } => {
             name_tree(names, from, yes);
             name_tree(names, from, no);
         }
-        Tree::Goto { row } => name_row(names, from, *row),
-        Tree::Stop | Tree::Trap { .. } => {}
+        RowTree::Leaf { leaf } => name_target(names, from, *leaf),
     }
 }
 
 /// Names the rows to which the row `from` leads.
-#[tactic(auto, using(crate::proofs::Named::names, crate::proofs::Drafting::leaves_laws))]
+#[tactic(auto, using(crate::proofs::Drafting::leaves_laws))]
 fn name_targets(names: &mut Vec<Naming>, from: usize, draft: &Draft)
     ensures { names.new.items ≡ with_names from (leaves_of (draft_row draft.now)) names.old.items }
 {
-    match &draft.rest {
-        Below::Test { yes, no, .. } => {
-            name_tree(names, from, yes);
-            name_tree(names, from, no);
-        }
-        Below::Goto { row } => name_row(names, from, *row),
-        Below::Stop | Below::Trap { .. } => {}
-    }
+    name_tree(names, from, &draft.rest);
 }
 
 /// How often leaves lead to each row.

@@ -1,7 +1,7 @@
 //! Items go up, as many rows as they can.
-ghost use Rattle.std.specs.Prelude.{◌≡◌, ◌≢◌, ◌<◌, ℕ, Option, Some, length, slice_get, IfOk, OnOk, IfSome, MatchOption};
+ghost use Rattle.std.specs.Prelude.{◌≡◌, ◌≢◌, ◌<◌, ℕ, Option, Some, length, slice_get, All, IfOk, OnOk, IfSome, MatchOption};
 ghost use Rattle.pc_tighten.specs.declared.draft.Draft.{Draft as DraftOf};
-ghost use Rattle.pc_tighten.specs.models.Drafts.{draft_rows};
+ghost use Rattle.pc_tighten.specs.models.Drafts.{IsSplit, draft_rows};
 ghost use Rattle.pc_tighten.specs.models.Parents.{StandAbove, parent_of};
 ghost use Rattle.pc_tighten.specs.models.Raising.{Raises, MayRise, MovesUp, IsSettled, HasRaised};
 ghost use Rattle.pc_tighten.specs.models.Raising.{AreSettledIf, IsAmongFirst, AreWithin, IsRaised};
@@ -49,7 +49,7 @@ fn lift(
 ) -> Result<(), AllocError>
     requires stand { StandAbove (draft_rows rows.old.items) parents.now }
     requires may { MayRise limits parents.now rows.old.items rise.above under rise.at }
-    ensures raises { OnOk result (Raises limits parents.now.listing.places.items 1 (draft_rows rows.old.items) (draft_rows rows.new.items)) }
+    ensures raises { OnOk result (Raises limits parents.now.listing.places.items 1 rows.old.items rows.new.items) }
     ensures count { OnOk result (length rows.new.items ≡ length rows.old.items) }
     ensures there { rise.above < length rows.old.items }
 {
@@ -70,7 +70,7 @@ fn raise(
 ) -> Result<(), AllocError>
     requires stand { StandAbove (draft_rows rows.old.items) parents.now }
     requires may { MayRise limits parents.now rows.old.items first.above under first.at }
-    ensures raises { OnOk result (Raises limits parents.now.listing.places.items 1 (draft_rows rows.old.items) (draft_rows rows.new.items)) }
+    ensures raises { OnOk result (Raises limits parents.now.listing.places.items 1 rows.old.items rows.new.items) }
     ensures count { OnOk result (length rows.new.items ≡ length rows.old.items) }
 {
     let mut row = first.above;
@@ -183,6 +183,7 @@ pub(crate) fn raise_all(
     limits: Limits,
     rows: &mut Vec<Draft>,
 ) -> Result<(), AllocError>
+    requires { All IsSplit rows.old.items }
     ensures { OnOk result (IsRaised limits (draft_rows rows.old.items) (draft_rows rows.new.items)) }
 {
     let parents = Parents::new(alloc, rows)?;

@@ -1,10 +1,11 @@
 //! Rows that are a goto alone go, and what led to them is sent on.
 ghost use Rattle.std.specs.Prelude.{◌≡◌, IfOk, OnOk};
 ghost use Rattle.pc_machine.specs.MachineCode.{row_of, rows_of};
-ghost use Rattle.pc_tighten.specs.Removing.{placed_row};
+ghost use Rattle.pc_tighten.specs.Removing.{placed_leaf, placed_row};
 ghost use Rattle.pc_tighten.specs.models.Gotos.{goto_of, gotos_of, goto_target, sent_on, new_place, AreRanks, ArePlacesFrom, rows_left, HasRemoved, AreRemoved};
 
-use pc_machine::Tree;
+use pc_machine::{Leaf, Tree};
+use pc_word::RowTree;
 use std::alloc::{AllocError, Global};
 
 /// The place of each row once rows have gone, and how many go.
@@ -19,8 +20,8 @@ fn goto_of(tree: &Tree) -> Option<u32>
     ensures { result ≡ goto_of (row_of tree.now) }
 {
     match tree {
-        Tree::Goto { row } => Some(*row),
-        Tree::Step { .. } | Tree::Test { .. } | Tree::Stop | Tree::Trap { .. } => None,
+        RowTree::Leaf { leaf } => leaf.target(),
+        RowTree::Step { .. } | RowTree::Test { .. } => None,
     }
 }
 
@@ -123,21 +124,29 @@ fn places_after(alloc: Global, gotos: &[Option<u32>]) -> Result<Places, AllocErr
     Ok(it)
 }
 
+/// A leaf that leads to the place of its row.
+fn placed_leaf(it: &Places, leaf: Leaf) -> Leaf
+    ensures { result ≡ placed_leaf (new_place it.now) leaf }
+{
+    match leaf {
+        Leaf::Goto { row } => Leaf::Goto {
+            row: new_place(it, row),
+        },
+        Leaf::Stop | Leaf::Trap { .. } => leaf,
+    }
+}
+
 /// Sends the leaves of a tree to the places of rows.
 fn send(tree: &mut Tree, it: &Places)
     ensures { row_of tree.new ≡ placed_row (new_place it.now) (row_of tree.old) }
 {
     match tree {
-        Tree::Step { next, .. } => send(next, it),
-        Tree::Test { yes, no, .. } => {
+        RowTree::Step { next, .. } => send(next, it),
+        RowTree::Test { yes, no, .. } => {
             send(yes, it);
             send(no, it);
         }
-        Tree::Goto { row } => {
-            let place = new_place(it, *row);
-            *tree = Tree::Goto { row: place };
-        }
-        Tree::Stop | Tree::Trap { .. } => {}
+        RowTree::Leaf { leaf } => *leaf = placed_leaf(it, *leaf),
     }
 }
 

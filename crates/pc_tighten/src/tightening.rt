@@ -1,9 +1,9 @@
 //! Rows made compact.
-ghost use Rattle.std.specs.Prelude.{◌≡◌, IfOk};
+ghost use Rattle.std.specs.Prelude.{◌≡◌, All, IfOk};
 ghost use Rattle.pc_machine.specs.MachineCode.{code_of, rows_of};
 ghost use Rattle.pc_machine.specs.WellFormed.{WellFormed};
 ghost use Rattle.pc_tighten.specs.Tightened.{IsTightened};
-ghost use Rattle.pc_tighten.specs.models.Drafts.{draft_rows};
+ghost use Rattle.pc_tighten.specs.models.Drafts.{IsSplit, draft_rows};
 
 use crate::draft::{Draft, drafted, rebuilt};
 use crate::error::TightenError;
@@ -14,7 +14,7 @@ use std::alloc::{AllocError, Global};
 
 /// The code with each item brought up as many rows as it may go: from a row to which one leaf alone leads to the
 /// end of the path to that leaf, as in percolation scheduling (Nicolau 1985). Rows that are then a goto alone to
-/// another row go, but for row 0: what led to them is sent on, and the rows behind them get lower numbers.
+/// another row go, but for row 0: what led to them is sent on, and the rows after them get lower numbers.
 ///
 /// `Memory` is the only error. It also comes where there are 2^32 rows or more.
 pub fn tighten(alloc: Global, code: Code) -> Result<Code, TightenError>
@@ -39,7 +39,8 @@ pub fn tighten(alloc: Global, code: Code) -> Result<Code, TightenError>
 
 /// The drafts of rows.
 fn drafts(alloc: Global, mut rows: TreeList) -> Result<Vec<Draft>, AllocError>
-    ensures { IfOk result (λ drafts. draft_rows drafts.items ≡ rows_of rows) }
+    ensures rows { IfOk result (λ drafts. draft_rows drafts.items ≡ rows_of rows) }
+    ensures split { IfOk result (λ drafts. All IsSplit drafts.items) }
 {
     let mut drafts = Vec::new(alloc);
     while let Some(tree) = rows.pop() {

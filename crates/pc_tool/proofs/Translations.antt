@@ -16,7 +16,8 @@ use Rattle.pc_compile.specs.Compiled.{IsCompiled, IsUncompiled}
 use Rattle.pc_compile.specs.declared.error.CompileError.{CompileError}
 use Rattle.pc_compile.specs.declared.error.CompileError.TheVariants.{TooLarge, Memory}
 use Rattle.pc_word.specs.Row.{At_leaf}
-use Rattle.pc_machine.specs.MachineCode.{Ends, CodeRow}
+use Rattle.pc_machine.specs.declared.tree.Leaf.TheVariants.{Stop}
+use Rattle.pc_machine.specs.MachineCode.{CodeRow}
 use Rattle.pc_machine.specs.MachineRun.{machine_run}
 use Rattle.pc_machine.specs.Reachable.{IsReachable}
 use Rattle.pc_tighten.specs.Tightened.{EachIsReachable}
@@ -35,13 +36,13 @@ sized text checked h = ap resolved_size (sym h.is_resolved) ∙ size-resolved h.
 
 -- rows that are all reachable are so by their numbers
 reachable : (rows : List CodeRow) → EachIsReachable rows → (row : ℕ) → row < length rows → IsReachable rows row
-reachable rows each row less = each row (get_or rows row (At_leaf Ends)) (slice_get-get_or rows row (At_leaf Ends) less)
+reachable rows each row less = each row (get_or rows row (At_leaf Stop)) (slice_get-get_or rows row (At_leaf Stop) less)
 
 -- the object of a checked text translates it
-pub translates : (limits : Limits) (extent : Extent) (text : List ℕ) (checked : ResolvedProgram) (flow : FlowGraph) (table : Table) (choices : List Choice)
+pub translates : (Passed : FlowGraph → FlowGraph → Type 0) (limits : Limits) (extent : Extent) (text : List ℕ) (checked : ResolvedProgram) (flow : FlowGraph) (table : Table) (choices : List Choice)
     (object : CodeWithNotes) (h : IsChecked text checked)
-    → IsCompiled checked limits extent flow table choices object → HasWords object → Translates limits extent text h.program object
-translates limits extent text checked flow table choices object h compiled words =
+    → IsCompiled checked Passed limits extent flow table choices object → HasWords object → Translates Passed limits extent text h.program object
+translates Passed limits extent text checked flow table choices object h compiled words =
     let same = sized text checked h in
     let few = compiled.lowered.few in
     record {
@@ -56,19 +57,19 @@ translates limits extent text checked flow table choices object h compiled words
         flow = flow;
         table = table;
         choices = choices;
-        compiled = subst (λ (program : ResolvedProgram). IsCompiled program limits extent flow table choices object) (sym h.is_resolved) compiled;
+        compiled = subst (λ (program : ResolvedProgram). IsCompiled program Passed limits extent flow table choices object) (sym h.is_resolved) compiled;
       };
     }
 
 -- so does what is made of it: its bytes, and what is reported of it
-pub is_translation : (limits : Limits) (extent : Extent) (text : List ℕ) (checked : ResolvedProgram) (flow : FlowGraph) (table : Table) (choices : List Choice)
+pub is_translation : (Passed : FlowGraph → FlowGraph → Type 0) (limits : Limits) (extent : Extent) (text : List ℕ) (checked : ResolvedProgram) (flow : FlowGraph) (table : Table) (choices : List Choice)
     (object : CodeWithNotes) (it : Translation) → IsChecked text checked
-    → IsCompiled checked limits extent flow table choices object → HasWords object → it.bytes.items ≡ object_text object → it.nodes ≡ length flow.nodes
-    → it.rows ≡ length object.code.rows → it.notes ≡ object.notes → IsTranslation limits extent text it
-is_translation limits extent text checked flow table choices object it h compiled words bytes nodes rows notes = record {
+    → IsCompiled checked Passed limits extent flow table choices object → HasWords object → it.bytes.items ≡ object_text object → it.nodes ≡ length flow.nodes
+    → it.rows ≡ length object.code.rows → it.notes ≡ object.notes → IsTranslation Passed limits extent text it
+is_translation Passed limits extent text checked flow table choices object it h compiled words bytes nodes rows notes = record {
   program = h.program;
   object = object;
-  translates = translates limits extent text checked flow table choices object h compiled words;
+  translates = translates Passed limits extent text checked flow table choices object h compiled words;
   bytes = bytes;
   nodes = nodes ∙ compiled.kept.as_many ∙ compiled.lowered.counted ∙ sized text checked h;
   rows = rows;

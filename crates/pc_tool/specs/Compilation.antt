@@ -6,6 +6,7 @@ use Rattle.pc_word.specs.declared.item.Limits.{Limits}
 use Rattle.pc_syntax.specs.Source.{SourceProgram}
 use Rattle.pc_check.specs.Resolution.{resolved}
 use Rattle.pc_check.specs.Sizes.{size}
+use Rattle.pc_flow.specs.FlowGraph.{FlowGraph}
 use Rattle.pc_machine.specs.Reachable.{IsReachable}
 use Rattle.pc_tighten.specs.Compact.{Compact}
 use Rattle.pc_object.specs.ObjectText.{CodeWithNotes, object_text}
@@ -21,8 +22,8 @@ use Rattle.pc_tool.specs.Source.{IsSource}
 
 -- The text is the source of this program; the object loads under the limits, with the program's arrays, leaves lead to each of
 -- its rows from row 0, and it is compact; for every input of words it does what the source means. How it was scheduled within the
--- limits and the extent stands beside that, and nothing else here rests on it.
-pub record Translates (limits : Limits) (extent : Extent) (text : List ℕ) (program : SourceProgram) (object : CodeWithNotes) : Type 0 where
+-- limits and the extent, of the graph that the passes made, stands beside that, and nothing else here rests on it.
+pub record Translates (Passed : FlowGraph → FlowGraph → Type 0) (limits : Limits) (extent : Extent) (text : List ℕ) (program : SourceProgram) (object : CodeWithNotes) : Type 0 where
   pub source : IsSource text program
   pub loads : Loads object
   pub limited : object.code.limits ≡ limits
@@ -30,13 +31,13 @@ pub record Translates (limits : Limits) (extent : Extent) (text : List ℕ) (pro
   pub reached : (row : ℕ) → row < length object.code.rows → IsReachable object.code.rows row
   pub compact : Compact object.code
   pub same : Same program object.code
-  pub scheduled : IsScheduled (resolved program) limits extent object
+  pub scheduled : IsScheduled (resolved program) Passed limits extent object
 
 -- the source that is asked for was translated; its object is held now, and all else is as before
-pub record Compiled (request : CompileRequest) (program : SourceProgram) (object : CodeWithNotes) (old new : Shelved) : Type 0 where
+pub record Compiled (Passed : FlowGraph → FlowGraph → Type 0) (request : CompileRequest) (program : SourceProgram) (object : CodeWithNotes) (old new : Shelved) : Type 0 where
   pub text : List ℕ
   pub in_source : HasSource old.held request.source text
-  pub translates : Translates request.limits request.extent text program object
+  pub translates : Translates Passed request.limits request.extent text program object
   pub written : HoldsFile old.held new.held request.object (object_text object)
 
 -- the names of passes, and how many changes each has made

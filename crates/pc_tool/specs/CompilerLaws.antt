@@ -4,6 +4,7 @@ use Rattle.std.specs.FinMap.{get}
 use Rattle.std.specs.Option.{IsSomeAnd}
 use Rattle.pc_word.specs.Count.{Rose}
 use Rattle.pc_syntax.specs.Source.{SourceProgram}
+use Rattle.pc_flow.specs.FlowGraph.{FlowGraph}
 use Rattle.pc_object.specs.ObjectText.{CodeWithNotes}
 use Rattle.pc_outside.specs.Shelf.{Files, ReadFaultOf, WriteFaultOf, ReadKeeps, OnlyFileDiffers}
 use Rattle.pc_command.specs.Requests.{CompileRequest, SourcePlace, OfFile, OfSample}
@@ -16,10 +17,10 @@ use Rattle.pc_driver.specs.Outside.{Outside, HasErrorFault}
 use Rattle.pc_tool.specs.Source.{IsSomeSource, IsNoSource}
 
 -- the object at OBJ does what the source does, the report was sent where it is asked for, and nothing was told
-pub record HasCompiled (passes : List PassCount) (old new : Outside) (request : CompileRequest) : Type 0 where
+pub record HasCompiled (Passed : FlowGraph → FlowGraph → Type 0) (passes : List PassCount) (old new : Outside) (request : CompileRequest) : Type 0 where
   pub program : SourceProgram
   pub object : CodeWithNotes
-  pub compiled : Compiled request program object old.shelf new.shelf
+  pub compiled : Compiled Passed request program object old.shelf new.shelf
   pub reported : Reports request.report (report_on program object passes) old.out new.out
   pub silent : new.err ≡ old.err
 
@@ -45,10 +46,10 @@ IsTold held (OfFile name) text = (files : Files) × (held ≡ Some files) × (ge
 IsTold held (OfSample number) text = text ≡ sample_text number
 
 -- what follows
-pub record CompilerStatuses (given : Option CompileRequest) (passes : List PassCount) (old new : Outside) (code : ℕ) : Type 0 where
+pub record CompilerStatuses (given : Option CompileRequest) (Passed : FlowGraph → FlowGraph → Type 0) (passes : List PassCount) (old new : Outside) (code : ℕ) : Type 0 where
   -- what each status says
-  pub compiled : code ≡ 0 → IsSomeAnd given (HasCompiled passes old new)
-  pub lacking : code ≡ 1 → CompilerLacks passes old.shelf new.shelf old.out new.out given
+  pub compiled : code ≡ 0 → IsSomeAnd given (HasCompiled Passed passes old new)
+  pub lacking : code ≡ 1 → CompilerLacks Passed passes old.shelf new.shelf old.out new.out given
   pub misused : code ≡ 2 → (given ≡ None) × (new.shelf ≡ old.shelf)
   pub unread : code ≡ 3 → IsSomeAnd given (HasReadFault old new)
   pub refused : code ≡ 4 → IsSomeAnd given (λ request. HoldsSource old.shelf.held request.source IsNoSource)
@@ -59,7 +60,7 @@ pub record CompilerStatuses (given : Option CompileRequest) (passes : List PassC
   -- whatever the status, no file but OBJ differs, and without `--report` nothing is sent to the output
   pub others : KeepsOthers given old new
   pub unasked : (request : CompileRequest) → given ≡ Some request → request.report ≡ false → new.out ≡ old.out
-  -- what is no command is told so, but for want of memory and a fault of the error output
+  -- what is no command is reported so, but for want of memory and a fault of the error output
   pub usage : given ≡ None → (code ≡ 2) ⊎ (code ≡ 1) ⊎ ((code ≡ 5) × HasErrorFault old new)
   -- a source is compiled, but for want of memory and faults
   pub complete : (request : CompileRequest) (text : List ℕ) →
@@ -71,8 +72,8 @@ pub record CompilerStatuses (given : Option CompileRequest) (passes : List PassC
       given ≡ Some request → IsTold old.shelf.held request.source text → IsNoSource text →
       (code ≡ 4) ⊎ (code ≡ 1) ⊎ ((code ≡ 3) × HasReadFault old new request) ⊎ ((code ≡ 5) × HasErrorFault old new)
 
--- the law: the promise says all this
-abbrev pub CompilerPromisesSay : Type 0
-CompilerPromisesSay =
+-- the law: the promise says all this, whatever the passes made of a graph
+abbrev pub CompilerPromisesSay : (FlowGraph → FlowGraph → Type 0) → Type 0
+CompilerPromisesSay Passed =
     (given : Option CompileRequest) (passes : List PassCount) (old new : Outside) (code : ℕ)
-    → CompilerPromise given passes old new code → CompilerStatuses given passes old new code
+    → CompilerPromise given Passed passes old new code → CompilerStatuses given Passed passes old new code

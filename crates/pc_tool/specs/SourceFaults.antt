@@ -1,4 +1,4 @@
--- Why a text is no source, as a user is told it.
+-- Why a text is no source, as it is reported to a user.
 use Rattle.std.specs.Prelude.{◌≡◌, ℕ, ◌<◌, ◌≤◌, min, List, [], length, slice_get, Option, Some, None, Ok, Err}
 use Rattle.pc_word.specs.SourceLimits.{most_source, most_height, most_nodes}
 use Rattle.pc_lexer.specs.declared.token.Token.{Token}
@@ -16,7 +16,7 @@ use Rattle.pc_report.specs.declared.fault.SourceFault.TheVariants.{TooLong, BadB
 use Rattle.pc_report.specs.declared.fault.LineFault.TheVariants as at_line
 use Rattle.pc_tool.specs.Source.{IsRead}
 
--- how a fault of the tokens is told; want of memory is none
+-- how a fault of the tokens is reported; want of memory is none
 abbrev pub told_of_lex : LexError → Option SourceFault
 told_of_lex (lex.BadByte offset) = Some (BadByte offset)
 told_of_lex (lex.BadLiteral line) = Some (AtLine at_line.BadLiteral line)
@@ -24,7 +24,7 @@ told_of_lex (lex.OpenComment line) = Some (AtLine at_line.OpenComment line)
 told_of_lex lex.TooManyTokens = Some TooManyTokens
 told_of_lex lex.Memory = None
 
--- how a fault of the names and limits is told; want of memory is none
+-- how a fault of the names and limits is reported; want of memory is none
 abbrev pub told_of_check : CheckError → Option SourceFault
 told_of_check (check.Undeclared line) = Some (AtLine at_line.Undeclared line)
 told_of_check (check.Redeclared line) = Some (AtLine at_line.DeclaredTwice line)

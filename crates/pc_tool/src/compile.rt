@@ -9,9 +9,9 @@ ghost use Rattle.pc_driver.specs.Outside.{outside_of};
 ghost use Rattle.pc_driver.specs.Streams.{Streamed, streamed};
 ghost use Rattle.std.specs.List.{AllByRecursion};
 ghost use Rattle.pc_object.specs.ObjectText.{IsChoice};
-ghost use Rattle.pc_pass.specs.Pass.{EachRose};
+ghost use Rattle.pc_pass.specs.Pass.{Chain, EachRose};
 ghost use Rattle.pc_report.specs.Report.{pass_of, report_lines};
-ghost use Rattle.pc_tool.specs.models.Compiling.{HasTranslation, ReportEnds, reported};
+ghost use Rattle.pc_tool.specs.models.Compiling.{ReportEnds, WriteEnds, reported};
 ghost use Rattle.pc_word.specs.Ranges.{AreLimits, IsExtent};
 ghost use Rattle.pc_word.specs.SourceLimits.{most_source};
 
@@ -34,7 +34,7 @@ pub(crate) fn compiler<P: Pass, H: Shelf, O: Sink, E: Sink>(
     out: &mut O,
     err: &mut E,
 ) -> u8
-    ensures promise { (input : Streamed) → CompilerPromise (compile_command_of (spelled words.now)) (counts_of P.label P.changed passes.new.items)
+    ensures promise { (input : Streamed) → CompilerPromise (compile_command_of (spelled words.now)) (Chain P.does P.changed passes.old.items passes.new.items) (counts_of P.label P.changed passes.new.items)
         (outside_of (H.state shelf.old) input (streamed (O.taken out.old) (O.faults out.old)) (streamed (E.taken err.old) (E.faults err.old)))
         (outside_of (H.state shelf.new) input (streamed (O.taken out.new) (O.faults out.new)) (streamed (E.taken err.new) (E.faults err.new)))
         result }
@@ -54,8 +54,8 @@ fn run_compiler<'a, P: Pass, H: Shelf, O: Sink>(
     shelf: &mut H,
     out: &mut O,
 ) -> Option<ToolFault<'a>>
-    ensures ends { CompilerEnds (counts_of P.label P.changed passes.new.items) (H.state shelf.old) (H.state shelf.new) (streamed (O.taken out.old) (O.faults out.old))
-        (streamed (O.taken out.new) (O.faults out.new)) (compile_command_of (spelled words.entry.now)) result }
+    ensures ends { CompilerEnds (Chain P.does P.changed passes.old.items passes.new.items) (counts_of P.label P.changed passes.new.items)
+        (H.state shelf.old) (H.state shelf.new) (streamed (O.taken out.old) (O.faults out.old)) (streamed (O.taken out.new) (O.faults out.new)) (compile_command_of (spelled words.entry.now)) result }
     ensures named { map P.label passes.new.items ≡ map P.label passes.old.items }
     ensures ran { result ≡ None → EachRose (map P.runs passes.old.items) (map P.runs passes.new.items) }
 {
@@ -77,8 +77,8 @@ fn compile_source<'a, P: Pass, H: Shelf, O: Sink>(
 ) -> Option<ToolFault<'a>>
     requires limits { AreLimits command.limits }
     requires extent { IsExtent command.extent }
-    ensures ends { CompilerEnds (counts_of P.label P.changed passes.new.items) (H.state shelf.old) (H.state shelf.new) (streamed (O.taken out.old) (O.faults out.old))
-        (streamed (O.taken out.new) (O.faults out.new)) (Some (compile_request command.entry)) result }
+    ensures ends { CompilerEnds (Chain P.does P.changed passes.old.items passes.new.items) (counts_of P.label P.changed passes.new.items)
+        (H.state shelf.old) (H.state shelf.new) (streamed (O.taken out.old) (O.faults out.old)) (streamed (O.taken out.new) (O.faults out.new)) (Some (compile_request command.entry)) result }
     ensures named { map P.label passes.new.items ≡ map P.label passes.old.items }
     ensures ran { result ≡ None → EachRose (map P.runs passes.old.items) (map P.runs passes.new.items) }
 {
@@ -102,8 +102,8 @@ fn compile_text<'a, P: Pass, H: Shelf, O: Sink>(
     requires limits { AreLimits command.limits }
     requires extent { IsExtent command.extent }
     requires source { HasSource (H.state shelf.old).held (source_place command.source) text.now }
-    ensures ends { CompilerEnds (counts_of P.label P.changed passes.new.items) (H.state shelf.old) (H.state shelf.new) (streamed (O.taken out.old) (O.faults out.old))
-        (streamed (O.taken out.new) (O.faults out.new)) (Some (compile_request command.entry)) result }
+    ensures ends { CompilerEnds (Chain P.does P.changed passes.old.items passes.new.items) (counts_of P.label P.changed passes.new.items)
+        (H.state shelf.old) (H.state shelf.new) (streamed (O.taken out.old) (O.faults out.old)) (streamed (O.taken out.new) (O.faults out.new)) (Some (compile_request command.entry)) result }
     ensures named { map P.label passes.new.items ≡ map P.label passes.old.items }
     ensures ran { result ≡ None → EachRose (map P.runs passes.old.items) (map P.runs passes.new.items) }
 {
@@ -121,7 +121,7 @@ fn compile_text<'a, P: Pass, H: Shelf, O: Sink>(
 }
 
 /// Writes the object, and sends the report where it is asked for.
-#[tactic(auto, using(crate::proofs::CompilerEndings::compiler_endings))]
+#[tactic(auto, using(crate::proofs::CompilerEndings::writes_due))]
 fn write_object<'a, P: Pass, H: Shelf, O: Sink>(
     alloc: Global,
     translation: &Translation,
@@ -130,9 +130,9 @@ fn write_object<'a, P: Pass, H: Shelf, O: Sink>(
     shelf: &mut H,
     out: &mut O,
 ) -> Option<ToolFault<'a>>
-    requires { HasTranslation (H.state shelf.old).held (compile_request command) translation.now }
-    ensures { CompilerEnds (counts_of P.label P.changed passes.now) (H.state shelf.old) (H.state shelf.new) (streamed (O.taken out.old) (O.faults out.old))
-        (streamed (O.taken out.new) (O.faults out.new)) (Some (compile_request command.entry)) result }
+    requires { AllByRecursion IsChoice translation.now.notes }
+    ensures { WriteEnds (compile_request command.entry) translation.now.bytes.items (report_lines (reported translation.now (counts_of P.label P.changed passes.now)))
+        (H.state shelf.old) (H.state shelf.new) (streamed (O.taken out.old) (O.faults out.old)) (streamed (O.taken out.new) (O.faults out.new)) result }
 {
     match shelf.write_file(alloc, command.object, translation.bytes.as_slice()) {
         Ok(()) => report(alloc, translation, passes, command.report, out),

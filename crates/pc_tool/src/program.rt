@@ -3,7 +3,7 @@ ghost use Rattle.std.specs.Prelude.{◌≡◌, map};
 ghost use Rattle.pc_command.specs.Requests.{compile_command_of, simulate_command_of};
 ghost use Rattle.pc_command.specs.Words.{spelled};
 ghost use Rattle.pc_tool.specs.declared.program.Who.TheVariants.{Pcc, Pvm};
-ghost use Rattle.pc_pass.specs.Pass.{EachRose};
+ghost use Rattle.pc_pass.specs.Pass.{Chain, EachRose};
 ghost use Rattle.pc_tool.specs.Compilation.{counts_of};
 ghost use Rattle.pc_tool.specs.Compiler.{CompilerPromise};
 ghost use Rattle.pc_driver.specs.Streams.{streamed};
@@ -79,6 +79,7 @@ pub fn tool<H: Shelf, I: Source, O: Sink, E: Sink>(
     err: &mut E,
 ) -> Status
     ensures compiler { who ≡ Pcc → CompilerPromise (compile_command_of (spelled words.now))
+        (Chain (λ b. does b) (λ b. changed b) passes.old.items passes.new.items)
         (counts_of (λ b. label b) (λ b. changed b) passes.new.items)
         (outside_of (H.state shelf.old) (streamed (I.left input.old) (I.faults input.old)) (streamed (O.taken out.old) (O.faults out.old)) (streamed (E.taken err.old) (E.faults err.old)))
         (outside_of (H.state shelf.new) (streamed (I.left input.new) (I.faults input.new)) (streamed (O.taken out.new) (O.faults out.new)) (streamed (E.taken err.new) (E.faults err.new)))

@@ -17,7 +17,7 @@ use pc_sample::{SampleError, sample};
 use pc_word::MOST_SOURCE;
 use std::alloc::Global;
 
-/// The text of a source, or what is to be told where there is none.
+/// The text of a source, or what is to be reported where there is none.
 #[tactic(auto, using(crate::proofs::CompilerEndings::reads_due))]
 pub(crate) fn read_source<'a, H: Shelf>(
     alloc: Global,

@@ -1,6 +1,6 @@
 //! From a source's text to the bytes of its object.
 ghost use Rattle.std.specs.Prelude.{◌≡◌, ◌≤◌, length, map, MatchResult, OnOk};
-ghost use Rattle.pc_pass.specs.Pass.{EachRose};
+ghost use Rattle.pc_pass.specs.Pass.{Chain, EachRose};
 ghost use Rattle.pc_check.specs.Checks.{resolved_of};
 ghost use Rattle.pc_tool.specs.models.Translating.{IsChecked, IsTranslation, RefusesText};
 ghost use Rattle.pc_word.specs.Ranges.{AreLimits, IsExtent};
@@ -26,7 +26,7 @@ pub(crate) struct Translation {
     pub(crate) notes: NoteList,
 }
 
-/// The object that does what a source does, behind passes over its flow graph.
+/// The object that does what a source does, after passes over its flow graph.
 pub(crate) fn translate<P: Pass>(
     alloc: Global,
     text: &[u8],
@@ -37,7 +37,7 @@ pub(crate) fn translate<P: Pass>(
     requires few_bytes { length text.now ≤ most_source }
     requires limits { AreLimits limits }
     requires extent { IsExtent extent }
-    ensures translation { MatchResult result (λ it. IsTranslation limits extent text.now it) (λ refusal. RefusesText refusal text.now) }
+    ensures translation { MatchResult result (λ it. IsTranslation (Chain P.does P.changed passes.old.items passes.new.items) limits extent text.now it) (λ refusal. RefusesText refusal text.now) }
     ensures named { map P.label passes.new.items ≡ map P.label passes.old.items }
     ensures ran { OnOk result (EachRose (map P.runs passes.old.items) (map P.runs passes.new.items)) }
 {

@@ -1,5 +1,5 @@
 //! The compiler with passes over the flow graph.
-ghost use Rattle.std.specs.Prelude.{codes};
+ghost use Rattle.std.specs.Prelude.{◌≡◌, codes};
 
 use crate::bench::{NONE_FAILS, SILENCE, Wanted, answers, answers_with, shelf_with};
 use pc_flow::Flow;
@@ -25,6 +25,8 @@ impl Pass for Counting {
     ghost changed = { λ it. it.applied };
 
     ghost runs = { λ it. it.applied };
+
+    ghost does = { λ it old new before now. new ≡ old };
 
     fn name(&self) -> &str {
         "counting"

@@ -23,13 +23,14 @@ use Rattle.pc_window.proofs.Parameters.{scoped_parameters, independent_parameter
 use Rattle.pc_moveop.specs.declared.error.MoveError.TheVariants.{Depends}
 use Rattle.pc_moveop.specs.NodeTree.{NodeTree, Item_node, Test_node, Leads_to, Leads_out, nodes_in, whole_tree, node_front, node_size, leaf_count, child_at, led_on, node_at}
 use Rattle.pc_moveop.specs.Taking.{leaf_to}
-use Rattle.pc_moveop.specs.Moving.{KeepsWalk}
+use Rattle.pc_window.specs.Kept.{KeepsWalk}
 use Rattle.pc_moveop.proofs.Fronts.{SameItems, Same_item, Same_test, Same_leaf, same_counts, same_independent, same_front}
 use Rattle.pc_moveop.proofs.Moved.{node_window, walk_kept}
 use Rattle.pc_moveop.proofs.Paths.{tree_same, whole_front}
 use Rattle.pc_moveop.proofs.Rising.{leaf_front}
 use Rattle.pc_moveop.proofs.Windows.{Keeps, stored_window}
-use Rattle.pc_unify.specs.Deleting.{standing_at, used_below, refusal_of_item, refusal_of_standing, refusal_in_node, node_deleted, child_closed, item_deleted, IsDeleted}
+use Rattle.pc_unify.specs.Deleting.{standing_at, used_below, refusal_of_item, refusal_of_standing, refusal_in_node, node_deleted, child_closed, item_deleted, without_item, IsDeleted}
+use Rattle.pc_unify.proofs.NextFront.{without_tree, without_kept}
 
 leaf_tree : (t : NodeTree) → whole_tree (leaf_to t) ≡ whole_tree t
 leaf_tree (Item_node t o x rest) = refl
@@ -265,12 +266,17 @@ deletion_keeps w v path place deleted legal proper = by_node (node_at path (node
     by_node (Some n) at e =
         let old = node_window t (supply_in w.names) w.limits w.inside in
         let known = uses (whole (node_front t)) in
-        let u = item_deleted path place t in
+        let d = item_deleted path place t in
+        let u = without_item path place t in
         let kept : IsProper old = subst (λ (x : Window). IsProper x) (sym (stored_window w)) proper in
         let scoped : Scoped known (whole_tree t) = subst (Scoped known) (whole_front t) kept.window.scoped in
-        let moves : Moves forms forms None known (whole_tree t) (whole_tree u) = path_goes forms path place n t known at e in
-        let scoped' : Scoped known (whole (node_front u)) = subst (Scoped known) (sym (whole_front u)) (scoped_moved forms forms None known (whole_tree t) (whole_tree u) moves scoped) in
-        let front = front_kept forms known w.limits path place t kept.window.independent kept.window.within in
+        let there : whole_tree d ≡ whole_tree u = sym (without_tree path place t) in
+        let moves : Moves forms forms None known (whole_tree t) (whole_tree u) =
+        subst (λ (x : Tree). Moves forms forms None known (whole_tree t) x) there (path_goes forms path place n t known at e) in
+        let scoped_tree : Scoped known (whole_tree u) = scoped_moved forms forms None known (whole_tree t) (whole_tree u) moves scoped in
+        let scoped' : Scoped known (whole (node_front u)) = subst (Scoped known) (sym (whole_front u)) scoped_tree in
+        let front = without_kept forms known w.limits kept.room path place t (subst (Scoped known) (sym there) scoped_tree)
+        (front_kept forms known w.limits path place t kept.window.independent kept.window.within) in
         let new : IsProper (node_window u (supply_in w.names) w.limits w.inside) = record {
           window = record {
             scoped = scoped_parameters (whole (node_front u)) known scoped';
@@ -279,7 +285,8 @@ deletion_keeps w v path place deleted legal proper = by_node (node_at path (node
           };
           room = kept.room;
           names_below = subst (TreeBelow (length w.names.forms)) (sym (whole_front u))
-              (path_below (length w.names.forms) path place t (subst (TreeBelow (length w.names.forms)) (whole_front t) kept.names_below));
+              (subst (TreeBelow (length w.names.forms)) there
+              (path_below (length w.names.forms) path place t (subst (TreeBelow (length w.names.forms)) (whole_front t) kept.names_below)));
           forms_below = kept.forms_below;
         } in
         let walk : KeepsWalk forms (whole_tree t) forms (whole_tree u) = walk_kept forms forms None (whole_tree t) (whole_tree u)

@@ -25,7 +25,7 @@ use Rattle.pc_moveop.specs.NodeTree.{NodeTree, nodes_in, whole_tree, node_front,
 use Rattle.pc_moveop.specs.Climbing.{Mover, mover_at}
 use Rattle.pc_moveop.specs.Taking.{Coming}
 use Rattle.pc_moveop.specs.Refusing.{refusal_of_way, no_room_at, mover_behind, mover_of, RefusesFound, RefusesMover, IsWhyNot}
-use Rattle.pc_moveop.specs.Moving.{KeepsWalk}
+use Rattle.pc_window.specs.Kept.{KeepsWalk}
 use Rattle.pc_moveop.specs.declared.error.MoveError.{MoveError}
 use Rattle.pc_moveop.proofs.Fronts.{front_changed, same_counts, same_independent}
 use Rattle.pc_moveop.proofs.Known.{IsKnownMover, known_at}

@@ -1,5 +1,6 @@
 pub mod Marked
 pub mod Tidied
+pub mod NextFront
 pub mod DeletedKept
 pub mod FoundTwins
 pub mod TwoSides

@@ -80,13 +80,50 @@ child_closed leaf f (Test_node tag origin on on_yes on_no) =
 child_closed leaf f (Leads_to below) = if nat_eq leaf 0 then leaf_to (f below) else Leads_to below
 child_closed leaf f (Leads_out out) = Leads_out out
 
--- a tree without the item at a place of the node that a path leads to
+-- a tree without the item at a place of the node that a path leads to, whatever is left of its first node
 abbrev pub item_deleted : List ℕ → ℕ → NodeTree → NodeTree
 item_deleted [] place tree = node_deleted place tree
 item_deleted (leaf ∷ path) place tree = child_closed leaf (item_deleted path place) tree
 
+-- ---- the front
+
+-- what stands below an item or a test, with each item and test in a node of its own, down to the next node
+abbrev pub in_own_nodes : NodeTree → NodeTree
+in_own_nodes (Item_node tag origin item rest) = Leads_to (Item_node tag origin item (in_own_nodes rest))
+in_own_nodes (Test_node tag origin on on_yes on_no) = Leads_to (Test_node tag origin on (in_own_nodes on_yes) (in_own_nodes on_no))
+in_own_nodes (Leads_to below) = Leads_to below
+in_own_nodes (Leads_out out) = Leads_out out
+
+-- a node that becomes the front: each of its items and tests is put into a node of its own, and the first of these is the front
+abbrev pub as_front : NodeTree → NodeTree
+as_front (Item_node tag origin item rest) = Item_node tag origin item (in_own_nodes rest)
+as_front (Test_node tag origin on on_yes on_no) = Test_node tag origin on (in_own_nodes on_yes) (in_own_nodes on_no)
+as_front (Leads_to below) = Leads_to below
+as_front (Leads_out out) = Leads_out out
+
+-- the first node that has an item or a test, if there is one; the others are skipped
+abbrev pub first_node : NodeTree → NodeTree
+first_node (Item_node tag origin item rest) = Item_node tag origin item rest
+first_node (Test_node tag origin on on_yes on_no) = Test_node tag origin on on_yes on_no
+first_node (Leads_to below) = first_node below
+first_node (Leads_out out) = Leads_out out
+
+-- a front that may have been emptied: the next node becomes the front then
+abbrev pub front_left : NodeTree → NodeTree
+front_left (Item_node tag origin item rest) = Item_node tag origin item rest
+front_left (Test_node tag origin on on_yes on_no) = Test_node tag origin on on_yes on_no
+front_left (Leads_to below) = as_front (first_node below)
+front_left (Leads_out out) = Leads_out out
+
+-- a window's tree without the item at a place of the node that a path leads to
+abbrev pub without_item : List ℕ → ℕ → NodeTree → NodeTree
+without_item [] place tree = front_left (node_deleted place tree)
+without_item (leaf ∷ path) place tree = item_deleted (leaf ∷ path) place tree
+
+-- ---- the window
+
 -- an item is deleted, and nothing else changes
 pub record IsDeleted (w v : StoredWindow) (path : List ℕ) (place : ℕ) : Type 0 where
-  pub tree : nodes_in v.tree ≡ item_deleted path place (nodes_in w.tree)
+  pub tree : nodes_in v.tree ≡ without_item path place (nodes_in w.tree)
   pub names : v.names ≡ w.names
   pub bounds : SameBounds w v

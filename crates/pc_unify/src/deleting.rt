@@ -5,13 +5,15 @@ ghost use Rattle.pc_window.specs.Names.{uses};
 ghost use Rattle.pc_window.specs.Steps.{IsProper};
 ghost use Rattle.pc_window.specs.StoredWindow.{tree_in, window_in};
 ghost use Rattle.pc_moveop.specs.NodeTree.{nodes_in, whole_tree};
-ghost use Rattle.pc_moveop.specs.Moving.{WalkKept};
+ghost use Rattle.pc_moveop.specs.Moving.{Fails, WalkKept};
 ghost use Rattle.pc_moveop.specs.declared.error.MoveError.TheVariants.{Depends};
-ghost use Rattle.pc_unify.specs.Deleting.{refusal_of_item, closed, refusal_of_standing, standing_at, IsWhyNotDelete, node_deleted, child_closed, item_deleted, IsDeleted};
+ghost use Rattle.pc_unify.specs.Deleting.{refusal_of_item, closed, refusal_of_standing, standing_at, IsWhyNotDelete, node_deleted, child_closed, item_deleted, front_left, without_item, IsDeleted};
 
+use crate::emptied::{emptied_size, skip_empty_front, spare_boxes};
 use pc_moveop::{MoveError, leaf_count, leaf_to, node_at, node_size};
 use pc_window::{Window, WindowTree, homes_use};
 use pc_word::Item;
+use std::alloc::{AllocError, Global};
 
 /// Whether a name is used in a tree, and not defined above.
 fn uses(tree: &WindowTree, name: u32) -> bool
@@ -184,28 +186,50 @@ fn delete_below(tree: &mut WindowTree, leaf: u32, path: &[u16], place: u32)
     }
 }
 
-/// The item at a place of the node that a path leads to goes.
-fn delete_at(tree: &mut WindowTree, path: &[u16], place: u32)
+/// The item at a place of the front goes. Where it was the only one, the next node becomes the front.
+fn delete_in_front(alloc: Global, tree: &mut WindowTree, place: u32) -> Result<(), AllocError>
     requires { tree_size (tree_in tree.old) < 2 ^ 31 }
-    ensures { nodes_in tree.new ≡ item_deleted path.now place (nodes_in tree.old) }
+    ensures deleted { OnOk result (nodes_in tree.new ≡ front_left (node_deleted place (nodes_in tree.old))) }
+    ensures undone { OnErr result (tree.new ≡ tree.old) }
+{
+    let mut spare = spare_boxes(alloc, emptied_size(tree))?;
+    drop_item(tree, place);
+    skip_empty_front(tree, &mut spare);
+    Ok(())
+}
+
+/// The item at a place of the node that a path leads to goes.
+fn delete_at(
+    alloc: Global,
+    tree: &mut WindowTree,
+    path: &[u16],
+    place: u32,
+) -> Result<(), AllocError>
+    requires { tree_size (tree_in tree.old) < 2 ^ 31 }
+    ensures deleted { OnOk result (nodes_in tree.new ≡ without_item path.now place (nodes_in tree.old)) }
+    ensures undone { OnErr result (tree.new ≡ tree.old) }
 {
     match path.split_first() {
-        None => drop_item(tree, place),
-        Some((leaf, rest)) => delete_below(tree, *leaf as u32, rest, place),
+        None => delete_in_front(alloc, tree, place),
+        Some((leaf, rest)) => {
+            delete_below(tree, *leaf as u32, rest, place);
+            Ok(())
+        }
     }
 }
 
-/// Deletes a Bin, Load or More whose name is used nowhere below. It takes no memory.
+/// Deletes a Bin, Load or More whose name is used nowhere below.
 ///
 /// `node` is the path of leaves that leads from the front to the item's node; the front's own path
 /// is empty. `place` is the item's place there, counted in preorder, from 0. A node that is left
-/// without items and tests is skipped; only the front may be left so.
-pub fn delete(window: &mut Window, node: &[u16], place: u16) -> Result<(), MoveError>
+/// without items and tests is skipped. Where that is the front, the next node becomes the front, with
+/// each of its items and tests in a node of its own: this alone takes memory. On `Err` the window is
+/// as before.
+pub fn delete(alloc: Global, window: &mut Window, node: &[u16], place: u16) -> Result<(), MoveError>
     requires proper { IsProper (window_in window.old) }
     requires small { tree_size (tree_in window.old.tree) < 2 ^ 31 }
     ensures legal { OnOk result (IsWhyNotDelete window.old node.now place None) }
-    ensures refused { IfErr result (λ why. IsWhyNotDelete window.old node.now place (Some why)) }
-    ensures unchanged { OnErr result (window.new ≡ window.old) }
+    ensures fails { IfErr result (λ why. Fails (IsWhyNotDelete window.old node.now place) window.old window.new why) }
     ensures deleted { OnOk result (IsDeleted window.old window.new node.now place) }
     ensures proper { OnOk result (IsProper (window_in window.new)) }
     ensures keeps { OnOk result (WalkKept window.old window.new) }
@@ -213,7 +237,7 @@ pub fn delete(window: &mut Window, node: &[u16], place: u16) -> Result<(), MoveE
     match why_not_delete(window, node, place) {
         Some(why) => Err(why),
         None => {
-            delete_at(&mut window.tree, node, place as u32);
+            delete_at(alloc, &mut window.tree, node, place as u32)?;
             Ok(())
         }
     }

@@ -3,6 +3,7 @@
 #![tactic(auto)]
 
 mod deleting;
+mod emptied;
 mod joining;
 mod marks;
 mod tidying;

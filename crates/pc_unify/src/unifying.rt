@@ -4,7 +4,7 @@ ghost use Rattle.pc_window.specs.Tree.{tree_size};
 ghost use Rattle.pc_window.specs.Steps.{IsProper};
 ghost use Rattle.pc_window.specs.StoredWindow.{tree_in, window_in};
 ghost use Rattle.pc_moveop.specs.NodeTree.{nodes_in, node_at, NoEmptyNode};
-ghost use Rattle.pc_moveop.specs.Moving.{NodeChanges, TreeKept, Fails, WalkKept};
+ghost use Rattle.pc_moveop.specs.Moving.{NodeChanges, Fails, WalkKept};
 ghost use Rattle.pc_unify.specs.Unifying.{AreThere, IsWhyNotUnify, joined, HaveJoined};
 ghost use Rattle.pc_unify.specs.models.Twins.{FindsTwins, coming_in};
 
@@ -101,7 +101,7 @@ fn bring(
     swap_node(tree, parent, node);
 }
 
-/// What may become one does. On `Err` the tree is as before.
+/// What may become one does. On `Err` the window is as before.
 #[tactic(auto, using(crate::proofs::FoundTwins::carrying))]
 fn carry(
     alloc: Global,
@@ -117,7 +117,7 @@ fn carry(
     requires variables { window.old.names.next_variable < 2 ^ 31 }
     requires found { FindsTwins leaf yes_place no_place (node_at parent.now (nodes_in window.old.tree)) (Some on_yes) }
     ensures joined { OnOk result (HaveJoined window.old window.new parent.now leaf yes_place no_place) }
-    ensures kept { OnErr result (TreeKept window.old window.new) }
+    ensures undone { OnErr result (window.new ≡ window.old) }
     ensures count { OnOk result (length window.new.names.forms ≤ length window.old.names.forms + 1) }
     ensures variables { OnOk result (window.new.names.next_variable ≤ window.old.names.next_variable + 1) }
 {
@@ -144,7 +144,7 @@ fn carry(
 /// under it. `yes_place` and `no_place` are the items' places in the nodes to which these lead;
 /// leaves, and items and tests together, are counted in preorder, from 0. The one item has the tag
 /// and the origin of the yes item. If it writes a name it writes a new one, and what reads the old
-/// ones below reads the new one.
+/// ones below reads the new one. On `Err` the window is as before.
 pub fn unify(
     alloc: Global,
     window: &mut Window,

@@ -5,7 +5,7 @@ use Rattle.pc_table.specs.Table.{Table, TableRegion, tree_of, region_tree}
 use Rattle.pc_table.specs.TableKeeps.{TableKeeps, units, most_region_nodes}
 use Rattle.pc_window.specs.Tree.{Tree, whole, front_of, tree_size}
 use Rattle.pc_window.specs.Opening.{Grafted, first_supply, first_home, opened}
-use Rattle.pc_window.specs.Steps.{loop_of}
+use Rattle.pc_table.specs.Loops.{innermost_loop}
 use Rattle.pc_unwind.specs.models.Walking.{brought_size}
 use Rattle.pc_unwind.specs.Laws.{OpenedWindowsCanUnwind}
 use Rattle.pc_unwind.proofs.Bringing.{graft_brings, brought_is, brought_few, brought_names}
@@ -22,7 +22,7 @@ few_units table keeps region = by_region (slice_get table.regions region) refl
 
 pub opened_unwinds : OpenedWindowsCanUnwind
 opened_unwinds table keeps limits region there =
-    let loop = loop_of table region in
+    let loop = innermost_loop table region in
     let g : Grafted = opened table loop region in
     let brings = graft_brings table loop 0 (region_tree table region) first_supply first_home in
     let same : whole (front_of g.tree) ≡ g.tree = whole_front_of g.tree in

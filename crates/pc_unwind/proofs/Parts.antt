@@ -5,7 +5,8 @@ use Rattle.pc_word.specs.declared.item.Item.{Item}
 use Rattle.pc_word.specs.declared.item.Operand.{Operand}
 use Rattle.pc_table.specs.Table.{Table}
 use Rattle.pc_window.specs.Tree.{Tree, Pending, Undecided, Exit, Stop_exit, Trap_exit, tree_size}
-use Rattle.pc_window.specs.Opening.{Supply, Grafted, below_item, under_item, under_test, unwound_at, is_inside}
+use Rattle.pc_table.specs.Loops.{is_inside}
+use Rattle.pc_window.specs.Opening.{Supply, Grafted, below_item, under_item, under_test, unwound_at}
 use Rattle.pc_unwind.specs.models.Walking.{Replacements, replaces_no_more, replaces_once, IsFull, EndsReplacements}
 
 -- a tree below a test, with the other side

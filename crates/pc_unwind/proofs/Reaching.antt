@@ -3,7 +3,8 @@ use Rattle.std.proofs.Common.{◌≡◌, ℕ, suc, ◌+◌, ◌<◌, ◌≤◌, 
 use Rattle.std.specs.Prelude.{Bool, true, false, if◌then◌else◌, nat_eq, nat_lt, ◌&&◌}
 use Rattle.pc_table.specs.Table.{Table}
 use Rattle.pc_window.specs.Tree.{Tree, Pending, Undecided, Exit, Stop_exit, Trap_exit, tree_size}
-use Rattle.pc_window.specs.Opening.{Supply, Grafted, unwound_at, is_inside}
+use Rattle.pc_table.specs.Loops.{is_inside}
+use Rattle.pc_window.specs.Opening.{Supply, Grafted, unwound_at}
 use Rattle.pc_window.specs.Unwinding.{least_inside, least_tag, or_zero, front_tag, most_unwound, within_size, unwound_below, unwound_once, Unwinds, unwinds_no_more, unwinds_once}
 use Rattle.pc_unwind.specs.models.Walking.{AtMostLeast, Replacements, replaces_no_more, replaces_once, IsFull, replacement}
 use Rattle.pc_unwind.proofs.Parts.{item_none, test_none}

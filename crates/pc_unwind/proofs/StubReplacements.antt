@@ -1,10 +1,8 @@
 -- A stub's region in place of the stub, in memory.
-use Rattle.std.proofs.Common.{◌≡◌, ℕ, ◌+◌, ◌<◌, ◌≤◌, Option, Some, List, sym, ◌∙◌, ap, arith}
-use Rattle.std.specs.Prelude.{true, slice_get}
+use Rattle.std.proofs.Common.{◌≡◌, ℕ, ◌+◌, ◌<◌, ◌≤◌, Option, List, sym, ◌∙◌, ap, arith}
+use Rattle.std.specs.Prelude.{true}
 use Rattle.pc_word.specs.declared.item.Operand.{Operand}
-use Rattle.pc_table.specs.declared.table.Region.{Region}
-use Rattle.pc_table.specs.declared.table.RegionTable.{RegionTable}
-use Rattle.pc_table.specs.Table.{table_tree, table_of, region_tree}
+use Rattle.pc_table.specs.Table.{Table, TableTree, region_tree}
 use Rattle.pc_window.specs.declared.home.Home.{Home}
 use Rattle.pc_window.specs.declared.names.NameTable.{NameTable}
 use Rattle.pc_window.specs.declared.tree.WindowTree.{WindowTree}
@@ -15,30 +13,27 @@ use Rattle.pc_window.specs.StoredWindow.{tree_in, supply_in, homes_in, InNodes}
 use Rattle.pc_window.specs.Grafting.{Grafts}
 use Rattle.pc_unwind.specs.declared.growth.Growth.{Growth}
 use Rattle.pc_unwind.specs.models.Walking.{brought_size, replacement, Replaces}
-use Rattle.pc_unwind.proofs.TableRegions.{tree_at}
 use Rattle.pc_unwind.proofs.Bringing.{graft_brings, brought_is}
 
-module _ (table : RegionTable) (region : ℕ) (r : Region) (at : slice_get table.regions region ≡ Some r) (loop : Option ℕ) (tag : ℕ) (homes : List Home) where
+module _ (table : Table) (region : ℕ) (from : TableTree) (from_is : from ≡ region_tree table region) (loop : Option ℕ) (tag : ℕ) (homes : List Home) where
   -- it has the items and tests that the region brings
-  brought_of : (names : Supply) → brought_size (table_tree r.tree) ≡ tree_size (replacement (table_of table) loop tag region homes names).tree
+  brought_of : (names : Supply) → brought_size from ≡ tree_size (replacement table loop tag region homes names).tree
   brought_of names =
-      ap brought_size (tree_at table region r at)
-      ∙ sym (brought_is (table_of table) loop tag (graft_brings (table_of table) loop tag (region_tree (table_of table) region) names (home_of homes)))
+      ap brought_size from_is
+      ∙ sym (brought_is table loop tag (graft_brings table loop tag (region_tree table region) names (home_of homes)))
 
   -- with it the window would be too large
-  pub refused : (names : Supply) (size more : ℕ) → more ≡ brought_size (table_tree r.tree) → most_unwound < size + more
-      → most_unwound < size + tree_size (replacement (table_of table) loop tag region homes names).tree
+  pub refused : (names : Supply) (size more : ℕ) → more ≡ brought_size from → most_unwound < size + more
+      → most_unwound < size + tree_size (replacement table loop tag region homes names).tree
   refused names size more is large = let e = brought_of names in omega arith
 
   -- it is not too large
-  pub replaced : (old : Growth) (new : NameTable) (by_variable : List Operand) (tree : WindowTree) (more : ℕ) → more ≡ brought_size (table_tree r.tree) → old.size + more ≤ most_unwound
+  pub replaced : (old : Growth) (new : NameTable) (by_variable : List Operand) (tree : WindowTree) (more : ℕ) → more ≡ brought_size from → old.size + more ≤ most_unwound
       → homes_in by_variable ≡ home_of homes → InNodes true tree
-      → Grafts (table_of table) loop tag (table_tree r.tree) (supply_in old.names) (homes_in by_variable) (tree_in tree) (supply_in new)
-      → Replaces (table_of table) loop tag region homes old (record { names = new; size = old.size + more }) tree
+      → Grafts table loop tag from (supply_in old.names) (homes_in by_variable) (tree_in tree) (supply_in new)
+      → Replaces table loop tag region homes old (record { names = new; size = old.size + more }) tree
   replaced old new by_variable tree more is small homes_are nodes grafts =
-      let t = table_of table in
-      let from = tree_at table region r at in
-      let same : _ ≡ replacement t loop tag region homes (supply_in old.names) = grafts ∙ (λ i. graft t loop tag (from i) (supply_in old.names) (homes_are i)) in
+      let same : _ ≡ replacement table loop tag region homes (supply_in old.names) = grafts ∙ (λ i. graft table loop tag (from_is i) (supply_in old.names) (homes_are i)) in
       let e = brought_of (supply_in old.names) in
       let f = ap (λ (g : Grafted). tree_size g.tree) same in
       record { grafts = same; nodes = nodes; size = omega arith; within = small }

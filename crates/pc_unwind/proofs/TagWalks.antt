@@ -6,7 +6,8 @@ use Rattle.pc_table.specs.TableKeeps.{TableKeeps}
 use Rattle.pc_window.specs.declared.home.Home.{Home}
 use Rattle.pc_window.specs.declared.tree.WindowTree.{WindowTree}
 use Rattle.pc_window.specs.Tree.{Tree, Pending, Undecided, Exit, Stop_exit, Trap_exit, tree_size}
-use Rattle.pc_window.specs.Opening.{Supply, Grafted, is_inside}
+use Rattle.pc_table.specs.Loops.{is_inside}
+use Rattle.pc_window.specs.Opening.{Supply, Grafted}
 use Rattle.pc_window.specs.Unwinding.{lesser_tag, least_inside, least_tag, or_zero, front_tag, Unwinds, unwinds_no_more}
 use Rattle.pc_window.specs.StoredWindow.{tree_in, supply_in}
 use Rattle.pc_window.proofs.Ranking.{rank_most}

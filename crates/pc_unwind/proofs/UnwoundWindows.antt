@@ -1,10 +1,8 @@
 -- Windows in memory that are unwound.
-use Rattle.std.proofs.Common.{◌≡◌, ℕ, ◌+◌, ◌≤◌, ◌^◌, length, refl, sym, ◌∙◌, ap, subst, arith}
+use Rattle.std.proofs.Common.{◌≡◌, ℕ, ◌+◌, ◌^◌, length, refl, sym, ◌∙◌, ap, subst, arith}
 use Rattle.std.specs.Prelude.{true}
-use Rattle.pc_word.specs.SourceLimits.{most_nodes}
 use Rattle.pc_table.specs.declared.table.RegionTable.{RegionTable}
-use Rattle.pc_table.specs.Table.{table_of}
-use Rattle.pc_table.specs.TableKeeps.{TableKeeps}
+use Rattle.pc_table.specs.StoredTable.{table_of}
 use Rattle.pc_window.specs.declared.tree.WindowTree.{WindowTree}
 use Rattle.pc_window.specs.declared.window.Window.{Window as StoredWindow}
 use Rattle.pc_window.specs.Tree.{Tree, whole, tree_size}
@@ -17,7 +15,7 @@ use Rattle.pc_unwind.specs.declared.growth.Growth.{Growth}
 use Rattle.pc_unwind.specs.models.Named.{TagsAtMost, StubsAreThere}
 use Rattle.pc_unwind.specs.Unwindable.{CanUnwind}
 use Rattle.pc_unwind.specs.models.Walking.{with_growth, HasRoom, RootStaysAtMost, most_root_tag}
-use Rattle.pc_window.proofs.WindowsStored.{as_many}
+use Rattle.pc_table.proofs.StoredRegions.{as_many}
 use Rattle.pc_unwind.proofs.PartsThere.{tags_of, stubs_of}
 use Rattle.pc_unwind.proofs.TagWalks.{tags_stay, root_stays}
 
@@ -34,11 +32,12 @@ module _ (table : RegionTable) (w : StoredWindow) (single : WindowTree) (same : 
   pub single_room : (size : ℕ) → size ≡ tree_size (whole (front_in w.tree)) → CanUnwind (table_of table) (window_in w) → HasRoom (record { names = w.names; size = size })
   single_room size is able = let few = able.size in let names = able.names in let variables = able.variables in record { size = omega arith; names = omega arith; variables = omega arith }
 
-  pub single_root : TableKeeps (table_of table) → length table.regions ≤ most_nodes → CanUnwind (table_of table) (window_in w) → RootStaysAtMost (table_of table) most_root_tag (tree_in single)
-  single_root keeps few able =
+  pub single_root : CanUnwind (table_of table) (window_in w) → RootStaysAtMost (table_of table) most_root_tag (tree_in single)
+  single_root able =
+      let few = table.few in
       let e = as_many table.regions in
       root_stays (table_of table) (2 ^ 30 + length (table_of table).regions) most_root_tag (tree_in single) (omega arith)
-      (tags_stay (table_of table) keeps (2 ^ 30) (tree_in single) (subst (TagsAtMost (2 ^ 30)) is_whole (tags_of (table_of table) (2 ^ 30) (whole (front_in w.tree)) able.parts)))
+      (tags_stay (table_of table) table.kept (2 ^ 30) (tree_in single) (subst (TagsAtMost (2 ^ 30)) is_whole (tags_of (table_of table) (2 ^ 30) (whole (front_in w.tree)) able.parts)))
 
   pub unwinds_to : (number size : ℕ) (later : WindowTree) (growth : Growth) → InNodes true later
       → Unwinds (table_of table) w.inside number (with_growth (tree_in single) (record { names = w.names; size = size })) (with_growth (tree_in later) growth)

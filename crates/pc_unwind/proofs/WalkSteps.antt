@@ -1,10 +1,10 @@
 -- A walk comes to an end: each part has fewer steps to go, and so has what comes in place of a stub.
-use Rattle.std.proofs.Common.{◌≡◌, ℕ, zero, suc, ◌+◌, ◌-◌, ◌*◌, ◌^◌, ◌<◌, ◌≤◌, Option, Some, List, length, refl, sym, ap, subst, arith}
+use Rattle.std.proofs.Common.{◌≡◌, ℕ, zero, suc, ◌+◌, ◌-◌, ◌*◌, ◌^◌, ◌<◌, ◌≤◌, Option, Some, List, refl, sym, ap, subst, arith}
 use Rattle.std.specs.Prelude.{Bool, true}
-use Rattle.pc_word.specs.SourceLimits.{most_nodes}
 use Rattle.pc_table.specs.declared.table.RegionTable.{RegionTable}
-use Rattle.pc_table.specs.Table.{table_of, region_tree}
-use Rattle.pc_table.specs.TableKeeps.{TableKeeps, untested}
+use Rattle.pc_table.specs.Table.{region_tree}
+use Rattle.pc_table.specs.StoredTable.{table_of}
+use Rattle.pc_table.specs.TableKeeps.{untested}
 use Rattle.pc_window.specs.declared.home.Home.{Home}
 use Rattle.pc_window.specs.declared.tree.WindowTree.{WindowTree}
 use Rattle.pc_window.specs.declared.tree.WindowTree.TheVariants as stored
@@ -17,7 +17,7 @@ use Rattle.pc_window.specs.There.{StubIsThere}
 use Rattle.pc_window.specs.models.Ranks.{rank}
 use Rattle.pc_unwind.specs.models.Remaining.{stub_steps, tree_steps, node_steps, walk_steps}
 use Rattle.pc_unwind.specs.models.Walking.{HasRoom, Replaces, RootStaysAtMost, Walks}
-use Rattle.pc_window.proofs.WindowsStored.{as_many}
+use Rattle.pc_table.proofs.StoredRegions.{as_many}
 use Rattle.pc_unwind.proofs.Bringing.{Brings, graft_brings, brought_names, brought_there, brought_root, brought_steps, brought_stub_steps}
 use Rattle.pc_window.proofs.There.{tree_there}
 use Rattle.pc_window.proofs.Ranking.{rank_falls, rank_most}
@@ -39,11 +39,11 @@ no_node (stored.Exit region tag homes) nodes = refl
 no_node stored.Stop nodes = refl
 no_node (stored.Trap kind line) nodes = refl
 
-module _ (table : RegionTable) (keeps : TableKeeps (table_of table)) (few : length table.regions ≤ most_nodes) where
+module _ (table : RegionTable) where
   few_steps : (tree : Tree) → tree_steps (table_of table) tree ≤ 2 ^ 30 + 2 * tree_size tree
   few_steps (Pending tag origin item rest) = omega arith
   few_steps (Undecided tag origin on on_yes on_no) = omega arith
-  few_steps (Exit region tag homes) = let le = rank_most (table_of table) keeps region in let e = as_many table.regions in omega arith
+  few_steps (Exit region tag homes) = let few = table.few in let le = rank_most (table_of table) table.kept region in let e = as_many table.regions in omega arith
   few_steps Stop_exit = omega arith
   few_steps (Trap_exit kind line) = omega arith
 
@@ -82,10 +82,10 @@ module _ (table : RegionTable) (keeps : TableKeeps (table_of table)) (few : leng
         (graft_brings (table_of table) loop tag (region_tree (table_of table) region) (supply_in old.names) (home_of homes))
 
     followed : (next : ℕ) → untested (region_tree (table_of table) region) ≡ Some next → rank (table_of table) next < rank (table_of table) region
-    followed next is = rank_falls (table_of table) keeps region next stub.leads is
+    followed next is = rank_falls (table_of table) table.kept region next stub.leads is
 
     pub replaced_there : StubsAreThere (table_of table) (tree_in tree)
-    replaced_there = brought_there (table_of table) keeps loop tag (tree_there (table_of table) keeps region) replaced_brings
+    replaced_there = brought_there (table_of table) table.kept loop tag (tree_there (table_of table) table.kept region) replaced_brings
 
     pub replaced_room : HasRoom old → HasRoom mid
     replaced_room room =

@@ -7,7 +7,8 @@ use Rattle.pc_table.specs.Table.{Table}
 use Rattle.pc_window.specs.declared.home.Home.{Home}
 use Rattle.pc_window.specs.declared.tree.WindowTree.{WindowTree}
 use Rattle.pc_window.specs.Tree.{Tree, Pending, Undecided, Exit, tree_size}
-use Rattle.pc_window.specs.Opening.{Supply, Grafted, unwound_at, is_inside}
+use Rattle.pc_table.specs.Loops.{is_inside}
+use Rattle.pc_window.specs.Opening.{Supply, Grafted, unwound_at}
 use Rattle.pc_window.specs.StoredWindow.{tree_in, supply_in}
 use Rattle.pc_window.proofs.Grafts.{nat_eq-same}
 use Rattle.pc_unwind.specs.declared.growth.Growth.{Growth}

@@ -1,7 +1,6 @@
 //! One stub, unwound.
 ghost use Rattle.std.specs.Prelude.{◌≡◌, ◌<◌, ◌^◌, true, IfOk};
-ghost use Rattle.pc_table.specs.Table.{table_of};
-ghost use Rattle.pc_table.specs.TableKeeps.{TableKeeps};
+ghost use Rattle.pc_table.specs.StoredTable.{table_of};
 ghost use Rattle.pc_window.specs.There.{StubIsThere};
 ghost use Rattle.pc_window.specs.StoredWindow.{tree_in};
 ghost use Rattle.pc_unwind.specs.models.Named.{TagsAtMost, StubsAreThere};
@@ -12,7 +11,7 @@ use crate::homes::homes_by_variable;
 use crate::nodes::placed;
 use crate::regions::brought_size;
 use pc_table::RegionTable;
-use pc_window::{Home, WindowTree, graft, region_at};
+use pc_window::{Home, WindowTree, graft};
 use std::alloc::{AllocError, Global};
 
 /// The items and tests that a window may have after unwinding.
@@ -28,7 +27,6 @@ pub(crate) fn replace_stub(
     tree: &mut WindowTree,
     at_root: bool,
 ) -> Result<bool, AllocError>
-    requires kept { TableKeeps (table_of table.now) }
     requires stub { is_stub tree.old ≡ true }
     requires there { StubsAreThere (table_of table.now) (tree_in tree.old) }
     requires tag { TagsAtMost most_stub_tag (tree_in tree.old) }
@@ -71,13 +69,12 @@ fn replacement(
     region: u32,
     homes: &[Home],
 ) -> Result<Option<WindowTree>, AllocError>
-    requires kept { TableKeeps (table_of table.now) }
     requires stub { StubIsThere (table_of table.now) region homes.now }
     requires tag { tag < 2 ^ 31 }
     requires room { HasRoom growth.old }
     ensures { IfOk result (λ tree. MayReplace (table_of table.now) inside tag region homes.now growth.old growth.new tree) }
 {
-    let from = &region_at(table, region).tree;
+    let from = table.tree(region);
     let more = brought_size(from);
     if growth.size + more > MOST_UNWOUND {
         return Ok(None);

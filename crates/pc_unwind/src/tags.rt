@@ -1,11 +1,11 @@
 //! Tags of a tree.
 ghost use Rattle.std.specs.Prelude.{◌≡◌};
-ghost use Rattle.pc_table.specs.Table.{table_of};
+ghost use Rattle.pc_table.specs.StoredTable.{table_of};
 ghost use Rattle.pc_window.specs.Unwinding.{lesser_tag, least_inside, least_tag, or_zero};
 ghost use Rattle.pc_window.specs.StoredWindow.{tree_in};
 
 use pc_table::RegionTable;
-use pc_window::{WindowTree, is_inside};
+use pc_window::WindowTree;
 
 /// The least tags of a tree, where it has any.
 #[derive(Clone, Copy, Debug)]
@@ -61,7 +61,7 @@ fn add_tags(table: &RegionTable, inside: Option<u16>, tree: &WindowTree, least: 
         WindowTree::Node { below } => add_tags(table, inside, below, least),
         WindowTree::Exit { region, tag, .. } => {
             least.all = lesser_tag(least.all, Some(*tag));
-            if is_inside(table, inside, *region) {
+            if table.is_inside(*region, inside) {
                 least.inside = lesser_tag(least.inside, Some(*tag));
             }
         }

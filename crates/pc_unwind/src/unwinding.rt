@@ -1,8 +1,6 @@
 //! Unwinding: stub by stub, the least tag first.
-ghost use Rattle.std.specs.Prelude.{◌≡◌, ◌≤◌, ◌<◌, ◌+◌, ◌^◌, length, true, OnOk, IfOk};
-ghost use Rattle.pc_word.specs.SourceLimits.{most_nodes};
-ghost use Rattle.pc_table.specs.Table.{table_of};
-ghost use Rattle.pc_table.specs.TableKeeps.{TableKeeps};
+ghost use Rattle.std.specs.Prelude.{◌≡◌, ◌≤◌, ◌<◌, ◌+◌, ◌^◌, true, OnOk, IfOk};
+ghost use Rattle.pc_table.specs.StoredTable.{table_of};
 ghost use Rattle.pc_window.specs.Tree.{tree_size};
 ghost use Rattle.pc_window.specs.Unwinding.{Unwinds};
 ghost use Rattle.pc_window.specs.Kept.{WindowKeeps};
@@ -18,7 +16,7 @@ use crate::replacing::replace_stub;
 use crate::tags::least_tags;
 use crate::walking::walk;
 use pc_table::RegionTable;
-use pc_window::{Window, WindowError, WindowTree, is_inside};
+use pc_window::{Window, WindowError, WindowTree};
 use std::alloc::{AllocError, Global};
 
 /// Unwinds a window.
@@ -34,8 +32,6 @@ pub fn unwind(
     table: &RegionTable,
     number: u8,
 ) -> Result<Window, WindowError>
-    requires kept { TableKeeps (table_of table.now) }
-    requires few { length table.now.regions ≤ most_nodes }
     requires able { CanUnwind (table_of table.now) (window_in window) }
     ensures unwinds { IfOk result (λ later. UnwindsTo (table_of table.now) number (window_in window) (window_in later)) }
     ensures nodes { IfOk result (λ later. InNodes true later.tree) }
@@ -71,8 +67,6 @@ fn unwind_tree(
     growth: &mut Growth,
     tree: &mut WindowTree,
 ) -> Result<(), AllocError>
-    requires kept { TableKeeps (table_of table.now) }
-    requires few { length table.now.regions ≤ most_nodes }
     requires number { number < 2 ^ 8 }
     requires nodes { InNodes true tree.old }
     requires stubs { StubsAreThere (table_of table.now) (tree_in tree.old) }
@@ -97,8 +91,6 @@ fn unwind_stub(
     growth: &mut Growth,
     tree: &mut WindowTree,
 ) -> Result<(), AllocError>
-    requires kept { TableKeeps (table_of table.now) }
-    requires few { length table.now.regions ≤ most_nodes }
     requires several { 2 ≤ number }
     requires number { number < 2 ^ 8 }
     requires nodes { InNodes true tree.old }
@@ -111,7 +103,7 @@ fn unwind_stub(
 {
     match tree {
         WindowTree::Exit { region, .. } => {
-            if !is_inside(table, inside, *region) {
+            if !table.is_inside(*region, inside) {
                 return Ok(());
             }
             let replaced = replace_stub(alloc, table, inside, growth, tree, true)?;
@@ -138,8 +130,6 @@ fn unwind_tags(
     growth: &mut Growth,
     tree: &mut WindowTree,
 ) -> Result<(), AllocError>
-    requires kept { TableKeeps (table_of table.now) }
-    requires few { length table.now.regions ≤ most_nodes }
     requires several { 2 ≤ number }
     requires number { number < 2 ^ 8 }
     requires nodes { InNodes true tree.old }

@@ -1,8 +1,6 @@
 //! One walk of a tree, which unwinds all stubs of one tag.
-ghost use Rattle.std.specs.Prelude.{◌≤◌, ◌<◌, ◌^◌, length, OnOk, IfOk};
-ghost use Rattle.pc_word.specs.SourceLimits.{most_nodes};
-ghost use Rattle.pc_table.specs.Table.{table_of};
-ghost use Rattle.pc_table.specs.TableKeeps.{TableKeeps};
+ghost use Rattle.std.specs.Prelude.{◌≤◌, ◌<◌, ◌^◌, OnOk, IfOk};
+ghost use Rattle.pc_table.specs.StoredTable.{table_of};
 ghost use Rattle.pc_window.specs.Tree.{tree_size};
 ghost use Rattle.pc_window.specs.StoredWindow.{tree_in, InNodes};
 ghost use Rattle.pc_unwind.specs.models.Named.{StubsAreThere};
@@ -11,7 +9,7 @@ ghost use Rattle.pc_unwind.specs.models.Walking.{HasRoom, Walks};
 use crate::growth::Growth;
 use crate::replacing::replace_stub;
 use pc_table::RegionTable;
-use pc_window::{WindowTree, is_inside};
+use pc_window::WindowTree;
 use std::alloc::{AllocError, Global};
 
 /// Unwinds all stubs of a tree that are inside the loop and have this tag, and in turn those of the
@@ -26,8 +24,6 @@ pub(crate) fn walk(
     tree: &mut WindowTree,
     at_root: bool,
 ) -> Result<bool, AllocError>
-    requires kept { TableKeeps (table_of table.now) }
-    requires few { length table.now.regions ≤ most_nodes }
     requires tag { tag < 2 ^ 31 }
     requires nodes { InNodes at_root tree.old }
     requires stubs { StubsAreThere (table_of table.now) (tree_in tree.old) }
@@ -57,7 +53,7 @@ pub(crate) fn walk(
             if *at != tag {
                 return Ok(false);
             }
-            if !is_inside(table, inside, *region) {
+            if !table.is_inside(*region, inside) {
                 return Ok(false);
             }
             let replaced = replace_stub(alloc, table, inside, growth, tree, at_root)?;

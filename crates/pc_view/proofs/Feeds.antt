@@ -18,7 +18,9 @@ use Rattle.pc_word.specs.declared.item.TrapKind.TheVariants.{DivideByZero, OutOf
 use Rattle.pc_word.specs.declared.item.Limits.{Limits}
 use Rattle.pc_word.specs.Items.{is_memory}
 use Rattle.pc_word.specs.Row.{Then, Either, At_leaf, items_of, tests_of}
-use Rattle.pc_machine.specs.MachineCode.{Leaf, Leads_to, Ends, Traps, CodeRow, RowCode}
+use Rattle.pc_machine.specs.declared.tree.Leaf.{Leaf}
+use Rattle.pc_machine.specs.declared.tree.Leaf.TheVariants.{Goto, Stop, Trap}
+use Rattle.pc_machine.specs.MachineCode.{CodeRow, RowCode}
 use Rattle.pc_object.specs.declared.object.Note.{Note}
 use Rattle.pc_object.specs.ObjectText.{CodeWithNotes}
 use Rattle.pc_report.specs.FaultLine.{trap_text}
@@ -125,9 +127,9 @@ unfed_trap OutOfBounds = refl
 unfed_trap EndOfInput = refl
 
 unfed_leaf : (leaf : Leaf) → Unfed (leaf_words leaf)
-unfed_leaf (Leads_to row) = unfed_both (codes "goto row ") (decimal row) refl (unfed_decimal row)
-unfed_leaf Ends = refl
-unfed_leaf (Traps kind line) =
+unfed_leaf (Goto row) = unfed_both (codes "goto row ") (decimal row) refl (unfed_decimal row)
+unfed_leaf Stop = refl
+unfed_leaf (Trap kind line) =
     unfed_both (codes "trap: ") (trap_text kind ++ (codes " at line " ++ decimal line)) refl
     (unfed_both (trap_text kind) (codes " at line " ++ decimal line) (unfed_trap kind)
     (unfed_both (codes " at line ") (decimal line) refl (unfed_decimal line)))

@@ -5,7 +5,8 @@ use Rattle.std.specs.List.{count_by, sum_by}
 use Rattle.std.proofs.lemmas.List.Sums.{sum_by-cons}
 use Rattle.pc_word.proofs.Lists.{count_both}
 use Rattle.pc_word.specs.Row.{Then, Either, At_leaf, leaves_of}
-use Rattle.pc_machine.specs.MachineCode.{Leads_to, Ends, Traps, CodeRow}
+use Rattle.pc_machine.specs.declared.tree.Leaf.TheVariants.{Goto, Stop, Trap}
+use Rattle.pc_machine.specs.MachineCode.{CodeRow}
 use Rattle.pc_object.specs.declared.object.Note.{Note}
 use Rattle.pc_object.specs.ObjectText.{CodeWithNotes}
 use Rattle.pc_view.specs.Graph.{row_edges, row_graph, note_nodes, graph_lines}
@@ -21,9 +22,9 @@ length-row_edges number port (Either on on_yes on_no) =
       length-row_edges number (port ++ codes "n") on_no,
       count_both is_edge (leaves_of on_yes) (leaves_of on_no),
     )
-length-row_edges number port (At_leaf (Leads_to row)) = refl
-length-row_edges number port (At_leaf Ends) = refl
-length-row_edges number port (At_leaf (Traps kind line)) = refl
+length-row_edges number port (At_leaf (Goto row)) = refl
+length-row_edges number port (At_leaf Stop) = refl
+length-row_edges number port (At_leaf (Trap kind line)) = refl
 
 length-row_graph : (number : ℕ) (rows : List CodeRow) → length (row_graph number rows) ≡ sum_by (λ row. 1 + count_by is_edge (leaves_of row)) rows
 length-row_graph number [] = refl

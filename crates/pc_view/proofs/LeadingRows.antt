@@ -17,7 +17,7 @@ use Rattle.pc_view.specs.models.Lists.{is_number, noted, noted_where, AreLists}
 
 -- ---- one list
 
--- what stands last behind a list
+-- what stands last after a list
 last_behind : (list : List ℕ) (number : ℕ) → slice_get (list ++ number ∷ []) (length list) ≡ Some number
 last_behind [] number = refl
 last_behind (x ∷ list) number = last_behind list number
@@ -146,7 +146,7 @@ noted-next target rows row = by (leads_to target row) ∙ sym (rows_leading_to-b
     by true = rw fresh (ap (λ (n : ℕ). rows_leading_to target 0 rows ++ n ∷ []) (omega arith))
     by false = sym (append-nil (rows_leading_to target 0 rows))
 
--- the lists behind one row more
+-- the lists after one row more
 pub lists-next : (many number : ℕ) (rows : List CodeRow) (row : CodeRow) (old new : List (List ℕ)) → AreLists many rows old → number ≡ length rows
     → length new ≡ length old
     → ((target : ℕ) → slice_get new target ≡ option_map (noted_where (leads_to target row) number) (slice_get old target))

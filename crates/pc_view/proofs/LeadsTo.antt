@@ -6,7 +6,9 @@ use Rattle.std.specs.List.{AllByRecursion, list_any}
 use Rattle.std.proofs.lemmas.Bool.Decides.{nat_tests}
 use Rattle.pc_word.proofs.Lists.{all_imply}
 use Rattle.pc_word.specs.Row.{leaves_of}
-use Rattle.pc_machine.specs.MachineCode.{Leaf, Leads_to, Ends, Traps, CodeRow, is_goto}
+use Rattle.pc_machine.specs.declared.tree.Leaf.{Leaf}
+use Rattle.pc_machine.specs.declared.tree.Leaf.TheVariants.{Goto, Stop, Trap}
+use Rattle.pc_machine.specs.MachineCode.{CodeRow, is_goto}
 use Rattle.pc_machine.specs.Reachable.{HasLeafTo}
 use Rattle.pc_view.specs.Leading.{leads_to, rows_leading_to}
 use Rattle.pc_view.specs.Laws.{LeadTo, Rise}
@@ -30,28 +32,28 @@ contains_none y (k, h, e) = omega arith
 -- ---- one row
 
 -- leaves of which the test finds one that leads there have it
-has_leaf : (target : ℕ) (leaves : List Leaf) → list_any (is_goto target) leaves ≡ true → Contains leaves (Leads_to target)
+has_leaf : (target : ℕ) (leaves : List Leaf) → list_any (is_goto target) leaves ≡ true → Contains leaves (Goto target)
 has_leaf target [] e = absurd (cc)
-has_leaf target (Leads_to row ∷ rest) e = by (nat_eq row target) refl e (has_leaf target rest)
+has_leaf target (Goto row ∷ rest) e = by (nat_eq row target) refl e (has_leaf target rest)
   where
     by : (b : Bool) → nat_eq row target ≡ b → (b || list_any (is_goto target) rest) ≡ true
-        → (list_any (is_goto target) rest ≡ true → Contains rest (Leads_to target)) → Contains (Leads_to row ∷ rest) (Leads_to target)
+        → (list_any (is_goto target) rest ≡ true → Contains rest (Goto target)) → Contains (Goto row ∷ rest) (Goto target)
     by true is e f =
         let same : row ≡ target = grind (arith, nat_tests) in
-        subst (λ r. Contains (Leads_to r ∷ rest) (Leads_to target)) (sym same) (contains_here (Leads_to target) rest)
-    by false is e f = contains_later (Leads_to row) (Leads_to target) rest (f e)
-has_leaf target (Ends ∷ rest) e = contains_later Ends (Leads_to target) rest (has_leaf target rest e)
-has_leaf target (Traps kind line ∷ rest) e = contains_later (Traps kind line) (Leads_to target) rest (has_leaf target rest e)
+        subst (λ r. Contains (Goto r ∷ rest) (Goto target)) (sym same) (contains_here (Goto target) rest)
+    by false is e f = contains_later (Goto row) (Goto target) rest (f e)
+has_leaf target (Stop ∷ rest) e = contains_later Stop (Goto target) rest (has_leaf target rest e)
+has_leaf target (Trap kind line ∷ rest) e = contains_later (Trap kind line) (Goto target) rest (has_leaf target rest e)
 
 -- and the test finds one that is there
-finds_leaf : (target : ℕ) (leaves : List Leaf) → Contains leaves (Leads_to target) → list_any (is_goto target) leaves ≡ true
-finds_leaf target [] h = absurd (contains_none (Leads_to target) h)
-finds_leaf target (leaf ∷ rest) h = by (contains_either leaf (Leads_to target) rest h) (finds_leaf target rest)
+finds_leaf : (target : ℕ) (leaves : List Leaf) → Contains leaves (Goto target) → list_any (is_goto target) leaves ≡ true
+finds_leaf target [] h = absurd (contains_none (Goto target) h)
+finds_leaf target (leaf ∷ rest) h = by (contains_either leaf (Goto target) rest h) (finds_leaf target rest)
   where
-    here : is_goto target (Leads_to target) ≡ true
+    here : is_goto target (Goto target) ≡ true
     here = grind (arith, nat_tests)
 
-    by : (leaf ≡ Leads_to target) ⊎ Contains rest (Leads_to target) → (Contains rest (Leads_to target) → list_any (is_goto target) rest ≡ true)
+    by : (leaf ≡ Goto target) ⊎ Contains rest (Goto target) → (Contains rest (Goto target) → list_any (is_goto target) rest ≡ true)
         → list_any (is_goto target) (leaf ∷ rest) ≡ true
     by (inl same) f = rw (same, here) refl
     by (inr later) f = or_second (is_goto target leaf) (list_any (is_goto target) rest) (f later)

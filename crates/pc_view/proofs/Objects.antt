@@ -7,7 +7,8 @@ use Rattle.pc_word.specs.declared.item.Limits.{Limits}
 use Rattle.pc_word.specs.Ranges.{AreLimits}
 use Rattle.pc_word.specs.Row.{leaves_of}
 use Rattle.pc_word.proofs.Lists.{all_of_map, all_imply}
-use Rattle.pc_machine.specs.declared.tree.Tree.{Tree}
+use Rattle.pc_word.specs.declared.row_tree.RowTree.{RowTree}
+use Rattle.pc_machine.specs.declared.tree.Leaf.{Leaf}
 use Rattle.pc_machine.specs.MachineCode.{CodeRow, row_of, rows_of}
 use Rattle.pc_machine.specs.WellFormed.{IsLeaf, IsRow}
 use Rattle.pc_object.specs.declared.object.Object.{Object}
@@ -33,7 +34,7 @@ can_list object h = record {
       (λ tree is. subst (λ rows. AllByRecursion (IsLeaf rows) (leaves_of (row_of tree))) (length-map trees row_of) is.leaves) each);
 }
   where
-    trees : List Tree
+    trees : List (RowTree Leaf)
     trees = object.code.rows
 
     Is : CodeRow → Type 0

@@ -4,7 +4,8 @@ use Rattle.std.specs.Fmt.{decimal}
 use Rattle.pc_word.specs.declared.item.OpCode.{OpCode}
 use Rattle.pc_word.specs.declared.item.OpCode.TheVariants.{Shl, Shr, Or, Less, LessEq}
 use Rattle.pc_word.specs.Row.{Then, Either, At_leaf}
-use Rattle.pc_machine.specs.MachineCode.{Leads_to, Ends, Traps, CodeRow}
+use Rattle.pc_machine.specs.declared.tree.Leaf.TheVariants.{Goto, Stop, Trap}
+use Rattle.pc_machine.specs.MachineCode.{CodeRow}
 use Rattle.pc_object.specs.declared.object.Note.{Note}
 use Rattle.pc_object.specs.ObjectText.{CodeWithNotes}
 use Rattle.pc_report.specs.Report.{note_words}
@@ -13,7 +14,7 @@ use Rattle.pc_view.specs.Listing.{lines_text}
 
 -- ---- rows
 
--- an operator in a field of a record, where `<`, `>` and `|` stand behind a backslash
+-- an operator in a field of a record, where `<`, `>` and `|` stand after a backslash
 abbrev pub field_operator : OpCode → List ℕ
 field_operator Shl = codes "\\<\\<"
 field_operator Shr = codes "\\>\\>"
@@ -43,10 +44,10 @@ row_node number row = node_start number ++ (row_fields (codes "p") row ++ codes 
 abbrev pub row_edges : ℕ → List ℕ → CodeRow → List (List ℕ)
 row_edges number port (Then item rest) = row_edges number port rest
 row_edges number port (Either on on_yes on_no) = row_edges number (port ++ codes "y") on_yes ++ row_edges number (port ++ codes "n") on_no
-row_edges number port (At_leaf (Leads_to row)) =
+row_edges number port (At_leaf (Goto row)) =
     (codes "    " ++ (decimal number ++ (codes ":" ++ (port ++ (codes " -> " ++ (decimal row ++ codes ";")))))) ∷ []
-row_edges number port (At_leaf Ends) = []
-row_edges number port (At_leaf (Traps kind line)) = []
+row_edges number port (At_leaf Stop) = []
+row_edges number port (At_leaf (Trap kind line)) = []
 
 -- rows, numbered from `number` on
 abbrev pub row_graph : ℕ → List CodeRow → List (List ℕ)

@@ -4,7 +4,9 @@ use Rattle.std.specs.Prelude.{Contains, Some, slice_get}
 use Rattle.std.specs.List.{AllByRecursion, count_by, sum_by}
 use Rattle.pc_word.specs.Line.{is_line_feed}
 use Rattle.pc_word.specs.Row.{Then, Either, At_leaf, items_of, tests_of, leaves_of}
-use Rattle.pc_machine.specs.MachineCode.{Leaf, Leads_to, Ends, Traps, CodeRow}
+use Rattle.pc_machine.specs.declared.tree.Leaf.{Leaf}
+use Rattle.pc_machine.specs.declared.tree.Leaf.TheVariants.{Goto, Stop, Trap}
+use Rattle.pc_machine.specs.MachineCode.{CodeRow}
 use Rattle.pc_machine.specs.Reachable.{HasLeafTo}
 use Rattle.pc_object.specs.ObjectText.{CodeWithNotes}
 use Rattle.pc_view.specs.Words.{operator_words, item_words, test_words, leaf_words}
@@ -53,9 +55,9 @@ ListingsHaveALineFeedForEachLine = (object : CodeWithNotes) → count_by is_line
 
 -- whether a leaf leads to a row
 abbrev pub is_edge : Leaf → Bool
-is_edge (Leads_to row) = true
-is_edge Ends = false
-is_edge (Traps kind line) = false
+is_edge (Goto row) = true
+is_edge Stop = false
+is_edge (Trap kind line) = false
 
 -- the graph of an object has two lines at its beginning and one at its end; for each row a node, and an edge for each leaf that leads to a
 -- row; and a box for each note

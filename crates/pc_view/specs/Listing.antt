@@ -63,7 +63,7 @@ count_words limits number row =
 abbrev pub heading : Limits → ℕ → CodeRow → List ℕ → List ℕ
 heading limits number row leading = count_words limits number row ++ leading_words leading
 
--- a row of a code: its heading, and its tree behind four blanks
+-- a row of a code: its heading, and its tree after four blanks
 abbrev pub row_lines : RowCode → ℕ → CodeRow → List (List ℕ)
 row_lines code number row =
     heading code.limits number row (rows_leading_to number 0 code.rows) ∷ tree_lines (codes "    ") (codes "    ") row
@@ -79,7 +79,7 @@ listing_lines object = limits_line object.code ∷ (rows_lines object.code 0 obj
 
 -- ---- the text
 
--- lines, each with a line feed behind it
+-- lines, each with a line feed after it
 abbrev pub lines_text : List (List ℕ) → List ℕ
 lines_text lines = flat_map line lines
 

@@ -7,7 +7,8 @@ use Rattle.pc_word.specs.declared.item.Operand.{Operand}
 use Rattle.pc_word.specs.declared.item.Operand.TheVariants.{Name, Lit}
 use Rattle.pc_word.specs.declared.item.Item.{Item}
 use Rattle.pc_word.specs.declared.item.Item.TheVariants.{Bin, Copy, Load, Store, Print, Read, More}
-use Rattle.pc_machine.specs.MachineCode.{Leaf, Leads_to, Ends, Traps}
+use Rattle.pc_machine.specs.declared.tree.Leaf.{Leaf}
+use Rattle.pc_machine.specs.declared.tree.Leaf.TheVariants.{Goto, Stop, Trap}
 use Rattle.pc_report.specs.FaultLine.{trap_text}
 
 -- an operator as C writes it; `below` is C's `<` of unsigned numbers
@@ -52,6 +53,6 @@ test_words on = codes "if " ++ operand_words on
 
 -- a leaf: the row that it leads to, the end, or the trap with its line
 abbrev pub leaf_words : Leaf → List ℕ
-leaf_words (Leads_to row) = codes "goto row " ++ decimal row
-leaf_words Ends = codes "stop"
-leaf_words (Traps kind line) = codes "trap: " ++ (trap_text kind ++ (codes " at line " ++ decimal line))
+leaf_words (Goto row) = codes "goto row " ++ decimal row
+leaf_words Stop = codes "stop"
+leaf_words (Trap kind line) = codes "trap: " ++ (trap_text kind ++ (codes " at line " ++ decimal line))

@@ -4,6 +4,7 @@ ghost use Rattle.pc_machine.specs.MachineCode.{row_of};
 ghost use Rattle.pc_view.specs.models.Counted.{counted, HasFew};
 
 use pc_machine::{Counts, Tree};
+use pc_word::RowTree;
 
 /// How many items, tests, and loads and stores a row has, over its whole tree.
 pub(crate) fn count(row: &Tree) -> Counts
@@ -11,7 +12,7 @@ pub(crate) fn count(row: &Tree) -> Counts
     ensures { result ≡ counted (row_of row.now) }
 {
     match row {
-        Tree::Step { item, next } => {
+        RowTree::Step { item, next } => {
             let below = count(next);
             Counts {
                 ops: below.ops + 1,
@@ -19,7 +20,7 @@ pub(crate) fn count(row: &Tree) -> Counts
                 mem: below.mem + u8::from(item.is_memory()),
             }
         }
-        Tree::Test { yes, no, .. } => {
+        RowTree::Test { yes, no, .. } => {
             let (left, right) = (count(yes), count(no));
             Counts {
                 ops: left.ops + right.ops,
@@ -27,6 +28,6 @@ pub(crate) fn count(row: &Tree) -> Counts
                 mem: left.mem + right.mem,
             }
         }
-        Tree::Goto { .. } | Tree::Stop | Tree::Trap { .. } => Counts::none(),
+        RowTree::Leaf { .. } => Counts::none(),
     }
 }

@@ -4,13 +4,15 @@ ghost use Rattle.std.specs.List.{AllByRecursion};
 ghost use Rattle.pc_machine.specs.MachineCode.{row_of, rows_of};
 ghost use Rattle.pc_object.specs.ObjectText.{object_of, IsObject, IsChoice};
 ghost use Rattle.pc_word.specs.Line.{line};
+ghost use Rattle.pc_word.specs.Row.{At_leaf};
 ghost use Rattle.pc_view.specs.Listing.{lines_text};
 ghost use Rattle.pc_view.specs.Graph.{row_fields, node_start, row_node, row_edges, row_graph, choice_colour, note_start, note_node, note_nodes, graph_text};
 
-use crate::words::{ItemWords, Medium, OperandWords};
-use pc_machine::Tree;
+use crate::words::{ItemWords, LeafWords, Medium, OperandWords};
+use pc_machine::{Leaf, Tree};
 use pc_object::{Note, Object};
-use pc_report::{push_note_words, trap_words};
+use pc_report::push_note_words;
+use pc_word::RowTree;
 use std::alloc::{AllocError, Global};
 
 /// An object as a graph in the language DOT: each row is a record node with its tree, each leaf that leads to a row
@@ -27,7 +29,7 @@ pub fn graph_text(alloc: Global, object: &Object) -> Result<Vec<u8>, AllocError>
     Ok(text.into_bytes())
 }
 
-/// Puts the nodes and edges of rows behind a text.
+/// Appends the nodes and edges of rows to a text.
 fn push_rows(alloc: Global, text: &mut String, rows: &[Tree]) -> Result<(), AllocError>
     ensures { OnOk result (string_bytes text.new ≡ string_bytes text.old ++ lines_text (row_graph 0 (rows_of rows.now))) }
 {
@@ -39,7 +41,7 @@ fn push_rows(alloc: Global, text: &mut String, rows: &[Tree]) -> Result<(), Allo
     Ok(())
 }
 
-/// Puts the node of a row behind a text.
+/// Appends the node of a row to a text.
 fn push_node(alloc: Global, text: &mut String, number: usize, row: &Tree) -> Result<(), AllocError>
     ensures { OnOk result (string_bytes text.new ≡ string_bytes text.old ++ row_node number (row_of row.now)) }
 {
@@ -48,7 +50,7 @@ fn push_node(alloc: Global, text: &mut String, number: usize, row: &Tree) -> Res
     text.push_str("}\"];")
 }
 
-/// Puts the beginning of the node of a row behind a text.
+/// Appends the beginning of the node of a row to a text.
 #[tactic(auto, unfolding(crate::specs::Graph::node_start))]
 fn push_node_start(text: &mut String, number: usize) -> Result<(), AllocError>
     ensures { OnOk result (string_bytes text.new ≡ string_bytes text.old ++ node_start number) }
@@ -56,12 +58,12 @@ fn push_node_start(text: &mut String, number: usize) -> Result<(), AllocError>
     write!(text, "    {number} [label=\"{{row {number}|")
 }
 
-/// Puts the fields of a tree behind a text. `port` is the name of the port of its leaf, if it has one alone.
+/// Appends the fields of a tree to a text. `port` is the name of the port of its leaf, if it has one alone.
 fn push_fields(alloc: Global, text: &mut String, port: &str, row: &Tree) -> Result<(), AllocError>
     ensures { OnOk result (string_bytes text.new ≡ string_bytes text.old ++ row_fields port.now (row_of row.now)) }
 {
     match row {
-        Tree::Step { item, next } => {
+        RowTree::Step { item, next } => {
             let item = ItemWords {
                 medium: Medium::Field,
                 item: *item,
@@ -69,7 +71,7 @@ fn push_fields(alloc: Global, text: &mut String, port: &str, row: &Tree) -> Resu
             write!(text, "{item}|")?;
             push_fields(alloc, text, port, next)
         }
-        Tree::Test { on, yes, no } => {
+        RowTree::Test { on, yes, no } => {
             let operand = OperandWords { operand: *on };
             write!(text, "if {operand}|{{{{yes|")?;
             let yes_port = format!(in alloc; "{port}y")?;
@@ -79,16 +81,14 @@ fn push_fields(alloc: Global, text: &mut String, port: &str, row: &Tree) -> Resu
             push_fields(alloc, text, no_port.as_str(), no)?;
             text.push_str("}}")
         }
-        Tree::Goto { row } => write!(text, "<{port}> goto row {row}"),
-        Tree::Stop => write!(text, "<{port}> stop"),
-        Tree::Trap { kind, line } => {
-            let kind = trap_words(*kind);
-            write!(text, "<{port}> trap: {kind} at line {line}")
+        RowTree::Leaf { leaf } => {
+            let leaf = LeafWords { leaf: *leaf };
+            write!(text, "<{port}> {leaf}")
         }
     }
 }
 
-/// Puts the edges of a row behind a text, from the ports of its leaves.
+/// Appends the edges of a row to a text, from the ports of its leaves.
 fn push_edges(
     alloc: Global,
     text: &mut String,
@@ -99,19 +99,28 @@ fn push_edges(
     ensures { OnOk result (string_bytes text.new ≡ string_bytes text.old ++ lines_text (row_edges number port.now (row_of row.now))) }
 {
     match row {
-        Tree::Step { next, .. } => push_edges(alloc, text, number, port, next),
-        Tree::Test { yes, no, .. } => {
+        RowTree::Step { next, .. } => push_edges(alloc, text, number, port, next),
+        RowTree::Test { yes, no, .. } => {
             let yes_port = format!(in alloc; "{port}y")?;
             push_edges(alloc, text, number, yes_port.as_str(), yes)?;
             let no_port = format!(in alloc; "{port}n")?;
             push_edges(alloc, text, number, no_port.as_str(), no)
         }
-        Tree::Goto { row } => writeln!(text, "    {number}:{port} -> {row};"),
-        Tree::Stop | Tree::Trap { .. } => Ok(()),
+        RowTree::Leaf { leaf } => push_edge(text, number, port, *leaf),
     }
 }
 
-/// Puts the boxes of notes behind a text.
+/// Appends the edge of a leaf to a text, from its port, if the leaf leads to a row.
+fn push_edge(text: &mut String, number: usize, port: &str, leaf: Leaf) -> Result<(), AllocError>
+    ensures { OnOk result (string_bytes text.new ≡ string_bytes text.old ++ lines_text (row_edges number port.now (At_leaf leaf))) }
+{
+    match leaf {
+        Leaf::Goto { row } => writeln!(text, "    {number}:{port} -> {row};"),
+        Leaf::Stop | Leaf::Trap { .. } => Ok(()),
+    }
+}
+
+/// Appends the boxes of notes to a text.
 fn push_notes(text: &mut String, notes: &[Note]) -> Result<(), AllocError>
     requires { AllByRecursion IsChoice notes.now }
     ensures { OnOk result (string_bytes text.new ≡ string_bytes text.old ++ lines_text (note_nodes 0 notes.now)) }
@@ -123,7 +132,7 @@ fn push_notes(text: &mut String, notes: &[Note]) -> Result<(), AllocError>
     Ok(())
 }
 
-/// Puts the box of a note behind a text.
+/// Appends the box of a note to a text.
 fn push_note(text: &mut String, number: usize, note: Note) -> Result<(), AllocError>
     requires { IsChoice note }
     ensures { OnOk result (string_bytes text.new ≡ string_bytes text.old ++ note_node number note) }
@@ -133,7 +142,7 @@ fn push_note(text: &mut String, number: usize, note: Note) -> Result<(), AllocEr
     text.push_str("\"];")
 }
 
-/// Puts the beginning of the box of a note behind a text.
+/// Appends the beginning of the box of a note to a text.
 #[tactic(auto, unfolding(crate::specs::Graph::note_start))]
 fn push_note_start(text: &mut String, number: usize, colour: &str) -> Result<(), AllocError>
     ensures { OnOk result (string_bytes text.new ≡ string_bytes text.old ++ note_start number colour.now) }

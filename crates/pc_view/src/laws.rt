@@ -10,7 +10,7 @@ pub fn laws_of_listings()
 {}
 
 /// A graph has a line for each row, for each leaf that leads to a row and for each note, two lines before
-/// them and one behind.
+/// them and one after.
 pub fn laws_of_graphs()
     ensures { GraphsHaveALineForEachPart }
 {}

@@ -3,13 +3,13 @@ ghost use Rattle.std.specs.Prelude.{◌≡◌, ◌<◌, ◌^◌, ℕ, [], length
 ghost use Rattle.std.specs.List.{AllByRecursion};
 ghost use Rattle.std.specs.Option.{option_map};
 ghost use Rattle.pc_word.specs.Row.{leaves_of};
-ghost use Rattle.pc_machine.specs.MachineCode.{row_of, rows_of};
+ghost use Rattle.pc_machine.specs.MachineCode.{is_goto, row_of, rows_of};
 ghost use Rattle.pc_machine.specs.WellFormed.{IsLeaf};
 ghost use Rattle.pc_view.specs.Leading.{leads_to};
 ghost use Rattle.pc_view.specs.models.Lists.{noted, noted_where, AreLists};
 
-use pc_machine::Tree;
-use pc_word::Seq;
+use pc_machine::{Leaf, Tree};
+use pc_word::{RowTree, Seq};
 use std::alloc::{AllocError, Global};
 
 /// Numbers of rows, which rise.
@@ -57,17 +57,28 @@ fn note_leaves(row: &Tree, number: u32, lists: &mut [RowNumbers]) -> Result<(), 
         ≡ option_map (noted_where (leads_to target (row_of row.now)) number) (slice_get lists.old target)) }
 {
     match row {
-        Tree::Step { next, .. } => note_leaves(next, number, lists),
-        Tree::Test { yes, no, .. } => {
+        RowTree::Step { next, .. } => note_leaves(next, number, lists),
+        RowTree::Test { yes, no, .. } => {
             note_leaves(yes, number, lists)?;
             note_leaves(no, number, lists)
         }
-        Tree::Goto { row } => note(&mut lists[*row as usize], number),
-        Tree::Stop | Tree::Trap { .. } => Ok(()),
+        RowTree::Leaf { leaf } => note_leaf(*leaf, number, lists),
     }
 }
 
-/// Puts a number behind a list, unless it is the last one there.
+/// Notes the number of a row at the row that its leaf leads to, if it leads to one.
+fn note_leaf(leaf: Leaf, number: u32, lists: &mut [RowNumbers]) -> Result<(), AllocError>
+    requires { IsLeaf (length lists.old) leaf }
+    ensures { OnOk result ((target : ℕ) → slice_get lists.new target
+        ≡ option_map (noted_where (is_goto target leaf) number) (slice_get lists.old target)) }
+{
+    match leaf {
+        Leaf::Goto { row } => note(&mut lists[row as usize], number),
+        Leaf::Stop | Leaf::Trap { .. } => Ok(()),
+    }
+}
+
+/// Appends a number to a list, unless it is the last one there.
 fn note(list: &mut RowNumbers, number: u32) -> Result<(), AllocError>
     ensures { OnOk result (list.new ≡ noted number list.old) }
 {

@@ -33,7 +33,7 @@ pub fn listing_text(alloc: Global, object: &Object) -> Result<Vec<u8>, AllocErro
     Ok(text.into_bytes())
 }
 
-/// Puts the limits and the arrays behind a text.
+/// Appends the limits and the arrays to a text.
 fn push_limits(text: &mut String, code: &Code) -> Result<(), AllocError>
     ensures { OnOk result (string_bytes text.new ≡ string_bytes text.old ++ limits_line (code_of code.now)) }
 {
@@ -41,7 +41,7 @@ fn push_limits(text: &mut String, code: &Code) -> Result<(), AllocError>
     push_arrays(text, code.arrays.as_slice())
 }
 
-/// Puts the limits behind a text.
+/// Appends the limits to a text.
 #[tactic(auto, unfolding(crate::specs::Listing::limit_words))]
 fn push_limit_words(text: &mut String, limits: Limits) -> Result<(), AllocError>
     ensures { OnOk result (string_bytes text.new ≡ string_bytes text.old ++ limit_words limits) }
@@ -53,7 +53,7 @@ fn push_limit_words(text: &mut String, limits: Limits) -> Result<(), AllocError>
     )
 }
 
-/// Puts the arrays behind a text.
+/// Appends the arrays to a text.
 fn push_arrays(text: &mut String, lengths: &[u32]) -> Result<(), AllocError>
     ensures { OnOk result (string_bytes text.new ≡ string_bytes text.old ++ array_words lengths.now) }
 {
@@ -66,7 +66,7 @@ fn push_arrays(text: &mut String, lengths: &[u32]) -> Result<(), AllocError>
     }
 }
 
-/// Puts arrays behind a text, if there are any.
+/// Appends arrays to a text, if there are any.
 fn push_each_array(text: &mut String, lengths: &[u32]) -> Result<(), AllocError>
     ensures { OnOk result (string_bytes text.new ≡ string_bytes text.old ++ arrays_from 0 lengths.now) }
 {
@@ -84,7 +84,7 @@ fn separator(number: usize) -> &'static str
     if number == 0 { " " } else { ", " }
 }
 
-/// Puts the rows that lead to a row behind a text.
+/// Appends the rows that lead to a row to a text.
 fn push_leading(text: &mut String, numbers: &[u32]) -> Result<(), AllocError>
     ensures { OnOk result (string_bytes text.new ≡ string_bytes text.old ++ leading_words numbers.now) }
 {
@@ -97,7 +97,7 @@ fn push_leading(text: &mut String, numbers: &[u32]) -> Result<(), AllocError>
     }
 }
 
-/// Puts numbers of rows behind a text, if there are any.
+/// Appends numbers of rows to a text, if there are any.
 fn push_each_number(text: &mut String, numbers: &[u32]) -> Result<(), AllocError>
     ensures { OnOk result (string_bytes text.new ≡ string_bytes text.old ++ row_numbers_from 0 numbers.now) }
 {
@@ -108,7 +108,7 @@ fn push_each_number(text: &mut String, numbers: &[u32]) -> Result<(), AllocError
     Ok(())
 }
 
-/// Puts the lines of the rows behind a text.
+/// Appends the lines of the rows to a text.
 fn push_rows(alloc: Global, text: &mut String, code: &Code) -> Result<(), AllocError>
     requires few { length code.now.rows < 2 ^ 32 }
     requires rows { CanList (length code.now.rows) code.now.rows }
@@ -122,7 +122,7 @@ fn push_rows(alloc: Global, text: &mut String, code: &Code) -> Result<(), AllocE
     Ok(())
 }
 
-/// Puts the lines of a row behind a text. `leading` has the rows that lead to each row.
+/// Appends the lines of a row to a text. `leading` has the rows that lead to each row.
 fn push_row(
     alloc: Global,
     text: &mut String,
@@ -141,7 +141,7 @@ fn push_row(
     push_tree(alloc, text, "    ", "    ", row)
 }
 
-/// Puts the heading of a row behind a text.
+/// Appends the heading of a row to a text.
 fn push_heading(
     text: &mut String,
     limits: Limits,
@@ -156,7 +156,7 @@ fn push_heading(
     push_leading(text, leading)
 }
 
-/// Puts the number of a row, and what it has of what it may have, behind a text.
+/// Appends the number of a row, and what it has of what it may have, to a text.
 #[tactic(auto, unfolding(crate::specs::Listing::count_words))]
 fn push_count_words(
     text: &mut String,
@@ -175,7 +175,7 @@ fn push_count_words(
     )
 }
 
-/// Puts the lines of notes behind a text.
+/// Appends the lines of notes to a text.
 fn push_notes(text: &mut String, notes: &[Note]) -> Result<(), AllocError>
     requires { AllByRecursion IsChoice notes.now }
     ensures { OnOk result (string_bytes text.new ≡ string_bytes text.old ++ lines_text (map note_words notes.now)) }

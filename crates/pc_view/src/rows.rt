@@ -5,12 +5,12 @@ ghost use Rattle.pc_machine.specs.MachineCode.{row_of};
 ghost use Rattle.pc_view.specs.Tree.{tree_lines};
 ghost use Rattle.pc_view.specs.Listing.{lines_text};
 
-use crate::words::{ItemWords, Medium, OperandWords};
+use crate::words::{ItemWords, LeafWords, Medium, OperandWords};
 use pc_machine::Tree;
-use pc_report::trap_words;
+use pc_word::RowTree;
 use std::alloc::{AllocError, Global};
 
-/// Puts the lines of a tree behind a text. `first` stands in front of its first line, `below` in
+/// Appends the lines of a tree to a text. `first` stands in front of its first line, `below` in
 /// front of the others.
 pub(crate) fn push_tree(
     alloc: Global,
@@ -22,7 +22,7 @@ pub(crate) fn push_tree(
     ensures { OnOk result (string_bytes text.new ≡ string_bytes text.old ++ lines_text (tree_lines first.now below.now (row_of row.now))) }
 {
     match row {
-        Tree::Step { item, next } => {
+        RowTree::Step { item, next } => {
             let item = ItemWords {
                 medium: Medium::Line,
                 item: *item,
@@ -30,7 +30,7 @@ pub(crate) fn push_tree(
             writeln!(text, "{first}{item}")?;
             push_tree(alloc, text, below, below, next)
         }
-        Tree::Test { on, yes, no } => {
+        RowTree::Test { on, yes, no } => {
             let operand = OperandWords { operand: *on };
             writeln!(text, "{first}if {operand}")?;
             let yes_first = format!(in alloc; "{below}yes ")?;
@@ -40,11 +40,9 @@ pub(crate) fn push_tree(
             let no_below = format!(in alloc; "{below}    ")?;
             push_tree(alloc, text, no_first.as_str(), no_below.as_str(), no)
         }
-        Tree::Goto { row } => writeln!(text, "{first}goto row {row}"),
-        Tree::Stop => writeln!(text, "{first}stop"),
-        Tree::Trap { kind, line } => {
-            let kind = trap_words(*kind);
-            writeln!(text, "{first}trap: {kind} at line {line}")
+        RowTree::Leaf { leaf } => {
+            let leaf = LeafWords { leaf: *leaf };
+            writeln!(text, "{first}{leaf}")
         }
     }
 }

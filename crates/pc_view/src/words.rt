@@ -1,9 +1,11 @@
 //! The parts of a row in words.
 ghost use Rattle.std.specs.Prelude.{◌≡◌, Some};
-ghost use Rattle.pc_view.specs.Words.{operator_words, operand_words, item_words};
+ghost use Rattle.pc_view.specs.Words.{operator_words, operand_words, item_words, leaf_words};
 ghost use Rattle.pc_view.specs.Graph.{field_operator};
 ghost use Rattle.pc_view.specs.models.Media.{operator_in};
 
+use pc_machine::Leaf;
+use pc_report::trap_words;
 use pc_word::{Item, OpCode, Operand};
 use std::fmt;
 
@@ -12,7 +14,7 @@ use std::fmt;
 pub(crate) enum Medium {
     /// A line of a listing.
     Line,
-    /// A field of a record node, where `<`, `>` and `|` stand behind a backslash.
+    /// A field of a record node, where `<`, `>` and `|` stand after a backslash.
     Field,
 }
 
@@ -27,6 +29,12 @@ pub(crate) struct OperandWords {
 pub(crate) struct ItemWords {
     pub medium: Medium,
     pub item: Item,
+}
+
+/// A leaf that is to be written.
+#[derive(Clone, Copy)]
+pub(crate) struct LeafWords {
+    pub leaf: Leaf,
 }
 
 /// An operator as C writes it; C has no `below`.
@@ -131,6 +139,21 @@ impl fmt::Display for ItemWords {
             }
             Item::Read { dest } => write!(f, "r{dest} = read()"),
             Item::More { dest } => write!(f, "r{dest} = more()"),
+        }
+    }
+}
+
+impl fmt::Display for LeafWords {
+    ghost output = { λ words. Some (leaf_words words.leaf) };
+
+    fn fmt<W: fmt::Write>(&self, f: &mut fmt::Formatter<W>) -> fmt::Result {
+        match self.leaf {
+            Leaf::Goto { row } => write!(f, "goto row {row}"),
+            Leaf::Stop => write!(f, "stop"),
+            Leaf::Trap { kind, line } => {
+                let kind = trap_words(kind);
+                write!(f, "trap: {kind} at line {line}")
+            }
         }
     }
 }

@@ -112,7 +112,7 @@ ends_lacking given old new out out_now due (Broke {request} {object} held rose p
     (sends_part out out_now (view_text request.dot object) part)
 ends_lacking given old new out out_now due (Lacking lacks) = lacks
 
--- what the viewer came to is what it promises, once it is told
+-- what the viewer came to is what it promises, once it is reported
 pub viewer_promise : (given : Option ViewRequest) (old new : Surroundings) (due : Option ViewFault) (code : ℕ)
     → ViewerEnds old.shelf new.shelf old.out new.out given due → ReadKeeps old.shelf new.shelf
     → Told due old.err new.err code ⊎ (IsSome due × Told (Some NoMemory) old.err new.err code) → ViewerPromise given old new code

@@ -58,7 +58,7 @@ pub record ViewerStatuses (given : Option ViewRequest) (old new : Surroundings) 
   pub known : code ≤ 5
   -- with 2, 3 and 4 nothing was sent to the output
   pub silent : (2 ≤ code) → (code ≤ 4) → new.out ≡ old.out
-  -- what is no command is told so, but for want of memory and a fault of the error output
+  -- what is no command is reported so, but for want of memory and a fault of the error output
   pub usage : given ≡ None → (code ≡ 2) ⊎ (code ≡ 1) ⊎ ((code ≡ 5) × HasErrorFault old new)
   -- the text of an object that loads is sent, but for want of memory and faults
   pub complete : (request : ViewRequest) (text : List ℕ) (object : CodeWithNotes) →

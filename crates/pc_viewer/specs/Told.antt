@@ -25,7 +25,7 @@ view_status (ReadObject name) = 3
 view_status (Object what) = 4
 view_status WriteOutput = 5
 
--- What was due is told, by the status and on the error output: 0 and nothing with success, and else the line of the fault.
+-- What was due is reported, by the status and on the error output: 0 and nothing with success, and else the line of the fault.
 abbrev pub Told : Option ViewFault → Streamed → Streamed → ℕ → Type 0
 Told None old new code = (code ≡ 0) × (new ≡ old)
 Told (Some due) old new code = TellsLine (fault_line (fault_told due)) (view_status due) old new code

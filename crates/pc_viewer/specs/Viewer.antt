@@ -66,7 +66,7 @@ pub data ViewerEnds (old new : Shelved) (out out_now : Streamed) : (given : Opti
       ViewerLacks old out out_now given →
       ViewerEnds old new out out_now given (Some NoMemory)
 
--- What the viewer promises of the outside before and after it: it came to an end, what was due then is told, and the shelf's files
+-- What the viewer promises of the outside before and after it: it came to an end, what was due then is reported, and the shelf's files
 -- are as before.
 pub record ViewerPromise (given : Option ViewRequest) (old new : Surroundings) (code : ℕ) : Type 0 where
   pub due : Option ViewFault

@@ -48,7 +48,7 @@ pub(crate) fn view_status(fault: ViewFault) -> u8
     }
 }
 
-/// How a refusal of the loader is told.
+/// How a refusal of the loader is reported.
 pub(crate) fn fault_of_object<'a>(error: ObjectError) -> ViewFault<'a>
     ensures { result ≡ fault_of_object error }
 {

@@ -103,7 +103,7 @@ run-begins step n budget start (Over out end) printed within is same =
 
 -- ---- the text
 
--- the text of one more number behind what was sent
+-- the text of one more number after what was sent
 pub sends-more : (old mid new : Option (List ℕ)) (printed out : List ℤ) → Appends old mid (text_of printed) → Appends mid new (text_of out) → Appends old new (text_of (printed ++ out))
 sends-more old mid new printed out before now =
     subst (Appends old new) (sym (text_of-append printed out)) (Appends-append old mid new (text_of printed) (text_of out) before now)

@@ -1,4 +1,4 @@
--- Laws of lists: tests of images, elements after a write, and what is left behind a place.
+-- Laws of lists: tests of images, elements after a write, and what is left after a place.
 use Rattle.std.proofs.Common.{◌≡◌, ℕ, zero, suc, ◌+◌, ◌<◌, ◌≤◌, ◌≢◌, Bool, true, false, cond, ◌||◌, List, [], ◌∷◌, ◌++◌, length, map, drop, get_or}
 use Rattle.std.proofs.Common.{inl, inr, None, refl, sym, ap, ◌∙◌, arith, get_or-set_same, get_or-set_other}
 use Rattle.std.proofs.lemmas.Bool.Decides.{eqb_tells}
@@ -93,7 +93,7 @@ meets-split stores others i none within are_others =
     ap (λ (ss : List PendingStore). some_meet (map stored_of ss)) (drop-cons stores i none within ∙ ap (λ (k : ℕ). store ∷ drop k stores) next)
     ∙ ap (λ (ss : List PendingStore). list_any (meets_at store.array store.place) (map stored_of ss) || some_meet (map stored_of (drop (i + 1) stores))) rest
 
--- where this one meets none of those behind it, two meet where two of those do
+-- where this one meets none of those after it, two meet where two of those do
 pub meets-behind : (stores others : List PendingStore) (i : ℕ) (none : PendingStore) → i < length stores → others ≡ slice_range stores (i + 1) (length stores)
     → false ≡ list_any (meets_at (get_or stores i none).array (get_or stores i none).place) (map stored_of others)
     → some_meet (map stored_of (drop i stores)) ≡ some_meet (map stored_of (drop (i + 1) stores))

@@ -37,7 +37,7 @@ writes_of lengths old (More dest ∷ items) = record { dest = dest; word = value
 insert_between : {X : Type 0} (xs : List X) (x : X) (ys : List X) → (xs ++ x ∷ []) ++ ys ≡ xs ++ x ∷ ys
 insert_between xs x ys = append_assoc xs (x ∷ []) ys
 
--- the plan has them behind those that it had
+-- the plan has them after those that it had
 pub planned-writes : (lengths : List ℕ) (old : State) (items : List Item) (plan : Planned) → (planned_by lengths old items plan).writes ≡ plan.writes ++ writes_of lengths old items
 planned-writes lengths old [] plan = sym (append-nil plan.writes)
 planned-writes lengths old (Bin op dest left right ∷ items) plan = planned-writes lengths old items (planned_with lengths old (Bin op dest left right) plan)
@@ -115,7 +115,7 @@ pending_of lengths old (Store array index value ∷ items) =
     } ∷ pending_of lengths old items
 pending_of lengths old (_ ∷ items) = pending_of lengths old items
 
--- the plan has them behind those that it had
+-- the plan has them after those that it had
 pub planned-stores : (lengths : List ℕ) (old : State) (items : List Item) (plan : Planned) → (planned_by lengths old items plan).stores ≡ plan.stores ++ pending_of lengths old items
 planned-stores lengths old [] plan = sym (append-nil plan.stores)
 planned-stores lengths old (Bin op dest left right ∷ items) plan = planned-stores lengths old items (planned_with lengths old (Bin op dest left right) plan)

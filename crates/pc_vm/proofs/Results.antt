@@ -5,7 +5,8 @@ use Rattle.std.specs.List.{list_any, AllByRecursion, count_by}
 use Rattle.pc_word.specs.declared.item.Item.{Item}
 use Rattle.pc_word.specs.declared.item.MachineFault.{MachineFault}
 use Rattle.pc_word.specs.declared.item.MachineFault.TheVariants.{StoreOutOfRange, StoredTwice, ReadPastEnd}
-use Rattle.pc_machine.specs.MachineCode.{Leaf, CodeRow}
+use Rattle.pc_machine.specs.declared.tree.Leaf.{Leaf}
+use Rattle.pc_machine.specs.MachineCode.{CodeRow}
 use Rattle.pc_word.specs.State.{State}
 use Rattle.pc_word.specs.Commit.{Stored, is_outside, some_meet, stores_of, prints_of, reads_of, names_after, cells_after, fault_of, state_after}
 use Rattle.pc_word.specs.Row.{path_of, leaf_of, Faults, Commits, commit_of, row_step}

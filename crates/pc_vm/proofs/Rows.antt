@@ -7,7 +7,8 @@ use Rattle.pc_machine.specs.MachineCode.{CodeRow, RowCode, row_of, rows_of}
 use Rattle.pc_word.specs.Row.{Then, Either, At_leaf, path_of, items_of, tests_of}
 use Rattle.pc_word.specs.Items.{operand_value, is_effect}
 use Rattle.pc_machine.specs.WellFormed.{IsItem, IsOperand, IsPath, IsRow, WellFormed}
-use Rattle.pc_machine.specs.declared.tree.Tree.{Tree}
+use Rattle.pc_word.specs.declared.row_tree.RowTree.{RowTree}
+use Rattle.pc_machine.specs.declared.tree.Leaf.{Leaf}
 use Rattle.std.proofs.lemmas.Option.{slice_get-map, slice_get_read}
 use Rattle.pc_word.proofs.Lists.{all_front, all_back, all_at}
 use Rattle.pc_machine.proofs.Paths.{path_taken}
@@ -59,6 +60,6 @@ code-one_effect code i row names well at =
     (path_taken names row IsPath is.paths).one_effect
 
 -- the row at a place is the tree there
-pub row-at : (trees shown : List Tree) (i : ℕ) (tree : Tree) → shown ≡ trees → i < length trees → tree ≡ get_or shown i tree → slice_get (rows_of trees) i ≡ Some (row_of tree)
+pub row-at : (trees shown : List (RowTree Leaf)) (i : ℕ) (tree : RowTree Leaf) → shown ≡ trees → i < length trees → tree ≡ get_or shown i tree → slice_get (rows_of trees) i ≡ Some (row_of tree)
 row-at trees shown i tree same within is =
-    slice_get-map row_of trees i ∙ ap (λ (o : Option Tree). option_map row_of o) (slice_get_read trees (length trees) i tree refl within (is ∙ ap (λ (ts : List Tree). get_or ts i tree) same))
+    slice_get-map row_of trees i ∙ ap (λ (o : Option (RowTree Leaf)). option_map row_of o) (slice_get_read trees (length trees) i tree refl within (is ∙ ap (λ (ts : List (RowTree Leaf)). get_or ts i tree) same))

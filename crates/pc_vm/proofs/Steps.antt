@@ -6,21 +6,20 @@ use Rattle.pc_word.specs.declared.item.Item.{Item}
 use Rattle.pc_word.specs.declared.item.MachineFault.{MachineFault}
 use Rattle.pc_word.specs.declared.item.End.TheVariants as end
 use Rattle.pc_machine.specs.declared.code.Code.{Code}
-use Rattle.pc_machine.specs.MachineCode.{Leaf, Leads_to, CodeRow, row_of, rows_of, code_of}
+use Rattle.pc_machine.specs.declared.tree.Leaf.{Leaf}
+use Rattle.pc_machine.specs.declared.tree.Leaf.TheVariants.{Goto, Stop, Trap}
+use Rattle.pc_machine.specs.MachineCode.{CodeRow, row_of, rows_of, code_of}
 use Rattle.pc_word.specs.State.{State}
 use Rattle.pc_word.specs.Row.{path_of, leaf_of, RowOutcome, Faults, Commits, commit_of, row_step}
 use Rattle.pc_word.specs.Commit.{fault_of}
 use Rattle.pc_machine.specs.MachineRun.{follow_leaf, after_row, run_row, machine_step}
-use Rattle.pc_machine.specs.WellFormed.{WellFormed}
+use Rattle.pc_machine.specs.WellFormed.{IsLeaf, WellFormed}
 use Rattle.pc_machine.proofs.Paths.{next_row_stands}
 use Rattle.pc_vm.specs.declared.event.Event.{Event}
-use Rattle.pc_vm.specs.declared.row.Next.{Next}
-use Rattle.pc_vm.specs.declared.row.Next.TheVariants as next
 use Rattle.pc_vm.specs.models.Made.{lengths_of}
 use Rattle.pc_vm.specs.Contents.{state_of}
-use Rattle.pc_vm.specs.models.RowResult.{leaf_reached}
 use Rattle.pc_vm.specs.Standing.{Standing, here_of, printed_by, IsStep}
-use Rattle.pc_vm.specs.models.Moves.{LeadsWithin, event_of, moved}
+use Rattle.pc_vm.specs.models.Moves.{event_of, moved}
 
 -- the step of a code at a row that it has
 step-row : (standing : Standing) (row : CodeRow) (outcome : RowOutcome Leaf) → slice_get (rows_of standing.code.rows) standing.row ≡ Some row → lengths_of standing.held.cells ≡ standing.code.arrays
@@ -41,22 +40,22 @@ step-faults standing row fault event new at lengths is is_event over =
     (ap (λ (e : Event). printed_by e) is_event, ap (λ (e : Event). e.end) is_event, over)
 
 -- what a row that is done does at its leaf
-leaf-followed : (leaf : Next) (printed : Option ℤ) (standing : Standing) → standing.over ≡ false
-    → IsStep (event_of printed leaf) (moved leaf standing) (follow_leaf (option_to_list printed) (state_of standing.held) (leaf_reached leaf))
-leaf-followed (next.Row row) printed standing going = (refl, refl, going, refl)
-leaf-followed next.Stop printed standing going = (refl, refl, refl)
-leaf-followed (next.Trap kind line) printed standing going = (refl, refl, refl)
+leaf-followed : (leaf : Leaf) (printed : Option ℤ) (standing : Standing) → standing.over ≡ false
+    → IsStep (event_of printed leaf) (moved leaf standing) (follow_leaf (option_to_list printed) (state_of standing.held) leaf)
+leaf-followed (Goto row) printed standing going = (refl, refl, going, refl)
+leaf-followed Stop printed standing going = (refl, refl, refl)
+leaf-followed (Trap kind line) printed standing going = (refl, refl, refl)
 
 -- a row that is done goes where its leaf leads to
-pub step-done : (standing after : Standing) (row : CodeRow) (printed : Option ℤ) (leaf : Next) (event : Event) (new : Standing)
+pub step-done : (standing after : Standing) (row : CodeRow) (printed : Option ℤ) (leaf : Leaf) (event : Event) (new : Standing)
     → slice_get (rows_of standing.code.rows) standing.row ≡ Some row → lengths_of standing.held.cells ≡ standing.code.arrays
-    → Commits (option_to_list printed) (state_of after.held) (leaf_reached leaf) ≡ row_step (lengths_of standing.held.cells) row (state_of standing.held)
+    → Commits (option_to_list printed) (state_of after.held) leaf ≡ row_step (lengths_of standing.held.cells) row (state_of standing.held)
     → after.over ≡ false → event ≡ event_of printed leaf → new ≡ moved leaf after
     → IsStep event new (machine_step (code_of standing.code) (here_of standing))
 step-done standing after row printed leaf event new at lengths is going is_event is_new =
-    subst (IsStep event new) (sym (step-row standing row (Commits (option_to_list printed) (state_of after.held) (leaf_reached leaf)) at lengths is))
-    (subst (λ (e : Event). IsStep e new (follow_leaf (option_to_list printed) (state_of after.held) (leaf_reached leaf))) (sym is_event)
-    (subst (λ (s : Standing). IsStep (event_of printed leaf) s (follow_leaf (option_to_list printed) (state_of after.held) (leaf_reached leaf))) (sym is_new)
+    subst (IsStep event new) (sym (step-row standing row (Commits (option_to_list printed) (state_of after.held) leaf) at lengths is))
+    (subst (λ (e : Event). IsStep e new (follow_leaf (option_to_list printed) (state_of after.held) leaf)) (sym is_event)
+    (subst (λ (s : Standing). IsStep (event_of printed leaf) s (follow_leaf (option_to_list printed) (state_of after.held) leaf)) (sym is_new)
     (leaf-followed leaf printed after going)))
 
 -- the leaf of a row that is done is that of its path
@@ -66,11 +65,11 @@ done-leaf lengths old items leaf reached printed new None e = cc
 done-leaf lengths old items leaf reached printed new (Some fault) e = cc
 
 -- the row that it leads to is there
-pub leads-within : (code : Code) (i : ℕ) (tree : CodeRow) (old : State) (leaf : Next) (printed : List ℤ) (new : State) (lengths : List ℕ)
-    → WellFormed (code_of code) → slice_get (rows_of code.rows) i ≡ Some tree → Commits printed new (leaf_reached leaf) ≡ row_step lengths tree old → LeadsWithin (length code.rows) leaf
-leads-within code i tree old (next.Row row) printed new lengths well at is =
-    let leads : leaf_of old.names tree ≡ Leads_to row = done-leaf lengths old (path_of old.names tree) (leaf_of old.names tree) (Leads_to row) printed new
+pub leads-within : (code : Code) (i : ℕ) (tree : CodeRow) (old : State) (leaf : Leaf) (printed : List ℤ) (new : State) (lengths : List ℕ)
+    → WellFormed (code_of code) → slice_get (rows_of code.rows) i ≡ Some tree → Commits printed new leaf ≡ row_step lengths tree old → IsLeaf (length code.rows) leaf
+leads-within code i tree old (Goto row) printed new lengths well at is =
+    let leads : leaf_of old.names tree ≡ Goto row = done-leaf lengths old (path_of old.names tree) (leaf_of old.names tree) (Goto row) printed new
     (fault_of lengths old (path_of old.names tree)) is in
     subst (λ (n : ℕ). row < n) (length-map code.rows row_of) (next_row_stands (code_of code) well old.names i row tree at leads)
-leads-within code i tree old next.Stop printed new lengths well at is = tt
-leads-within code i tree old (next.Trap kind line) printed new lengths well at is = tt
+leads-within code i tree old Stop printed new lengths well at is = tt
+leads-within code i tree old (Trap kind line) printed new lengths well at is = tt

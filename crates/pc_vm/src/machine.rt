@@ -5,17 +5,17 @@ ghost use Rattle.pc_word.specs.NumberText.{text_of};
 ghost use Rattle.pc_word.specs.Run.{run_from, reach};
 ghost use Rattle.pc_machine.specs.MachineCode.{code_of};
 ghost use Rattle.pc_machine.specs.MachineRun.{machine_step, machine_start};
-ghost use Rattle.pc_machine.specs.WellFormed.{WellFormed};
+ghost use Rattle.pc_machine.specs.WellFormed.{IsLeaf, WellFormed};
 ghost use Rattle.pc_word.specs.Count.{Rose};
 ghost use Rattle.pc_outside.specs.Stream.{AppendsPart};
 ghost use Rattle.pc_vm.specs.Standing.{here_of, IsStep, KeepsAll, end_of, StandsAt};
-ghost use Rattle.pc_vm.specs.models.Moves.{LeadsWithin, event_of, moved};
+ghost use Rattle.pc_vm.specs.models.Moves.{event_of, moved};
 
 use crate::event::{Event, MachineError, Outcome, RunError};
 use crate::pending::Pending;
-use crate::row::{Next, RowResult, run_row};
+use crate::row::{RowResult, run_row};
 use crate::values::Values;
-use pc_machine::Code;
+use pc_machine::{Code, Leaf};
 use pc_outside::{Failed, Sink, send};
 use pc_word::{End, NumberLine, WordList};
 use std::alloc::Global;
@@ -37,12 +37,12 @@ pub struct Machine {
 
 impl Model for Machine {
     ghost use Rattle.std.specs.Coded.{codes};
-    ghost use Rattle.pc_machine.specs.contracts.tree.Tree as tree;
+    ghost use Rattle.pc_machine.specs.contracts.code.Code as stored_code;
     ghost use Rattle.pc_vm.specs.Standing.{Standing};
 
     ghost Value = { Standing };
 
-    ghost coded = { Prim.hlevel (codes, tree.the_row.coded) };
+    ghost coded = { Prim.hlevel (codes, stored_code.the_row.coded) };
 
     ghost use Rattle.pc_vm.specs.models.Sound.{IsSound};
 
@@ -81,23 +81,23 @@ impl Machine {
         let tree = &self.code.rows.as_slice()[self.row as usize];
         match run_row(tree, &mut self.values, &mut self.pending) {
             RowResult::Faulted { fault } => self.stop(None, End::Fault { fault }),
-            RowResult::Done { printed, next } => self.follow(printed, next),
+            RowResult::Done { printed, leaf } => self.follow(printed, leaf),
         }
     }
 
     /// Goes where a leaf leads to, and tells what the row printed.
-    fn follow(&mut self, printed: Option<i32>, next: Next) -> Event
-        requires { LeadsWithin (length self.old.code.rows) next }
-        ensures event { result ≡ event_of printed next }
-        ensures moved { self.new ≡ moved next self.old }
+    fn follow(&mut self, printed: Option<i32>, leaf: Leaf) -> Event
+        requires { IsLeaf (length self.old.code.rows) leaf }
+        ensures event { result ≡ event_of printed leaf }
+        ensures moved { self.new ≡ moved leaf self.old }
     {
-        match next {
-            Next::Row { row } => {
+        match leaf {
+            Leaf::Goto { row } => {
                 self.row = row;
                 Event { printed, end: None }
             }
-            Next::Stop => self.stop(printed, End::Ended),
-            Next::Trap { kind, line } => self.stop(printed, End::Trapped { kind, line }),
+            Leaf::Stop => self.stop(printed, End::Ended),
+            Leaf::Trap { kind, line } => self.stop(printed, End::Trapped { kind, line }),
         }
     }
 

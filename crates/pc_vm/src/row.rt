@@ -7,57 +7,44 @@ ghost use Rattle.pc_word.specs.Items.{is_effect};
 ghost use Rattle.pc_vm.specs.Contents.{names_of, state_of};
 ghost use Rattle.pc_vm.specs.models.Made.{lengths_of};
 ghost use Rattle.pc_vm.specs.models.Planned.{nothing_planned, planned_by};
-ghost use Rattle.pc_vm.specs.models.RowResult.{IsRunnable, longest, leaf_reached, outcome_of, KeepsOnFault};
+ghost use Rattle.pc_vm.specs.models.RowResult.{IsRunnable, longest, outcome_of, KeepsOnFault};
 ghost use Rattle.pc_word.specs.MachineLimits.{most_ops, registers};
 
 use crate::pending::Pending;
 use crate::values::Values;
-use pc_machine::Tree;
-use pc_word::{MachineFault, TrapKind};
-
-/// The leaf that a path comes to.
-#[derive(Clone, Copy, Debug)]
-pub(crate) enum Next {
-    Row { row: u32 },
-    Stop,
-    Trap { kind: TrapKind, line: u32 },
-}
+use pc_machine::{Leaf, Tree};
+use pc_word::{MachineFault, RowTree};
 
 /// What a row did.
 #[derive(Clone, Copy, Debug)]
 pub(crate) enum RowResult {
     /// Nothing, for this fault.
     Faulted { fault: MachineFault },
-    /// All the items of its path, of which one printed this number, if any.
-    Done { printed: Option<i32>, next: Next },
+    /// All the items of its path to this leaf, of which one printed this number, if any.
+    Done { printed: Option<i32>, leaf: Leaf },
 }
 
 /// Plans the items of the path that the values take through a tree, and gives its leaf.
-pub(crate) fn plan(tree: &Tree, values: &Values, pending: &mut Pending) -> Next
+pub(crate) fn plan(tree: &Tree, values: &Values, pending: &mut Pending) -> Leaf
     requires row { IsRunnable (length values.now.cells) (row_of tree.now) }
     requires writes { length pending.old.writes + longest (row_of tree.now) ≤ most_ops }
     requires stores { length pending.old.stores + longest (row_of tree.now) ≤ most_ops }
-    ensures leaf { leaf_reached result ≡ leaf_of (names_of values.now.registers) (row_of tree.now) }
+    ensures leaf { result ≡ leaf_of (names_of values.now.registers) (row_of tree.now) }
     ensures planned { pending.new ≡ planned_by (lengths_of values.now.cells) (state_of values.now) (path_of (names_of values.now.registers) (row_of tree.now)) pending.old }
 {
     match tree {
-        Tree::Step { item, next } => {
+        RowTree::Step { item, next } => {
             pending.add(values, item);
             plan(next, values, pending)
         }
-        Tree::Test { on, yes, no } => {
+        RowTree::Test { on, yes, no } => {
             if values.operand(on) != 0 {
                 plan(yes, values, pending)
             } else {
                 plan(no, values, pending)
             }
         }
-        Tree::Goto { row } => Next::Row { row: *row },
-        Tree::Stop => Next::Stop,
-        Tree::Trap { kind, line } => Next::Trap {
-            kind: *kind,
-            line: *line,
-        },
+        RowTree::Leaf { leaf } => *leaf,
     }
 }
 
@@ -74,11 +61,11 @@ pub(crate) fn run_row(tree: &Tree, values: &mut Values, pending: &mut Pending) -
     ensures lengths { lengths_of values.new.cells ≡ lengths_of values.old.cells }
     ensures planned { pending.new ≡ nothing_planned }
 {
-    let next = plan(tree, values, pending);
+    let leaf = plan(tree, values, pending);
     if let Some(fault) = pending.fault(values.some_left()) {
         pending.clear();
         return RowResult::Faulted { fault };
     }
     let printed = pending.commit(values);
-    RowResult::Done { printed, next }
+    RowResult::Done { printed, leaf }
 }

@@ -13,7 +13,8 @@ use Rattle.pc_window.specs.Names.{uses}
 use Rattle.pc_window.specs.Opening.{Supply, changed, with_name, Brought, Moves_home, Gets_name, Stays_plain, brought, Grafted, graft_item, graft, opened, first_supply, first_home}
 use Rattle.pc_window.specs.Tidying.{tidied}
 use Rattle.pc_window.specs.WindowRun.{Window}
-use Rattle.pc_window.specs.Steps.{loop_of, opened_window}
+use Rattle.pc_table.specs.Loops.{innermost_loop}
+use Rattle.pc_window.specs.Steps.{opened_window}
 use Rattle.pc_window.specs.Laws.{BareWindowsAreUntested}
 use Rattle.pc_window.proofs.CutRows.{whole_front_of}
 
@@ -54,7 +55,7 @@ module _ (to at : ℕ) (homes : List Home) where
 
 pub bare_untested : BareWindowsAreUntested
 bare_untested table limits region to tag homes w tidies is =
-    let loop = loop_of table region in
+    let loop = innermost_loop table region in
     let tree = (opened table loop region).tree in
     graft_leads to tag homes table loop 0 (region_tree table region) first_supply first_home
     (sym (ap tidied (whole_front_of tree)) ∙ sym (whole_front_of (tidied (whole (opened_window table limits region).front)))

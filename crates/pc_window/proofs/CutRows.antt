@@ -21,7 +21,7 @@ use Rattle.pc_window.specs.Walk.{Walked, Leaves, Finishes, IsWhole, printing, wa
 use Rattle.pc_window.proofs.Shown.{behind_length, front_shown}
 use Rattle.pc_window.specs.Hold.{HoldUnder}
 use Rattle.pc_window.specs.WindowRun.{Window, tree_run, front_run, FormsHold}
-use Rattle.pc_window.specs.Opening.{is_inside}
+use Rattle.pc_table.specs.Loops.{is_inside}
 use Rattle.pc_window.proofs.Cutting.{rest_of, front_path, and_dests, Cut, cut}
 use Rattle.pc_word.specs.Row.{Row, path_of, leaf_of, commit_of, row_step}
 use Rattle.pc_window.specs.Kept.{Left, Rest, Gone, Finished, Trapped_at, left_run, KeepsPace, IsBare, RestCut, LeftCut, TakenCut, CutKeeps}

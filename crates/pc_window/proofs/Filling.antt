@@ -1,6 +1,6 @@
 -- Filling keeps what it must: the run where fronts cost nothing, its pace, and the forms.
 use Rattle.std.proofs.Common.{◌≡◌, ℕ, Option, refl, sym, ◌∙◌, subst, arith}
-use Rattle.std.specs.Prelude.{ℤ, Bool, true, false}
+use Rattle.std.specs.Prelude.{ℤ, Bool, true, false, List, []}
 use Rattle.pc_word.specs.declared.item.Item.{Item}
 use Rattle.pc_word.specs.declared.item.Limits.{Limits}
 use Rattle.pc_word.specs.declared.item.Operand.{Operand}
@@ -16,7 +16,7 @@ use Rattle.pc_window.specs.Hold.{KnownHold, HoldFor}
 use Rattle.pc_window.specs.WindowRun.{Window}
 use Rattle.pc_window.specs.Jump.{Rises, Root, Past_item, Past_yes, Past_no, DividesTree, Root_test, Past, EntersFront, Lands, Lands_renamed, Lands_test, Lands_once, Behind_item, On_yes, On_no}
 use Rattle.pc_window.specs.Filled.{WithinLimits, IsWindow, Jump, Filled, Full, Goes_on}
-use Rattle.pc_window.specs.Kept.{IsBare, FillKeeps}
+use Rattle.pc_window.specs.Kept.{IsBare, FillKeeps, WalkIsKept}
 use Rattle.pc_window.specs.Steps.{FillsTo, IsProper}
 use Rattle.pc_window.proofs.Undisturbed.{new-known}
 use Rattle.pc_window.proofs.Rising.{SameForms}
@@ -35,15 +35,15 @@ pub record SameFrom (table : Table) (known : ℕ → Bool) (w v : Window) (s : S
   pub slower : NoSlower table w.front v.front s
   pub holds : HoldFor known values v.forms table.arrays (whole v.front) s
 
-abbrev pub KeepsWalk : Table → (ℕ → Bool) → Window → Window → Type 0
-KeepsWalk table known w v = (σ : ℕ → ℤ) (s : State) → HoldFor known σ w.forms table.arrays (whole w.front) s → IsWhole (walk table.arrays (whole w.front) s) → SameFrom table known w v s
+abbrev pub WalksOn : Table → (ℕ → Bool) → Window → Window → Type 0
+WalksOn table known w v = (σ : ℕ → ℤ) (s : State) → HoldFor known σ w.forms table.arrays (whole w.front) s → IsWhole (walk table.arrays (whole w.front) s) → SameFrom table known w v s
 
 -- known names keep the values of their forms where all forms but a new name's do
 known_kept : (known : ℕ → Bool) (σ : ℕ → ℤ) (forms : ℕ → Form) (σ' : ℕ → ℤ) (forms' : ℕ → Form) (new : Option ℕ) (s : State)
     → IsNew known new → SameForms new σ forms σ' forms' → KnownHold known σ forms s → KnownHold known σ' forms' s
 known_kept known σ forms σ' forms' new s isnew same h x is = same x (new-known known new x isnew is) (s.names x) (h x is)
 
-jump_walks : (table : Table) (known : ℕ → Bool) (w v : Window) → Jump known w v → IsWindow known w → KeepsWalk table known w v
+jump_walks : (table : Table) (known : ℕ → Bool) (w v : Window) → Jump known w v → IsWindow known w → WalksOn table known w v
 jump_walks table known w v jump is σ s hold ok =
     let isnew = enters_new known w.forms v.forms jump.new jump.comes w.front v.front jump.enters in
     let e : Entered table.arrays σ w.forms v.forms jump.new w.front v.front s =
@@ -66,10 +66,10 @@ jump_window known w v jump is = record {
 
 -- ---- filling
 
-keeps_nothing : (table : Table) (known : ℕ → Bool) (w : Window) → KeepsWalk table known w w
+keeps_nothing : (table : Table) (known : ℕ → Bool) (w : Window) → WalksOn table known w w
 keeps_nothing table known w σ s hold ok = record { values = σ; slower = record { same = refl; no_longer = omega arith; no_later = λ n. Begins-refl _ }; holds = hold }
 
-keeps_both : (table : Table) (known : ℕ → Bool) (w v u : Window) → KeepsWalk table known w v → KeepsWalk table known v u → KeepsWalk table known w u
+keeps_both : (table : Table) (known : ℕ → Bool) (w v u : Window) → WalksOn table known w v → WalksOn table known v u → WalksOn table known w u
 keeps_both table known w v u first second σ s hold ok =
     let a : SameFrom table known w v s = first σ s hold ok in
     let b : SameFrom table known v u s = second a.values s a.holds (subst IsWhole (sym a.slower.same) ok) in
@@ -83,7 +83,7 @@ keeps_both table known w v u first second σ s hold ok =
       holds = b.holds;
     }
 
-pub filling_walks : (table : Table) (known : ℕ → Bool) (w v : Window) → Filled known w v → IsWindow known w → IsWindow known v × KeepsWalk table known w v
+pub filling_walks : (table : Table) (known : ℕ → Bool) (w v : Window) → Filled known w v → IsWindow known w → IsWindow known v × WalksOn table known w v
 filling_walks table known w v (Full w' none) is = (is, keeps_nothing table known w')
 filling_walks table known w v (Goes_on w' v' u jump first filled) is =
     let a = filling_walks table known v' u filled (jump_window known w' v' jump is) in
@@ -137,3 +137,15 @@ fills_keep table w v filled proper s forms never =
       forms = (k.values, record { parameters = λ x u. k.holds.parameters x (parameters_known (whole v.front) known f.0.scoped x u); defined = k.holds.defined });
       bare = filled_bare known w v filled;
     }
+
+-- a table that has arrays of these lengths, and nothing else
+abbrev with_arrays : List ℕ → Table
+with_arrays lengths = record { regions = []; loops = []; arrays = lengths }
+
+-- the parameters of what was filled are known, and so forms hold there as well
+pub fills_keep_walk : (w v : Window) → FillsTo w v → IsProper w → WalkIsKept w v
+fills_keep_walk w v filled proper lengths s forms ok =
+    let known = uses (whole w.front) in
+    let f = filling_walks (with_arrays lengths) known w v filled proper.window in
+    let k : SameFrom (with_arrays lengths) known w v s = f.1 forms.0 s forms.1 ok in
+    (k.slower.same, (k.values, record { parameters = λ x u. k.holds.parameters x (parameters_known (whole v.front) known f.0.scoped x u); defined = k.holds.defined }))

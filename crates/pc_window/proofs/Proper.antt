@@ -8,7 +8,8 @@ use Rattle.pc_word.specs.declared.item.Operand.TheVariants.{Name, Lit}
 use Rattle.pc_word.specs.declared.item.Limits.{Limits}
 use Rattle.pc_word.specs.Items.{dest_of, is_memory, reads, reads_name}
 use Rattle.pc_word.specs.Commit.{writes}
-use Rattle.pc_window.specs.Opening.{Supply, with_name, OperandBelow, ItemBelow, StubBelow, Grafted, opened, is_inside, TreeBelow, FormsBelow, FormBelow, TermsBelow}
+use Rattle.pc_table.specs.Loops.{is_inside, innermost_loop}
+use Rattle.pc_window.specs.Opening.{Supply, with_name, OperandBelow, ItemBelow, StubBelow, Grafted, opened, TreeBelow, FormsBelow, FormBelow, TermsBelow}
 use Rattle.pc_window.specs.Filled.{given_supply, IsNext, Jump, Full, Goes_on, WithinLimits, Filled, Independent}
 use Rattle.pc_window.specs.Jump.{Rises, Root, Past_item, Past_yes, Past_no, DividesTree, Root_test, Past, combined, EntersFront, Lands, Lands_renamed, Lands_test, Lands_once}
 use Rattle.pc_window.specs.Jump.{Behind_item, On_yes, On_no}
@@ -32,7 +33,7 @@ use Rattle.pc_window.specs.Tree.{Tree, Pending, Undecided, Exit, Stop_exit, Trap
 use Rattle.pc_window.specs.WindowRun.{Window, supply_of}
 use Rattle.pc_window.specs.Tidying.{tidied}
 use Rattle.pc_window.specs.Kept.{Left, Rest, Gone}
-use Rattle.pc_window.specs.Steps.{Positive, IsProper, LeftIs, EachLeft, window_of, with_tree, grafted_of, loop_of, Opens, UnwindsTo, Tidies, Rebases, FillsTo, left_of, front_row, cut_row, Cuts}
+use Rattle.pc_window.specs.Steps.{Positive, IsProper, LeftIs, EachLeft, window_of, with_tree, grafted_of, Opens, UnwindsTo, Tidies, Rebases, FillsTo, left_of, front_row, cut_row, Cuts}
 use Rattle.pc_window.specs.Rebasing.{rebased}
 use Rattle.pc_word.specs.Row.{Row}
 use Rattle.pc_window.proofs.Undisturbed.{new-known}
@@ -113,7 +114,7 @@ scoped_once (Trap_exit kind line) known h = (λ z k. refl, tt)
 
 -- ---- a tree that becomes a window
 
-within_one : (limits : Limits) (tree : Tree) → Positive limits → WithinLimits limits (front_of tree)
+pub within_one : (limits : Limits) (tree : Tree) → Positive limits → WithinLimits limits (front_of tree)
 within_one limits (Pending t o x rest) p = record { items = (let a = p.ops in omega arith); memory = one_memory (is_memory x) p.mem; tests = omega arith }
   where
     one_memory : (b : Bool) → 1 ≤ limits.mem → (if b then 1 else 0) + 0 ≤ limits.mem
@@ -124,7 +125,7 @@ within_one limits (Exit region tag homes) r = record { items = omega arith; memo
 within_one limits Stop_exit r = record { items = omega arith; memory = omega arith; tests = omega arith }
 within_one limits (Trap_exit kind line) r = record { items = omega arith; memory = omega arith; tests = omega arith }
 
-independent_one : (forms : ℕ → Form) (known : ℕ → Bool) (tree : Tree) → Scoped known tree → Independent forms known (front_of tree)
+pub independent_one : (forms : ℕ → Form) (known : ℕ → Bool) (tree : Tree) → Scoped known tree → Independent forms known (front_of tree)
 independent_one forms known (Pending t o x rest) h = (h.0, tt, tt)
 independent_one forms known (Undecided t o on p q) h = (h.0, tt, tt)
 independent_one forms known (Exit region tag homes) h = tt
@@ -165,7 +166,7 @@ sound_proper g limits inside room s = becomes_proper g.tree g.names limits insid
 
 pub opens_proper : (table : Table) (limits : Limits) (region : ℕ) (w : Window) → Positive limits → Opens table limits region w → IsProper w
 opens_proper table limits region w room is =
-    subst (λ (u : Window). IsProper u) (sym is) (sound_proper (opened table (loop_of table region) region) limits (loop_of table region) room (opened-sound table (loop_of table region) region))
+    subst (λ (u : Window). IsProper u) (sym is) (sound_proper (opened table (innermost_loop table region) region) limits (innermost_loop table region) room (opened-sound table (innermost_loop table region) region))
 
 pub unwinds_proper : (table : Table) (number : ℕ) (w v : Window) → UnwindsTo table number w v → IsProper w → IsProper v
 unwinds_proper table number w v h p =

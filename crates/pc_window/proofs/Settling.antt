@@ -21,8 +21,9 @@ use Rattle.pc_window.specs.Rebasing.{rebased}
 use Rattle.pc_window.specs.Jump.{EntersFront, Lands, Lands_renamed, Lands_test, Lands_once, Behind_item, On_yes, On_no}
 use Rattle.pc_window.specs.Filled.{Filled, Full, Goes_on}
 use Rattle.pc_word.specs.Row.{Row}
-use Rattle.pc_window.specs.Kept.{Left, KeepsPace, KeptIn, WindowKeeps, IsRooted, OpensAlike, HasFront, HasItems}
-use Rattle.pc_window.specs.Steps.{window_of, grafted_of, loop_of, Opens, UnwindsTo, Tidies, Rebases, FillsTo, cut_row, Cuts, IsProper}
+use Rattle.pc_window.specs.Kept.{Left, KeepsPace, KeptIn, KeepsWalk, WalkIsKept, WindowKeeps, IsRooted, OpensAlike, HasFront, HasItems}
+use Rattle.pc_table.specs.Loops.{innermost_loop}
+use Rattle.pc_window.specs.Steps.{window_of, grafted_of, Opens, UnwindsTo, Tidies, Rebases, FillsTo, cut_row, Cuts, IsProper}
 use Rattle.pc_window.proofs.Openings.{first_home-below, first_same, opened_agrees, opened_holds}
 use Rattle.pc_window.proofs.GraftPaces.{region_pace}
 use Rattle.pc_window.proofs.Soundness.{unwound-sound}
@@ -88,6 +89,12 @@ tidies_keep table w v is s forms never =
     (NoSlower-pace table (Unfinished tree) (Unfinished (tidied tree)) s ok slower) (NoSlower-back table (Unfinished tree) (Unfinished (tidied tree)) s ok slower)
     (tidied_holds w.forms table.arrays tree s forms))
 
+-- a tidied window's tree is the tidied tree
+pub tidies_keep_walk : (w v : Window) → Tidies w v → WalkIsKept w v
+tidies_keep_walk w v is = subst (λ (u : Window). WalkIsKept w u) (sym is)
+    (subst (λ (tree : Tree). KeepsWalk w.forms (whole w.front) w.forms tree) (sym (whole_front_of (tidied (whole w.front))))
+    (λ lengths s forms ok. ((tidied_tidy lengths (whole w.front)).walks s, tidied_holds w.forms lengths (whole w.front) s forms)))
+
 -- ---- rebasing
 
 pub rebases_keep : (table : Table) (w v : Window) → Rebases w v → IsProper w → WindowKeeps table w v
@@ -108,13 +115,13 @@ opened_pace table keeps loop region s n =
 
 pub opens_alike : (table : Table) → TableKeeps table → (limits : Limits) (region : ℕ) (w : Window) → Opens table limits region w → (s : State) → OpensAlike table region w s
 opens_alike table keeps limits region w is s =
-    let g = opened table (loop_of table region) region in
+    let g = opened table (innermost_loop table region) region in
     let same = sym (whole_front_of g.tree) in
     subst (λ (u : Window). OpensAlike table region u s) (sym is) (record {
-      forms = subst (λ (t : Tree). TreeHolds g.names.forms table.arrays t s) same (opened_holds table (loop_of table region) region s);
+      forms = subst (λ (t : Tree). TreeHolds g.names.forms table.arrays t s) same (opened_holds table (innermost_loop table region) region s);
       agree = subst (λ (t : Tree). Agree (tree_run table t s) (region_run table (Next region) s)) same
-          (Agree-trans (tree_run table g.tree s) (free_run table g.tree s) (region_run table (Next region) s) (free_agrees table g.tree s) (opened_agrees table keeps (loop_of table region) region s));
-      pace = subst (λ (t : Tree). KeepsPace (region_run table (Next region) s) (tree_run table t s)) same (opened_pace table keeps (loop_of table region) region s);
+          (Agree-trans (tree_run table g.tree s) (free_run table g.tree s) (region_run table (Next region) s) (free_agrees table g.tree s) (opened_agrees table keeps (innermost_loop table region) region s));
+      pace = subst (λ (t : Tree). KeepsPace (region_run table (Next region) s) (tree_run table t s)) same (opened_pace table keeps (innermost_loop table region) region s);
     })
 
 -- ---- fronts

@@ -15,7 +15,8 @@ use Rattle.pc_window.specs.declared.home.Home.{Home}
 use Rattle.pc_window.specs.Tree.{Tree, Pending, Undecided, Exit, Stop_exit, Trap_exit, Front, Issued, Split, Unfinished, whole, front_of}
 use Rattle.pc_window.specs.Names.{uses}
 use Rattle.pc_window.specs.Opening.{Supply, Brought, Moves_home, Gets_name, Stays_plain, brought, Grafted, graft_item, homes_at, graft, opened}
-use Rattle.pc_window.specs.Opening.{first_new, first_home, first_supply, is_inside}
+use Rattle.pc_table.specs.Loops.{is_inside, innermost_loop}
+use Rattle.pc_window.specs.Opening.{first_new, first_home, first_supply}
 use Rattle.pc_window.specs.Tidying.{tidied}
 use Rattle.pc_window.specs.Rename.{map_homes, mapped}
 use Rattle.pc_window.specs.Jump.{Rises, Root, Past_item, Past_yes, Past_no, DividesTree, Root_test, Past, EntersFront, Lands, Lands_renamed, Lands_test}
@@ -23,7 +24,7 @@ use Rattle.pc_window.specs.Jump.{Lands_once, Behind_item, On_yes, On_no}
 use Rattle.pc_window.specs.Filled.{Filled, Full, Goes_on}
 use Rattle.pc_window.specs.WindowRun.{Window}
 use Rattle.pc_window.specs.Kept.{Left, Rest, Gone}
-use Rattle.pc_window.specs.Steps.{loop_of, left_of, left_at_root, front_row, cut_row, with_tree}
+use Rattle.pc_window.specs.Steps.{left_of, left_at_root, front_row, cut_row, with_tree}
 use Rattle.pc_window.specs.There.{ArrayIsThere, PartsAreThere, LeftIsThere, RowIsThere}
 use Rattle.pc_window.specs.Laws.{OpenedPartsAreThere, OpenedParametersAreLive, TidiedPartsAreThere, TidyingAddsNoParameter, RebasedPartsAreThere, FilledPartsAreThere, CutPartsAreThere}
 use Rattle.pc_window.proofs.CutRows.{whole_front_of}
@@ -88,14 +89,14 @@ tree_there table keeps region = by_region (slice_get table.regions region) refl
 
 pub opened_there : OpenedPartsAreThere
 opened_there table keeps limits region =
-    let loop = loop_of table region in
+    let loop = innermost_loop table region in
     subst (PartsAreThere table 1) (sym (whole_front_of (opened table loop region).tree))
     (graft_there table loop 0 (region_tree table region) first_supply first_home (tree_there table keeps region))
 
 -- the parameters of an opened window are the variables that the region's tree needs
 pub opened_live : OpenedParametersAreLive
 opened_live table keeps limits region x used =
-    let loop = loop_of table region in
+    let loop = innermost_loop table region in
     let tree = region_tree table region in
     let home = graft-uses table loop 0 tree first_supply first_home x
     (sym (ap (λ (t : Tree). uses t x) (whole_front_of (opened table loop region).tree)) ∙ used) in

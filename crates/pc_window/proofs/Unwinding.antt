@@ -22,7 +22,8 @@ use Rattle.pc_window.specs.Walk.{Walked, Leaves, Finishes, printing, done_first,
 use Rattle.pc_window.specs.WindowRun.{follow, free_run}
 use Rattle.pc_window.specs.Names.{uses, homes_use}
 use Rattle.pc_window.specs.Hold.{DefinedMeans, DefinedHold, ParametersHold, HoldUnder, TreeHolds, Side}
-use Rattle.pc_window.specs.Opening.{Supply, Grafted, below_item, under_item, under_test, unwound_at, is_inside, graft, OperandBelow, ItemBelow, StubBelow, TreeBelow, FormsBelow}
+use Rattle.pc_table.specs.Loops.{is_inside}
+use Rattle.pc_window.specs.Opening.{Supply, Grafted, below_item, under_item, under_test, unwound_at, graft, OperandBelow, ItemBelow, StubBelow, TreeBelow, FormsBelow}
 use Rattle.pc_window.proofs.Forms.{Means-agree}
 use Rattle.pc_table.proofs.Tests.{needed_above}
 use Rattle.pc_window.proofs.Grafts.{follow-after, HomesBelow, Extends, Extends-refl, nat_eq-same}

@@ -9,6 +9,9 @@ use Rattle.pc_table.specs.RegionRun.{region_run}
 use Rattle.pc_window.specs.declared.home.Home.{Home}
 use Rattle.pc_window.specs.Tree.{Tree, Pending, Undecided, Exit, Stop_exit, Trap_exit, Front, Issued, Split, Unfinished, whole, home_state}
 use Rattle.pc_window.specs.WindowRun.{Window, window_run, front_run, FormsHold}
+use Rattle.pc_window.specs.Walk.{IsWhole, walk}
+use Rattle.pc_window.specs.Hold.{TreeHolds}
+use Rattle.pc_linear.specs.Form.{Form}
 use Rattle.pc_word.specs.Row.{Row, Then, Either, At_leaf, RowOutcome, Faults, Commits, row_step}
 
 -- what is left at a leaf of a front that is cut: a window, a region that is left for, the end, or a trap
@@ -83,6 +86,17 @@ abbrev pub IsRooted : Front → Type 0
 IsRooted (Issued tag origin item rest) = Unit {0}
 IsRooted (Split tag origin on on_yes on_no) = Unit {0}
 IsRooted (Unfinished rest) = IsBare rest
+
+-- ---- the walk alone
+
+-- from each state in which forms hold and the walk is no fault, a tree in place of another has the same walk, and its forms hold
+abbrev pub KeepsWalk : (ℕ → Form) → Tree → (ℕ → Form) → Tree → Type 0
+KeepsWalk forms from forms' to = (lengths : List ℕ) (s : State) → TreeHolds forms lengths from s → IsWhole (walk lengths from s)
+    → (walk lengths to s ≡ walk lengths from s) × TreeHolds forms' lengths to s
+
+-- so does a window in place of another
+abbrev pub WalkIsKept : Window → Window → Type 0
+WalkIsKept w v = KeepsWalk w.forms (whole w.front) v.forms (whole v.front)
 
 -- ---- filling and cutting
 

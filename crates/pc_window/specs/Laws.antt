@@ -18,7 +18,7 @@ use Rattle.pc_window.specs.Tidying.{tidied, IsTidy}
 use Rattle.pc_window.specs.Filled.{IsWindow, Jump, IsFirstJump, priority_of, Filled, MostBehind, front_size}
 use Rattle.pc_window.specs.Ready.{HasFresh, ReadyPlace, BringsFrom, NotBehind}
 use Rattle.pc_window.specs.Move.{Moves}
-use Rattle.pc_window.specs.Kept.{Left, WindowKeeps, FillKeeps, CutKeeps, RowKeeps, IsRooted, OpensAlike, HasFront, HasItems}
+use Rattle.pc_window.specs.Kept.{Left, WalkIsKept, WindowKeeps, FillKeeps, CutKeeps, RowKeeps, IsRooted, OpensAlike, HasFront, HasItems}
 use Rattle.pc_window.specs.There.{PartsAreThere, RowIsThere}
 use Rattle.pc_window.specs.Steps.{opened_window, UnwindsTo, Tidies, Rebases, FillsTo, Cuts, front_row, Positive, IsProper, EachLeft}
 
@@ -51,6 +51,10 @@ UnwindingHasOneEnd = (table : Table) (number : ℕ) (w a b : Window) → Unwinds
 abbrev pub TidyingKeeps : Type 0
 TidyingKeeps = (table : Table) (w v : Window) → Tidies w v → IsProper w → IsProper v × WindowKeeps table w v
 
+-- on each state on which the walk itself is no fault it keeps the walk
+abbrev pub TidyingKeepsTheWalk : Type 0
+TidyingKeepsTheWalk = (w v : Window) → Tidies w v → WalkIsKept w v
+
 -- a tidied tree has nothing that may go
 abbrev pub TidiedTreesAreTidy : Type 0
 TidiedTreesAreTidy = (tree : Tree) → IsTidy (tidied tree)
@@ -69,7 +73,11 @@ RebasingKeeps = (table : Table) (w v : Window) → Rebases w v → IsProper w �
 abbrev pub FillingKeeps : Type 0
 FillingKeeps = (table : Table) (w v : Window) → FillsTo w v → IsProper w → IsProper v × FillKeeps table w v
 
--- and leads to one window
+-- on each state on which the walk itself is no fault it keeps the walk
+abbrev pub FillingKeepsTheWalk : Type 0
+FillingKeepsTheWalk = (w v : Window) → FillsTo w v → IsProper w → WalkIsKept w v
+
+-- it leads to one window
 abbrev pub FillingHasOneEnd : Type 0
 FillingHasOneEnd = (w a b : Window) → FillsTo w a → FillsTo w b → a ≡ b
 

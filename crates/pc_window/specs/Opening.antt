@@ -1,5 +1,5 @@
 -- Opening a region, and unwinding a stub: the region's tree with homes in place of its variables.
-use Rattle.std.specs.Prelude.{ℕ, suc, ◌+◌, ◌<◌, pos, Bool, false, if◌then◌else◌, nat_eq, nat_lt, ◌&&◌, List, [], ◌∷◌, Option, Some, None, slice_get}
+use Rattle.std.specs.Prelude.{ℕ, suc, ◌+◌, ◌<◌, pos, if◌then◌else◌, nat_eq, nat_lt, ◌&&◌, List, [], ◌∷◌, Option, Some, None}
 use Rattle.pc_word.specs.SourceLimits.{most_scalars, most_temporaries}
 use Rattle.pc_word.specs.declared.item.Item.{Item}
 use Rattle.pc_word.specs.declared.item.Item.TheVariants.{Bin, Copy, Load, Store, Print, Read, More}
@@ -9,7 +9,8 @@ use Rattle.pc_word.specs.Items.{dest_of, operands_of}
 use Rattle.pc_linear.specs.declared.term.Term.{Term}
 use Rattle.pc_linear.specs.Form.{Form}
 use Rattle.pc_linear.specs.Combine.{combine, constant_form, variable_form}
-use Rattle.pc_table.specs.Table.{Table, TableRegion, TableTree, Does, Asks, Next, Stops_here, Traps_here, region_tree, region_live}
+use Rattle.pc_table.specs.Table.{Table, TableTree, Does, Asks, Next, Stops_here, Traps_here, region_tree, region_live}
+use Rattle.pc_table.specs.Loops.{same_loop, headed_loop, is_inside}
 use Rattle.pc_window.specs.declared.home.Home.{Home}
 use Rattle.pc_window.specs.Tree.{Tree, Pending, Undecided, Exit, Stop_exit, Trap_exit, home_of}
 use Rattle.pc_window.specs.Hold.{operand_form}
@@ -86,25 +87,9 @@ abbrev pub homes_at : (ℕ → Operand) → List ℕ → List Home
 homes_at homes [] = []
 homes_at homes (v ∷ vs) = record { variable = v; value = homes v } ∷ homes_at homes vs
 
--- whether two are the same loop
-abbrev pub same_loop : Option ℕ → Option ℕ → Bool
-same_loop (Some loop) (Some other) = nat_eq loop other
-same_loop None other = false
-same_loop (Some loop) None = false
-
--- the loop whose header a region is
-abbrev pub headed_loop : Option TableRegion → Option ℕ
-headed_loop None = None
-headed_loop (Some region) = region.heads
-
--- the innermost loop that a region stands in
-abbrev pub inner_loop : Option TableRegion → Option ℕ
-inner_loop None = None
-inner_loop (Some region) = region.inside
-
 -- the tag of a stub: one higher where it leads to the header of the window's loop
 abbrev pub stub_tag : Table → Option ℕ → ℕ → ℕ → ℕ
-stub_tag table loop region tag = if same_loop (headed_loop (slice_get table.regions region)) loop then suc tag else tag
+stub_tag table loop region tag = if same_loop (headed_loop table region) loop then suc tag else tag
 
 -- a region's tree with homes in place of its variables, at a tag
 abbrev pub graft : Table → Option ℕ → ℕ → TableTree → Supply → (ℕ → Operand) → Grafted
@@ -139,10 +124,6 @@ abbrev pub opened : Table → Option ℕ → ℕ → Grafted
 opened table loop region = graft table loop 0 (region_tree table region) first_supply first_home
 
 -- ---- unwinding
-
--- whether a stub's region is inside the window's loop
-abbrev pub is_inside : Table → Option ℕ → ℕ → Bool
-is_inside table loop region = same_loop (inner_loop (slice_get table.regions region)) loop
 
 -- the same with an item above
 abbrev pub under_item : ℕ → ℕ → Item → Option Grafted → Option Grafted

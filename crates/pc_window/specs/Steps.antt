@@ -1,13 +1,12 @@
 -- The changes of windows that a search makes: opening, filling, cutting, rebasing, unwinding and tidying.
-use Rattle.std.specs.Prelude.{Bool, not, Some, None, List, ◌≡◌, ℕ, ◌≤◌, if◌then◌else◌, Option, slice_get}
-use Rattle.std.specs.List.{list_any}
+use Rattle.std.specs.Prelude.{◌≡◌, ℕ, ◌≤◌, if◌then◌else◌, Option}
 use Rattle.pc_word.specs.declared.item.Limits.{Limits}
-use Rattle.pc_word.specs.declared.loop_mark.LoopMark.{LoopMark}
 use Rattle.pc_table.specs.Table.{Table}
+use Rattle.pc_table.specs.Loops.{is_inside, innermost_loop}
 use Rattle.pc_window.specs.Tree.{Tree, Pending, Undecided, Exit, Stop_exit, Trap_exit, Front, Issued, Split, Unfinished, whole, front_of}
 use Rattle.pc_window.specs.Names.{uses}
 use Rattle.pc_window.specs.WindowRun.{Window, supply_of}
-use Rattle.pc_window.specs.Opening.{Supply, Grafted, TreeBelow, FormsBelow, same_loop, headed_loop, is_inside, opened}
+use Rattle.pc_window.specs.Opening.{Supply, Grafted, TreeBelow, FormsBelow, opened}
 use Rattle.pc_window.specs.Unwinding.{Unwinds}
 use Rattle.pc_window.specs.Tidying.{tidied}
 use Rattle.pc_window.specs.Rebasing.{rebased}
@@ -30,22 +29,10 @@ grafted_of w = record { tree = whole w.front; names = supply_of w }
 
 -- ---- opening, unwinding, tidying, rebasing
 
--- whether no loop stands in a loop
-abbrev pub is_innermost : List LoopMark → ℕ → Bool
-is_innermost loops loop = not (list_any (λ mark. same_loop mark.outer (Some loop)) loops)
-
--- a loop, where it is innermost
-abbrev pub if_innermost : List LoopMark → Option ℕ → Option ℕ
-if_innermost loops None = None
-if_innermost loops (Some loop) = if is_innermost loops loop then Some loop else None
-
--- the loop of a window that is opened at a region: that whose header the region is, where it is innermost
-abbrev pub loop_of : Table → ℕ → Option ℕ
-loop_of table region = if_innermost table.loops (headed_loop (slice_get table.regions region))
-
 -- the window that a region is opened as
 abbrev pub opened_window : Table → Limits → ℕ → Window
-opened_window table limits region = window_of (opened table (loop_of table region) region).tree (opened table (loop_of table region) region).names limits (loop_of table region)
+opened_window table limits region =
+    window_of (opened table (innermost_loop table region) region).tree (opened table (innermost_loop table region) region).names limits (innermost_loop table region)
 
 -- a region opens as a window
 abbrev pub Opens : Table → Limits → ℕ → Window → Type 0

@@ -2,7 +2,8 @@
 use Rattle.std.specs.Prelude.{◌≡◌, ℕ, ◌+◌, min, if◌then◌else◌, nat_lt, Option, Some, None}
 use Rattle.pc_table.specs.Table.{Table}
 use Rattle.pc_window.specs.Tree.{Tree, Pending, Undecided, Exit, Stop_exit, Trap_exit, tree_size}
-use Rattle.pc_window.specs.Opening.{Grafted, is_inside, unwound_at}
+use Rattle.pc_table.specs.Loops.{is_inside}
+use Rattle.pc_window.specs.Opening.{Grafted, unwound_at}
 
 -- the lesser of two tags, where there are any
 abbrev pub lesser_tag : Option ℕ → Option ℕ → Option ℕ

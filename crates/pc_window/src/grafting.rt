@@ -1,17 +1,17 @@
 //! A region's tree, brought into a window: with homes in place of its variables.
 ghost use Rattle.std.specs.Prelude.{◌≡◌, ◌<◌, ◌≤◌, ◌^◌, true, false, length, slice_set, OnOk, IfOk};
 ghost use Rattle.pc_word.specs.declared.item.Operand.TheVariants.{Name};
-ghost use Rattle.pc_table.specs.Table.{table_tree, table_of, region_live};
+ghost use Rattle.pc_table.specs.Table.{table_tree, region_live};
+ghost use Rattle.pc_table.specs.StoredTable.{table_of};
 ghost use Rattle.pc_table.specs.TableKeeps.{TreeIsThere, units};
 ghost use Rattle.pc_window.specs.Tree.{Pending, Undecided, Exit, tree_size};
-ghost use Rattle.pc_window.specs.Opening.{first_new, changed, same_loop, stub_tag, homes_at};
+ghost use Rattle.pc_window.specs.Opening.{first_new, changed, stub_tag, homes_at};
 ghost use Rattle.pc_window.specs.StoredWindow.{tree_in, supply_in, homes_in, InNodes};
 ghost use Rattle.pc_window.specs.Grafting.{Grafts, HasNames, TakesNames};
 
 use crate::HomeList;
 use crate::bring::{Brought, at_home, bring};
 use crate::home::Home;
-use crate::loops::same_loop;
 use crate::names::NameTable;
 use crate::nodes::in_node;
 use crate::tree::WindowTree;
@@ -63,9 +63,8 @@ fn stub(
     ensures tree { IfOk result (λ tree. tree_in tree
         ≡ Exit number (stub_tag (table_of table.now) inside number tag) (homes_at (homes_in homes.now) (region_live (table_of table.now) number))) }
 {
-    let region = &table.regions.as_slice()[number as usize];
-    let homes = listed(alloc, homes, region.live.as_slice())?;
-    let tag = if same_loop(region.heads, inside) {
+    let homes = listed(alloc, homes, table.live(number).as_slice())?;
+    let tag = if table.heads(number, inside) {
         tag + 1
     } else {
         tag

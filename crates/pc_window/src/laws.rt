@@ -1,7 +1,7 @@
 //! Laws of windows. No function here does anything: each one's contract is a law, and that it is
 //! proved is all that it is for.
-ghost use Rattle.pc_window.specs.Laws.{OpenedWindowsRunAsTheirRegion, OpenedWindowsAreProper, UnwindingKeeps, UnwindingHasOneEnd, TidyingKeeps, TidiedTreesAreTidy};
-ghost use Rattle.pc_window.specs.Laws.{TidiedWindowsAreRooted, RebasingKeeps, FillingKeeps, FillingHasOneEnd, FilledFrontsHaveItems, JumpsFillTheFront, FillingIsBounded};
+ghost use Rattle.pc_window.specs.Laws.{OpenedWindowsRunAsTheirRegion, OpenedWindowsAreProper, UnwindingKeeps, UnwindingHasOneEnd, TidyingKeeps, TidyingKeepsTheWalk, TidiedTreesAreTidy};
+ghost use Rattle.pc_window.specs.Laws.{TidiedWindowsAreRooted, RebasingKeeps, FillingKeeps, FillingKeepsTheWalk, FillingHasOneEnd, FilledFrontsHaveItems, JumpsFillTheFront, FillingIsBounded};
 ghost use Rattle.pc_window.specs.Laws.{RowsDoWhatTheirPathsDo, CutPartsAreProper, CutsKeep, CutRowsHaveItems, FilledRowsKeep, RowsAreLegal, ReadyJumps, JumpsWereReady};
 ghost use Rattle.pc_window.specs.Laws.{FirstJumpsAreFirst, MovesKeep, ProperWindowsHaveFreshNames, BareWindowsAreUntested, OpenedPartsAreThere};
 ghost use Rattle.pc_window.specs.Laws.{OpenedParametersAreLive};
@@ -16,21 +16,24 @@ pub fn laws_of_opening()
 {}
 
 /// Unwinding, tidying and rebasing keep a window's run, its pace, its forms, and that it is
-/// proper. Unwinding has one end, and what is tidied has nothing more to delete.
+/// proper. Tidying keeps the walk on each state on which the walk itself is no fault. Unwinding has
+/// one end, and what is tidied has nothing more to delete.
 pub fn laws_of_settling()
     ensures unwinding { UnwindingKeeps }
     ensures one_end { UnwindingHasOneEnd }
     ensures tidying { TidyingKeeps }
+    ensures tidying_walk { TidyingKeepsTheWalk }
     ensures tidy { TidiedTreesAreTidy }
     ensures rooted { TidiedWindowsAreRooted }
     ensures rebasing { RebasingKeeps }
 {}
 
-/// Filling keeps what a window does, its pace, its forms, and that it is proper. It has one end:
-/// each jump makes the front greater by one, and below each leaf stands no more than stood below
-/// one before.
+/// Filling keeps what a window does, its pace, its forms, and that it is proper, and the walk on
+/// each state on which the walk itself is no fault. It has one end: each jump makes the front greater
+/// by one, and below each leaf stands no more than stood below one before.
 pub fn laws_of_filling()
     ensures keeps { FillingKeeps }
+    ensures walk { FillingKeepsTheWalk }
     ensures one_end { FillingHasOneEnd }
     ensures front { FilledFrontsHaveItems }
     ensures jumps { JumpsFillTheFront }

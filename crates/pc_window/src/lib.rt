@@ -10,7 +10,6 @@ mod home;
 mod laws;
 mod listed_names;
 mod listing;
-mod loops;
 mod names;
 mod nodes;
 mod tree;
@@ -26,13 +25,12 @@ pub use laws::{
 };
 pub use listed_names::is_in;
 pub use listing::{all_names, parameters_of};
-pub use loops::{is_inside, same_loop};
 pub use names::NameTable;
 pub use nodes::{in_node, is_leaf};
 use pc_linear::LinForm;
 use pc_word::Seq;
 pub use tree::WindowTree;
-pub use window::{Window, region_at};
+pub use window::Window;
 
 /// Numbers of names or of form variables.
 pub type NumberList = Seq<u32>;

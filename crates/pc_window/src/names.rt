@@ -1,5 +1,5 @@
 //! The names of a window, and their forms.
-ghost use Rattle.std.specs.Prelude.{◌≡◌, ◌<◌, ◌≤◌, ◌+◌, ◌^◌, Some, length, IfOk};
+ghost use Rattle.std.specs.Prelude.{◌≡◌, ◌<◌, ◌≤◌, ◌+◌, ◌^◌, Some, length, IfOk, OnErr};
 ghost use Rattle.pc_word.specs.Items.{dest_of};
 ghost use Rattle.pc_word.specs.Naming.{with_dest};
 ghost use Rattle.pc_window.specs.Hold.{operand_form};
@@ -64,7 +64,8 @@ impl NameTable {
         }
     }
 
-    /// One more name, with this form, or with a new form variable where there is none.
+    /// One more name, with this form, or with a new form variable where there is none. On `Err` the
+    /// table is as before.
     #[tactic(auto, using(crate::proofs::NamesStored::names))]
     pub fn add(&mut self, form: Option<LinForm>) -> Result<u32, AllocError>
         requires names { length self.old.forms < 2 ^ 31 }
@@ -73,6 +74,7 @@ impl NameTable {
         ensures names { IfOk result (λ name. supply_in self.new ≡ with_name (supply_in self.old) form) }
         ensures count { IfOk result (λ name. length self.new.forms ≤ length self.old.forms + 1) }
         ensures variables { IfOk result (λ name. self.new.next_variable ≤ self.old.next_variable + 1) }
+        ensures undone { OnErr result (self.new ≡ self.old) }
     {
         let name = self.forms.len() as u32;
         match form {
@@ -86,7 +88,7 @@ impl NameTable {
     }
 
     /// An item with the next name, where it writes one. The name's form is what the item gives, or
-    /// else a new form variable.
+    /// else a new form variable. On `Err` the table is as before.
     pub fn give_name(&mut self, item: Item) -> Result<Item, AllocError>
         requires names { length self.old.forms < 2 ^ 31 }
         requires variables { self.old.next_variable < 2 ^ 31 }
@@ -95,6 +97,7 @@ impl NameTable {
             ≡ given_supply (supply_in self.old) (dest_of (with_dest (length self.old.forms) item)) (Some (with_dest (length self.old.forms) item))) }
         ensures count { IfOk result (λ it. length self.new.forms ≤ length self.old.forms + 1) }
         ensures variables { IfOk result (λ it. self.new.next_variable ≤ self.old.next_variable + 1) }
+        ensures undone { OnErr result (self.new ≡ self.old) }
     {
         let named = item.with_dest(self.forms.len() as u32);
         if named.dest().is_some() {

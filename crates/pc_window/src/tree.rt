@@ -38,7 +38,7 @@ pub enum WindowTree {
     },
     /// The end of the program.
     Stop,
-    /// A trap, with the line that it is told by.
+    /// A trap, with its line in the source.
     Trap {
         kind: TrapKind,
         line: u32,

@@ -1,22 +1,20 @@
 //! Windows.
-ghost use Rattle.std.specs.Prelude.{◌≡◌, ◌<◌, ◌^◌, length, true, false, Some, slice_get, IfOk};
+ghost use Rattle.std.specs.Prelude.{◌≡◌, ◌<◌, ◌^◌, length, true, IfOk};
 ghost use Rattle.pc_word.specs.State.{State};
 ghost use Rattle.pc_word.specs.Ranges.{AreLimits};
-ghost use Rattle.pc_table.specs.Table.{table_of};
-ghost use Rattle.pc_table.specs.TableKeeps.{TableKeeps};
+ghost use Rattle.pc_table.specs.StoredTable.{table_of};
 ghost use Rattle.pc_window.specs.Tree.{whole, tree_size};
-ghost use Rattle.pc_window.specs.Opening.{first_home, same_loop};
+ghost use Rattle.pc_window.specs.Opening.{first_home};
 ghost use Rattle.pc_window.specs.Kept.{OpensAlike};
-ghost use Rattle.pc_window.specs.Steps.{is_innermost, loop_of, opened_window, IsProper};
+ghost use Rattle.pc_window.specs.Steps.{opened_window, IsProper};
 ghost use Rattle.pc_window.specs.StoredWindow.{tree_in, homes_in, window_in, InNodes, IsJustOpened};
 
 use crate::error::WindowError;
 use crate::grafting::{VARIABLES, graft};
-use crate::loops::same_loop;
 use crate::names::NameTable;
 use crate::tree::WindowTree;
-use pc_table::{Region, RegionTable};
-use pc_word::{Limits, LoopMark, Operand};
+use pc_table::RegionTable;
+use pc_word::{Limits, Operand};
 use std::alloc::Global;
 
 /// A window: a tree of nodes, each a tree of items and tests, with a form for each name.
@@ -40,7 +38,6 @@ impl Window {
         region: u32,
         limits: Limits,
     ) -> Result<Window, WindowError>
-        requires kept { TableKeeps (table_of table.now) }
         requires there { region < length table.now.regions }
         requires limits { AreLimits limits }
         ensures opened { IfOk result (λ window. window_in window ≡ opened_window (table_of table.now) limits region) }
@@ -51,14 +48,13 @@ impl Window {
     {
         let mut names = NameTable::first(alloc)?;
         let mut homes = first_homes();
-        let inside = loop_of(table, region);
-        let opened = region_at(table, region);
+        let inside = table.innermost_loop(region);
         let tree = graft(
             alloc,
             table,
             inside,
             0,
-            &opened.tree,
+            table.tree(region),
             &mut names,
             &mut homes,
         )?;
@@ -90,42 +86,4 @@ fn first_homes() -> [Operand; VARIABLES]
         homes[variable as usize] = Operand::Name(variable);
     }
     homes
-}
-
-/// A region of a table.
-pub fn region_at(table: &RegionTable, number: u32) -> &Region
-    requires { number < length table.now.regions }
-    ensures { slice_get table.now.regions number ≡ Some result.now }
-{
-    &table.regions.as_slice()[number as usize]
-}
-
-/// The loop of a window that is opened at a region.
-fn loop_of(table: &RegionTable, region: u32) -> Option<u16>
-    requires { region < length table.now.regions }
-    ensures { result ≡ loop_of (table_of table.now) region }
-{
-    match region_at(table, region).heads {
-        None => None,
-        Some(inside) => {
-            if is_innermost(table.loops.as_slice(), inside) {
-                Some(inside)
-            } else {
-                None
-            }
-        }
-    }
-}
-
-/// Whether no loop stands in a loop.
-#[tactic(auto, using(crate::proofs::WindowsStored::innermost))]
-fn is_innermost(loops: &[LoopMark], inside: u16) -> bool
-    ensures { result ≡ is_innermost loops.now inside }
-{
-    for at in 0..loops.len() {
-        if same_loop(loops[at].outer, Some(inside)) {
-            return false;
-        }
-    }
-    true
 }

@@ -5,11 +5,12 @@ use Rattle.std.specs.List.{list_any}
 use Rattle.std.proofs.lemmas.List.{length-map}
 use Rattle.pc_word.specs.declared.loop_mark.LoopMark.{LoopMark}
 use Rattle.pc_table.specs.RegionRun.{arrive}
-use Rattle.pc_table.specs.Table.{TableRegion, region_tree, region_live}
+use Rattle.pc_table.proofs.StoredRegions.{some_region}
+use Rattle.pc_table.specs.Table.{Table, TableTree, TableRegion, region_tree, region_live}
 use Rattle.pc_table.specs.TableKeeps.{RegionKeeps, TableKeeps, ComesUntested, By_one, By_more, untested, needs}
 use Rattle.pc_automaton.specs.declared.automaton.AutomatonState.{AutomatonState as StoredState}
 use Rattle.pc_automaton.specs.Automaton.{state_in, states_in}
-use Rattle.pc_window_tests.specs.Echoing.{echo_tree, echoing_table}
+use Rattle.pc_window_tests.specs.Echoing.{echo_tree, looping_table, echoing_table}
 
 no_next : (region : ℕ) → untested (region_tree echoing_table region) ≡ None
 no_next zero = refl
@@ -71,8 +72,20 @@ echoing_keeps = record {
     begins zero = refl
     begins (suc region) = refl
 
+-- and so does a loop of one region that is equal to it
+pub echoing_made : (tree : TableTree) (live : List ℕ) → tree ≡ echo_tree → live ≡ [] → TableKeeps (looping_table tree live)
+echoing_made tree live same none = subst TableKeeps (λ i. looping_table (sym same i) (sym none i)) echoing_keeps
+
+pub ruleset echoing = (echoing_made)
+
+-- a table that is equal to one that keeps it
+pub looping_made : (table : Table) (tree : TableTree) (live : List ℕ) → TableKeeps (looping_table tree live) → table ≡ looping_table tree live → TableKeeps table
+looping_made table tree live keeps is = subst TableKeeps (sym is) keeps
+
+pub ruleset looping = (looping_made)
+
 -- there are as many states in memory
 pub as_many_states : (states : List StoredState) → length (states_in states) ≡ length states
 as_many_states states = length-map states state_in
 
-pub ruleset kept = (echoing_keeps, as_many_states)
+pub ruleset searching = (as_many_states, some_region)

@@ -1,6 +1,6 @@
 -- What the table keeps whose turns exchange two variables.
 use Rattle.std.proofs.Common.{◌≡◌, ℕ, zero, suc, ◌≤◌, ◌<◌, Some, None, refl, sym, ◌∙◌, subst, arith}
-use Rattle.std.specs.Prelude.{Bool, true, false, nat_eq, not, ◌&&◌, ◌||◌, [], ◌∷◌, IfSome, slice_get}
+use Rattle.std.specs.Prelude.{Bool, true, false, nat_eq, not, ◌&&◌, ◌||◌, List, [], ◌∷◌, IfSome, slice_get}
 use Rattle.std.specs.List.{list_any}
 use Rattle.std.specs.List.Sorted.{IsStrictlyIncreasing}
 use Rattle.std.proofs.lemmas.Bool.{eqb-true, eq-eqb}
@@ -8,8 +8,9 @@ use Rattle.pc_word.specs.declared.item.Item.TheVariants.{Copy}
 use Rattle.pc_word.specs.declared.item.Operand.TheVariants.{Name}
 use Rattle.pc_word.specs.declared.loop_mark.LoopMark.{LoopMark}
 use Rattle.pc_table.specs.RegionRun.{arrive}
-use Rattle.pc_table.specs.Table.{TableRegion, region_tree, region_live}
+use Rattle.pc_table.specs.Table.{TableTree, TableRegion, region_tree, region_live}
 use Rattle.pc_table.specs.TableKeeps.{ItemIsThere, RegionKeeps, TableKeeps, ComesUntested, By_one, By_more, untested, needs}
+use Rattle.pc_window_tests.specs.Echoing.{looping_table}
 use Rattle.pc_window_tests.specs.Exchanging.{turn_tree, exchanging_table}
 
 no_next : (region : ℕ) → untested (region_tree exchanging_table region) ≡ None
@@ -98,3 +99,9 @@ exchanging_keeps = record {
     begins : (region : ℕ) → arrive exchanging_table (region_tree exchanging_table region) ≡ region_tree exchanging_table region
     begins zero = refl
     begins (suc region) = refl
+
+-- and so does a loop of one region that is equal to it
+pub exchanging_made : (tree : TableTree) (live : List ℕ) → tree ≡ turn_tree → live ≡ 0 ∷ 1 ∷ [] → TableKeeps (looping_table tree live)
+exchanging_made tree live same two = subst TableKeeps (λ i. looping_table (sym same i) (sym two i)) exchanging_keeps
+
+pub ruleset exchanging = (exchanging_made)

@@ -1,5 +1,6 @@
 pub mod Printed
 pub mod TwoVariablesKept
 pub mod SumWindows
+pub mod LoopingKept
 pub mod EchoingKept
 pub mod ExchangingKept

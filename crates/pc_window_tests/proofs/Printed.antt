@@ -5,7 +5,7 @@ use Rattle.std.specs.List.{list_any}
 use Rattle.pc_table.specs.RegionRun.{arrive}
 use Rattle.pc_word.specs.declared.item.Item.TheVariants.{Print}
 use Rattle.pc_word.specs.declared.item.Operand.TheVariants.{Lit}
-use Rattle.pc_table.specs.Table.{TableRegion, Does, Stops_here, region_tree, region_live}
+use Rattle.pc_table.specs.Table.{Table, TableRegion, Does, Stops_here, region_tree, region_live}
 use Rattle.pc_table.specs.TableKeeps.{RegionKeeps, TableKeeps, ComesUntested, By_one, By_more, untested, needs}
 use Rattle.pc_window_tests.specs.Printed.{printing_table}
 
@@ -54,3 +54,9 @@ printing_keeps value = record {
     begins : (region : ℕ) → arrive (printing_table value) (region_tree (printing_table value) region) ≡ region_tree (printing_table value) region
     begins zero = refl
     begins (suc region) = refl
+
+-- and so does one that is equal to it
+pub printing_made : (value : ℤ) (table : Table) → table ≡ printing_table value → TableKeeps table
+printing_made value table is = subst TableKeeps (sym is) (printing_keeps value)
+
+pub ruleset printing = (printing_made)

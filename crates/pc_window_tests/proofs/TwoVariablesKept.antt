@@ -4,9 +4,7 @@ use Rattle.std.specs.Prelude.{Bool, true, false, not, ◌&&◌, ◌||◌, nat_eq
 use Rattle.std.specs.List.{list_any}
 use Rattle.std.specs.List.Sorted.{IsStrictlyIncreasing}
 use Rattle.pc_table.specs.RegionRun.{arrive}
-use Rattle.std.proofs.lemmas.List.{length-map}
-use Rattle.pc_table.specs.declared.table.RegionTable.{RegionTable}
-use Rattle.pc_table.specs.Table.{Table, table_of, table_region, TableRegion, region_tree, region_live}
+use Rattle.pc_table.specs.Table.{Table, TableRegion, region_tree, region_live}
 use Rattle.pc_table.specs.TableKeeps.{RegionKeeps, TableKeeps, ComesUntested, By_one, By_more, untested, needs}
 use Rattle.pc_window_tests.specs.TwoVariables.{two_variables_region, two_variables_table}
 use Rattle.pc_window.proofs.Listed.{flipped}
@@ -79,11 +77,8 @@ two_variables_keeps = record {
     begins zero = refl
     begins (suc region) = refl
 
--- and its region is there
-pub two_variables_there : (table : RegionTable) → table_of table ≡ two_variables_table → 0 < length table.regions
-two_variables_there table is =
-    let as_many : length (table_of table).regions ≡ length table.regions = length-map table.regions table_region in
-    let one : length (table_of table).regions ≡ 1 = ap (λ (t : Table). length t.regions) is in
-    omega arith
+-- and so does one that is equal to it
+pub two_variables_made : (table : Table) → table ≡ two_variables_table → TableKeeps table
+two_variables_made table is = subst TableKeeps (sym is) two_variables_keeps
 
-pub ruleset two_variables = (two_variables_keeps, two_variables_there)
+pub ruleset two_variables = (two_variables_made)

@@ -27,7 +27,7 @@ fn prints_and_stops(row: &RowTree<Left>, printed: i32) -> bool {
 }
 
 #[test]
-#[tactic(auto, using(crate::proofs::Printed::printing_keeps, pc_automaton::proofs::Cuts::behind))]
+#[tactic(auto, using(pc_table::proofs::StoredRegions::some_region, pc_automaton::proofs::Cuts::behind))]
 fn the_front_of_an_opened_window_is_its_first_item(rt: HostRuntime) -> Result<(), Fail> {
     let table = printed(rt.alloc())?;
     let window = match Window::of_region(rt.alloc(), &table, 0, LIMITS) {

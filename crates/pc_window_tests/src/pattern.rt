@@ -1,6 +1,7 @@
 //! Searches for the automaton of a region.
 ghost use Rattle.std.specs.Prelude.{◌≡◌, ◌<◌, ◌^◌, length, IfOk};
-ghost use Rattle.pc_table.specs.Table.{Does, table_tree, table_of};
+ghost use Rattle.pc_table.specs.Table.{Does, table_tree};
+ghost use Rattle.pc_table.specs.StoredTable.{table_of};
 ghost use Rattle.pc_table.specs.TableKeeps.{TableKeeps};
 ghost use Rattle.pc_word.specs.Ranges.{IsBetween};
 ghost use Rattle.pc_word.specs.MachineLimits.{most_rows, most_window};
@@ -49,9 +50,10 @@ fn turn(alloc: Global) -> Result<RegionTree, AllocError>
 }
 
 /// A loop of one region as a table.
+#[tactic(auto, using(crate::proofs::EchoingKept::looping))]
 fn looping(alloc: Global, tree: RegionTree, live: VarList) -> Result<RegionTable, AllocError>
-    ensures table { IfOk result (λ table. table_of table ≡ looping_table (table_tree tree) live) }
-    ensures one { IfOk result (λ table. length table.regions ≡ 1) }
+    requires { TableKeeps (looping_table (table_tree tree) live) }
+    ensures { IfOk result (λ table. table_of table ≡ looping_table (table_tree tree) live) }
 {
     let mut regions = RegionList::new(alloc);
     regions.push(Region {
@@ -75,9 +77,9 @@ fn looping(alloc: Global, tree: RegionTree, live: VarList) -> Result<RegionTable
 }
 
 /// The loop that reads and prints, as a table.
+#[tactic(auto, using(crate::proofs::EchoingKept::echoing))]
 fn echoing(alloc: Global) -> Result<RegionTable, AllocError>
-    ensures table { IfOk result (λ table. table_of table ≡ echoing_table) }
-    ensures one { IfOk result (λ table. length table.regions ≡ 1) }
+    ensures { IfOk result (λ table. table_of table ≡ echoing_table) }
 {
     let tree = turn(alloc)?;
     looping(alloc, tree, VarList::new(alloc))
@@ -120,9 +122,9 @@ fn exchange(alloc: Global) -> Result<RegionTree, AllocError>
 }
 
 /// A loop that prints a variable and exchanges it with another until it is 0, as a table of one region.
+#[tactic(auto, using(crate::proofs::ExchangingKept::exchanging))]
 fn exchanging(alloc: Global) -> Result<RegionTable, AllocError>
-    ensures table { IfOk result (λ table. table_of table ≡ exchanging_table) }
-    ensures one { IfOk result (λ table. length table.regions ≡ 1) }
+    ensures { IfOk result (λ table. table_of table ≡ exchanging_table) }
 {
     let tree = exchange(alloc)?;
     let tree = RegionTree::Step {
@@ -171,10 +173,8 @@ fn last_leads(automaton: &Automaton) -> Found
 }
 
 /// What the search from region 0 finds, with this window number and in so many rows.
-#[tactic(auto, using(crate::proofs::EchoingKept::as_many_states))]
+#[tactic(auto, using(crate::proofs::EchoingKept::searching))]
 fn searched(alloc: Global, table: &RegionTable, window: u8, rows: u16) -> Found
-    requires kept { TableKeeps (table_of table.now) }
-    requires one { length table.now.regions ≡ 1 }
     requires window { IsBetween 1 most_window window }
     requires rows { IsBetween 1 most_rows rows }
 {
@@ -186,7 +186,6 @@ fn searched(alloc: Global, table: &RegionTable, window: u8, rows: u16) -> Found
 }
 
 #[test]
-#[tactic(auto, using(crate::proofs::Printed::printing_keeps))]
 fn straight_code_is_one_row(rt: HostRuntime) -> Result<(), Fail> {
     let table = printed(rt.alloc())?;
     assert_eq!(&rt; searched(rt.alloc(), &table, 4, 1), Found::Open(1));
@@ -196,7 +195,6 @@ fn straight_code_is_one_row(rt: HostRuntime) -> Result<(), Fail> {
 }
 
 #[test]
-#[tactic(auto, using(crate::proofs::EchoingKept::echoing_keeps))]
 fn a_loop_that_is_not_unwound_reads_and_then_tests(rt: HostRuntime) -> Result<(), Fail> {
     let table = echoing(rt.alloc())?;
     assert_eq!(&rt; searched(rt.alloc(), &table, 1, 512), Found::Open(2));
@@ -205,7 +203,6 @@ fn a_loop_that_is_not_unwound_reads_and_then_tests(rt: HostRuntime) -> Result<()
 }
 
 #[test]
-#[tactic(auto, using(crate::proofs::EchoingKept::echoing_keeps))]
 fn a_loop_that_is_unwound_closes(rt: HostRuntime) -> Result<(), Fail> {
     let table = echoing(rt.alloc())?;
     assert_eq!(&rt; searched(rt.alloc(), &table, 2, 2), Found::Closed(2));
@@ -214,7 +211,6 @@ fn a_loop_that_is_unwound_closes(rt: HostRuntime) -> Result<(), Fail> {
 }
 
 #[test]
-#[tactic(auto, using(crate::proofs::ExchangingKept::exchanging_keeps))]
 fn a_loop_that_exchanges_variables_leads_to_itself(rt: HostRuntime) -> Result<(), Fail> {
     let table = exchanging(rt.alloc())?;
     assert_eq!(&rt; searched(rt.alloc(), &table, 1, 1), Found::Open(1));

@@ -1,6 +1,6 @@
 //! A window that is rebased.
 ghost use Rattle.std.specs.Prelude.{◌≡◌, IfOk};
-ghost use Rattle.pc_table.specs.Table.{table_of};
+ghost use Rattle.pc_table.specs.StoredTable.{table_of};
 ghost use Rattle.pc_window_tests.specs.TwoVariables.{two_variables_table};
 
 use crate::tables::{LIMITS, does};
@@ -13,6 +13,7 @@ use std::alloc::{AllocError, Global};
 use std::test::Fail;
 
 /// `a = x * 2; b = a + y; print(b);`, as one region, where x is variable 3 and y is variable 2.
+#[tactic(auto, using(crate::proofs::TwoVariablesKept::two_variables))]
 fn two_variables(alloc: Global) -> Result<RegionTable, AllocError>
     ensures { IfOk result (λ table. table_of table ≡ two_variables_table) }
 {
@@ -53,10 +54,8 @@ fn two_variables(alloc: Global) -> Result<RegionTable, AllocError>
 }
 
 /// Its window, rebased.
-#[tactic(auto, using(crate::proofs::TwoVariablesKept::two_variables))]
-fn rebased(alloc: Global, table: &RegionTable) -> Result<Window, WindowError>
-    requires { table_of table.now ≡ two_variables_table }
-{
+#[tactic(auto, using(pc_table::proofs::StoredRegions::some_region))]
+fn rebased(alloc: Global, table: &RegionTable) -> Result<Window, WindowError> {
     let window = Window::of_region(alloc, table, 0, LIMITS)?;
     rebase(alloc, window)
 }

@@ -1,6 +1,7 @@
 //! Tables of regions that several tests use.
-ghost use Rattle.std.specs.Prelude.{◌≡◌, pos, length, IfOk};
-ghost use Rattle.pc_table.specs.Table.{table_of, table_tree, Does};
+ghost use Rattle.std.specs.Prelude.{◌≡◌, pos, IfOk};
+ghost use Rattle.pc_table.specs.Table.{table_tree, Does};
+ghost use Rattle.pc_table.specs.StoredTable.{table_of};
 ghost use Rattle.pc_window_tests.specs.Printed.{printing_table};
 
 use pc_table::{Region, RegionList, RegionTable, RegionTree, VarList};
@@ -28,9 +29,9 @@ pub(crate) fn does(
 }
 
 /// `print(7);`, as one region.
+#[tactic(auto, using(crate::proofs::Printed::printing))]
 pub(crate) fn printed(alloc: Global) -> Result<RegionTable, AllocError>
-    ensures table { IfOk result (λ table. table_of table ≡ printing_table (pos 7)) }
-    ensures one { IfOk result (λ table. length table.regions ≡ 1) }
+    ensures { IfOk result (λ table. table_of table ≡ printing_table (pos 7)) }
 {
     let next = Box::new(alloc, RegionTree::Stop)?;
     let tree = RegionTree::Step {

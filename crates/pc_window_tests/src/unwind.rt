@@ -1,6 +1,7 @@
 //! Windows that are unwound.
 ghost use Rattle.std.specs.Prelude.{◌≡◌, ◌<◌, IfOk};
-ghost use Rattle.pc_table.specs.Table.{table_tree, table_of};
+ghost use Rattle.pc_table.specs.Table.{table_tree};
+ghost use Rattle.pc_table.specs.StoredTable.{table_of};
 ghost use Rattle.pc_window.specs.StoredWindow.{window_in};
 ghost use Rattle.pc_unwind.specs.Unwindable.{CanUnwind};
 ghost use Rattle.pc_window_tests.specs.Looping.{turn_tree, copy_tree, after_tree, looping_table};
@@ -72,6 +73,7 @@ fn after(alloc: Global) -> Result<RegionTree, AllocError>
 }
 
 /// The three regions as a table.
+#[tactic(auto, using(crate::proofs::LoopingKept::looping))]
 fn looping(alloc: Global) -> Result<RegionTable, AllocError>
     ensures { IfOk result (λ table. table_of table ≡ looping_table) }
 {

@@ -8,7 +8,7 @@ use pc_window::{
 use std::test::Fail;
 
 #[test]
-#[tactic(auto, using(crate::proofs::Printed::printing_keeps))]
+#[tactic(auto, using(pc_table::proofs::StoredRegions::some_region))]
 fn a_region_opens(rt: HostRuntime) -> Result<(), Fail> {
     let table = printed(rt.alloc())?;
     let opened = Window::of_region(rt.alloc(), &table, 0, LIMITS);

@@ -178,7 +178,7 @@ pub numbers_in-begin : (bytes : List ℕ) → numbers_in bytes ≡ numbers_after
 unfolding numbers_in
 numbers_in-begin bytes = sym (numbers_after-nil (numbers_from 0 true bytes))
 
--- a number is read, and put behind those before it
+-- a number is read, and appended to those before it
 pub numbers_in-more : (bytes : List ℕ) (place : ℕ) (numbers : List ℤ) (number : ℤ) (word : List ℕ) → place < length bytes → is_separator (get_or bytes place 0) ≡ false
     → word ≡ first_word (drop place bytes) → Some number ≡ number_of word
     → numbers_in bytes ≡ numbers_after numbers (numbers_from place true (drop place bytes))

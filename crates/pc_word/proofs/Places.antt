@@ -18,7 +18,7 @@ found_within [] i lt = absurd (omega arith)
 found_within (x ∷ xs) zero lt = (x, refl)
 found_within (x ∷ xs) (suc i) lt = found_within xs i (omega arith)
 
--- an element that was put behind a list
+-- an element that was put after a list
 pub get_last : {X : Type 0} (xs : List X) (x : X) → slice_get (xs ++ x ∷ []) (length xs) ≡ Some x
 get_last [] x = refl
 get_last (y ∷ xs) x = get_last xs x

@@ -1,7 +1,7 @@
 -- Lines of text.
 use Rattle.std.specs.Prelude.{ℕ, Bool, ◌==◌, List, [], ◌∷◌, ◌++◌}
 
--- a text and a line feed behind it
+-- a text and a line feed after it
 abbrev pub line : List ℕ → List ℕ
 line text = text ++ 10 ∷ []
 

@@ -79,6 +79,6 @@ row_step lengths row old =
 abbrev pub alone : {L : Type 0} → Item → L → Row L
 alone item leaf = Then item (At_leaf leaf)
 
--- what an item does by itself, with this leaf behind it: a node of a graph, a step of a region or a walk
+-- what an item does by itself, with this leaf after it: a node of a graph, a step of a region or a walk
 abbrev pub item_step : {L : Type 0} → List ℕ → Item → L → State → RowOutcome L
 item_step lengths item leaf s = row_step lengths (alone item leaf) s

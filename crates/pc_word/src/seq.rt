@@ -98,7 +98,7 @@ impl<T: Drop> Seq<T> {
         self.items[at] = item;
     }
 
-    /// Puts `item` behind the last element. On `Err` the list is as before.
+    /// Puts `item` after the last element. On `Err` the list is as before.
     pub fn push(&mut self, item: T) -> Result<(), AllocError>
         ensures ok { OnOk result (self.new ≡ self.old ++ item ∷ []) }
         ensures err { OnErr result (self.new ≡ self.old) }

@@ -81,7 +81,7 @@ pub data IsChosen (taken needed : ℕ → Bool) (register : ℕ) : Type 0 where
   Of_taken : register < allowed → IsLeastAbsent taken register → IsChosen taken needed register
   Of_needed : IsLeastAbsent taken allowed → IsLeastAbsent needed register → IsChosen taken needed register
 
--- the registers that a row's names are given behind others, below definitions that have these registers
+-- the registers that a row's names are given after others, below definitions that have these registers
 pub data AreChosen (parameters held : List ℕ) : (above : ℕ → Bool) → Row AutomatonLeaf → (old new : List ℕ) → Type 0 where
   Leaf_chosen : {above : ℕ → Bool} {leaf : AutomatonLeaf} {old : List ℕ} → AreChosen parameters held above (At_leaf leaf) old old
   None_chosen : {above : ℕ → Bool} {item : Item} {rest : Row AutomatonLeaf} {old new : List ℕ} →

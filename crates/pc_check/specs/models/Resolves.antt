@@ -28,7 +28,7 @@ pub record OptionalResolves (names : Names) (e answer : Option SourceExpression)
   pub faultless : optional_faults names e ≡ []
   pub is_resolved : resolved_optional names e ≡ answer
 
--- the same of a statement, and these names are declared behind it
+-- the same of a statement, and these names are declared after it
 pub record StatementResolves (in_loop : Bool) (s : SourceStatement) (before after : Names) (answer : SourceStatement) : Type 0 where
   pub faultless : statement_faults in_loop s before ≡ []
   pub behind : names_behind s before ≡ after

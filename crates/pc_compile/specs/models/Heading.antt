@@ -2,7 +2,7 @@
 use Rattle.std.specs.Prelude.{◌≡◌, ℕ, suc, ◌<◌, List, [], ◌∷◌, ◌++◌, Option, Some, None, replicate, slice_get, slice_set}
 use Rattle.pc_word.specs.declared.loop_mark.LoopMark.{LoopMark}
 use Rattle.pc_table.specs.Table.{Table}
-use Rattle.pc_window.specs.Opening.{headed_loop}
+use Rattle.pc_table.specs.Loops.{headed_loop}
 use Rattle.pc_compile.specs.declared.choice.Choice.{Choice}
 use Rattle.pc_object.specs.declared.object.Note.{Note}
 use Rattle.pc_compile.specs.Notes.{choice_notes}
@@ -16,7 +16,7 @@ heading_set heading (Some loop) choice = slice_set heading loop choice
 abbrev pub headings : Table → (loops at : ℕ) → List Choice → List (Option ℕ)
 headings table loops at [] = replicate loops None
 headings table loops at (choice ∷ choices) =
-    heading_set (headings table loops (suc at) choices) (headed_loop (slice_get table.regions choice.region)) (Some at)
+    heading_set (headings table loops (suc at) choices) (headed_loop table choice.region) (Some at)
 
 -- the same without those of loops in which others stand
 abbrev pub without_outer : List (Option ℕ) → List LoopMark → List (Option ℕ)

@@ -9,7 +9,7 @@ use Rattle.pc_copies.specs.models.Sources.{source_in, over, IsRead, Unread, IsWr
 
 -- ---- what is put into rows
 
--- copies are put behind those of the first row; where it is full then, it stands behind the other rows
+-- copies are appended to those of the first row; where it is full then, it stands after the other rows
 pub data Puts (ops : ℕ) (group : List Move) (rows : List (List Move)) (first : List Move) (later : List (List Move)) (now : List Move) : Type 0 where
   Fills : length first + length group ≡ ops → later ≡ rows ++ (first ++ group) ∷ [] → now ≡ [] → Puts ops group rows first later now
   Fits : length first + length group < ops → later ≡ rows → now ≡ first ++ group → Puts ops group rows first later now

@@ -2,12 +2,15 @@
 use Rattle.std.specs.Prelude.{◌≡◌, ℕ, zero, suc, ◌<◌, ◌≤◌, ◌+◌, ◌^◌, List, [], ◌∷◌, Option, Some, None, length, slice_index}
 use Rattle.pc_word.specs.Ranges.{AreLimits}
 use Rattle.pc_word.specs.Row.{At_leaf}
-use Rattle.pc_table.specs.Table.{TableTree, Does, Asks, Next, Stops_here, Traps_here, Table, region_tree, table_of, table_tree}
+use Rattle.pc_table.specs.Table.{TableTree, Does, Asks, Next, Stops_here, Traps_here, Table, region_tree, table_tree}
+use Rattle.pc_table.specs.StoredTable.{table_of}
 use Rattle.pc_table.specs.declared.table.Region.{Region}
 use Rattle.pc_table.specs.TableKeeps.{units, TableKeeps}
 use Rattle.pc_automaton.specs.Automaton.{AutomatonState, states_in}
 use Rattle.pc_assign.specs.Stored.{registers_in}
-use Rattle.pc_machine.specs.MachineCode.{Leaf, Leads_to, Ends, Traps, CodeRow}
+use Rattle.pc_machine.specs.declared.tree.Leaf.{Leaf}
+use Rattle.pc_machine.specs.declared.tree.Leaf.TheVariants.{Goto, Stop, Trap}
+use Rattle.pc_machine.specs.MachineCode.{CodeRow}
 use Rattle.pc_emit.specs.Registers.{register_of}
 use Rattle.pc_emit.specs.declared.form.RegionForm.{RegionForm as StoredForm}
 use Rattle.pc_emit.specs.declared.form.RegionForm.TheVariants as stored
@@ -29,8 +32,8 @@ abbrev pub leaf_alone : TableTree → List CodeRow
 leaf_alone (Does origin item rest) = []
 leaf_alone (Asks origin on on_yes on_no) = []
 leaf_alone (Next region) = []
-leaf_alone Stops_here = At_leaf Ends ∷ []
-leaf_alone (Traps_here kind line) = At_leaf (Traps kind line) ∷ []
+leaf_alone Stops_here = At_leaf Stop ∷ []
+leaf_alone (Traps_here kind line) = At_leaf (Trap kind line) ∷ []
 
 abbrev pub front_rows : TableTree → Option RegionForm → List CodeRow
 front_rows tree None = []
@@ -42,13 +45,13 @@ abbrev pub all_rows : List Region → List (Option StoredForm) → ℕ
 all_rows (region ∷ regions) (form ∷ forms) = rows_in (table_tree region.tree) (form_in (Some form)) + all_rows regions forms
 all_rows _ _ = zero
 
--- the row at which each region begins, the first of them at this one; and, last, the row behind them all
+-- the row at which each region begins, the first of them at this one; and, last, the row after them all
 abbrev pub entries_from : (row : ℕ) → List Region → List (Option StoredForm) → List ℕ
 entries_from row (region ∷ regions) (form ∷ forms) =
     row ∷ entries_from (row + rows_in (table_tree region.tree) (form_in (Some form))) regions forms
 entries_from row _ _ = row ∷ []
 
--- each region begins where the one before it ends, and the first behind the row in front
+-- each region begins where the one before it ends, and the first after the row in front
 pub record AreEntries (table : Table) (forms : ℕ → Option RegionForm) (entries : List ℕ) : Type 0 where
   pub as_many : length entries ≡ suc (length table.regions)
   pub first : slice_index entries 0 ≡ length (front_rows (region_tree table 0) (forms 0))
@@ -68,7 +71,7 @@ forms_at plan = region_forms plan.forms.now
 abbrev pub emission_in : Plan → Emission
 emission_in plan = emission_of (table_in plan) plan.forms.now plan.entries.now plan.limits.ops
 
--- the row behind those of all regions
+-- the row after those of all regions
 abbrev pub rows_end : Plan → ℕ
 rows_end plan = slice_index plan.entries.now (length plan.table.now.regions)
 
@@ -82,9 +85,9 @@ pub record IsPlan (plan : Plan) : Type 0 where
 
 -- the leaf that leads to a region that begins at this row and has this form, if it has one
 abbrev pub leaf_in : (row : ℕ) → TableTree → Option StoredForm → Leaf
-leaf_in row tree None = Ends
+leaf_in row tree None = Stop
 leaf_in row tree (Some stored.Plain) = root_leaf row tree
-leaf_in row tree (Some (stored.ByAutomaton automaton registers)) = Leads_to row
+leaf_in row tree (Some (stored.ByAutomaton automaton registers)) = Goto row
 
 -- ---- packed regions
 

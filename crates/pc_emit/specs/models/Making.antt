@@ -1,7 +1,9 @@
--- Rows of regions in the making, and what is so of the copies behind them.
+-- Rows of regions in the making, and what is so of the copies after them.
 use Rattle.std.specs.Prelude.{◌≡◌, ℕ, zero, ◌<◌, ◌≤◌, List, Contains, Option, Some, None, length, slice_get}
 use Rattle.pc_table.specs.Table.{TableTree}
-use Rattle.pc_machine.specs.MachineCode.{Leaf, Leads_to, CodeRow}
+use Rattle.pc_machine.specs.declared.tree.Leaf.{Leaf}
+use Rattle.pc_machine.specs.declared.tree.Leaf.TheVariants.{Goto}
+use Rattle.pc_machine.specs.MachineCode.{CodeRow}
 use Rattle.pc_machine.specs.WellFormed.{IsLeaf, IsRow}
 use Rattle.pc_machine.specs.Reachable.{IsReachable}
 use Rattle.pc_object.specs.ObjectText.{leaf_text}
@@ -22,7 +24,7 @@ pub record CopiesMayLeadTo (plan : Plan) (leaf : Leaf) : Type 0 where
 
 -- all rows that leaves lead to are reached
 abbrev pub LeavesReached : List Leaf → List CodeRow → Type 0
-LeavesReached leaves final = (number : ℕ) → Contains leaves (Leads_to number) → IsReachable final number
+LeavesReached leaves final = (number : ℕ) → Contains leaves (Goto number) → IsReachable final number
 
 -- all rows from one on and before another are reached
 abbrev pub RowsReached : (from to : ℕ) → List CodeRow → Type 0

@@ -1,7 +1,8 @@
--- Rows in the making: those of regions, and those of copies, which will stand behind them all.
+-- Rows in the making: those of regions, and those of copies, which will stand after them all.
 use Rattle.std.specs.Prelude.{◌≡◌, ℕ, ◌+◌, ◌<◌, ◌≤◌, List, length, Some, slice_get}
 use Rattle.std.specs.List.{flat_map}
-use Rattle.pc_machine.specs.MachineCode.{Leaf, Leads_to, Ends, Traps, CodeRow, rows_of}
+use Rattle.pc_machine.specs.declared.tree.Leaf.{Leaf}
+use Rattle.pc_machine.specs.MachineCode.{CodeRow, rows_of}
 use Rattle.pc_object.specs.ObjectText.{row_text}
 use Rattle.pc_assign.specs.Stored.{registers_in}
 use Rattle.pc_copies.specs.declared.moves.Move.{Move}
@@ -9,14 +10,6 @@ use Rattle.pc_emit.specs.Registers.{register_of}
 use Rattle.pc_emit.specs.Emitted.{Passes}
 use Rattle.pc_emit.specs.declared.names.StateNames.{StateNames}
 use Rattle.pc_emit.specs.declared.output.Output.{Output}
-use Rattle.pc_emit.specs.declared.target.Target.{Target}
-use Rattle.pc_emit.specs.declared.target.Target.TheVariants as target
-
--- the leaf that leads to a target
-abbrev pub target_leaf : Target → Leaf
-target_leaf (target.Row row) = Leads_to row
-target_leaf target.Stop = Ends
-target_leaf (target.Trap kind line) = Traps kind line
 
 -- the registers of a state's names
 abbrev pub of_state : StateNames → ℕ → ℕ

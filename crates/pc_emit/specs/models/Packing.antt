@@ -8,7 +8,8 @@ use Rattle.pc_automaton.specs.AutomatonRun.{state_parameters}
 use Rattle.pc_assign.specs.Pressure.{allowed}
 use Rattle.pc_copies.specs.declared.moves.Move.{Move}
 use Rattle.pc_copies.specs.Moves.{AreMoves}
-use Rattle.pc_machine.specs.MachineCode.{Leaf, CodeRow}
+use Rattle.pc_machine.specs.declared.tree.Leaf.{Leaf}
+use Rattle.pc_machine.specs.MachineCode.{CodeRow}
 use Rattle.pc_emit.specs.Registers.{register_of, argument_moves, home_moves}
 use Rattle.pc_emit.specs.Emitted.{Emission, LeadsToRegion, LeadsThroughMoves, LeafStands, RowStands, StateStands}
 use Rattle.pc_emit.specs.Emitting.{HasForm}

@@ -8,7 +8,7 @@ use Rattle.pc_linear.specs.Form.{Form, IsForm}
 abbrev pub unused : Term
 unused = record { variable = 0; factor = pos 0 }
 
--- four places: these terms, and behind them unused ones
+-- four places: these terms, and after them unused ones
 abbrev pub places : List Term → List Term
 places ts = ts ++ drop (length ts) (unused ∷ unused ∷ unused ∷ unused ∷ [])
 

@@ -1,5 +1,5 @@
 -- What lowering an expression owes and gives.
-use Rattle.std.specs.Prelude.{◌≡◌, ℕ, ◌+◌, ◌≤◌, true, List, length, Option, Some, None, slice_get, slice_index}
+use Rattle.std.specs.Prelude.{◌≡◌, ℕ, ◌+◌, ◌≤◌, true, List, length, Option, slice_index}
 use Rattle.pc_word.specs.SourceLimits.{most_scalars, most_temporaries}
 use Rattle.pc_word.specs.MachineLimits.{most_arrays, most_length}
 use Rattle.pc_word.specs.declared.item.Operand.{Operand}
@@ -8,9 +8,8 @@ use Rattle.pc_syntax.specs.Source.{SourceExpression}
 use Rattle.pc_check.specs.Needs.{need}
 use Rattle.pc_check.specs.Sizes.{expression_size}
 use Rattle.pc_check.specs.Sound.{has_slots}
-use Rattle.pc_flow.specs.declared.node.FlowNode.{FlowNode}
-use Rattle.pc_flow.specs.declared.node.FlowNode.TheVariants.{Test, Trap}
-use Rattle.pc_lower.specs.Lowers.{Gives}
+use Rattle.pc_flow.specs.FlowGraph.{FlowGraph}
+use Rattle.pc_lower.specs.Lowers.{Tests, Trapping, Gives}
 use Rattle.pc_lower.specs.models.Drafts.{Draft, IsPlaced}
 use Rattle.pc_lower.specs.models.Fills.{Lays, HasRoom}
 
@@ -41,11 +40,10 @@ pub record MayLower (draft : Draft) (e : SourceExpression) (t to following : ℕ
   pub contiguous : expression_size e ≡ 0 → following ≡ to
 
 -- the nodes from a start to a number were placed; they implement the expression and lead on to what follows
-abbrev pub LaysExpression : SourceExpression → (t start to following : ℕ) → (old new : Draft) → Type 0
-LaysExpression e t start to following old new =
-    Lays old new (expression_size e) start to (λ nodes lengths. Gives nodes lengths e t start following)
+abbrev pub LaysExpression : SourceExpression → (t start to following : ℕ) → (inside : Option ℕ) → (old new : Draft) → Type 0
+LaysExpression e t start to following inside old new =
+    Lays old new (expression_size e) start to (λ flow. Gives flow inside e t start following)
 
 -- from p a test leads to q where a value is not 0, and else to a trap
-abbrev pub Guards : List FlowNode → Operand → TrapKind → (line p q : ℕ) → Type 0
-Guards nodes on kind line p q =
-    (z : ℕ) × (slice_get nodes p ≡ Some (Test on q z None)) × (slice_get nodes z ≡ Some (Trap kind line))
+abbrev pub Guards : FlowGraph → (inside : Option ℕ) → Operand → TrapKind → (line p q : ℕ) → Type 0
+Guards flow inside on kind line p q = (z : ℕ) × Tests flow inside p on q z × Trapping flow inside z kind line

@@ -20,7 +20,7 @@ loops::do_loop-returns-in_err-expect-clause-gives t c =
     (expression_of condition.tree) condition.height condition.next _ c.in_ok-within.ensures.order
     c.in_ok-body.ensures.gives c.in_ok-expect_key.ensures.test c.in_ok-condition.ensures.gives c.in_err-expect.ensures.test.0 c.in_err-expect.ensures.test.1)
 
--- a statement ends behind its beginning
+-- a statement ends after its beginning
 pub statement::item-returns-clause-further : goal.statement::item-returns-clause-further
 statement::item-returns-clause-further t c =
     let stated = c.in_ok-stated.stated in

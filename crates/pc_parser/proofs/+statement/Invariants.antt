@@ -40,7 +40,7 @@ decreases-loops::for_loop l = 8 * l.budget + 5
 abbrev pub decreases-loops::for_body : goal.decreases-loops::for_body
 decreases-loops::for_body l = 8 * l.budget + 4
 
--- the items so far, and what is read behind them, are what is read from the beginning
+-- the items so far, and what is read after them, are what is read from the beginning
 abbrev pub invariant-statement::items-loop-alloc : goal.invariant-statement::items-loop-alloc
 invariant-statement::items-loop-alloc l = record {
   turns : ℕ;

@@ -112,12 +112,12 @@ module _ (tokens : List Token) (inner : Inner) (budget : ℕ) where
   last_turn left height at None = Parsed left height at
   last_turn left height at (Some found) = TooHigh at
 
-  -- an operand joined by an operator to the operand behind it
+  -- an operand joined by an operator to the operand after it
   unfoldable pub infixed_at : SourceExpression → (height at : ℕ) → Operator × ℕ → ParseOutcome SourceExpression
   infixed_at left height at found = allowed (height + 1) budget at (after (inner (found.1 + 1) (at + 1)) (λ right other to.
       Parsed (infixed found.0 (line_at tokens at) left right) (max height other + 1) to))
 
-  -- an operand, and where an operator follows, what goes on behind the two that it joins
+  -- an operand, and where an operator follows, what goes on after the two that it joins
   unfoldable pub turn : (SourceExpression → (height at : ℕ) → ParseOutcome SourceExpression) →
       SourceExpression → (height at : ℕ) → Option (Operator × ℕ) → ParseOutcome SourceExpression
   turn next left height at None = Parsed left height at
@@ -128,7 +128,7 @@ module _ (tokens : List Token) (inner : Inner) (budget : ℕ) where
   climb level zero left height at = last_turn left height at (operator_from level (kind_at tokens at))
   climb level (suc turns) left height at = turn (climb level turns) left height at (operator_from level (kind_at tokens at))
 
-  -- the rest of `?:` behind its test, where it follows
+  -- the rest of `?:` after its test, where it follows
   unfoldable pub choice : SourceExpression → (height at : ℕ) → ParseOutcome SourceExpression
   choice test height at =
       if is_mark marks.Question (kind_at tokens at)

@@ -1,4 +1,4 @@
--- What a parser gives: a tree, with its height and the place behind it, or why there is none.
+-- What a parser gives: a tree, with its height and the place after it, or why there is none.
 use Rattle.std.specs.Prelude.{ℕ, nat_le, List, if◌then◌else◌}
 use Rattle.pc_lexer.specs.declared.token.Token.{Token}
 use Rattle.pc_lexer.specs.declared.mark.Mark.{Mark}

@@ -25,7 +25,7 @@ abbrev pub optional_tree : Option Stmt → OptionalStatement
 optional_tree None = Absent
 optional_tree (Some tree) = Present (statement_of tree)
 
--- what is read, behind the items before it
+-- what is read, after the items before it
 abbrev pub behind : SourceList → ParseOutcome SourceList → ParseOutcome SourceList
 behind front outcome = after outcome (λ rest height to. Parsed (appended front rest) height to)
 

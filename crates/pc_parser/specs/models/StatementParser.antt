@@ -97,7 +97,7 @@ module _ (tokens : List Token) where
     evaluation from = after (expression_at tokens (budget - 1) 0 from) (λ value height to.
         Parsed (Evaluation (line_at tokens from) value) (height + 1) to)
 
-    -- the expression that goes on behind a target, as a statement
+    -- the expression that goes on after a target, as a statement
     unfoldable pub evaluation_from : (from : ℕ) → Target → (height at : ℕ) → ParseOutcome SourceStatement
     evaluation_from from target height at =
         after (climb tokens (below tokens (name_budget budget)) (name_budget budget) 1 (name_budget budget) (target_tree target) (target_height target height) at) (λ left i q.
@@ -119,12 +119,12 @@ module _ (tokens : List Token) where
     assignment target op height at = allowed 2 budget at (after (expression_at tokens (budget - 1) 0 (at + 1)) (λ value other to.
         Parsed (assigned target op (line_at tokens at) value) (max height other + 1) to))
 
-    -- what goes on behind a target that is not assigned to: `++` or `--`, or an expression
+    -- what goes on after a target that is not assigned to: `++` or `--`, or an expression
     unfoldable pub behind_target : (from : ℕ) → Target → (height at : ℕ) → Option BinaryOp → ParseOutcome SourceStatement
     behind_target from target height at (Some op) = Parsed (assigned target (Some op) (line_at tokens at) (Literal (pos 1))) (height + 1) (at + 1)
     behind_target from target height at None = evaluation_from from target height at
 
-    -- what goes on behind a target
+    -- what goes on after a target
     unfoldable pub on_target : (from : ℕ) → Target → (height at : ℕ) → Option (Option BinaryOp) → ParseOutcome SourceStatement
     on_target from target height at (Some op) = assignment target op height at
     on_target from target height at None = behind_target from target height at (step_from (kind_at tokens at))
@@ -242,7 +242,7 @@ module _ (tokens : List Token) where
         expect_key tokens keys.While q (after (parenthesized_at (budget - 1) (q + 1)) (λ test j r.
         expect tokens marks.Semicolon r (Parsed (DoLoop (line_at tokens from) body test) (max i j + 1) (r + 1))))))
 
-    -- the body of a `for`, behind its `)`
+    -- the body of a `for`, after its `)`
     unfoldable pub for_body : (line : ℕ) → SourceList → SourceExpression → OptionalStatement → (height at : ℕ) → ParseOutcome SourceStatement
     for_body line first test step height at = after (inner at) (λ body other to.
         Parsed (ForLoop line first test step body) (max height other + 1) to)
@@ -301,12 +301,12 @@ unfoldable pub statement_below : List Token → (budget from : ℕ) → ParseOut
 statement_below tokens zero = λ from. TooHigh from
 statement_below tokens (suc budget) = statement_at tokens budget
 
--- items, where no token stands behind them
+-- items, where no token stands after them
 unfoldable pub nothing_behind : SourceList → (height to : ℕ) → Option TokenKind → ParseOutcome SourceList
 nothing_behind items height to None = Parsed items height to
 nothing_behind items height to (Some kind) = Unreadable to
 
--- the block of `main` behind its parentheses, with nothing behind it
+-- the block of `main` after its parentheses, with nothing after it
 unfoldable pub main_block : List Token → (budget from : ℕ) → ParseOutcome SourceList
 main_block tokens budget from =
     expect tokens marks.RightParen from

@@ -9,11 +9,11 @@ use Rattle.pc_regions.specs.Cut.{IsTreeOf, IsBehind, AreMet, AreFound, IsRegionO
 use Rattle.pc_regions.specs.models.Numbered.{Numbered, KeepsPlaces}
 use Rattle.pc_regions.specs.models.Marks.{mark_at, IsMarked}
 
--- the tree of a node, where regions are known in this order, and however more are met behind them
+-- the tree of a node, where regions are known in this order, and however more are met after them
 abbrev pub TreeFor : FlowGraph → List Bool → (order : List ℕ) → (room at : ℕ) → TableTree → (left : ℕ) → Type 0
 TreeFor flow marks order room at tree left = (final : List ℕ) → KeepsPlaces order final → IsTreeOf flow (IsMarked marks) final room at tree left
 
--- the same of what stands behind an edge
+-- the same of what stands after an edge
 abbrev pub BehindFor : FlowGraph → List Bool → (order : List ℕ) → (room to : ℕ) → TableTree → (left : ℕ) → Type 0
 BehindFor flow marks order room to tree left = (final : List ℕ) → KeepsPlaces order final → IsBehind flow (IsMarked marks) final room to tree left
 
@@ -51,3 +51,4 @@ pub record AreRegions (flow : FlowGraph) (marks : List Bool) (regions : List Tab
   pub once : (one other at : ℕ) → slice_get (heads_of regions) one ≡ Some at → slice_get (heads_of regions) other ≡ Some at → one ≡ other
   pub each : (number : ℕ) (region : TableRegion) → slice_get regions number ≡ Some region → IsRegionOf flow (IsMarked marks) (heads_of regions) region
   pub found : AreFound regions (length regions)
+  pub few : length regions ≤ length flow.nodes

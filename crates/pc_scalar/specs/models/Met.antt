@@ -12,7 +12,7 @@ edges_of (Test on on_yes on_no turn) = on_yes ∷ on_no ∷ []
 edges_of Stop = []
 edges_of (Trap kind line) = []
 
--- a node is met: it was flagged before, or it is flagged now and put behind the list
+-- a node is met: it was flagged before, or it is flagged now and appended to the list
 pub data Meets (flags new : List Bool) (met later : List ℕ) (node : ℕ) : Type 0 where
   Known : slice_get flags node ≡ Some true → new ≡ flags → later ≡ met → Meets flags new met later node
   First : slice_get flags node ≡ Some false → new ≡ slice_set flags node true → later ≡ met ++ node ∷ [] → Meets flags new met later node

@@ -1,5 +1,5 @@
 -- Which variables are needed at a node, where what is read by items that are removed is not.
-use Rattle.std.specs.Prelude.{◌≡◌, ◌<◌, ◌≤◌, ◌^◌, ◌||◌, ◌&&◌, ℕ, Bool, true, false, not, if◌then◌else◌, List, length, map, Option, Some, None, slice_get, slice_index, All}
+use Rattle.std.specs.Prelude.{◌≡◌, ◌<◌, ℕ, Bool, true, false, not, if◌then◌else◌, List, length, map, Option, Some, None, slice_get, slice_index}
 use Rattle.pc_word.specs.declared.item.Item.{Item}
 use Rattle.pc_flow.specs.declared.node.FlowNode.{FlowNode}
 use Rattle.pc_flow.specs.declared.node.FlowNode.TheVariants.{Op, Test, Stop, Trap}
@@ -7,7 +7,7 @@ use Rattle.pc_flow.specs.FlowGraph.{FlowGraph, IsFlow, HasEdge, variables}
 use Rattle.pc_live.specs.declared.variable_set.VariableSet.{VariableSet}
 use Rattle.pc_live.specs.Live.{node_reads, node_writes}
 use Rattle.pc_live.specs.Liveness.{member, set_at}
-use Rattle.pc_live.specs.models.Rounds.{behind}
+use Rattle.pc_live.specs.Backward.{IsClosed}
 use Rattle.pc_scalar.specs.declared.plan.Plan.{Plan}
 use Rattle.pc_scalar.specs.Cleared.{only_writes}
 use Rattle.pc_scalar.specs.Tally.{AreMany}
@@ -49,7 +49,7 @@ abbrev pub is_unwanted : VariableSet → Option ℕ → Bool
 is_unwanted set (Some dest) = not (member set dest)
 is_unwanted set None = false
 
--- whether an item does nothing but write a variable that is not in the set behind it
+-- whether an item does nothing but write a variable that is not in the set after it
 abbrev pub is_needless : VariableSet → Item → Bool
 is_needless set item = is_unwanted set (only_writes item)
 
@@ -59,42 +59,20 @@ node_needless sets (Test on on_yes on_no turn) = false
 node_needless sets Stop = false
 node_needless sets (Trap kind line) = false
 
--- whether a variable is needed at a node
-abbrev pub wants : List VariableSet → FlowNode → ℕ → Bool
-wants sets node variable =
-    (not (node_needless sets node) && node_reads node variable) || (not (node_writes node variable) && behind sets node variable)
+-- what an item reads counts unless the item is needless
+abbrev pub kept_reads : VariableSet → Item → Bool
+kept_reads after item = not (is_needless after item)
 
-abbrev pub wants_of : List VariableSet → Option FlowNode → ℕ → Bool
-wants_of sets (Some node) variable = wants sets node variable
-wants_of sets None variable = false
-
--- the same of the node with this number
-abbrev pub wants_at : List FlowNode → List VariableSet → ℕ → ℕ → Bool
-wants_at nodes sets at variable = wants_of sets (slice_get nodes at) variable
-
--- each set holds only variables that are needed there, and as a number has a bound
-pub record HoldNeeded (flow : FlowGraph) (sets : List VariableSet) : Type 0 where
-  pub fit : All (λ set. set.bits ≤ 2 ^ 128) sets
-  pub needed : (at variable : ℕ) → variable < variables → member (set_at sets at) variable ≡ true → IsNeeded flow variable at
-
--- the set of this node lacks nothing that the sets behind it tell
-pub record LacksNoneAt (flow : FlowGraph) (sets : List VariableSet) (at : ℕ) : Type 0 where
-  pub lacks_none : (variable : ℕ) → variable < variables → wants_at flow.nodes sets at variable ≡ true → member (set_at sets at) variable ≡ true
-
--- nor does any set
-abbrev pub LackNone : FlowGraph → List VariableSet → Type 0
-LackNone flow sets = (at : ℕ) → at < length flow.nodes → LacksNoneAt flow sets at
-
--- the variables that are needed at each node
+-- sets with exactly the variables that are needed at each node: each variable in them is, and they lack nothing
 pub record AreNeeded (flow : FlowGraph) (sets : List VariableSet) : Type 0 where
   pub is_flow : IsFlow flow
   pub as_many : length sets ≡ length flow.nodes
-  pub hold : HoldNeeded flow sets
-  pub lack : LackNone flow sets
+  pub needed : (at variable : ℕ) → variable < variables → member (set_at sets at) variable ≡ true → IsNeeded flow variable at
+  pub closed : IsClosed kept_reads flow sets
 
 -- ---- what is skipped
 
--- the node that takes a node's place: the one behind an item that is needless, and else the node itself
+-- the node that takes a node's place: the one after an item that is needless, and else the node itself
 abbrev pub cleared : List VariableSet → ℕ → FlowNode → ℕ
 cleared sets at (Op item to) = if is_needless (set_at sets to) item then to else at
 cleared sets at (Test on on_yes on_no turn) = at

@@ -68,7 +68,7 @@ pub record Ready (name : List ℕ) (held : Option Files) (left : Option (List �
   pub in_file : Holds held name object
   pub placed : IsPlaced object.code left machine
 
--- what is due behind a run of which this is seen, and what was sent of its text
+-- what is due after a run of which this is seen, and what was sent of its text
 pub data RunEnds (cycles : ℕ) (seen : Seen) (old new : Streamed) : (due : Option ToolFault) → Type 0 where
   Told_whole : {due : Option ToolFault} →
       Appends old.told new.told (text_of seen.printed) →

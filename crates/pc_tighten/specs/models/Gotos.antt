@@ -2,7 +2,7 @@
 use Rattle.std.specs.Prelude.{◌≡◌, ℕ, ◌+◌, ◌-◌, ◌<◌, ◌≤◌, Bool, true, false, if◌then◌else◌, nat_eq, nat_lt, is_some, List, map, length, Option, Some, None, slice_get}
 use Rattle.pc_word.specs.declared.item.Limits.{Limits}
 use Rattle.pc_word.specs.Row.{Then, Either, At_leaf}
-use Rattle.pc_machine.specs.MachineCode.{Leads_to, Ends, Traps, CodeRow}
+use Rattle.pc_machine.specs.MachineCode.{CodeRow, target_of}
 use Rattle.pc_tighten.specs.declared.removing.Places.{Places}
 use Rattle.pc_tighten.specs.Removals.{HasNoGotoAlone}
 use Rattle.pc_tighten.specs.Removing.{unmarked_rows, rank, placed_row, Shrinks}
@@ -14,9 +14,7 @@ use Rattle.pc_tighten.specs.models.Raising.{code_with}
 abbrev pub goto_of : CodeRow → Option ℕ
 goto_of (Then item rest) = None
 goto_of (Either on on_yes on_no) = None
-goto_of (At_leaf (Leads_to row)) = Some row
-goto_of (At_leaf Ends) = None
-goto_of (At_leaf (Traps kind line)) = None
+goto_of (At_leaf leaf) = target_of leaf
 
 -- where each row leads that is a goto alone
 abbrev pub gotos_of : List CodeRow → List (Option ℕ)

@@ -1,9 +1,10 @@
--- The rows that are reachable, in the order in which they are first led to.
+-- The rows that are reachable, in the order in which they are first reached.
 use Rattle.std.specs.Prelude.{◌≡◌, ◌⊎◌, ℕ, ◌<◌, ◌≤◌, true, List, [], ◌∷◌, ◌++◌, length, Option, Some, None, is_some, slice_get, slice_set, replicate}
 use Rattle.std.specs.List.{count_by, list_any}
 use Rattle.pc_word.specs.Row.{leaves_of}
 use Rattle.pc_machine.specs.Reachable.{IsReachable}
-use Rattle.pc_machine.specs.MachineCode.{Leaf, Leads_to, Ends, Traps, CodeRow, is_goto}
+use Rattle.pc_machine.specs.declared.tree.Leaf.{Leaf}
+use Rattle.pc_machine.specs.MachineCode.{CodeRow, target_of, is_goto}
 use Rattle.pc_tighten.specs.declared.listing.Listing.{Listing}
 
 -- the place of each row in the list, if it is there, and the rows in order
@@ -15,21 +16,24 @@ pub record Listed : Type 0 where
 abbrev pub listed_of : Listing → Listed
 listed_of it = record { places = it.places.items; order = it.order.items }
 
--- with a row, which stood at this entry of the table, behind the others if it was not there
+-- with a row, which stood at this entry of the table, after the others if it was not there
 abbrev pub put_row : Option (Option ℕ) → ℕ → Listed → Listed
 put_row (Some None) row it = record { places = slice_set it.places row (Some (length it.order)); order = it.order ++ (row ∷ []) }
 put_row (Some (Some place)) row it = it
 put_row None row it = it
 
--- with a row behind the others, if it was not there
+-- with a row after the others, if it was not there
 abbrev pub with_listed : ℕ → Listed → Listed
 with_listed row it = put_row (slice_get it.places row) row it
 
+-- with a row, if there is one
+abbrev pub with_some : Option ℕ → Listed → Listed
+with_some (Some row) it = with_listed row it
+with_some None it = it
+
 -- with the row that a leaf leads to
 abbrev pub with_target : Leaf → Listed → Listed
-with_target (Leads_to row) it = with_listed row it
-with_target Ends it = it
-with_target (Traps kind line) it = it
+with_target leaf it = with_some (target_of leaf) it
 
 -- with the rows that leaves lead to
 abbrev pub with_targets : List Leaf → Listed → Listed
@@ -42,12 +46,12 @@ pub record LeadsFrom (rows : List CodeRow) (m t : ℕ) : Type 0 where
   pub at : slice_get rows m ≡ Some row
   pub leads : list_any (is_goto t) (leaves_of row) ≡ true
 
--- a row other than row 0 is listed behind one that leads to it
+-- a row other than row 0 is listed after one that leads to it
 abbrev pub IsBehind : List CodeRow → Listed → ℕ → ℕ → Type 0
 IsBehind rows it row place =
     (row ≡ 0) ⊎ ((m : ℕ) × (k : ℕ) × (slice_get it.places m ≡ Some (Some k)) × (k < place) × LeadsFrom rows m row)
 
--- table and list say the same, each row stands behind one that leads to it, and of so many all that they lead to is there
+-- table and list say the same, each row stands after one that leads to it, and of so many all that they lead to is there
 pub record IsListing (rows : List CodeRow) (it : Listed) (done : ℕ) : Type 0 where
   pub size : length it.places ≡ length rows
   pub few : done ≤ length it.order
@@ -71,7 +75,7 @@ pub record IsList (rows : List CodeRow) (it : Listed) (done : ℕ) : Type 0 wher
   pub listing : IsListing rows it done
   pub entry : 0 < length rows → (k : ℕ) × (slice_get it.places 0 ≡ Some (Some k))
 
--- each row stands behind one that leads to it, and each that is reachable is there
+-- each row stands after one that leads to it, and each that is reachable is there
 pub record AreListed (rows : List CodeRow) (it : Listed) : Type 0 where
   pub size : length it.places ≡ length rows
   pub place_there : (row place : ℕ) → slice_get it.places row ≡ Some (Some place) → slice_get it.order place ≡ Some row

@@ -2,7 +2,8 @@
 use Rattle.std.specs.Prelude.{◌≡◌, ◌≢◌, ℕ, suc, ◌<◌, false, if◌then◌else◌, nat_eq, nat_lt, List, [], ◌∷◌, length, Option, Some, None, replicate, slice_get, slice_set}
 use Rattle.std.specs.List.{count_by, list_any}
 use Rattle.pc_word.specs.Row.{leaves_of}
-use Rattle.pc_machine.specs.MachineCode.{Leaf, Leads_to, Ends, Traps, CodeRow, is_goto}
+use Rattle.pc_machine.specs.declared.tree.Leaf.{Leaf}
+use Rattle.pc_machine.specs.MachineCode.{CodeRow, target_of, is_goto}
 use Rattle.pc_tighten.specs.declared.parents.Parents.{Parents}
 use Rattle.pc_tighten.specs.declared.parents.Naming.{Naming}
 use Rattle.pc_tighten.specs.declared.parents.Naming.TheVariants.{Never, Once, Often}
@@ -19,11 +20,14 @@ abbrev pub put_name : ℕ → Option Naming → ℕ → List Naming → List Nam
 put_name from None row table = table
 put_name from (Some naming) row table = slice_set table row (named_again from naming)
 
+-- with a row named, if there is one
+abbrev pub with_some : ℕ → Option ℕ → List Naming → List Naming
+with_some from (Some row) table = put_name from (slice_get table row) row table
+with_some from None table = table
+
 -- with the row named to which a leaf leads
 abbrev pub with_name : ℕ → Leaf → List Naming → List Naming
-with_name from (Leads_to row) table = put_name from (slice_get table row) row table
-with_name from Ends table = table
-with_name from (Traps kind line) table = table
+with_name from leaf table = with_some from (target_of leaf) table
 
 -- with the rows named to which leaves of a row lead
 abbrev pub with_names : ℕ → List Leaf → List Naming → List Naming

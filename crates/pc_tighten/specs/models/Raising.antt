@@ -1,15 +1,15 @@
 -- Items that go up.
 use Rattle.std.specs.Prelude.{◌≡◌, ℕ, suc, ◌+◌, ◌*◌, ◌<◌, ◌≤◌, Bool, true, false, List, [], ◌∷◌, map, length, Option, Some, None, slice_get, slice_set}
-use Rattle.std.specs.List.{remove}
+use Rattle.std.specs.List.{AllByRecursion, remove}
 use Rattle.pc_word.specs.declared.item.Item.{Item}
 use Rattle.pc_word.specs.declared.item.Limits.{Limits}
 use Rattle.pc_word.specs.Row.{items_of, leaves_of}
-use Rattle.pc_machine.specs.MachineCode.{CodeRow, RowCode}
+use Rattle.pc_machine.specs.MachineCode.{CodeRow, RowCode, row_of}
 use Rattle.pc_tighten.specs.declared.draft.Draft.{Draft}
 use Rattle.pc_tighten.specs.Compact.{Compact}
 use Rattle.pc_tighten.specs.Moves.{below, with_item}
 use Rattle.pc_tighten.specs.Tightened.{Tightens}
-use Rattle.pc_tighten.specs.models.Drafts.{below_row, draft_row, draft_rows, FirstStay, MayGoUp}
+use Rattle.pc_tighten.specs.models.Drafts.{draft_row, draft_rows, IsSplit, FirstStay, MayGoUp}
 use Rattle.pc_tighten.specs.declared.parents.Parents.{Parents}
 use Rattle.pc_tighten.specs.models.Parents.{parent_of}
 
@@ -33,10 +33,11 @@ abbrev pub code_with : Limits → List ℕ → List CodeRow → RowCode
 code_with limits arrays rows = record { limits = limits; arrays = arrays; rows = rows }
 
 -- rows come from others by moves, of which there are at least so many
-pub record Raises (limits : Limits) (places : List (Option ℕ)) (moves : ℕ) (old new : List CodeRow) : Type 0 where
-  pub tightens : (arrays : List ℕ) → Tightens (code_with limits arrays old) (code_with limits arrays new)
-  pub leaves : map leaves_of new ≡ map leaves_of old
-  pub lower : weigh (place_of places) 0 new + moves ≤ weigh (place_of places) 0 old
+pub record Raises (limits : Limits) (places : List (Option ℕ)) (moves : ℕ) (old new : List Draft) : Type 0 where
+  pub tightens : (arrays : List ℕ) → Tightens (code_with limits arrays (draft_rows old)) (code_with limits arrays (draft_rows new))
+  pub leaves : map leaves_of (draft_rows new) ≡ map leaves_of (draft_rows old)
+  pub lower : weigh (place_of places) 0 (draft_rows new) + moves ≤ weigh (place_of places) 0 (draft_rows old)
+  pub split : AllByRecursion IsSplit old → AllByRecursion IsSplit new
 
 -- the item at a place of the row t may go to the row m
 pub record CanRise (limits : Limits) (rows : List Draft) (m t i : ℕ) : Type 0 where
@@ -47,10 +48,10 @@ pub record CanRise (limits : Limits) (rows : List Draft) (m t i : ℕ) : Type 0 
   pub free : MayGoUp limits above t under i
 
 -- the item at a place of the row t has gone to the row m
-abbrev pub MovesUp : List Draft → List Draft → ℕ → ℕ → ℕ → Type 0
-MovesUp old new m t i =
-    (above under : Draft) (x : Item) → slice_get old m ≡ Some above → slice_get old t ≡ Some under → slice_get under.items.items i ≡ Some x
-    → draft_rows new ≡ slice_set (slice_set (draft_rows old) m (with_item t x (draft_row above))) t (below (remove under.items.items i) (below_row under.rest))
+pub record MovesUp (old new : List Draft) (m t i : ℕ) : Type 0 where
+  pub rows : (above under : Draft) (x : Item) → slice_get old m ≡ Some above → slice_get old t ≡ Some under → slice_get under.items.items i ≡ Some x
+      → draft_rows new ≡ slice_set (slice_set (draft_rows old) m (with_item t x (draft_row above))) t (below (remove under.items.items i) (row_of under.rest))
+  pub split : AllByRecursion IsSplit old → AllByRecursion IsSplit new
 
 -- an item that may go to the row above its row
 abbrev pub MayRise : Limits → Parents → List Draft → ℕ → ℕ → ℕ → Type 0
@@ -64,7 +65,7 @@ IsSettled limits it rows t =
 
 -- so far: some item went up, or nothing changed
 abbrev pub HasRaised : Limits → Parents → List Draft → List Draft → Bool → Type 0
-HasRaised limits it old new true = Raises limits it.listing.places.items 1 (draft_rows old) (draft_rows new)
+HasRaised limits it old new true = Raises limits it.listing.places.items 1 old new
 HasRaised limits it old new false = new ≡ old
 
 -- and where nothing changed, these rows are settled

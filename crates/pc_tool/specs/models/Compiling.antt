@@ -3,7 +3,8 @@ use Rattle.std.specs.Prelude.{◌≡◌, ℕ, Bool, true, false, List, Option, S
 use Rattle.std.specs.Borrow.{Bor}
 use Rattle.std.specs.Io.KnownBytes.{Appends}
 use Rattle.pc_word.specs.Count.{Rose}
-use Rattle.pc_outside.specs.Shelf.{Files, Shelved, ReadFaultOf}
+use Rattle.pc_flow.specs.FlowGraph.{FlowGraph}
+use Rattle.pc_outside.specs.Shelf.{Files, Shelved, ReadFaultOf, WriteFaultOf, HoldsFile, OnlyFileDiffers}
 use Rattle.pc_outside.specs.Stream.{AppendsPart}
 use Rattle.pc_command.specs.Requests.{CompileRequest, SourcePlace, OfFile}
 use Rattle.pc_report.specs.declared.fault.Speaker.TheVariants.{Pcc}
@@ -29,16 +30,16 @@ pub data FailsToRead (source : SourcePlace) (old new : Shelved) : (fault : ToolF
   No_memory : FailsToRead source old new (fault.NoMemory Pcc)
 
 -- the source that is asked for has a text of which this is the translation
-pub record HasTranslation (held : Option Files) (request : CompileRequest) (it : Translation) : Type 0 where
+pub record HasTranslation (Passed : FlowGraph → FlowGraph → Type 0) (held : Option Files) (request : CompileRequest) (it : Translation) : Type 0 where
   pub text : List ℕ
   pub in_source : HasSource held request.source text
-  pub is : IsTranslation request.limits request.extent text it
+  pub is : IsTranslation Passed request.limits request.extent text it
 
 -- what is reported of a translation and of the passes
 abbrev pub reported : Translation → List PassCount → Report
 reported it passes = record { nodes = it.nodes; rows = it.rows; passes = passes; notes = it.notes }
 
--- what is due behind the report, and what was sent of its text
+-- what is due after the report, and what was sent of its text
 pub data ReportEnds (asked : Bool) (text : List ℕ) (old new : Streamed) : (due : Option ToolFault) → Type 0 where
   Unasked :
       asked ≡ false →
@@ -57,3 +58,21 @@ pub data ReportEnds (asked : Bool) (text : List ℕ) (old new : Streamed) : (due
       asked ≡ true →
       new ≡ old →
       ReportEnds asked text old new (Some (fault.NoMemory Pcc))
+
+-- What is due after the object and the report, of which these are the bytes and the text, and what stands then: the object was written
+-- and the report followed, or the object was not written, for a fault of the shelf or for want of memory.
+pub data WriteEnds (request : CompileRequest) (bytes text : List ℕ) (old new : Shelved) (out out_now : Streamed) : (due : Option ToolFault) → Type 0 where
+  Written : {due : Option ToolFault} →
+      HoldsFile old.held new.held request.object bytes →
+      ReportEnds request.report text out out_now due →
+      WriteEnds request bytes text old new out out_now due
+  Not_written : {name : Bor (List ℕ)} →
+      request.object ≡ name.now →
+      OnlyFileDiffers old.held new.held name.now →
+      WriteFaultOf old new name.now →
+      out_now ≡ out →
+      WriteEnds request bytes text old new out out_now (Some (fault.WriteFile Pcc name))
+  Write_lacks :
+      OnlyFileDiffers old.held new.held request.object →
+      out_now ≡ out →
+      WriteEnds request bytes text old new out out_now (Some (fault.NoMemory Pcc))

@@ -6,6 +6,7 @@ use Rattle.pc_syntax.specs.Source.{SourceProgram, ResolvedProgram}
 use Rattle.pc_check.specs.Faults.{faults}
 use Rattle.pc_check.specs.Resolution.{resolved}
 use Rattle.pc_check.specs.Sizes.{size}
+use Rattle.pc_flow.specs.FlowGraph.{FlowGraph}
 use Rattle.pc_object.specs.ObjectText.{CodeWithNotes, object_text}
 use Rattle.pc_tool.specs.Compilation.{Translates}
 use Rattle.pc_tool.specs.Source.{IsRead}
@@ -22,10 +23,10 @@ pub record IsChecked (text : List ℕ) (checked : ResolvedProgram) : Type 0 wher
   pub is_resolved : resolved program ≡ checked
 
 -- the bytes are the text of an object that translates the source, and the numbers are those that are reported of it
-pub record IsTranslation (limits : Limits) (extent : Extent) (text : List ℕ) (it : Translation) : Type 0 where
+pub record IsTranslation (Passed : FlowGraph → FlowGraph → Type 0) (limits : Limits) (extent : Extent) (text : List ℕ) (it : Translation) : Type 0 where
   pub program : SourceProgram
   pub object : CodeWithNotes
-  pub translates : Translates limits extent text program object
+  pub translates : Translates Passed limits extent text program object
   pub bytes : it.bytes.items ≡ object_text object
   pub nodes : it.nodes ≡ size program
   pub rows : it.rows ≡ length object.code.rows

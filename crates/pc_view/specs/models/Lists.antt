@@ -9,7 +9,7 @@ abbrev pub is_number : ℕ → Option ℕ → Bool
 is_number number (Some last) = nat_eq last number
 is_number number None = false
 
--- a list with a number behind it, unless it is the last one there
+-- a list with a number after it, unless it is the last one there
 abbrev pub noted : ℕ → List ℕ → List ℕ
 noted number list = if is_number number (slice_get list (length list - 1)) then list else list ++ number ∷ []
 

@@ -24,7 +24,7 @@ pub data StopsAt (name : List ℕ) (old new : Shelved) : (fault : ViewFault) →
   Without_file : {word : Bor (List ℕ)} → name ≡ word.now → ReadFaultOf old new name → StopsAt name old new (ReadObject word)
   Without_object : {what : ObjectFault} → HoldsText old.held name (λ bytes. HasObjectFault bytes what) → StopsAt name old new (Object what)
 
--- how a refusal of the loader is told
+-- how a refusal of the loader is reported
 abbrev pub fault_of_object : ObjectError → ViewFault
 fault_of_object error.BadMagic = Object object.BadMagic
 fault_of_object (error.Truncated offset) = Object (object.Truncated offset)

@@ -1,12 +1,11 @@
 -- What a row gives, and what it needs to be run.
 use Rattle.std.specs.Prelude.{◌≡◌, ℕ, suc, max, option_to_list}
-use Rattle.pc_machine.specs.MachineCode.{Leaf, Leads_to, Ends, Traps, CodeRow}
+use Rattle.pc_machine.specs.declared.tree.Leaf.{Leaf}
+use Rattle.pc_machine.specs.MachineCode.{CodeRow}
 use Rattle.pc_word.specs.Row.{Then, Either, At_leaf, RowOutcome, Faults, Commits}
 use Rattle.pc_word.specs.State.{State}
 use Rattle.pc_machine.specs.WellFormed.{IsItem, IsOperand}
 use Rattle.pc_vm.specs.Contents.{Contents}
-use Rattle.pc_vm.specs.declared.row.Next.{Next}
-use Rattle.pc_vm.specs.declared.row.Next.TheVariants as next
 use Rattle.pc_vm.specs.declared.row.RowResult.{RowResult}
 use Rattle.pc_vm.specs.declared.row.RowResult.TheVariants.{Faulted, Done}
 
@@ -22,16 +21,10 @@ longest (Then item rest) = suc (longest rest)
 longest (Either on on_yes on_no) = max (longest on_yes) (longest on_no)
 longest (At_leaf leaf) = 0
 
--- the leaf that was reached
-abbrev pub leaf_reached : Next → Leaf
-leaf_reached (next.Row row) = Leads_to row
-leaf_reached next.Stop = Ends
-leaf_reached (next.Trap kind line) = Traps kind line
-
 -- what the row did, with the state that stands after it
 abbrev pub outcome_of : RowResult → State → RowOutcome Leaf
 outcome_of (Faulted fault) state = Faults fault
-outcome_of (Done printed leaf) state = Commits (option_to_list printed) state (leaf_reached leaf)
+outcome_of (Done printed leaf) state = Commits (option_to_list printed) state leaf
 
 -- a row that faults keeps what is held
 abbrev pub KeepsOnFault : RowResult → Contents → Contents → Type 0

@@ -1,5 +1,6 @@
 use Rattle.std.proofs.Common.{ap, arith}
-use Rattle.pc_table.specs.Table.{table_of, table_regions}
+use Rattle.pc_table.specs.Table.{table_regions}
+use Rattle.pc_table.specs.StoredTable.{table_of}
 use Rattle.pc_compile.specs.models.Counting.{all_plain_bytes}
 use Rattle.pc_compile.proofs.Counting.{plain_object}
 use Rattle.pc_compile.proofs.bytes.object_bytes.Goals as goal

@@ -1,7 +1,8 @@
 use Rattle.std.proofs.Common.{ℕ, Option, None, false, sym, ◌∙◌, ap}
 use Rattle.std.specs.Prelude.{replicate}
 use Rattle.std.proofs.lemmas.List.{length-replicate}
-use Rattle.pc_table.specs.Table.{table_of, table_region}
+use Rattle.pc_table.specs.Table.{table_region}
+use Rattle.pc_table.specs.StoredTable.{table_of}
 use Rattle.pc_emit.specs.declared.form.RegionForm.{RegionForm}
 use Rattle.pc_compile.proofs.Progress.{progress_begins}
 use Rattle.pc_compile.proofs.choosing.begun.Goals as goal

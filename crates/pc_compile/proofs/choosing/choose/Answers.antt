@@ -1,6 +1,6 @@
 use Rattle.std.proofs.Common.{◌≡◌, ℕ, Option, Some, None, sym, subst, arith}
 use Rattle.std.specs.Prelude.{slice_get}
-use Rattle.pc_table.specs.Table.{table_of}
+use Rattle.pc_table.specs.StoredTable.{table_of}
 use Rattle.pc_compile.proofs.Progress.{next_there, taken_fewer, all_chosen}
 use Rattle.pc_compile.proofs.choosing.choose.Goals as goal
 

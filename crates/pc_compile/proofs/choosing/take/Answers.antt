@@ -1,5 +1,6 @@
 use Rattle.std.proofs.Common.{refl, ◌∙◌, ap, arith}
-use Rattle.pc_table.specs.Table.{table_of, table_region}
+use Rattle.pc_table.specs.Table.{table_region}
+use Rattle.pc_table.specs.StoredTable.{table_of}
 use Rattle.pc_emit.specs.Bytes.{plain_bytes}
 use Rattle.pc_compile.specs.models.Giving.{form_of}
 use Rattle.pc_compile.proofs.Progress.{next_counted, leads_below, takes_next}
@@ -10,26 +11,26 @@ pub plain_bytes-plain-requires : goal.plain_bytes-plain-requires
 plain_bytes-plain-requires c =
     let within = next_counted c.args.table.now c.args.limits c.args.extent c.args.progress.now c.requires.choosing c.args.region c.requires.next c.requires.there in
     let short = c.requires.choosing.short in
-    rw c.region_tree-tree.ensures (omega (arith, within, short))
+    rw c.tree-tree.ensures.tree (omega (arith, within, short))
 
 pub overflow_sub-others : goal.overflow_sub-others
 overflow_sub-others c =
     let within = next_counted c.args.table.now c.args.limits c.args.extent c.args.progress.now c.requires.choosing c.args.region c.requires.next c.requires.there in
-    let plain = c.plain_bytes-plain.ensures ∙ ap plain_bytes c.region_tree-tree.ensures in
+    let plain = c.plain_bytes-plain.ensures ∙ ap plain_bytes c.tree-tree.ensures.tree in
     omega (arith, within, plain)
 
 pub form_for-requires-clause-short : goal.form_for-requires-clause-short
 form_for-requires-clause-short c =
     let within = next_counted c.args.table.now c.args.limits c.args.extent c.args.progress.now c.requires.choosing c.args.region c.requires.next c.requires.there in
-    let plain = c.plain_bytes-plain.ensures ∙ ap plain_bytes c.region_tree-tree.ensures in
+    let plain = c.plain_bytes-plain.ensures ∙ ap plain_bytes c.tree-tree.ensures.tree in
     let short = c.requires.choosing.short in
     omega (arith, within, plain, short)
 
 pub find_behind-requires-clause-there : goal.find_behind-requires-clause-there
 find_behind-requires-clause-there c =
     let given = c.in_ok-given.ensures in
-    rw (c.requires.choosing.marks, c.region_tree-tree.ensures)
-    (leads_below (table_of c.args.table.now) c.requires.kept c.args.limits c.args.extent c.args.region _ (form_of c.in_ok-given.given.form)
+    rw (c.requires.choosing.marks, c.tree-tree.ensures.tree)
+    (leads_below (table_of c.args.table.now) c.args.table.now.kept c.args.limits c.args.extent c.args.region _ (form_of c.in_ok-given.given.form)
     c.in_ok-given.given.kind c.in_ok-given.given.causes given.gets)
 
 pub put-requires : goal.put-requires
@@ -43,7 +44,7 @@ pub returns-clause-choosing : goal.returns-clause-choosing
 returns-clause-choosing c =
     let regions = map_length table_region c.args.table.now.regions in
     let there = c.requires.there in
-    let plain = c.plain_bytes-plain.ensures ∙ ap plain_bytes c.region_tree-tree.ensures in
+    let plain = c.plain_bytes-plain.ensures ∙ ap plain_bytes c.tree-tree.ensures.tree in
     takes_next (table_of c.args.table.now) c.args.limits c.args.extent c.args.progress.now c.requires.choosing c.args.region c.requires.next
-    (omega (arith, regions, there)) _ c.in_ok-given.given (rw plain at c.in_ok-given.ensures) (rw c.region_tree-tree.ensures at c.in_ok-find_behind.ensures) refl
+    (omega (arith, regions, there)) _ c.in_ok-given.given (rw plain at c.in_ok-given.ensures) (rw c.tree-tree.ensures.tree at c.in_ok-find_behind.ensures) refl
     c.in_ok-put.ensures.choices c.in_ok-put.ensures.forms

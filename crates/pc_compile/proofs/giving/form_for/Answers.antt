@@ -1,5 +1,5 @@
 use Rattle.std.proofs.Common.{sym, ◌∙◌, subst}
-use Rattle.pc_table.specs.Table.{table_of}
+use Rattle.pc_table.specs.StoredTable.{table_of}
 use Rattle.pc_compile.specs.models.Giving.{IsGiven}
 use Rattle.pc_compile.proofs.FormsGiven.{given_pipelined, passed_over, not_tried}
 use Rattle.pc_compile.proofs.giving.form_for.Goals as goal

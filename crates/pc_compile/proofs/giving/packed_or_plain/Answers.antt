@@ -1,5 +1,5 @@
 use Rattle.std.proofs.Common.{ℕ, ◌+◌, sym, ap, subst}
-use Rattle.pc_table.specs.Table.{table_of}
+use Rattle.pc_table.specs.StoredTable.{table_of}
 use Rattle.pc_compile.specs.models.Giving.{IsGiven}
 use Rattle.pc_compile.proofs.FormsGiven.{given_packed, given_plain}
 use Rattle.pc_compile.proofs.giving.packed_or_plain.Goals as goal

@@ -1,5 +1,9 @@
 use Rattle.pc_compile.proofs.Paces.{emitted_rows_keep_pace, tightened_codes_keep_pace}
+use Rattle.pc_compile.proofs.SourcePace.{regions_keep_pace}
 use Rattle.pc_compile.proofs.laws.laws_of_pace.Goals as goal
+
+pub returns-clause-regions : goal.returns-clause-regions
+returns-clause-regions c = regions_keep_pace
 
 pub returns-clause-emitted : goal.returns-clause-emitted
 returns-clause-emitted c = emitted_rows_keep_pace

@@ -1,6 +1,6 @@
 use Rattle.std.proofs.Common.{◌≡◌, List, ◌∙◌, subst}
 use Rattle.std.specs.Prelude.{IfOk}
-use Rattle.pc_table.specs.Table.{table_of}
+use Rattle.pc_table.specs.StoredTable.{table_of}
 use Rattle.pc_object.specs.declared.object.Note.{Note}
 use Rattle.pc_compile.proofs.LoopNotes.{as_many_places, are_places, notes_right}
 use Rattle.pc_compile.proofs.notes.notes.Goals as goal

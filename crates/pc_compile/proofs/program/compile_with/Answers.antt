@@ -1,21 +1,12 @@
-use Rattle.std.proofs.Common.{sym, ◌∙◌, subst, arith}
-use Rattle.std.proofs.lemmas.List.{length-map}
+use Rattle.std.proofs.Common.{sym, ◌∙◌, subst}
 use Rattle.pc_check.specs.Checks.{resolved_of}
 use Rattle.pc_object.specs.ObjectText.{object_of}
 use Rattle.pc_machine.specs.WellFormed.{AreArrays}
-use Rattle.pc_table.specs.Table.{table_region, table_of}
+use Rattle.pc_table.specs.StoredTable.{table_of}
 use Rattle.pc_emit.specs.Emitting.{region_forms}
 use Rattle.pc_compile.proofs.Emittable.{are_forms}
-use Rattle.pc_compile.proofs.Compilations.{are_arrays, all_plain_is_short, few_regions_in_all, is_compiled}
+use Rattle.pc_compile.proofs.Compilations.{are_arrays, all_plain_is_short, is_compiled}
 use Rattle.pc_compile.proofs.program.compile_with.Goals as goal
-
-pub choose-requires-clause-few : goal.choose-requires-clause-few
-choose-requires-clause-few g c =
-    let few =
-    few_regions_in_all (resolved_of c.args.checked.now) c.in_ok-flow.flow c.run_list.new.flow (table_of c.in_ok-table.table)
-    c.in_ok-flow.ensures.lowered c.run_list.ensures.keeps c.in_ok-table.ensures.cut in
-    let same = length-map c.in_ok-table.table.regions table_region in
-    omega (arith, few, same)
 
 pub choose-requires-clause-small : goal.choose-requires-clause-small
 choose-requires-clause-small g c =
@@ -38,7 +29,7 @@ object_of-requires-clause-forms g c =
 
 pub returns-clause-compiled : goal.returns-clause-compiled
 returns-clause-compiled g c =
-    is_compiled (resolved_of c.args.checked.now) c.args.limits c.args.extent c.in_ok-flow.flow c.run_list.new.flow (table_of c.in_ok-table.table)
+    is_compiled (resolved_of c.args.checked.now) _ c.args.limits c.args.extent c.in_ok-flow.flow c.run_list.new.flow (table_of c.in_ok-table.table)
     c.in_ok-chosen.chosen.forms c.in_ok-chosen.chosen.choices (object_of c.in_ok-object.object) c.requires.limits
-    c.in_ok-flow.ensures.lowered c.run_list.ensures.keeps c.in_ok-table.ensures.cut
+    c.in_ok-flow.ensures.lowered c.in_ok-run_list.ensures.chain c.run_list.ensures.keeps c.in_ok-table.ensures.cut
     c.in_ok-table.ensures.kept c.in_ok-table.ensures.agree c.in_ok-chosen.ensures.chosen c.in_ok-object.ensures.object

@@ -1,6 +1,6 @@
 use Rattle.std.proofs.Common.{◌∙◌}
 use Rattle.pc_machine.specs.MachineCode.{code_of, rows_of}
-use Rattle.pc_table.specs.Table.{table_of}
+use Rattle.pc_table.specs.StoredTable.{table_of}
 use Rattle.pc_compile.proofs.Compilations.{loose_is_well_formed, made_object}
 use Rattle.pc_compile.proofs.program.object_of.Goals as goal
 

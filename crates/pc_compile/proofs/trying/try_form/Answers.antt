@@ -1,5 +1,5 @@
 use Rattle.std.proofs.Common.{◌+◌, arith}
-use Rattle.pc_table.specs.Table.{table_of}
+use Rattle.pc_table.specs.StoredTable.{table_of}
 use Rattle.pc_compile.specs.Choosing.{pipelines}
 use Rattle.pc_compile.specs.models.Giving.{bytes_of}
 use Rattle.pc_compile.proofs.Attempts.{found_short, tried_live, tried_bytes}
@@ -13,13 +13,13 @@ returns-in-Err-Pressure c =
 
 pub states_bytes-requires-clause-few : goal.states_bytes-requires-clause-few
 states_bytes-requires-clause-few c =
-    found_short (pipelines (table_of c.args.table.now) c.args.limits c.args.extent) c.requires.kept c.args.region c.args.extent.rows c.requires.limits
+    found_short (pipelines (table_of c.args.table.now) c.args.limits c.args.extent) c.args.table.now.kept c.args.region c.args.extent.rows c.requires.limits
     c.requires.extent.rows.1 c.in-Ok.automaton c.in-Ok.ensures.found c.in-Ok-assign.ensures.0
 
 pub overflow_add-bytes : goal.overflow_add-bytes
 overflow_add-bytes c =
     let few =
-    found_short (pipelines (table_of c.args.table.now) c.args.limits c.args.extent) c.requires.kept c.args.region c.args.extent.rows c.requires.limits
+    found_short (pipelines (table_of c.args.table.now) c.args.limits c.args.extent) c.args.table.now.kept c.args.region c.args.extent.rows c.requires.limits
     c.requires.extent.rows.1 c.in-Ok.automaton c.in-Ok.ensures.found c.in-Ok-assign.ensures.0 in
     let short = c.requires.short in
     omega (arith, few, short, c.states_bytes.ensures)

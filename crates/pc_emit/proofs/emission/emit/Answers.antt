@@ -10,7 +10,7 @@ entries-requires-clause-few c =
     let table = c.args.table.now in
     let forms = c.args.forms.now in
     let begins = begins_behind table forms c.as_slice-regions.result.now c.index-regions-0.result c.index-forms-0.result c.in_ok-front.front c.len.result c.as_slice-regions.ensures
-    c.requires.kept.some_region c.requires.count c.index-forms-0.is c.in_ok-front.ensures c.len.ensures in
+    c.args.table.now.kept.some_region c.requires.count c.index-forms-0.is c.in_ok-front.ensures c.len.ensures in
     subst (λ (regions : List Region). c.len.result + all_rows regions forms < 2 ^ 32) (sym c.as_slice-regions.ensures)
     (rows_below table forms c.args.limits c.len.result c.requires.forms begins)
 
@@ -19,11 +19,11 @@ all_rows-requires-clause-plan c =
     let table = c.args.table.now in
     let forms = c.args.forms.now in
     let begins = begins_behind table forms c.as_slice-regions.result.now c.index-regions-0.result c.index-forms-0.result c.in_ok-front.front c.len.result c.as_slice-regions.ensures
-    c.requires.kept.some_region c.requires.count c.index-forms-0.is c.in_ok-front.ensures c.len.ensures in
+    c.args.table.now.kept.some_region c.requires.count c.index-forms-0.is c.in_ok-front.ensures c.len.ensures in
     let found : c.as_slice.result.now ≡ entries_from c.len.result table.regions forms =
     c.as_slice.ensures.value ∙ c.in_ok-entries.ensures ∙ ap (λ (regions : List Region). entries_from c.len.result regions forms) c.as_slice-regions.ensures in
     record {
-      kept = c.requires.kept;
+      kept = c.args.table.now.kept;
       limits = c.requires.limits;
       count = c.requires.count;
       forms = c.requires.forms;

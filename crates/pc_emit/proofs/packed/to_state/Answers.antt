@@ -3,7 +3,7 @@ use Rattle.std.specs.Prelude.{slice_get}
 use Rattle.pc_automaton.specs.AutomatonRun.{state_parameters}
 use Rattle.pc_machine.specs.MachineCode.{rows_of}
 use Rattle.pc_object.specs.ObjectText.{leaf_text}
-use Rattle.pc_emit.specs.models.Output.{bytes_of, target_leaf, of_state}
+use Rattle.pc_emit.specs.models.Output.{bytes_of, of_state}
 use Rattle.pc_emit.specs.models.Layout.{states_at, names_at}
 use Rattle.pc_emit.proofs.Packs.{many_arguments, state_there}
 use Rattle.pc_emit.proofs.packed.to_state.Goals as goal
@@ -18,4 +18,4 @@ returns-clause-short c =
     ∙ many_arguments (of_state c.args.names.now) (names_at site c.args.state) c.as_slice-parameters.result.now c.args.arguments.now same in
     let after = bytes_of (rows_of c.move_along.new.output.copies.items) in
     let before = bytes_of (rows_of c.args.output.now.copies.items) in
-    subst (λ n. IfOk c.move_along.result (λ target. after + length (leaf_text (target_leaf target)) ≤ before + (5 + 24 * n))) many c.move_along.ensures.short
+    subst (λ n. IfOk c.move_along.result (λ made. after + length (leaf_text made) ≤ before + (5 + 24 * n))) many c.move_along.ensures.short

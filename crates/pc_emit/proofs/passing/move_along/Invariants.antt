@@ -1,5 +1,4 @@
 use Rattle.std.proofs.Common.{◌≤◌, length, drop}
-use Rattle.pc_emit.specs.models.Output.{target_leaf}
 use Rattle.pc_emit.proofs.Passings.{LeadsThrough}
 use Rattle.pc_emit.proofs.passing.move_along.Given as goal
 
@@ -7,7 +6,7 @@ use Rattle.pc_emit.proofs.passing.move_along.Given as goal
 abbrev pub invariant-loop-at : goal.invariant-loop-at
 invariant-loop-at l = record {
   within : l.at ≤ length l.rows;
-  through : LeadsThrough l.fn.plan l.initial.output l.output (target_leaf l.from) (drop l.at l.rows) (target_leaf l.fn.target);
+  through : LeadsThrough l.fn.plan l.initial.output l.output l.from (drop l.at l.rows) l.fn.to;
 }
 
 abbrev pub decreases-loop-at : goal.decreases-loop-at

@@ -24,7 +24,7 @@ found_kind : (c : In_ok-kind)
     → kind_of (spellings c.loop-offset.names.keys) (spelled_at c.args.text.now c.loop-offset.offset c.in-Ok.piece) c.in-Ok.piece.shape ≡ c.in_ok-kind.kind
 found_kind c = sym (rw take_rest at c.in_ok-kind.ensures.kind)
 
--- the state behind it
+-- the state after it
 next : (c : In_ok-keep)
     → piece_at c.loop-offset.fresh (drop c.loop-offset.offset c.args.text.now) ≡ Ok c.in-Ok.piece
     → kind_of (spellings c.loop-offset.names.keys) (spelled_at c.args.text.now c.loop-offset.offset c.in-Ok.piece) c.in-Ok.piece.shape ≡ c.in_ok-kind.kind

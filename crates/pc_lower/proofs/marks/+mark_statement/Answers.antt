@@ -3,8 +3,7 @@ use Rattle.pc_syntax.specs.declared.statement.Stmt.{Stmt}
 use Rattle.pc_syntax.specs.Source.{SourceStatement}
 use Rattle.pc_syntax.specs.Erasure.{expression_of, statement_of, optional_of, list_of}
 use Rattle.pc_syntax.proofs.ErasureLaws.{statement_of-For}
-use Rattle.pc_lower.specs.SourceLoops.{source_loops, with_loops}
-use Rattle.pc_lower.specs.models.LowersStatement.{loop_count}
+use Rattle.pc_lower.specs.SourceLoops.{source_loops, with_loops, loop_count}
 use Rattle.pc_lower.proofs.Weights.{statement_weight}
 use Rattle.pc_lower.proofs.LoopMarks.{marked_for, marked_more, marked_room, marked_lighter, marked_all}
 use Rattle.pc_lower.proofs.marks.+mark_statement.Goals as goal

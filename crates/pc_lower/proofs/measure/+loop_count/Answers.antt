@@ -1,7 +1,7 @@
 use Rattle.std.proofs.Common.{ap, ◌∙◌, ◌+◌, min, ℕ, ◌<◌, length, refl, sym}
 use Rattle.pc_syntax.proofs.ErasureLaws.{statement_of-For}
 use Rattle.pc_syntax.specs.Erasure.{list_of, optional_of, statement_of}
-use Rattle.pc_lower.specs.models.LowersStatement.{loop_count, branch_loops, list_loops}
+use Rattle.pc_lower.specs.SourceLoops.{loop_count, branch_loops, list_loops}
 use Rattle.pc_lower.proofs.Measures.{capped_count, loops-more}
 use Rattle.pc_lower.proofs.measure.+loop_count.Goals as goal
 

@@ -1,6 +1,6 @@
 use Rattle.std.proofs.Common.{◌≡◌, min, take}
 use Rattle.pc_syntax.specs.Erasure.{list_of}
-use Rattle.pc_lower.specs.models.LowersStatement.{list_loops}
+use Rattle.pc_lower.specs.SourceLoops.{list_loops}
 use Rattle.pc_lower.proofs.measure.+loop_count.Given as goal
 
 -- the total so far is that of the statements so far

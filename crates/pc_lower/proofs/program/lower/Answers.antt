@@ -5,8 +5,7 @@ use Rattle.pc_word.specs.declared.loop_mark.LoopMark.{LoopMark}
 use Rattle.pc_syntax.specs.Erasure.{list_of}
 use Rattle.pc_check.specs.Sizes.{list_size}
 use Rattle.pc_check.specs.Checks.{resolved_of}
-use Rattle.pc_lower.specs.SourceLoops.{source_loops, loops_of}
-use Rattle.pc_lower.specs.models.LowersStatement.{list_loops}
+use Rattle.pc_lower.specs.SourceLoops.{source_loops, loops_of, list_loops}
 use Rattle.pc_lower.specs.models.LowersExpression.{AreLengths}
 use Rattle.pc_lower.proofs.Bounds.{list-loops_sized, list_sound_more, are_lengths}
 use Rattle.pc_lower.proofs.LoopMarks.{marks_of_program}
@@ -53,7 +52,8 @@ lower_body-entry-requires-clause-first c =
     let as_many : length c.mark_list.new.marks ≡ list_loops body = omega (arith, told, empty) in
     let arrays : AreLengths c.in_ok-arrays.arrays = rw (c.in_ok-arrays.ensures, c.as_slice.ensures)
     (are_lengths c.args.checked.now.arrays c.args.checked.now.few_arrays c.args.checked.now.sized) in
-    rw c.in_ok-draft.ensures (is_unplaced c.size-count.result c.mark_list.new.marks c.in_ok-arrays.arrays body count few as_many arrays)
+    let marked = rw none at c.in_ok-mark_list.ensures.marked in
+    rw c.in_ok-draft.ensures (is_unplaced c.size-count.result c.mark_list.new.marks c.in_ok-arrays.arrays body count few as_many marked arrays)
 
 pub lower_body-entry-requires-clause-sound : goal.lower_body-entry-requires-clause-sound
 lower_body-entry-requires-clause-sound c =

@@ -2,13 +2,14 @@ use Rattle.std.proofs.Common.{◌≡◌, suc, ◌-◌, ◌<◌, inl, inr, length
 use Rattle.std.specs.Prelude.{option_map}
 use Rattle.pc_syntax.specs.declared.statement.Stmt.{Stmt}
 use Rattle.pc_syntax.specs.Erasure.{expression_of, statement_of, optional_of, list_of}
-use Rattle.pc_syntax.proofs.ErasureLaws.{statement_of-Assign, statement_of-Do, statement_of-For}
+use Rattle.pc_syntax.proofs.ErasureLaws.{statement_of-Block, statement_of-Print, statement_of-If, statement_of-While, statement_of-Assign, statement_of-Do, statement_of-For, optional_of-Some}
 use Rattle.pc_lower.proofs.Weights.{statement_weight}
-use Rattle.pc_lower.specs.models.LowersStatement.{loop_count}
+use Rattle.pc_lower.specs.SourceLoops.{loop_count}
 use Rattle.pc_lower.proofs.Fills.{test_kept, placed_test_still, tested_still}
 use Rattle.pc_lower.proofs.Tested.{tested_both, tested_round, all_still, turn_tested, closed_tested, all_closed}
 use Rattle.pc_lower.proofs.Constructs.{none_laid, item_weight, item_sound, item_spot, item_numbers, item_laid}
-use Rattle.pc_lower.proofs.Constructs.{lays_branch, lays_while, lays_do, lays_body_and_step, lays_turns, lays_do_of, lays_for, lays_for_of, for_spot, for_sound, held_of, lays_assignment}
+use Rattle.pc_lower.proofs.Compounds.{lays_branch, lays_while, lays_do, lays_body_and_step, lays_turns, lays_for}
+use Rattle.pc_lower.proofs.Constructs.{lays_scope, lays_branch_of, lays_printing, lays_while_of, lays_present, lays_do_of, lays_for_of, for_spot, for_sound, held_of, lays_assignment}
 use Rattle.pc_lower.proofs.statement.+lower_statement.Goals as goal
 
 -- ---- statements in order
@@ -84,16 +85,23 @@ lower_list-returns-clause-tested t c =
 
 pub lower_branch-returns-clause-laid : goal.lower_branch-returns-clause-laid
 lower_branch-returns-clause-laid t c =
+    let loops = c.branch_loops.ensures in
+    let numbers = c.requires.spot.numbers in
     let test = rw (c.up_to-site.ensures, c.site.ensures) at c.lower_condition.ensures in
-    rw c.at.ensures (lays_branch _ _ _ _ _ _ _ c.lower_optional-other.ensures.laid c.lower_statement-chosen.ensures.laid test)
+    rw c.at.ensures
+    (lays_branch _ _ _ _ _ _ _ c.lower_optional-other.ensures.laid c.lower_statement-chosen.ensures.laid test (omega (arith, loops, numbers)))
 
 pub lower_while-returns-clause-laid : goal.lower_while-returns-clause-laid
-lower_while-returns-clause-laid t c =
+lower_while-returns-clause-laid t c line =
     let room = c.requires.spot.room.within in
     let nodes = c.statement_size.ensures in
     let turn = (rw c.turn.ensures at c.lower_turn-header.ensures.turn) (c.args.spot.end - 1 - c.statement_size.result) refl in
+    let loops = c.loop_count.ensures in
+    let numbers = c.requires.spot.numbers in
+    let there = c.requires.spot.loops_there in
     rw (c.close_loop.ensures, c.at.ensures)
-    (lays_while _ _ _ _ _ _ _ turn c.lower_statement-yes.ensures.laid (omega (arith, room, nodes)) c.requires.spot.room.there)
+    (lays_while line _ _ _ _ _ _ _ turn c.lower_statement-yes.ensures.laid (omega (arith, room, nodes)) c.requires.spot.room.there
+    (omega (arith, loops, numbers, there)) (omega (arith, loops, numbers)))
 
 pub lower_while-close_loop-requires-clause-test : goal.lower_while-close_loop-requires-clause-test
 lower_while-close_loop-requires-clause-test t c =
@@ -101,24 +109,31 @@ lower_while-close_loop-requires-clause-test t c =
     let nodes = c.statement_size.ensures in
     let size = c.lower_statement-yes.ensures.laid.size_is in
     let turn = (rw c.turn.ensures at c.lower_turn-header.ensures.turn) (c.args.spot.end - 1 - c.statement_size.result) refl in
-    test_kept turn.tested c.lower_statement-yes.ensures.laid (inl (omega (arith, room, nodes, size)))
+    test_kept turn.tested c.lower_statement-yes.ensures.laid.fills (inl (omega (arith, room, nodes, size)))
 
 pub lower_do-returns-clause-laid : goal.lower_do-returns-clause-laid
-lower_do-returns-clause-laid t c =
+lower_do-returns-clause-laid t c line =
     let room = c.requires.spot.room.within in
     let turn = (rw c.turn.ensures at c.lower_turn-next.ensures.turn) (c.args.spot.end - 1) refl in
-    rw c.close_loop.ensures (lays_do _ _ _ _ _ _ _ turn c.lower_statement-laid.ensures.laid (omega (arith, room)) c.requires.spot.room.there)
+    let loops = c.loop_count.ensures in
+    let numbers = c.requires.spot.numbers in
+    let there = c.requires.spot.loops_there in
+    rw c.close_loop.ensures
+    (lays_do line _ _ _ _ _ _ _ turn c.lower_statement-laid.ensures.laid (omega (arith, room)) c.requires.spot.room.there
+    (omega (arith, loops, numbers, there)) (omega (arith, loops, numbers)))
 
 pub lower_do-close_loop-requires-clause-test : goal.lower_do-close_loop-requires-clause-test
 lower_do-close_loop-requires-clause-test t c =
     let turn = (rw c.turn.ensures at c.lower_turn-next.ensures.turn) (c.args.spot.end - 1) refl in
     let size = turn.size_is in
-    test_kept turn.tested c.lower_statement-laid.ensures.laid (inr (omega (arith, size)))
+    test_kept turn.tested c.lower_statement-laid.ensures.laid.fills (inr (omega (arith, size)))
 
 pub lower_round-returns-clause-laid : goal.lower_round-returns-clause-laid
 lower_round-returns-clause-laid t c =
+    let loops = c.loop_count.ensures in
+    let numbers = c.requires.spot.numbers in
     let body = rw c.round.ensures at c.lower_statement.ensures.laid in
-    lays_body_and_step _ _ _ _ _ _ _ c.lower_optional-after.ensures.laid body
+    lays_body_and_step _ _ _ _ _ _ _ c.lower_optional-after.ensures.laid body (omega (arith, loops, numbers))
 
 pub lower_turns-returns-clause-laid : goal.lower_turns-returns-clause-laid
 lower_turns-returns-clause-laid t c =
@@ -127,7 +142,8 @@ lower_turns-returns-clause-laid t c =
     let others = c.branch_size.ensures in
     let turn = (rw c.turn.ensures at c.lower_turn-header.ensures.turn) (c.args.spot.end - 1 - c.statement_size.result - c.branch_size.result) refl in
     rw c.close_loop.ensures
-    (lays_turns _ _ _ _ _ _ _ _ turn c.lower_round-yes.ensures.laid (omega (arith, room, nodes, others)) c.requires.spot.room.there)
+    (lays_turns _ _ _ _ _ _ _ _ turn c.lower_round-yes.ensures.laid (omega (arith, room, nodes, others)) c.requires.spot.room.there
+    c.requires.own c.requires.number)
 
 pub lower_turns-close_loop-requires-clause-test : goal.lower_turns-close_loop-requires-clause-test
 lower_turns-close_loop-requires-clause-test t c =
@@ -136,22 +152,52 @@ lower_turns-close_loop-requires-clause-test t c =
     let others = c.branch_size.ensures in
     let size = c.lower_round-yes.ensures.laid.size_is in
     let turn = (rw c.turn.ensures at c.lower_turn-header.ensures.turn) (c.args.spot.end - 1 - c.statement_size.result - c.branch_size.result) refl in
-    test_kept turn.tested c.lower_round-yes.ensures.laid (inl (omega (arith, room, nodes, others, size)))
+    test_kept turn.tested c.lower_round-yes.ensures.laid.fills (inl (omega (arith, room, nodes, others, size)))
 
 pub lower_for-returns-clause-laid : goal.lower_for-returns-clause-laid
-lower_for-returns-clause-laid t c =
+lower_for-returns-clause-laid t c line =
+    let numbers = c.requires.spot.numbers in
+    let body = c.loop_count.ensures in
+    let step = c.branch_loops.ensures in
+    let count = c.list_loops.ensures in
     let first = rw (c.before-2.ensures, c.at.ensures) at c.lower_list.ensures.laid in
-    lays_for _ _ _ _ _ _ _ _ c.lower_turns-header.ensures.laid first
+    lays_for line _ _ _ _ _ _ _ _ _ c.lower_turns-header.ensures.laid first (omega (arith, numbers, body, step, count)) (omega (arith, numbers, body, step))
+
+pub lower_statement-returns-in-Block-clause-laid : goal.lower_statement-returns-in-Block-clause-laid
+lower_statement-returns-in-Block-clause-laid t c =
+    let is = statement_of-Block c.args.statement.now c.in-Block.items c.in-Block.is in
+    rw is (lays_scope _ _ _ _ _ _ c.lower_list.ensures.laid)
+
+pub lower_statement-returns-in-If-clause-laid : goal.lower_statement-returns-in-If-clause-laid
+lower_statement-returns-in-If-clause-laid t c =
+    let is = statement_of-If c.args.statement.now c.in-If.line c.in-If.test c.in-If.yes c.in-If.no c.in-If.is in
+    rw is (rw c.deref.ensures at (lays_branch_of _ _ _ _ _ c.in-If.line _ _ _ c.lower_branch.ensures.laid))
+
+pub lower_statement-returns-in-Print-clause-laid : goal.lower_statement-returns-in-Print-clause-laid
+lower_statement-returns-in-Print-clause-laid t c =
+    let is = statement_of-Print c.args.statement.now c.in-Print.line c.in-Print.value c.in-Print.is in
+    let laid = rw c.site-site.ensures at c.lower_print.ensures in
+    rw (is, c.at-in-Print.ensures) (lays_printing _ _ _ _ c.in-Print.line (expression_of c.in-Print.value) laid)
+
+pub lower_statement-returns-in-While-clause-laid : goal.lower_statement-returns-in-While-clause-laid
+lower_statement-returns-in-While-clause-laid t c =
+    let is = statement_of-While c.args.statement.now c.in-While.line c.in-While.test c.in-While.body c.in-While.is in
+    rw is (rw c.deref-in-While.ensures at (lays_while_of _ _ _ _ _ c.in-While.line _ _ (c.lower_while.ensures.laid c.in-While.line)))
+
+pub lower_optional-returns-in-Some-clause-laid : goal.lower_optional-returns-in-Some-clause-laid
+lower_optional-returns-in-Some-clause-laid t c =
+    let is = optional_of-Some c.args.statement.now c.in-Some.statement c.in-Some.is in
+    rw is (rw c.deref.ensures at (lays_present _ _ _ _ _ _ c.lower_statement.ensures.laid))
 
 pub lower_statement-returns-in-For-clause-laid : goal.lower_statement-returns-in-For-clause-laid
 lower_statement-returns-in-For-clause-laid t c =
     let is = statement_of-For c.args.statement.now c.in-For.line c.in-For.first c.in-For.test c.in-For.step c.in-For.body c.in-For.is in
-    rw is (rw c.deref-in-For.ensures at (lays_for_of _ _ _ _ _ c.in-For.line _ _ _ _ c.lower_for.ensures.laid))
+    rw is (rw c.deref-in-For.ensures at (lays_for_of _ _ _ _ _ c.in-For.line _ _ _ _ (c.lower_for.ensures.laid c.in-For.line)))
 
 pub lower_statement-returns-in-Do-clause-laid : goal.lower_statement-returns-in-Do-clause-laid
 lower_statement-returns-in-Do-clause-laid t c =
     let is = statement_of-Do c.args.statement.now c.in-Do.line c.in-Do.body c.in-Do.test c.in-Do.is in
-    rw is (rw c.deref-in-Do.ensures at (lays_do_of _ _ _ _ _ c.in-Do.line _ _ c.lower_do.ensures.laid))
+    rw is (rw c.deref-in-Do.ensures at (lays_do_of _ _ _ _ _ c.in-Do.line _ _ (c.lower_do.ensures.laid c.in-Do.line)))
 
 pub lower_statement-lower_for-requires : goal.lower_statement-lower_for-requires
 lower_statement-lower_for-requires t c =
@@ -177,7 +223,7 @@ lower_statement-returns-in-Assign-clause-laid t c =
     c.in-Assign.value c.in-Assign.is in
     let laid = rw (c.new-target.ensures, c.site-site.ensures) at c.lower_assignment.ensures in
     rw (is, c.at-in-Assign.ensures)
-    (lays_assignment c.args.spot.break_to c.args.spot.continue_to c.args.spot.return_to _ _ c.in-Assign.symbol c.in-Assign.line
+    (lays_assignment c.args.spot.break_to c.args.spot.continue_to c.args.spot.return_to _ c.in-Assign.symbol c.in-Assign.line
     (option_map expression_of c.in-Assign.index) c.in-Assign.bracket c.in-Assign.op c.in-Assign.at (expression_of c.in-Assign.value) laid)
 
 -- ---- each loop has a test
@@ -186,15 +232,15 @@ pub lower_branch-returns-clause-tested : goal.lower_branch-returns-clause-tested
 lower_branch-returns-clause-tested t c =
     let loops = c.branch_loops.ensures in
     let numbers = c.requires.spot.numbers in
-    let others = all_still c.lower_statement-chosen.ensures.laid c.lower_optional-other.ensures.tested in
-    all_still c.lower_condition.ensures (tested_both _ c.lower_statement-chosen.ensures.tested others (omega (arith, loops, numbers)) refl)
+    let others = all_still c.lower_statement-chosen.ensures.laid.fills c.lower_optional-other.ensures.tested in
+    all_still c.lower_condition.ensures.fills (tested_both _ c.lower_statement-chosen.ensures.tested others (omega (arith, loops, numbers)) refl)
 
 pub lower_while-returns-clause-tested : goal.lower_while-returns-clause-tested
 lower_while-returns-clause-tested t c =
     let loops = c.loop_count.ensures in
     let numbers = c.requires.spot.numbers in
     let turn = (rw c.turn.ensures at c.lower_turn-header.ensures.turn) (c.args.spot.end - 1 - c.statement_size.result) refl in
-    let own = placed_test_still c.lower_statement-yes.ensures.laid (turn_tested turn) in
+    let own = placed_test_still c.lower_statement-yes.ensures.laid.fills (turn_tested turn) in
     let all = tested_round (_, own) c.lower_statement-yes.ensures.tested (omega (arith, loops, numbers)) in
     rw c.close_loop.ensures (all_closed _ _ _ _ _ refl own.test all)
 
@@ -203,7 +249,7 @@ lower_do-returns-clause-tested t c =
     let loops = c.loop_count.ensures in
     let numbers = c.requires.spot.numbers in
     let turn = (rw c.turn.ensures at c.lower_turn-next.ensures.turn) (c.args.spot.end - 1) refl in
-    let own = placed_test_still c.lower_statement-laid.ensures.laid (turn_tested turn) in
+    let own = placed_test_still c.lower_statement-laid.ensures.laid.fills (turn_tested turn) in
     let all = tested_round (_, own) c.lower_statement-laid.ensures.tested (omega (arith, loops, numbers)) in
     rw c.close_loop.ensures (all_closed _ _ _ _ _ refl own.test all)
 
@@ -213,26 +259,26 @@ lower_round-returns-clause-tested t c =
     let numbers = c.requires.spot.numbers in
     let body = rw c.round.ensures at c.lower_statement.ensures.laid in
     let tested = rw c.round.ensures at c.lower_statement.ensures.tested in
-    tested_both _ (all_still body c.lower_optional-after.ensures.tested) tested (omega (arith, loops, numbers)) refl
+    tested_both _ (all_still body.fills c.lower_optional-after.ensures.tested) tested (omega (arith, loops, numbers)) refl
 
 pub lower_turns-returns-clause-own : goal.lower_turns-returns-clause-own
 lower_turns-returns-clause-own t c =
     let turn = (rw c.turn.ensures at c.lower_turn-header.ensures.turn) (c.args.spot.end - 1 - c.statement_size.result - c.branch_size.result) refl in
-    let own = placed_test_still c.lower_round-yes.ensures.laid (turn_tested turn) in
+    let own = placed_test_still c.lower_round-yes.ensures.laid.fills (turn_tested turn) in
     rw c.close_loop.ensures (c.args.spot.end - 1 - c.statement_size.result - c.branch_size.result, closed_tested c.lower_round-yes.new.draft _ _ _ _ refl own.test own)
 
 pub lower_turns-returns-clause-tested : goal.lower_turns-returns-clause-tested
 lower_turns-returns-clause-tested t c =
     let turn = (rw c.turn.ensures at c.lower_turn-header.ensures.turn) (c.args.spot.end - 1 - c.statement_size.result - c.branch_size.result) refl in
-    let own = placed_test_still c.lower_round-yes.ensures.laid (turn_tested turn) in
+    let own = placed_test_still c.lower_round-yes.ensures.laid.fills (turn_tested turn) in
     rw c.close_loop.ensures (all_closed _ _ _ _ _ refl own.test c.lower_round-yes.ensures.tested)
 
 pub lower_for-returns-clause-tested : goal.lower_for-returns-clause-tested
 lower_for-returns-clause-tested t c =
     let first = rw (c.before-2.ensures, c.at.ensures) at c.lower_list.ensures.laid in
     let tested = rw c.before-2.ensures at c.lower_list.ensures.tested in
-    let turns = all_still first c.lower_turns-header.ensures.tested in
-    let own = tested_still first c.lower_turns-header.ensures.own in
+    let turns = all_still first.fills c.lower_turns-header.ensures.tested in
+    let own = tested_still first.fills c.lower_turns-header.ensures.own in
     let numbers = c.requires.spot.numbers in
     let body = c.loop_count.ensures in
     let step = c.branch_loops.ensures in

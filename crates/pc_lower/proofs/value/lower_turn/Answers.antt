@@ -13,4 +13,4 @@ lay-last-requires-clause-fits c = rw c.held.ensures (record {
 pub returns-clause-turn : goal.returns-clause-turn
 returns-clause-turn c at e =
     let value = rw (c.above.ensures, c.leading_to.ensures) at c.lower_expression.ensures in
-    lays_turn (expression_of c.args.test.now) e refl c.lay-last.ensures value
+    lays_turn (expression_of c.args.test.now) e refl c.requires.inside c.lay-last.ensures value

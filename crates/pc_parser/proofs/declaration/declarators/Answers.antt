@@ -29,7 +29,7 @@ loop-alloc-init c =
       further = further;
     }
 
--- a failure of a declarator behind a comma
+-- a failure of a declarator after a comma
 pub returns-in_err-other-clause-gives : goal.returns-in_err-other-clause-gives
 returns-in_err-other-clause-gives c =
     let p = err_from_is_err_and c.from_residual-in_err-other.result c.from_residual-in_err-other.ensures.1 in

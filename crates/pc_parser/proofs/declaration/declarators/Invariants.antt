@@ -5,7 +5,7 @@ use Rattle.pc_parser.specs.models.Parsing.{behind}
 use Rattle.pc_parser.proofs.Lists.{continued}
 use Rattle.pc_parser.proofs.declaration.declarators.Given as goal
 
--- the declarators so far, and what goes on behind them, are what is read from the beginning
+-- the declarators so far, and what goes on after them, are what is read from the beginning
 abbrev pub invariant-loop-alloc : goal.invariant-loop-alloc
 invariant-loop-alloc l = record {
   turns : ℕ;

@@ -3,7 +3,7 @@ use Rattle.pc_syntax.specs.Erasure.{expression_of}
 use Rattle.pc_parser.proofs.Further.{expression-further}
 use Rattle.pc_parser.proofs.declaration.initialised.Goals as goal
 
--- the value ends behind the name
+-- the value ends after the name
 pub returns-clause-further : goal.returns-clause-further
 returns-clause-further c =
     let value = c.in_ok-value.value in

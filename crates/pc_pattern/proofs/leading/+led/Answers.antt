@@ -1,5 +1,5 @@
 use Rattle.std.proofs.Common.{ap}
-use Rattle.pc_table.specs.Table.{table_of}
+use Rattle.pc_table.specs.StoredTable.{table_of}
 use Rattle.pc_word.specs.declared.row_tree.RowTree.{RowTree}
 use Rattle.pc_automaton.specs.declared.left.Left.{Left}
 use Rattle.pc_automaton.specs.StoredLeft.{left_in}

@@ -1,4 +1,4 @@
-use Rattle.pc_table.specs.Table.{table_of}
+use Rattle.pc_table.specs.StoredTable.{table_of}
 use Rattle.pc_window.specs.StoredWindow.{window_in}
 use Rattle.pc_pattern.proofs.Steps.{unwound_size, rebased_size}
 use Rattle.pc_pattern.proofs.leading.brought_on.Goals as goal

@@ -1,6 +1,6 @@
 use Rattle.std.proofs.Common.{length, ◌-◌}
 use Rattle.std.specs.List.{AllByRecursion}
-use Rattle.pc_table.specs.Table.{table_of}
+use Rattle.pc_table.specs.StoredTable.{table_of}
 use Rattle.pc_automaton.specs.Automaton.{states_in}
 use Rattle.pc_pattern.specs.models.Pools.{pool_in, IsSettled}
 use Rattle.pc_pattern.specs.models.Leading.{rules_within}

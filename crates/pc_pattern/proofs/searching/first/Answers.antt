@@ -1,14 +1,12 @@
-use Rattle.std.proofs.Common.{refl}
-use Rattle.pc_table.specs.Table.{table_of}
+use Rattle.pc_table.specs.StoredTable.{table_of}
 use Rattle.pc_window.specs.StoredWindow.{window_in}
 use Rattle.pc_pattern.proofs.States.{opened_can, first_of, opened_size}
 use Rattle.pc_pattern.proofs.Steps.{unwound_size}
 use Rattle.pc_pattern.proofs.searching.first.Goals as goal
 
-pub unwind-requires-clause-able : goal.unwind-requires-clause-able
-unwind-requires-clause-able c =
-    opened_can (table_of c.args.table.now) c.requires.kept c.args.bounds.limits c.args.region c.args.table.now c.in_ok-window.window c.requires.there
-    refl c.in_ok-window.ensures.opened
+pub unwind-requires : goal.unwind-requires
+unwind-requires c =
+    record { able = opened_can c.args.table.now c.args.bounds.limits c.args.region c.in_ok-window.window c.requires.there c.in_ok-window.ensures.opened }
 
 pub returns-clause-first : goal.returns-clause-first
 returns-clause-first c =

@@ -1,4 +1,4 @@
-use Rattle.pc_table.specs.Table.{table_of}
+use Rattle.pc_table.specs.StoredTable.{table_of}
 use Rattle.pc_automaton.specs.StoredLeft.{left_in}
 use Rattle.pc_pattern.specs.models.Pools.{pool_in}
 use Rattle.pc_pattern.specs.models.Leading.{rules_within}

@@ -1,4 +1,4 @@
--- What the simulator came to is what it promises, once it is told.
+-- What the simulator came to is what it promises, once it is reported.
 use Rattle.pc_command.specs.Requests.{simulate_command_of}
 use Rattle.pc_command.specs.Words.{spelled}
 use Rattle.pc_driver.specs.Outside.{outside_of}

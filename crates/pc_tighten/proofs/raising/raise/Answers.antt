@@ -1,5 +1,4 @@
 use Rattle.std.proofs.Common.{arith}
-use Rattle.pc_tighten.specs.models.Drafts.{draft_rows}
 use Rattle.pc_tighten.proofs.Raised.{raises_more, stand_then}
 use Rattle.pc_tighten.proofs.raising.raise.Goals as goal
 
@@ -23,7 +22,7 @@ loop-next-preserved c =
     let count = c.in_ok-lift-2.ensures.count in
     let there = c.in_ok-lift-2.ensures.there in (
       omega arith,
-      raises_more c.args.limits c.args.parents.now.listing.places.items 1 1 (draft_rows c.args.rows.now.items) (draft_rows c.loop-next.rows.items) (draft_rows c.lift-in-Some.new.rows.items)
+      raises_more c.args.limits c.args.parents.now.listing.places.items 1 1 c.args.rows.now.items c.loop-next.rows.items c.lift-in-Some.new.rows.items
           c.loop-next.invariant.1 c.in_ok-lift-2.ensures.raises,
     )
 

@@ -1,4 +1,5 @@
-use Rattle.pc_tighten.specs.models.Drafts.{draft_rows}
+use Rattle.std.proofs.lemmas.List.Elements.{recursion_from_All}
+use Rattle.pc_tighten.specs.models.Drafts.{IsSplit}
 use Rattle.pc_tighten.proofs.Raised.{raises_none}
 use Rattle.pc_tighten.proofs.Rounds.{round_goes_on, round_lowers, round_ends, rounds_within, rounds_stand}
 use Rattle.pc_tighten.proofs.raising.raise_all.Goals as goal
@@ -6,7 +7,7 @@ use Rattle.pc_tighten.proofs.raising.raise_all.Goals as goal
 pub loop-parents-init : goal.loop-parents-init
 loop-parents-init c = record {
   parents = rw c.deref.ensures.value at c.in_ok-parents.ensures;
-  raises = raises_none c.args.limits c.in_ok-parents.parents.listing.places.items (draft_rows c.args.rows.now.items);
+  raises = raises_none c.args.limits c.in_ok-parents.parents.listing.places.items c.args.rows.now.items;
 }
 
 pub raise_rows-requires-clause-stand : goal.raise_rows-requires-clause-stand
@@ -31,4 +32,4 @@ loop-parents-smaller c =
 pub returns : goal.returns
 returns c =
     round_ends c.args.limits c.in_ok-parents.parents c.args.rows.now.items c.loop-parents.rows.items c.raise_rows.new.rows.items c.in_ok-raise_rows.field-0 c.if-branch.false
-    c.loop-parents.invariant.parents c.loop-parents.invariant.raises c.in_ok-raise_rows.ensures.raised c.in_ok-raise_rows.ensures.settled
+    c.loop-parents.invariant.parents (recursion_from_All IsSplit c.args.rows.now.items c.requires) c.loop-parents.invariant.raises c.in_ok-raise_rows.ensures.raised c.in_ok-raise_rows.ensures.settled

@@ -1,4 +1,4 @@
--- What the compiler came to is what it promises, once it is told.
+-- What the compiler came to is what it promises, once it is reported.
 use Rattle.std.proofs.Common.{refl}
 use Rattle.pc_command.specs.Requests.{compile_command_of}
 use Rattle.pc_command.specs.Words.{spelled}
@@ -14,5 +14,5 @@ returns-clause-promise g c = λ input.
     let out_now = streamed (g.O.Sink.taken after.out) (g.O.Sink.faults after.out) in
     let err = streamed (g.E.Sink.taken c.args.err.now) (g.E.Sink.faults c.args.err.now) in
     let err_now = streamed (g.E.Sink.taken c.tell.new.err) (g.E.Sink.faults c.tell.new.err) in
-    compiler_promise (compile_command_of (spelled c.args.words.now)) _ (outside_of (g.H.Shelf.state c.args.shelf.now) input out err)
+    compiler_promise (compile_command_of (spelled c.args.words.now)) _ _ (outside_of (g.H.Shelf.state c.args.shelf.now) input out err)
     (outside_of (g.H.Shelf.state after.shelf) input out_now err_now) c.run_compiler-due.result c.tell.result c.run_compiler-due.ensures.ends refl c.tell.ensures

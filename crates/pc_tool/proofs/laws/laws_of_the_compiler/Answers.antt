@@ -1,5 +1,6 @@
+use Rattle.pc_pass.specs.Pass.{Chain}
 use Rattle.pc_tool.proofs.CompilerStatuses.{statuses_of}
 use Rattle.pc_tool.proofs.laws.laws_of_the_compiler.Goals as goal
 
 pub returns : goal.returns
-returns c = statuses_of
+returns g c = λ before after given. statuses_of given (Chain g.P.Pass.does g.P.Pass.changed before after)

@@ -6,7 +6,7 @@ use Rattle.pc_check.specs.Checks.{resolved_of}
 use Rattle.pc_machine.specs.MachineCode.{row_of}
 use Rattle.pc_object.specs.ObjectText.{object_of}
 use Rattle.pc_object.proofs.Ranges.{few_rows}
-use Rattle.pc_table.specs.Table.{table_of}
+use Rattle.pc_table.specs.StoredTable.{table_of}
 use Rattle.pc_tool.proofs.Translations.{is_translation, uncompiled}
 use Rattle.pc_tool.proofs.translation.translate.Goals as goal
 
@@ -25,6 +25,6 @@ overflow_cast-result g c =
 pub returns-clause-translation : goal.returns-clause-translation
 returns-clause-translation g c =
     let made = c.in_ok-flow.field-0 in
-    is_translation c.args.limits c.args.extent c.args.text.now (resolved_of c.in_ok-checked.checked) made.flow (table_of made.table) made.choices (object_of made.object) _ c.in_ok-checked.ensures
+    is_translation _ c.args.limits c.args.extent c.args.text.now (resolved_of c.in_ok-checked.checked) made.flow (table_of made.table) made.choices (object_of made.object) _ c.in_ok-checked.ensures
     c.in_ok-flow.ensures.compiled c.in_ok-bytes.ensures.words c.in_ok-bytes.ensures.text c.count.ensures.number
     (c.len.ensures ∙ sym (length-map made.object.code.rows row_of)) refl

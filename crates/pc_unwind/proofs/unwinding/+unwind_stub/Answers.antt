@@ -1,7 +1,7 @@
 use Rattle.std.proofs.Common.{◌≡◌, sym, ap, subst, arith}
 use Rattle.std.specs.Prelude.{◌<◌, true, None}
 use Rattle.std.proofs.lemmas.Result.{IfOk-weaker}
-use Rattle.pc_table.specs.Table.{table_of}
+use Rattle.pc_table.specs.StoredTable.{table_of}
 use Rattle.pc_window.specs.Tree.{Tree, Exit, tree_size}
 use Rattle.pc_window.specs.Opening.{Grafted}
 use Rattle.pc_window.specs.Unwinding.{least_inside, Unwinds}
@@ -45,7 +45,7 @@ unwind_stub-requires t c =
     let stub : StubIsThere table c.in-Exit.region homes = subst (StubsAreThere table) (sym whole) c.requires.stubs in
     let root : RootStaysAtMost table most_root_tag (Exit c.in-Exit.region c.in-Exit.tag homes) = subst (RootStaysAtMost table most_root_tag) (sym whole) c.requires.root in
     let steps = ap (stub_steps table) whole in
-    let fewer = replaced_steps c.args.table.now c.requires.kept c.requires.few c.args.inside c.in-Exit.tag c.in-Exit.region homes stub c.args.growth.now c.replace_stub.new.growth
+    let fewer = replaced_steps c.args.table.now c.args.inside c.in-Exit.tag c.in-Exit.region homes stub c.args.growth.now c.replace_stub.new.growth
     done.tree done.replaces in
     let left = ap (stub_steps table) done.same in
     let more = ap tree_size done.same in
@@ -54,29 +54,23 @@ unwind_stub-requires t c =
     let falls : stub_steps table (tree_in c.replace_stub.new.tree) < t = omega arith in (
       falls,
       (
-        c.requires.kept,
+        c.requires.several,
         (
-          c.requires.few,
+          c.requires.number,
           (
-            c.requires.several,
+            done.nodes,
             (
-              c.requires.number,
+              subst (StubsAreThere table) (sym done.same)
+                  (replaced_there c.args.table.now c.args.inside c.in-Exit.tag c.in-Exit.region homes stub c.args.growth.now c.replace_stub.new.growth
+                  done.tree done.replaces),
               (
-                done.nodes,
+                replaced_room c.args.table.now c.args.inside c.in-Exit.tag c.in-Exit.region homes stub c.args.growth.now c.replace_stub.new.growth
+                    done.tree done.replaces c.requires.room,
                 (
-                  subst (StubsAreThere table) (sym done.same)
-                      (replaced_there c.args.table.now c.requires.kept c.requires.few c.args.inside c.in-Exit.tag c.in-Exit.region homes stub c.args.growth.now c.replace_stub.new.growth
-                      done.tree done.replaces),
-                  (
-                    replaced_room c.args.table.now c.requires.kept c.requires.few c.args.inside c.in-Exit.tag c.in-Exit.region homes stub c.args.growth.now c.replace_stub.new.growth
-                        done.tree done.replaces c.requires.room,
-                    (
-                      omega arith,
-                      subst (RootStaysAtMost table most_root_tag) (sym done.same)
-                          (replaced_root c.args.table.now c.requires.kept c.requires.few c.args.inside c.in-Exit.tag c.in-Exit.region homes stub c.args.growth.now
-                          c.replace_stub.new.growth done.tree done.replaces most_root_tag root),
-                    ),
-                  ),
+                  omega arith,
+                  subst (RootStaysAtMost table most_root_tag) (sym done.same)
+                      (replaced_root c.args.table.now c.args.inside c.in-Exit.tag c.in-Exit.region homes stub c.args.growth.now
+                      c.replace_stub.new.growth done.tree done.replaces most_root_tag root),
                 ),
               ),
             ),

@@ -1,4 +1,4 @@
-use Rattle.pc_table.specs.Table.{table_of}
+use Rattle.pc_table.specs.StoredTable.{table_of}
 use Rattle.pc_window.specs.StoredWindow.{tree_in}
 use Rattle.pc_unwind.specs.models.Remaining.{stub_steps}
 use Rattle.pc_unwind.proofs.unwinding.+unwind_stub.Given as goal

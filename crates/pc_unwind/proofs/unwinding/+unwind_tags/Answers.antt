@@ -1,7 +1,7 @@
 use Rattle.std.proofs.Common.{◌≡◌, ◌∙◌, Some, sym, ap, subst, arith}
 use Rattle.std.specs.Prelude.{◌-◌, ◌^◌, ◌<◌, false}
 use Rattle.std.proofs.lemmas.Result.{IfOk-weaker}
-use Rattle.pc_table.specs.Table.{table_of}
+use Rattle.pc_table.specs.StoredTable.{table_of}
 use Rattle.pc_window.specs.Unwinding.{least_inside, or_zero, unwinds_no_more}
 use Rattle.pc_window.specs.StoredWindow.{tree_in}
 use Rattle.pc_unwind.specs.models.Walking.{most_root_tag, with_growth, Walks, tags_from}
@@ -46,24 +46,18 @@ unwind_tags-requires t c =
     let falls : tags_from (least_inside table c.args.inside after) < t = omega arith in (
       falls,
       (
-        c.requires.kept,
+        c.requires.several,
         (
-          c.requires.few,
+          c.requires.number,
           (
-            c.requires.several,
+            c.in_ok-full.ensures.nodes,
             (
-              c.requires.number,
+              c.in_ok-full.ensures.stubs,
               (
-                c.in_ok-full.ensures.nodes,
+                c.in_ok-full.ensures.room,
                 (
-                  c.in_ok-full.ensures.stubs,
-                  (
-                    c.in_ok-full.ensures.room,
-                    (
-                      walked_size table c.args.inside c.in-Some.tag before after c.args.growth.now c.walk.new.growth c.requires.size false walks,
-                      walked_root table c.args.inside c.in-Some.tag before after c.args.growth.now c.walk.new.growth c.requires.size most_root_tag false walks c.requires.root,
-                    ),
-                  ),
+                  walked_size table c.args.inside c.in-Some.tag before after c.args.growth.now c.walk.new.growth c.requires.size false walks,
+                  walked_root table c.args.inside c.in-Some.tag before after c.args.growth.now c.walk.new.growth c.requires.size most_root_tag false walks c.requires.root,
                 ),
               ),
             ),

@@ -1,4 +1,4 @@
-use Rattle.pc_table.specs.Table.{table_of}
+use Rattle.pc_table.specs.StoredTable.{table_of}
 use Rattle.pc_window.specs.StoredWindow.{tree_in}
 use Rattle.pc_window.specs.Unwinding.{least_inside}
 use Rattle.pc_unwind.specs.models.Walking.{tags_from}

@@ -1,4 +1,4 @@
-use Rattle.pc_table.specs.Table.{table_of}
+use Rattle.pc_table.specs.StoredTable.{table_of}
 use Rattle.pc_window.specs.StoredWindow.{window_in}
 use Rattle.pc_window.proofs.Proper.{unwinds_proper}
 use Rattle.pc_window.proofs.Settling.{unwinds_keep}
@@ -18,7 +18,7 @@ unwind_tree-requires-clause-room c =
 
 pub unwind_tree-requires-clause-root : goal.unwind_tree-requires-clause-root
 unwind_tree-requires-clause-root c =
-    single_root c.args.table.now c.args.window c.in_ok-tree.tree c.in_ok-tree.ensures.tree c.requires.kept c.requires.few c.requires.able
+    single_root c.args.table.now c.args.window c.in_ok-tree.tree c.in_ok-tree.ensures.tree c.requires.able
 
 pub returns-clause-unwinds : goal.returns-clause-unwinds
 returns-clause-unwinds c =
@@ -27,10 +27,10 @@ returns-clause-unwinds c =
 
 pub returns-clause-grown : goal.returns-clause-grown
 returns-clause-grown c =
-    has_grown (table_of c.args.table.now) c.requires.kept c.args.number (window_in c.args.window) _ (returns-clause-unwinds c)
+    has_grown (table_of c.args.table.now) c.args.table.now.kept c.args.number (window_in c.args.window) _ (returns-clause-unwinds c)
 
 pub returns-clause-proper : goal.returns-clause-proper
 returns-clause-proper c = unwinds_proper (table_of c.args.table.now) c.args.number (window_in c.args.window) _ (returns-clause-unwinds c)
 
 pub returns-clause-keeps : goal.returns-clause-keeps
-returns-clause-keeps c = unwinds_keep (table_of c.args.table.now) c.requires.kept c.args.number (window_in c.args.window) _ (returns-clause-unwinds c)
+returns-clause-keeps c = unwinds_keep (table_of c.args.table.now) c.args.table.now.kept c.args.number (window_in c.args.window) _ (returns-clause-unwinds c)

@@ -1,6 +1,6 @@
 use Rattle.std.proofs.Common.{rules, ℕ, ◌≡◌, ◌∙◌, sym, ap, subst, arith}
 use Rattle.std.proofs.lemmas.Result.{IfOk-weaker}
-use Rattle.pc_table.specs.Table.{table_of}
+use Rattle.pc_table.specs.StoredTable.{table_of}
 use Rattle.pc_window.specs.Tree.{Tree, Pending, Undecided, Exit, tree_size}
 use Rattle.pc_window.specs.StoredWindow.{tree_in}
 use Rattle.pc_unwind.specs.models.Remaining.{walk_steps}
@@ -15,7 +15,7 @@ use Rattle.pc_unwind.proofs.walking.+walk.Goals as goal
 pub walk-requires : goal.walk-requires
 walk-requires t c =
     let steps = ap (walk_steps (table_of c.args.table.now)) c.in-Step.is in (
-      part_falls c.args.table.now c.requires.kept c.requires.few c.args.growth.now.size c.args.growth.now.size t c.args.tree.now c.deref_mut.result.now c.in-Step.rest.value
+      part_falls c.args.table.now c.args.growth.now.size c.args.growth.now.size t c.args.tree.now c.deref_mut.result.now c.in-Step.rest.value
           c.decreases (omega arith) c.deref_mut.ensures.value (omega arith),
       search rules,
     )
@@ -23,7 +23,7 @@ walk-requires t c =
 pub walk-requires-in-Test : goal.walk-requires-in-Test
 walk-requires-in-Test t c =
     let steps = ap (walk_steps (table_of c.args.table.now)) c.in-Test.is in (
-      part_falls c.args.table.now c.requires.kept c.requires.few c.args.growth.now.size c.args.growth.now.size t c.args.tree.now c.deref_mut-in-Test.result.now c.in-Test.yes.value
+      part_falls c.args.table.now c.args.growth.now.size c.args.growth.now.size t c.args.tree.now c.deref_mut-in-Test.result.now c.in-Test.yes.value
           c.decreases (omega arith) c.deref_mut-in-Test.ensures.value (omega arith),
       search rules,
     )
@@ -37,14 +37,11 @@ walk-requires-in-Test-2 t c =
     let two = ap tree_size (ap tree_in c.deref_mut-in-Test-2.ensures.value) in
     let part = c.requires.part in
     let fits =
-    other_fits c.args.table.now c.requires.kept c.requires.few c.args.inside c.args.tag (tree_in c.deref_mut-in-Test.result.now) (tree_in c.walk-in-Test.new.tree)
+    other_fits c.args.table.now c.args.inside c.args.tag (tree_in c.deref_mut-in-Test.result.now) (tree_in c.walk-in-Test.new.tree)
     (tree_in c.deref_mut-in-Test-2.result.now) c.args.growth.now c.walk-in-Test.new.growth c.in_ok-full-in-Test.full c.in_ok-full-in-Test.ensures.walks (omega arith) in (
-      part_falls c.args.table.now c.requires.kept c.requires.few c.args.growth.now.size c.walk-in-Test.new.growth.size t c.args.tree.now c.deref_mut-in-Test-2.result.now c.in-Test.no.value
+      part_falls c.args.table.now c.args.growth.now.size c.walk-in-Test.new.growth.size t c.args.tree.now c.deref_mut-in-Test-2.result.now c.in-Test.no.value
           c.decreases more c.deref_mut-in-Test-2.ensures.value (omega arith),
-      (
-        c.requires.kept,
-        (c.requires.few, (c.requires.tag, (search rules, (search rules, (c.in_ok-full-in-Test.ensures.room, fits))))),
-      ),
+      (c.requires.tag, (search rules, (search rules, (c.in_ok-full-in-Test.ensures.room, fits)))),
     )
 
 pub returns-in-Step-clause-walks : goal.returns-in-Step-clause-walks
@@ -92,26 +89,20 @@ walk-requires-in-Exit t c =
     let steps = ap (walk_steps table) c.in-Exit.is in
     let size = ap tree_size done.same in
     let grown = done.replaces.size in (
-      replaced_falls c.args.table.now c.requires.kept c.requires.few c.args.inside c.args.tag c.in-Exit.region homes stub c.args.growth.now c.replace_stub.new.growth done.tree done.replaces
+      replaced_falls c.args.table.now c.args.inside c.args.tag c.in-Exit.region homes stub c.args.growth.now c.replace_stub.new.growth done.tree done.replaces
           t c.args.tree.now c.replace_stub.new.tree c.decreases (omega arith) done.same,
       (
-        c.requires.kept,
+        c.requires.tag,
         (
-          c.requires.few,
+          done.nodes,
           (
-            c.requires.tag,
+            subst (StubsAreThere table) (sym done.same)
+                (replaced_there c.args.table.now c.args.inside c.args.tag c.in-Exit.region homes stub c.args.growth.now c.replace_stub.new.growth
+                done.tree done.replaces),
             (
-              done.nodes,
-              (
-                subst (StubsAreThere table) (sym done.same)
-                    (replaced_there c.args.table.now c.requires.kept c.requires.few c.args.inside c.args.tag c.in-Exit.region homes stub c.args.growth.now c.replace_stub.new.growth
-                    done.tree done.replaces),
-                (
-                  replaced_room c.args.table.now c.requires.kept c.requires.few c.args.inside c.args.tag c.in-Exit.region homes stub c.args.growth.now c.replace_stub.new.growth
-                      done.tree done.replaces c.requires.room,
-                  omega arith,
-                ),
-              ),
+              replaced_room c.args.table.now c.args.inside c.args.tag c.in-Exit.region homes stub c.args.growth.now c.replace_stub.new.growth
+                  done.tree done.replaces c.requires.room,
+              omega arith,
             ),
           ),
         ),

@@ -1,5 +1,5 @@
 use Rattle.std.proofs.Common.{◌+◌, ◌-◌, ◌*◌, ◌^◌}
-use Rattle.pc_table.specs.Table.{table_of}
+use Rattle.pc_table.specs.StoredTable.{table_of}
 use Rattle.pc_unwind.specs.models.Remaining.{walk_steps}
 use Rattle.pc_unwind.proofs.walking.+walk.Given as goal
 

@@ -1,18 +1,18 @@
-use Rattle.std.proofs.Common.{◌≡◌, ◌∙◌, ◌+◌, ℕ, suc, ◌<◌, length, ap, subst, sym, arith}
+use Rattle.std.proofs.Common.{◌≡◌, ◌∙◌, ◌+◌, ℕ, suc, length, ap, subst, sym, arith}
 use Rattle.std.specs.List.{AllByRecursion}
 use Rattle.std.specs.Option.{option_map}
 use Rattle.std.specs.Prelude.{slice_get}
 use Rattle.pc_word.proofs.Lists.{all_back}
-use Rattle.pc_word.specs.Row.{At_leaf, Either, leaves_of}
-use Rattle.pc_machine.specs.MachineCode.{CodeRow, Leads_to, row_of}
+use Rattle.pc_word.specs.Row.{Either, leaves_of}
+use Rattle.pc_machine.specs.MachineCode.{CodeRow, row_of}
 use Rattle.pc_machine.specs.WellFormed.{IsLeaf}
 use Rattle.pc_view.specs.Leading.{leads_to}
 use Rattle.pc_view.specs.models.Lists.{noted_where}
 use Rattle.pc_view.specs.models.Rows.{row_size}
-use Rattle.pc_view.proofs.LeadingRows.{leads_to-Either, noted_at, noted_where-both, ok_map}
+use Rattle.pc_view.proofs.LeadingRows.{leads_to-Either, noted_where-both, ok_map}
 use Rattle.pc_view.proofs.leading.+note_leaves.Goals as goal
 
--- the no side, behind the yes side
+-- the no side, after the yes side
 pub note_leaves-requires-in-Test-2 : goal.note_leaves-requires-in-Test-2
 note_leaves-requires-in-Test-2 t c =
     let one = row_of c.in-Test.yes.value in
@@ -28,7 +28,7 @@ note_leaves-requires-in-Test-2 t c =
           (subst (λ t. AllByRecursion (IsLeaf (length c.args.lists.now)) (leaves_of (row_of t))) (sym c.deref-in-Test-2.ensures) leaves),
     )
 
--- both sides, one behind the other
+-- both sides, one after the other
 pub returns-in_ok-note_leaves-in-Test : goal.returns-in_ok-note_leaves-in-Test
 returns-in_ok-note_leaves-in-Test t c =
     let one = row_of c.in-Test.yes.value in
@@ -46,13 +46,3 @@ returns-in_ok-note_leaves-in-Test t c =
     ∙ noted_where-both (leads_to target one) (leads_to target other) c.args.number (slice_get c.args.lists.now target)
     ∙ ap (λ b. option_map (noted_where b c.args.number) (slice_get c.args.lists.now target))
     (sym (leads_to-Either target c.in-Test.on one other) ∙ ap (leads_to target) (sym is))) c.note_leaves-in-Test-2.ensures
-
-pub returns-in-Goto : goal.returns-in-Goto
-returns-in-Goto t c =
-    let is : row_of c.args.row.now ≡ At_leaf (Leads_to c.in-Goto.row) = ap row_of c.in-Goto.is in
-    let there : c.in-Goto.row < length c.args.lists.now =
-    (subst (λ (row : CodeRow). AllByRecursion (IsLeaf (length c.args.lists.now)) (leaves_of row)) is c.requires).0 in
-    ok_map c.note.result (λ new target.
-    noted_at c.args.lists.now c.in-Goto.row c.args.number target _ c.note.new.list there new
-    ∙ ap (λ (row : CodeRow). option_map (noted_where (leads_to target row) c.args.number) (slice_get c.args.lists.now target))
-    (sym is)) c.note.ensures

@@ -1,4 +1,4 @@
--- What the viewer came to is what it promises, once it is told.
+-- What the viewer came to is what it promises, once it is reported.
 use Rattle.pc_command.specs.Requests.{view_command_of}
 use Rattle.pc_command.specs.Words.{spelled}
 use Rattle.pc_driver.specs.Streams.{streamed}

@@ -1,4 +1,4 @@
-use Rattle.pc_window.proofs.Settling.{unwinds_keep, tidies_keep, tidies_roots, rebases_keep}
+use Rattle.pc_window.proofs.Settling.{unwinds_keep, tidies_keep, tidies_keep_walk, tidies_roots, rebases_keep}
 use Rattle.pc_window.proofs.Proper.{unwinds_proper, tidies_proper, rebases_proper}
 use Rattle.pc_window.proofs.Tidying.{tidied_is_tidy}
 use Rattle.pc_window.proofs.FirstJumps.{unwinding_one}
@@ -12,6 +12,9 @@ returns-clause-one_end c = unwinding_one
 
 pub returns-clause-tidying : goal.returns-clause-tidying
 returns-clause-tidying c = λ table w v h p. (tidies_proper w v h p, tidies_keep table w v h)
+
+pub returns-clause-tidying_walk : goal.returns-clause-tidying_walk
+returns-clause-tidying_walk c = tidies_keep_walk
 
 pub returns-clause-tidy : goal.returns-clause-tidy
 returns-clause-tidy c = tidied_is_tidy

@@ -39,7 +39,7 @@ follow-requires c =
     let code = c.self.inside.code in
     let held = c.self.inside.values in
     let tree = c.index-as_slice-self.result in
-    leads-within code c.self.inside.row (row_of tree) (state_of held) c.in-Done.next _ (state_of c.run_row.new.values) (lengths_of held.cells) c.self.invariant.well
+    leads-within code c.self.inside.row (row_of tree) (state_of held) c.in-Done.leaf _ (state_of c.run_row.new.values) (lengths_of held.cells) c.self.invariant.well
     (row-at code.rows c.as_slice.result.now c.self.inside.row tree c.as_slice.ensures c.self.invariant.row c.index-as_slice-self.is) c.in-Done.ensures.step
 
 pub returns-in-Faulted-clause-step : goal.returns-in-Faulted-clause-step
@@ -60,6 +60,6 @@ returns-in-Done-clause-step c =
     let after : Standing = record { code = inside.code; row = inside.row; held = c.run_row.new.values; over = inside.over } in
     let going : inside.over ≡ false = ap (λ (s : Standing). s.over) c.self.view_is ∙ c.requires in
     subst (λ (s : Standing). IsStep c.follow.result c.follow.new.self (machine_step (code_of s.code) (here_of s))) c.self.view_is
-    (step-done standing after (row_of tree) c.in-Done.printed c.in-Done.next c.follow.result c.follow.new.self
+    (step-done standing after (row_of tree) c.in-Done.printed c.in-Done.leaf c.follow.result c.follow.new.self
     (row-at inside.code.rows c.as_slice.result.now inside.row tree c.as_slice.ensures c.self.invariant.row c.index-as_slice-self.is)
     c.self.invariant.lengths c.in-Done.ensures.step going c.follow.ensures.event c.follow.ensures.moved)
