@@ -43,14 +43,14 @@ mutual
 pub outwards-left : (before inside : Names) → inside.outer ≡ before.innermost ∷ before.outer → outwards inside ≡ left before inside
 outwards-left before inside same = ap (λ (scopes : List names.Scope). among scopes inside) same
 
--- the names after a list after a list
+-- the names after two lists in a row
 pub names_behind_list-appended : (front rest : SourceList) (n : Names) →
     names_behind_list (appended front rest) n ≡ names_behind_list rest (names_behind_list front n)
 unfolding names_behind
 names_behind_list-appended No_more rest n = refl
 names_behind_list-appended (More first others) rest n = names_behind_list-appended others rest (names_behind first n)
 
--- the faults of a list after a list
+-- the faults of two lists in a row
 pub list_faults-appended : (in_loop : Bool) (front rest : SourceList) (n : Names) →
     list_faults in_loop (appended front rest) n ≡ list_faults in_loop front n ++ list_faults in_loop rest (names_behind_list front n)
 unfolding names_behind statement_faults
@@ -59,7 +59,7 @@ list_faults-appended in_loop (More first others) rest n =
     ap (λ (found : List CheckError). statement_faults in_loop first n ++ found) (list_faults-appended in_loop others rest (names_behind first n))
     ∙ sym (append_assoc (statement_faults in_loop first n) (list_faults in_loop others (names_behind first n)) _)
 
--- the resolved form of a list after a list
+-- the resolved form of two lists in a row
 pub resolved_list-appended : (front rest : SourceList) (n : Names) →
     resolved_list (appended front rest) n ≡ appended (resolved_list front n) (resolved_list rest (names_behind_list front n))
 unfolding names_behind resolved_statement

@@ -6,7 +6,7 @@ use Rattle.pc_syntax.specs.Erasure.{list_of, statement_of}
 use Rattle.pc_check.specs.Sizes.{statement_size, list_size}
 use Rattle.pc_check.proofs.Rows.{list_of-more}
 
--- a list after a list adds its nodes
+-- two lists in a row have the nodes of both
 pub list_size-appended : (front rest : SourceList) → list_size (appended front rest) ≡ list_size front + list_size rest
 unfolding list_size
 list_size-appended No_more rest = omega arith

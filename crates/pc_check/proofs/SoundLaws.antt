@@ -213,7 +213,7 @@ mutual
   grows-list No_more n = grows-refl n
   grows-list (More first rest) n = grows-trans n (names_behind first n) _ (grows first n) (grows-list rest (names_behind first n))
 
--- a scope that is left after: its names are those before it, and the counts have grown
+-- a scope that was left: its names are those before it, and the counts have grown
 sane-left : (before inside : Names) → Sane before → before.scalars ≤ inside.scalars → length before.lengths ≤ length inside.lengths → Sane (left before inside)
 sane-left before inside sane more others =
     record { fits = λ k. fits_more (found before k) before.scalars (length before.lengths) inside.scalars (length inside.lengths) more others (sane.fits k) }

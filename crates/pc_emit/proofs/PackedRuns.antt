@@ -111,7 +111,8 @@ module _ (e : Emission) (keeps : TableKeeps e.table) (limits : Limits) (rows : L
     -- the next state is there, and its parameters have their values after the copies
     pub next_stands : (of : ℕ → ℕ) (s m : State) (number : ℕ) (arguments : List Operand) (leaf : Leaf) → Takes (slice_get states number) (length arguments)
         → LeafHolds of (To number arguments) s m
-        → (moves : LeadsThroughMoves e rows leaf (argument_moves of (register_of (registers number)) (state_parameters (slice_get states number)) arguments) (machine.Goto (e.places.state region number)))
+        → (moves : LeadsThroughMoves e rows leaf
+        (argument_moves of (register_of (registers number)) (state_parameters (slice_get states number)) arguments) (machine.Goto (e.places.state region number)))
         → StandsAt number (passed_state s (state_parameters (slice_get states number)) arguments) (after_rows table.arrays moves.copies m)
     next_stands of s m number arguments leaf takes holds moves = by_state (slice_get states number) refl takes (moves.arranged.done table.arrays m)
       where

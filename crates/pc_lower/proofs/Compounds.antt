@@ -175,7 +175,8 @@ lays_turns {b = b} {c = c} {h = h} {at = at} {start = start} {to = to} {y = y} {
     })
 
 -- `for`
-pub lays_for : {a b c : Draft} {h start to p : ℕ} {inside : Option ℕ} {mid ends : ℕ} (line : ℕ) (f : SourceList) (x : SourceExpression) (o : OptionalStatement) (s : SourceStatement) (b' c' r q own : ℕ)
+pub lays_for : {a b c : Draft} {h start to p : ℕ} {inside : Option ℕ} {mid ends : ℕ}
+    (line : ℕ) (f : SourceList) (x : SourceExpression) (o : OptionalStatement) (s : SourceStatement) (b' c' r q own : ℕ)
     → LaysLoops a b (expression_size x + 1 + (statement_size s + branch_size o)) h to (IsOr own (IsOwn (branch_loops o + loop_count s) ends))
     (TurnsNodes x o s own ends to b' c' r h q)
     → LaysLoops b c (list_size f) start h (IsOwn (list_loops f) mid) (ListNodes f inside mid start h b' c' r p h)

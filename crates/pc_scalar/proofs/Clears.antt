@@ -35,7 +35,8 @@ use Rattle.pc_scalar.specs.LoopTests.{KeepsLoopTests}
 use Rattle.pc_scalar.specs.Tally.{AreMany, IsWorkedOn}
 use Rattle.pc_scalar.specs.models.Plan.{Fits, planned}
 use Rattle.pc_scalar.specs.models.Ends.{Jump, FallsAlong, AreEnds, led}
-use Rattle.pc_scalar.specs.models.Needed.{IsNeeded, Read_always, Read_for, Read_behind, is_unwanted, is_needless, node_only_writes, node_needless, kept_reads, AreNeeded, cleared, AreCleared, IsClearing}
+use Rattle.pc_scalar.specs.models.Needed.{IsNeeded, Read_always, Read_for, Read_behind, is_unwanted, is_needless, node_only_writes, node_needless}
+use Rattle.pc_scalar.specs.models.Needed.{kept_reads, AreNeeded, cleared, AreCleared, IsClearing}
 use Rattle.pc_scalar.proofs.Chains.{one_end, stays_end, edge_led}
 use Rattle.pc_scalar.proofs.Skipping.{sides_there, KeepsEdges, IsSkipping, new_there, new_made_of, new_as_many, skipping_fits, end_leads, reachable_stays, skipping_keeps_tests}
 use Rattle.pc_scalar.proofs.Skipped.{Tells, skipping_counts}

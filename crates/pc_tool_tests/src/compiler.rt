@@ -181,7 +181,7 @@ const LONG: [Long; 12] = [
         behind: "\nint b[1];}",
         told: "too many arrays at line 2",
     },
-    // A missing semicolon far after is told as such.
+    // A missing semicolon far on is reported as such.
     Long {
         before: "int main(void){int x;",
         piece: "x=x+1;\n",

@@ -62,4 +62,5 @@ code-one_effect code i row names well at =
 -- the row at a place is the tree there
 pub row-at : (trees shown : List (RowTree Leaf)) (i : ℕ) (tree : RowTree Leaf) → shown ≡ trees → i < length trees → tree ≡ get_or shown i tree → slice_get (rows_of trees) i ≡ Some (row_of tree)
 row-at trees shown i tree same within is =
-    slice_get-map row_of trees i ∙ ap (λ (o : Option (RowTree Leaf)). option_map row_of o) (slice_get_read trees (length trees) i tree refl within (is ∙ ap (λ (ts : List (RowTree Leaf)). get_or ts i tree) same))
+    slice_get-map row_of trees i
+    ∙ ap (λ (o : Option (RowTree Leaf)). option_map row_of o) (slice_get_read trees (length trees) i tree refl within (is ∙ ap (λ (ts : List (RowTree Leaf)). get_or ts i tree) same))

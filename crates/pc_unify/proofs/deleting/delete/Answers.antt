@@ -11,4 +11,5 @@ returns-in_ok-delete_at-in-None-clause-proper c =
 pub returns-in_ok-delete_at-in-None-clause-keeps : goal.returns-in_ok-delete_at-in-None-clause-keeps
 returns-in_ok-delete_at-in-None-clause-keeps c =
     (deletion_keeps c.args.window.now (record { tree = c.delete_at.new.tree; names = c.args.window.now.names; limits = c.args.window.now.limits; inside = c.args.window.now.inside })
-    c.args.node.now c.args.place (record { tree = c.in_ok-delete_at-in-None.ensures.deleted; names = refl; bounds = record { limits = refl; inside = refl } }) (sym c.in-None.ensures) c.requires.proper).walk
+    c.args.node.now c.args.place (record { tree = c.in_ok-delete_at-in-None.ensures.deleted; names = refl; bounds = record { limits = refl; inside = refl } })
+    (sym c.in-None.ensures) c.requires.proper).walk
