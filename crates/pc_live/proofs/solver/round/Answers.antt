@@ -12,5 +12,6 @@ loop-at-preserved g c =
       grown = c.update.ensures.grown;
       rises = omega (arith, as_before, c.loop-at.invariant.rises);
       rose = λ e. omega (arith, as_before, c.loop-at.invariant.rose e);
-      closed = λ e. turn_closed g.A.BackwardAnalysis.counts c.args.flow.now c.loop-at.sets c.update.new.sets c.loop-at.at same (c.update.ensures.closed c.if-update.false) (c.loop-at.invariant.closed e);
+      closed = λ e. turn_closed g.A.BackwardAnalysis.counts c.args.flow.now c.loop-at.sets c.update.new.sets c.loop-at.at same
+          (c.update.ensures.closed c.if-update.false) (c.loop-at.invariant.closed e);
     }
