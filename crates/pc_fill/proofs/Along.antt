@@ -6,14 +6,11 @@ use Rattle.pc_word.specs.declared.item.Operand.{Operand}
 use Rattle.pc_word.specs.Items.{dest_of}
 use Rattle.pc_window.specs.Rename.{mapped}
 use Rattle.pc_window.specs.Tree.{Tree, Pending, Undecided, Front, Issued, Split, Unfinished, whole, tree_size}
-use Rattle.pc_window.specs.declared.tree.WindowTree.{WindowTree}
-use Rattle.pc_window.specs.StoredWindow.{tree_in, front_in}
-use Rattle.pc_window.proofs.WindowsStored.{whole_in}
 use Rattle.pc_fill.specs.declared.landing.Coming.{Coming}
 use Rattle.pc_fill.specs.models.Taking.{taken_out}
 use Rattle.pc_fill.specs.models.Landing.{joins, behind_leaf, above_test, place_or_root, landed, crossed, crosses}
 use Rattle.pc_fill.specs.models.Way.{Leads, To_item, To_test, Below_item, On_yes_side, On_no_side, Reaches, Behind_leaf, Behind_item, Behind_yes, Behind_no}
-use Rattle.pc_fill.specs.models.Way.{place_along, place_behind, taken_along, some_sides, crosses_along, leaf_along, above_along, landed_along}
+use Rattle.pc_fill.specs.models.Way.{taken_along, some_sides, crosses_along, leaf_along, above_along, landed_along}
 use Rattle.pc_fill.proofs.Entered.{at_below, on_yes_side, on_no_side}
 use Rattle.pc_word.specs.Naming.{renamed}
 
@@ -31,25 +28,6 @@ reaches_within front sides depth place (Behind_leaf rest s d n h) = leads_within
 reaches_within front sides depth place (Behind_item t o x rest s d n h) = let a = reaches_within rest s d n h in omega arith
 reaches_within front sides depth place (Behind_yes t o on p q s d n h) = let a = reaches_within p s d n h in omega arith
 reaches_within front sides depth place (Behind_no t o on p q s d n h) = let a = reaches_within q s d n h in omega arith
-
--- ---- the place
-
-place_led : (tree : Tree) (sides : List Bool) (depth place : ℕ) → Leads tree sides depth place → place_along tree sides depth ≡ place
-place_led tree sides depth place (To_item t o x rest) = refl
-place_led tree sides depth place (To_test t o on p q) = refl
-place_led tree sides depth place (Below_item t o x rest s d n h) = at_below 0 (λ k. suc (place_along rest s k)) (suc d) d refl ∙ ap suc (place_led rest s d n h)
-place_led tree sides depth place (On_yes_side t o on p q s d n h) = ap suc (place_led p s d n h)
-place_led tree sides depth place (On_no_side t o on p q s d n h) = ap (λ (k : ℕ). suc (tree_size p + k)) (place_led q s d n h)
-
-pub place_reached : (front : Front) (sides : List Bool) (depth place : ℕ) → Reaches front sides depth place → place_behind front sides depth ≡ place
-place_reached front sides depth place (Behind_leaf rest s d n h) = place_led rest s d n h
-place_reached front sides depth place (Behind_item t o x rest s d n h) = ap suc (place_reached rest s d n h)
-place_reached front sides depth place (Behind_yes t o on p q s d n h) = ap suc (place_reached p s d n h)
-place_reached front sides depth place (Behind_no t o on p q s d n h) = ap (λ (k : ℕ). suc (tree_size (whole p) + k)) (place_reached q s d n h)
-
--- the size of a side, as it is counted in memory
-pub size_counted : (tree : WindowTree) → tree_size (tree_in tree) ≡ tree_size (whole (front_in tree))
-size_counted tree = ap tree_size (sym (whole_in tree))
 
 -- ---- what is taken out
 

@@ -1,21 +1,18 @@
 -- What is first of all that is ready jumps first, with its first twin where it has one.
-use Rattle.std.proofs.Common.{◌≡◌, ℕ, suc, ◌+◌, ◌-◌, ◌<◌, ◌⊎◌, inl, inr, Bool, false, List, Option, Some, None, refl, sym, ◌∙◌, ap, subst, lt-ltb, arith}
-use Rattle.std.specs.Prelude.{nat_lt, ◌&&◌, slice_get}
-use Rattle.std.specs.List.{AllByRecursion}
+use Rattle.std.proofs.Common.{◌≡◌, ℕ, suc, ◌+◌, ◌-◌, ◌<◌, ◌⊎◌, inl, inr, Bool, false, Option, Some, None, refl, sym, ◌∙◌, ap, subst, lt-ltb, arith}
+use Rattle.std.specs.Prelude.{nat_lt, slice_get}
 use Rattle.pc_word.specs.declared.item.Item.{Item}
 use Rattle.pc_word.specs.declared.item.Operand.{Operand}
-use Rattle.pc_word.specs.Items.{dest_of, operands_of, is_effect}
+use Rattle.pc_word.specs.Items.{dest_of, operands_of}
 use Rattle.pc_word.specs.Commit.{writes}
 use Rattle.pc_linear.specs.Form.{Form}
-use Rattle.pc_linear.specs.Combine.{variable_form}
 use Rattle.pc_window.specs.Hold.{Side}
 use Rattle.pc_window.specs.Tree.{Tree, Pending, Undecided, Front, Issued, Split, Unfinished, whole, tree_size}
 use Rattle.pc_window.specs.Rename.{mapped}
-use Rattle.pc_window.specs.Names.{IsKnown, IsNew, ReadsKnown, Unwritten, NotWritten}
-use Rattle.pc_window.specs.Opening.{with_name, changed}
-use Rattle.pc_window.specs.declared.conflict.Touch.{Touch}
-use Rattle.pc_window.specs.Conflict.{touch_of, NoStoreDependence, MayFollow}
-use Rattle.pc_window.specs.Jump.{combined, Without, NewForm, Root, Past_item, Past_yes, Past_no, EntersFront, Lands, Lands_renamed, Lands_test, Lands_once, Behind_item, On_yes, On_no}
+use Rattle.pc_window.specs.Names.{IsNew, ReadsKnown, Unwritten, NotWritten}
+use Rattle.pc_window.specs.Opening.{with_name}
+use Rattle.pc_window.specs.Conflict.{MayFollow}
+use Rattle.pc_window.specs.Jump.{combined, Without, Root, Past_item, Past_yes, Past_no, EntersFront, Lands, Lands_renamed, Lands_test, Lands_once, Behind_item, On_yes, On_no}
 use Rattle.pc_window.specs.Filled.{risen_place, priority_of, deeper, TwinsAlike, given_supply}
 use Rattle.pc_window.specs.Ready.{CanRise, Stands_here, Stands_below, Stands_on_yes, Stands_on_no, MayStandBehind, IsReadyAt, Item_ready, Test_ready, Ready_below, Ready_on_yes, Ready_on_no}
 use Rattle.pc_window.proofs.Readiness.{Alike, alike, dest_named, clear_alike, Risen, not_written_named, follows_alike, reads_alike, gives_next}

@@ -1,14 +1,12 @@
 -- Filling goes on from jump to jump, and ends.
-use Rattle.std.proofs.Common.{◌≡◌, ℕ, suc, ◌+◌, ◌-◌, ◌*◌, ◌<◌, ◌≤◌, ◌^◌, Bool, Option, Some, None, length, refl, sym, ◌∙◌, ap, subst, arith}
+use Rattle.std.proofs.Common.{◌≡◌, ℕ, suc, ◌+◌, ◌-◌, ◌*◌, ◌<◌, ◌≤◌, ◌^◌, Bool, Option, Some, None, length, sym, ◌∙◌, ap, subst, arith}
 use Rattle.pc_word.specs.declared.item.Item.{Item}
 use Rattle.pc_word.specs.declared.item.Limits.{Limits}
-use Rattle.pc_word.specs.declared.item.Operand.{Operand}
 use Rattle.pc_linear.specs.Form.{Form}
 use Rattle.pc_window.specs.declared.window.Window.{Window as StoredWindow}
-use Rattle.pc_window.specs.Tree.{Tree, Pending, Undecided, Exit, Stop_exit, Trap_exit, Front, Issued, Split, Unfinished, whole, tree_size}
+use Rattle.pc_window.specs.Tree.{Tree, Front, Issued, Split, Unfinished, whole, tree_size}
 use Rattle.pc_window.specs.Names.{uses}
-use Rattle.pc_window.specs.Rename.{mapped}
-use Rattle.pc_window.specs.Jump.{Rises, Root, Past_item, Past_yes, Past_no, DividesTree, Root_test, Past, EntersFront, Lands, Lands_renamed, Lands_test, Lands_once, Behind_item, On_yes, On_no}
+use Rattle.pc_window.specs.Jump.{Rises, Root, Past_item, Past_yes, Past_no}
 use Rattle.pc_window.specs.Filled.{item_count, test_count, MostBehind, front_size, HasSpace, IsWindow, Filled, Full, Goes_on}
 use Rattle.pc_window.specs.Ready.{HasFresh, ReadyPlace}
 use Rattle.pc_window.specs.Steps.{IsProper, FillsTo}
@@ -27,7 +25,6 @@ use Rattle.pc_window.proofs.WindowsStored.{whole_in}
 use Rattle.pc_fill.proofs.Coming.{FirstJumpTo, come_first}
 use Rattle.pc_window.proofs.Proper.{StaysNew, jump_below}
 use Rattle.pc_fill.proofs.StaysNew.{fresh_names, next_grows}
-use Rattle.pc_word.specs.Items.{reads}
 
 -- ---- sizes
 

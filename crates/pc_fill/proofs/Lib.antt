@@ -12,6 +12,7 @@ pub mod WalkedFront
 pub mod Taken
 pub mod Landed
 pub mod Entered
+pub mod AtPlaces
 pub mod Along
 pub mod Twins
 pub mod FirstJump

@@ -6,9 +6,9 @@ use Rattle.pc_word.specs.declared.item.Item.{Item}
 use Rattle.pc_word.specs.declared.item.Operand.{Operand}
 use Rattle.pc_window.specs.Names.{IsKnown}
 use Rattle.pc_window.specs.StoredWindow.{front_in, window_in}
-use Rattle.pc_fill.specs.declared.first.Setting.{Setting}
-use Rattle.pc_fill.specs.declared.first.Found.{Found}
-use Rattle.pc_fill.specs.declared.first.Search.{Search}
+use Rattle.pc_fill.specs.declared.walk.Setting.{Setting}
+use Rattle.pc_fill.specs.declared.walk.Found.{Found}
+use Rattle.pc_fill.specs.declared.walk.Search.{Search}
 use Rattle.pc_fill.specs.declared.path.Path.{Path}
 use Rattle.pc_fill.specs.models.Path.{is_plain, MayComeAlong, sides_of}
 use Rattle.pc_fill.specs.models.Places.{Node, known_in, IsReadyHere}

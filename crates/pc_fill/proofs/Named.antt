@@ -13,7 +13,7 @@ use Rattle.pc_window.specs.Opening.{Supply, with_name}
 use Rattle.pc_window.specs.Jump.{combined}
 use Rattle.pc_window.specs.Filled.{given_supply}
 use Rattle.pc_window.specs.StoredWindow.{front_in, forms_in, supply_in, window_in}
-use Rattle.pc_fill.specs.declared.first.Found.{Found}
+use Rattle.pc_fill.specs.declared.walk.Found.{Found}
 use Rattle.pc_fill.specs.models.Landing.{landed, came, new_name, FirstTwinOf, renames, coming_of, supply_after, HasCome}
 use Rattle.pc_fill.specs.models.Way.{Reaches, crosses_along, landed_along}
 use Rattle.pc_fill.specs.models.Walk.{found_at}

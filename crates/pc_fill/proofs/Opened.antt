@@ -1,10 +1,8 @@
 -- Windows that were just opened.
 use Rattle.std.proofs.Common.{◌≡◌, ◌<◌, ◌^◌, true, ap, arith}
-use Rattle.pc_window.specs.declared.tree.WindowTree.{WindowTree}
-use Rattle.pc_window.specs.declared.tree.WindowTree.TheVariants as stored
 use Rattle.pc_window.specs.declared.window.Window.{Window as StoredWindow}
 use Rattle.pc_window.specs.Tree.{whole, tree_size}
-use Rattle.pc_window.specs.StoredWindow.{tree_in, front_in, window_in, InNodes, IsJustOpened, NodesBehind}
+use Rattle.pc_window.specs.StoredWindow.{tree_in, front_in, window_in, InNodes, IsJustOpened}
 use Rattle.pc_fill.specs.Fillable.{IsFillable}
 use Rattle.pc_fill.specs.Laws.{OpenedWindowsCanBeFilled}
 use Rattle.pc_window.proofs.WindowsStored.{whole_in, in_nodes_behind}

@@ -1,5 +1,5 @@
 -- Places on the way down a tree: at the root, below an item, on a side of a test.
-use Rattle.std.proofs.Common.{◌≡◌, ◌≢◌, ◌↔◌, ℕ, zero, suc, ◌+◌, ◌-◌, ◌<◌, Bool, true, false, refl, sym, subst, lt-ltb, arith}
+use Rattle.std.proofs.Common.{◌≡◌, ◌≢◌, ℕ, zero, suc, ◌+◌, ◌-◌, ◌<◌, Bool, true, false, refl, sym, subst, lt-ltb, arith}
 use Rattle.std.specs.Prelude.{nat_eq, nat_lt}
 use Rattle.std.proofs.lemmas.Bool.{eqb-true, ltb-true}
 use Rattle.pc_window.specs.Hold.{Side}
@@ -54,6 +54,9 @@ module _ (On_yes On_no : ℕ → Type 0) (n m : ℕ) where
 -- at the root, and below it
 pub at_root : (place : ℕ) (At Below : Type 0) → place ≡ 0 → At → Side (nat_eq place 0) At Below
 at_root place At Below e h = subst (λ (n : ℕ). Side (nat_eq n 0) At Below) (sym e) h
+
+pub root_only : (place : ℕ) (At Below : Type 0) → place ≡ 0 → Side (nat_eq place 0) At Below → At
+root_only place At Below e h = subst (λ (n : ℕ). Side (nat_eq n 0) At Below) e h
 
 zero_test : (place : ℕ) → place ≢ 0 → nat_eq place 0 ≡ false
 zero_test zero ne = absurd (ne refl)

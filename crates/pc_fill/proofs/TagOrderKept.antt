@@ -11,8 +11,8 @@ use Rattle.pc_window.specs.Tree.{Tree, Pending, Undecided, Exit, Stop_exit, Trap
 use Rattle.pc_window.specs.Ready.{ReadyPlace}
 use Rattle.pc_window.specs.StoredWindow.{front_in, window_in}
 use Rattle.pc_window.proofs.WindowsStored.{whole_in}
-use Rattle.pc_fill.specs.declared.first.Found.{Found}
-use Rattle.pc_fill.specs.declared.first.Setting.{Setting}
+use Rattle.pc_fill.specs.declared.walk.Found.{Found}
+use Rattle.pc_fill.specs.declared.walk.Setting.{Setting}
 use Rattle.pc_fill.specs.declared.landing.Coming.{Coming}
 use Rattle.pc_fill.specs.models.Places.{Node, nodes_of, known_in}
 use Rattle.pc_fill.specs.models.Search.{StandsAt, BestBefore}

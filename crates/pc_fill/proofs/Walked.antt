@@ -13,9 +13,9 @@ use Rattle.pc_window.specs.Tree.{Tree, Pending, Undecided, Front, tree_size}
 use Rattle.pc_window.specs.Filled.{HasSpace}
 use Rattle.pc_window.specs.Ready.{ReadyPlace}
 use Rattle.pc_window.specs.StoredWindow.{front_in, window_in}
-use Rattle.pc_fill.specs.declared.first.Setting.{Setting}
+use Rattle.pc_fill.specs.declared.walk.Setting.{Setting}
 use Rattle.pc_fill.specs.declared.first.ReadyNode.{ReadyNode}
-use Rattle.pc_fill.specs.declared.first.Search.{Search}
+use Rattle.pc_fill.specs.declared.walk.Search.{Search}
 use Rattle.pc_fill.specs.declared.path.Path.{Path}
 use Rattle.pc_fill.specs.declared.room.Counts.{Counts}
 use Rattle.pc_fill.specs.models.Path.{is_plain, MayComeAlong, sides_of, LeadsOn}

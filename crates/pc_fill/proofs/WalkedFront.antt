@@ -1,7 +1,7 @@
 -- The walk through a window: its front, and the whole.
 use Rattle.std.proofs.Common.{◌≡◌, ℕ, suc, ◌+◌, ◌-◌, ◌<◌, Bool, true}
 use Rattle.std.proofs.Common.{false, List, [], ◌∷◌, ◌++◌, Option, Some, None, refl, sym, ap, subst, arith}
-use Rattle.std.specs.Prelude.{nat_lt, IfSome}
+use Rattle.std.specs.Prelude.{nat_lt}
 use Rattle.pc_word.specs.declared.item.Item.{Item}
 use Rattle.pc_word.specs.declared.item.Operand.{Operand}
 use Rattle.pc_word.specs.Items.{operands_of}
@@ -9,10 +9,10 @@ use Rattle.pc_window.specs.Hold.{Side}
 use Rattle.pc_window.specs.Tree.{Tree, Pending, Undecided, Front, Issued, Split, Unfinished, whole, tree_size}
 use Rattle.pc_window.specs.Ready.{MayStandBehind}
 use Rattle.pc_window.specs.StoredWindow.{front_in, window_in}
-use Rattle.pc_fill.specs.declared.first.Setting.{Setting}
+use Rattle.pc_fill.specs.declared.walk.Setting.{Setting}
 use Rattle.pc_fill.specs.declared.first.ReadyNode.{ReadyNode}
-use Rattle.pc_fill.specs.declared.first.Found.{Found}
-use Rattle.pc_fill.specs.declared.first.Search.{Search}
+use Rattle.pc_fill.specs.declared.walk.Found.{Found}
+use Rattle.pc_fill.specs.declared.walk.Search.{Search}
 use Rattle.pc_fill.specs.declared.path.Path.{Path}
 use Rattle.pc_fill.specs.declared.path.Path.TheVariants as path
 use Rattle.pc_fill.specs.models.Path.{is_plain, sides_of, LeadsOn}
@@ -20,11 +20,8 @@ use Rattle.pc_fill.specs.models.Places.{Node, known_in, MayComeFrom, IsReadyHere
 use Rattle.pc_fill.specs.models.Search.{BestBefore}
 use Rattle.pc_fill.specs.models.Way.{Reaches, Behind_leaf, Behind_item, Behind_yes, Behind_no}
 use Rattle.pc_fill.specs.models.Walk.{all_in, forms_of, MayComeHere, IsSetting, ComesInFront}
-use Rattle.pc_fill.specs.models.Walk.{found_at, placed, place_found, LeadsToFound, BestSoFar, FindsFirst, LooksBehind, LooksThrough}
+use Rattle.pc_fill.specs.models.Walk.{found_at, placed, LeadsToFound, BestSoFar, FindsFirst, LooksBehind, LooksThrough}
 use Rattle.pc_fill.proofs.Sides.{to_below, from_below, to_yes, from_yes, to_no, from_no}
-use Rattle.pc_fill.specs.FirstReady.{IsFirstReady}
-use Rattle.pc_window.specs.declared.window.Window.{Window as StoredWindow}
-use Rattle.pc_fill.proofs.Along.{place_reached}
 use Rattle.pc_fill.proofs.Searching.{look_unready, item_stands, rest_stands, test_stands, yes_stands, no_stands, all_stands}
 use Rattle.pc_fill.proofs.Searching.{nothing_before, none_found, first_found}
 use Rattle.pc_fill.proofs.Plain.{issued_plain}
@@ -240,16 +237,5 @@ whole_searched s before after set none looks =
         → LeadsToFound (front_in s.window.now.tree) found after.way.items at → FindsFirst (known_in s.known.now) (window_in s.window.now) found after.way.items
     by_case None at best way = none_found (known_in s.known.now) s.window.now (0 + tree_size (all_in s)) None refl best refl
     by_case (Some it) at best way = (at, way, first_found (known_in s.known.now) s.window.now (0 + tree_size (all_in s)) (Some (found_at it at)) refl best)
-
--- what was found, with its place, is the first of all
-pub first_placed : (known known' : ℕ → Bool) (w : StoredWindow) (best : Option Found) (way : List Bool) (result : Option ReadyNode) → known ≡ known'
-    → FindsFirst known (window_in w) best way → result ≡ placed best (place_found best way (front_in w.tree)) → IfSome result (IsFirstReady known' (window_in w))
-first_placed known known' w best way result same found is =
-    subst (λ (it : Option ReadyNode). IfSome it (IsFirstReady known' (window_in w))) (sym is)
-    (by_case best (subst (λ (k : ℕ → Bool). FindsFirst k (window_in w) best way) same found))
-  where
-    by_case : (it : Option Found) → FindsFirst known' (window_in w) it way → IfSome (placed it (place_found it way (front_in w.tree))) (IsFirstReady known' (window_in w))
-    by_case None h = tt
-    by_case (Some it) h = subst (λ (n : ℕ). IsFirstReady known' (window_in w) (found_at it n)) (sym (place_reached (front_in w.tree) way it.depth h.0 h.1)) h.2
 
 pub ruleset going = (went_behind, went_nowhere, went_past, went_past_plain, went_on_sides)

@@ -10,10 +10,10 @@ ghost use Rattle.pc_fill.specs.Fillable.{IsFillable, FilledFrom, above_front};
 ghost use Rattle.pc_fill.specs.models.Places.{known_in};
 ghost use Rattle.pc_fill.specs.models.CanFill.{CanFill, GrowsTo};
 
-use crate::first::first_known;
 use crate::jump::jump;
 use crate::known::parameters;
 use crate::tag_order::are_tags_in_order_behind;
+use crate::walk::first_known;
 use pc_window::{Window, WindowError};
 use pc_word::Limits;
 use std::alloc::{AllocError, Global};

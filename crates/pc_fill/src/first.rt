@@ -1,25 +1,20 @@
-//! The first item or test of a window that is ready and has room.
-ghost use Rattle.std.specs.Prelude.{◌≡◌, ◌↔◌, ◌<◌, ◌+◌, ◌^◌, ℕ, true, Some, None, ◌∷◌, [], OnOk, IfOk, IfSome};
-ghost use Rattle.pc_window.specs.Names.{uses};
+//! The first item or test of a window that is ready and has room, looked for place by place.
+ghost use Rattle.std.specs.Prelude.{◌≡◌, ◌↔◌, ◌<◌, ◌+◌, ◌^◌, ◌∷◌, [], true, Some, None, slice_get, IfSome};
+ghost use Rattle.pc_word.specs.Items.{operand_list, operands_of};
+ghost use Rattle.pc_window.specs.Names.{uses, Scoped};
 ghost use Rattle.pc_window.specs.Ready.{ReadyPlace};
 ghost use Rattle.pc_window.specs.Steps.{IsProper};
-ghost use Rattle.pc_fill.specs.FirstReady.{IsFirstReady};
-ghost use Rattle.pc_word.specs.Items.{operands_of};
-ghost use Rattle.pc_window.specs.Tree.{tree_size, whole};
 ghost use Rattle.pc_window.specs.StoredWindow.{tree_in, front_in, window_in};
-ghost use Rattle.pc_fill.specs.models.Places.{known_in, MayPass, MayCross};
-ghost use Rattle.pc_fill.specs.models.Search.{comes_before};
-ghost use Rattle.pc_fill.specs.models.Path.{sides_of};
-ghost use Rattle.pc_fill.specs.models.Walk.{forms_of, IsReadyThere, placed, place_found, LooksAt, LooksBehind, LooksBelow, LooksThrough, FindsFirst};
-ghost use Rattle.pc_fill.specs.models.TagOrder.{TagsInOrderBehind, comes_later};
+ghost use Rattle.pc_window.specs.Tree.{tree_size, whole};
+ghost use Rattle.pc_fill.specs.FirstReady.{IsFirstReady};
+ghost use Rattle.pc_fill.specs.models.Places.{nodes_of, node_of, node_in, unwritten_above, IsReadyHere};
+ghost use Rattle.pc_fill.specs.models.Search.{AreCounts, precedes, comes_before, BestBefore};
 
-use crate::known::{is_known, parameters, reads_known};
-use crate::path::{Path, is_plain, may_come_along, write_sides};
-use crate::room::{Counts, count_front, has_item_room, has_room};
-use crate::way::place_behind;
-use pc_window::{Window, WindowError, WindowTree};
-use pc_word::{Item, Operand};
-use std::alloc::{AllocError, Global};
+use crate::known::are_known_at;
+use crate::readiness::{may_come, size_up_to};
+use crate::room::{Counts, count_front, has_room};
+use pc_window::{Window, WindowTree};
+use pc_word::{Item, Operand, Operands};
 
 /// An item or test that stands behind the front of a window and is ready: its tag, its origin and
 /// its preorder place, and the item, or `None` where it is a test.
@@ -31,168 +26,63 @@ pub struct ReadyNode {
     pub item: Option<Item>,
 }
 
-/// What stays the same during a search: the window, the names that are known before it, the counts of
-/// its front, and whether tags are known never to fall on the way down behind it.
-#[derive(Drop)]
-pub(crate) struct Setting<'a> {
-    pub(crate) window: &'a Window,
-    pub(crate) known: &'a [bool],
-    pub(crate) counts: Counts,
-    pub(crate) in_order: bool,
-}
-
-/// What a search found, by the way that leads to it: its tag and its origin, how many items stand
-/// above it behind the front, and the item, or `None` where it is a test.
-#[derive(Clone, Copy, Debug)]
-pub(crate) struct Found {
+/// An item or test of a window that may be ready: its tag and its origin, the item, or `None` where
+/// it is a test, and what it reads.
+#[derive(Clone, Copy)]
+pub(crate) struct Candidate {
     pub(crate) tag: u32,
     pub(crate) origin: u32,
-    pub(crate) depth: u32,
     pub(crate) item: Option<Item>,
+    pub(crate) operands: Operands,
 }
 
-/// How far a search has come: the first that was found, and the sides of the tests above it, from
-/// the root down.
-#[derive(Debug, Drop)]
-pub(crate) struct Search {
-    pub(crate) best: Option<Found>,
-    pub(crate) way: Vec<bool>,
+/// Whether a tag and an origin come before others.
+pub(crate) fn precedes(tag: u32, origin: u32, other_tag: u32, other_origin: u32) -> bool
+    ensures { result ≡ precedes tag origin other_tag other_origin }
+{
+    tag < other_tag || (tag == other_tag && origin < other_origin)
 }
 
 /// Whether a tag and an origin come before those of what was found.
-fn comes_before(tag: u32, origin: u32, best: Option<Found>) -> bool
-    ensures { (place : ℕ) → result ≡ comes_before tag origin (placed best place) }
+fn comes_before(tag: u32, origin: u32, first: Option<ReadyNode>) -> bool
+    ensures { result ≡ comes_before tag origin first }
 {
-    match best {
+    match first {
         None => true,
-        Some(best) => tag < best.tag || (tag == best.tag && origin < best.origin),
+        Some(first) => precedes(tag, origin, first.tag, first.origin),
     }
 }
 
-/// Whether an item is ready and has room where this path leads to it.
-#[tactic(auto, using(crate::proofs::Looked::ready))]
-fn is_item_ready(setting: &Setting, path: &Path, item: Item) -> bool
-    ensures { (result ≡ true) ↔ IsReadyThere setting.now path.now (Some item) (operands_of item) }
-{
-    if !reads_known(setting.known, item) {
-        return false;
+impl Candidate {
+    /// An item.
+    fn of_item(tag: u32, origin: u32, item: Item) -> Candidate
+        ensures { node_of result ≡ record { tag = tag; origin = origin; what = Some item; operands = operands_of item } }
+    {
+        Candidate {
+            tag,
+            origin,
+            item: Some(item),
+            operands: item.operands(),
+        }
     }
-    if !has_room(setting.counts, setting.window.limits, Some(item)) {
-        return false;
-    }
-    if is_plain(item) {
-        return true;
-    }
-    may_come_along(&setting.window.names, path, Some(item))
-}
 
-/// Whether a test is ready and has room where this path leads to it.
-#[tactic(auto, using(crate::proofs::Looked::ready))]
-fn is_test_ready(setting: &Setting, path: &Path, on: Operand) -> bool
-    ensures { (result ≡ true) ↔ IsReadyThere setting.now path.now None (on ∷ []) }
-{
-    if !is_known(setting.known, on) {
-        return false;
-    }
-    if !has_room(setting.counts, setting.window.limits, None) {
-        return false;
-    }
-    may_come_along(&setting.window.names, path, None)
-}
-
-/// Takes what is found where a path leads for the first.
-fn keep(search: &mut Search, path: &Path, found: Found) -> Result<(), AllocError>
-    ensures best { OnOk result (search.new.best ≡ Some found) }
-    ensures way { OnOk result (search.new.way.items ≡ sides_of path.now) }
-{
-    search.way.clear();
-    write_sides(path, &mut search.way)?;
-    search.best = Some(found);
-    Ok(())
-}
-
-/// What is found once an item was looked at.
-#[tactic(auto, using(crate::proofs::Looked::looking))]
-fn look_at_item(
-    setting: &Setting,
-    path: &Path,
-    search: &mut Search,
-    tag: u32,
-    origin: u32,
-    depth: u32,
-    item: Item,
-) -> Result<(), AllocError>
-    ensures { OnOk result (LooksAt setting.now path.now depth (record { tag = tag; origin = origin; what = Some item; operands = operands_of item }) search.old search.new) }
-{
-    if !comes_before(tag, origin, search.best) {
-        return Ok(());
-    }
-    if !is_item_ready(setting, path, item) {
-        return Ok(());
-    }
-    let found = Found {
-        tag,
-        origin,
-        depth,
-        item: Some(item),
-    };
-    keep(search, path, found)
-}
-
-/// What is found once a test was looked at.
-#[tactic(auto, using(crate::proofs::Looked::looking))]
-fn look_at_test(
-    setting: &Setting,
-    path: &Path,
-    search: &mut Search,
-    tag: u32,
-    origin: u32,
-    depth: u32,
-    on: Operand,
-) -> Result<(), AllocError>
-    ensures { OnOk result (LooksAt setting.now path.now depth (record { tag = tag; origin = origin; what = None; operands = on ∷ [] }) search.old search.new) }
-{
-    if !comes_before(tag, origin, search.best) {
-        return Ok(());
-    }
-    if !is_test_ready(setting, path, on) {
-        return Ok(());
-    }
-    let found = Found {
-        tag,
-        origin,
-        depth,
-        item: None,
-    };
-    keep(search, path, found)
-}
-
-/// Whether an item or test of this tag, and all that stands below it, is known to come later than
-/// what was found.
-fn comes_later(in_order: bool, best: Option<Found>, tag: u32) -> bool
-    ensures { result ≡ comes_later in_order best tag }
-{
-    match best {
-        None => false,
-        Some(best) => in_order && best.tag < tag,
+    /// A test.
+    fn of_test(tag: u32, origin: u32, on: Operand) -> Candidate
+        ensures { node_of result ≡ record { tag = tag; origin = origin; what = None; operands = on ∷ [] } }
+    {
+        Candidate {
+            tag,
+            origin,
+            item: None,
+            operands: Operands::One(on),
+        }
     }
 }
 
-/// What is found once a tree behind the front was looked through, below so many items.
-///
-/// What comes later than what was found, with all below it, is passed over. Nothing below a test is
-/// ready where items have no room, since a test may not come up above another one.
-#[cycle(looking)]
-#[tactic(auto, using(crate::proofs::Walked::walking))]
-fn look_behind(
-    tree: &WindowTree,
-    setting: &Setting,
-    path: &Path,
-    depth: u32,
-    search: &mut Search,
-) -> Result<(), AllocError>
-    requires { depth + tree_size (tree_in tree.now) < 2 ^ 31 }
-    ensures { OnOk result (LooksBehind setting.now path.now depth (tree_in tree.now) search.old search.new) }
+/// The item or test at a preorder place of a tree.
+#[tactic(auto, using(crate::proofs::AtPlaces::standing))]
+fn node_at(tree: &WindowTree, place: u32) -> Option<Candidate>
+    ensures { node_in result ≡ slice_get (nodes_of (tree_in tree.now)) place }
 {
     match tree {
         WindowTree::Step {
@@ -201,11 +91,10 @@ fn look_behind(
             item,
             rest,
         } => {
-            if comes_later(setting.in_order, search.best, *tag) {
-                return Ok(());
+            if place == 0 {
+                return Some(Candidate::of_item(*tag, *origin, *item));
             }
-            look_at_item(setting, path, search, *tag, *origin, depth, *item)?;
-            look_below_item(rest, setting, path, *item, depth + 1, search)
+            node_at(rest, place - 1)
         }
         WindowTree::Test {
             tag,
@@ -214,163 +103,87 @@ fn look_behind(
             yes,
             no,
         } => {
-            if comes_later(setting.in_order, search.best, *tag) {
-                return Ok(());
+            if place == 0 {
+                return Some(Candidate::of_test(*tag, *origin, *on));
             }
-            look_at_test(setting, path, search, *tag, *origin, depth, *on)?;
-            if !has_item_room(setting.counts, setting.window.limits) {
-                return Ok(());
+            let on_yes = size_up_to(yes, place);
+            if place - 1 < on_yes {
+                return node_at(yes, place - 1);
             }
-            look_at_side(yes, setting, path, true, depth, search)?;
-            look_at_side(no, setting, path, false, depth, search)
+            node_at(no, place - 1 - on_yes)
         }
-        WindowTree::Node { below } => look_behind(below, setting, path, depth, search),
-        WindowTree::Exit { .. } => Ok(()),
-        WindowTree::Stop => Ok(()),
-        WindowTree::Trap { .. } => Ok(()),
+        WindowTree::Node { below } => node_at(below, place),
+        WindowTree::Exit { .. } => None,
+        WindowTree::Stop => None,
+        WindowTree::Trap { .. } => None,
     }
 }
 
-/// The same below an item.
-#[cycle(looking)]
-#[tactic(auto, using(crate::proofs::Walked::walking))]
-fn look_below_item(
-    tree: &WindowTree,
-    setting: &Setting,
-    path: &Path,
-    item: Item,
-    depth: u32,
-    search: &mut Search,
-) -> Result<(), AllocError>
-    requires { depth + tree_size (tree_in tree.now) < 2 ^ 31 }
-    ensures { OnOk result (LooksBelow setting.now path.now (MayPass (forms_of setting.now) item) [] depth (tree_in tree.now) search.old search.new) }
+/// Whether what stands at a place is ready and has room beside these counts of the front.
+#[tactic(auto, using(crate::proofs::AtPlaces::ready))]
+fn is_ready(window: &Window, counts: Counts, place: u32, it: Candidate) -> bool
+    requires counts { AreCounts counts (front_in window.now.tree) }
+    requires small { tree_size (tree_in window.now.tree) < 2 ^ 31 }
+    ensures { (result ≡ true) ↔ IsReadyHere (unwritten_above (tree_in window.now.tree) place) (window_in window.now) place it.item (operand_list it.operands) }
 {
-    if is_plain(item) {
-        return look_behind(tree, setting, path, depth, search);
+    if !are_known_at(&window.tree, place, it.operands) {
+        return false;
     }
-    let below = Path::Passed {
-        item,
-        above: &*path,
+    if !has_room(counts, window.limits, it.item) {
+        return false;
+    }
+    may_come(&window.names, it.item, &window.tree, place)
+}
+
+/// The first of what is ready at a place or before it, where this is the first before it.
+#[tactic(auto, using(crate::proofs::AtPlaces::looking))]
+fn first_with(
+    window: &Window,
+    counts: Counts,
+    place: u32,
+    first: Option<ReadyNode>,
+) -> Option<ReadyNode>
+    requires scoped { Scoped (uses (whole (window_in window.now).front)) (whole (window_in window.now).front) }
+    requires counts { AreCounts counts (front_in window.now.tree) }
+    requires small { tree_size (tree_in window.now.tree) < 2 ^ 31 }
+    requires place { place < tree_size (tree_in window.now.tree) }
+    requires first { BestBefore (uses (whole (window_in window.now).front)) (window_in window.now) place first }
+    ensures { BestBefore (uses (whole (window_in window.now).front)) (window_in window.now) (place + 1) result }
+{
+    let Some(it) = node_at(&window.tree, place) else {
+        return first;
     };
-    look_behind(tree, setting, &below, depth, search)
-}
-
-/// The same on a side of a test.
-#[cycle(looking)]
-#[tactic(auto, using(crate::proofs::Walked::walking))]
-fn look_at_side(
-    tree: &WindowTree,
-    setting: &Setting,
-    path: &Path,
-    side: bool,
-    depth: u32,
-    search: &mut Search,
-) -> Result<(), AllocError>
-    requires { depth + tree_size (tree_in tree.now) < 2 ^ 31 }
-    ensures { OnOk result (LooksBelow setting.now path.now MayCross (side ∷ []) depth (tree_in tree.now) search.old search.new) }
-{
-    let below = Path::Crossed {
-        side,
-        above: &*path,
-    };
-    look_behind(tree, setting, &below, depth, search)
-}
-
-/// What is found once the front was gone through, and what stands behind it looked at.
-#[tactic(auto, using(crate::proofs::WalkedFront::going))]
-fn look_through(
-    tree: &WindowTree,
-    setting: &Setting,
-    path: &Path,
-    search: &mut Search,
-) -> Result<(), AllocError>
-    requires { tree_size (tree_in tree.now) < 2 ^ 31 }
-    ensures { OnOk result (LooksThrough setting.now path.now (tree_in tree.now) (front_in tree.now) search.old search.new) }
-{
-    match tree {
-        WindowTree::Step { item, rest, .. } => {
-            if is_plain(*item) {
-                return look_through(rest, setting, path, search);
-            }
-            let below = Path::Issued {
-                item: *item,
-                above: &*path,
-            };
-            look_through(rest, setting, &below, search)
-        }
-        WindowTree::Test { yes, no, .. } => {
-            let on_yes = Path::Chosen {
-                side: true,
-                above: &*path,
-            };
-            look_through(yes, setting, &on_yes, search)?;
-            let on_no = Path::Chosen {
-                side: false,
-                above: &*path,
-            };
-            look_through(no, setting, &on_no, search)
-        }
-        WindowTree::Node { below } => look_behind(below, setting, path, 0, search),
-        WindowTree::Exit { .. } => Ok(()),
-        WindowTree::Stop => Ok(()),
-        WindowTree::Trap { .. } => Ok(()),
+    if !comes_before(it.tag, it.origin, first) {
+        return first;
     }
+    if !is_ready(window, counts, place, it) {
+        return first;
+    }
+    Some(ReadyNode {
+        tag: it.tag,
+        origin: it.origin,
+        place,
+        item: it.item,
+    })
 }
 
 /// The first item or test, in the order of tag, origin and preorder place, that stands behind the
 /// front, is ready and has room; `None` exactly where there is none.
 ///
-/// It takes memory for a table of the names that are known before the window, and for the way to
-/// what is found.
-pub fn first_ready(alloc: Global, window: &Window) -> Result<Option<ReadyNode>, WindowError>
+/// It takes no memory: each place is gone down to anew, and a name is known where nothing above the
+/// place writes it. So the time that it takes grows with the square of the window's size, times the
+/// tests above a place. `fill`, which looks once for each item that comes, goes down once instead,
+/// with a table of what is known.
+pub fn first_ready(window: &Window) -> Option<ReadyNode>
     requires proper { IsProper (window_in window.now) }
     requires small { tree_size (whole (window_in window.now).front) < 2 ^ 31 }
-    ensures first { IfOk result (λ found. IfSome found (IsFirstReady (uses (whole (window_in window.now).front)) (window_in window.now))) }
-    ensures none { (result ≡ Ok None) → ReadyPlace (uses (whole (window_in window.now).front)) (window_in window.now) → ⊥ }
+    ensures first { IfSome result (IsFirstReady (uses (whole (window_in window.now).front)) (window_in window.now)) }
+    ensures none { result ≡ None → ReadyPlace (uses (whole (window_in window.now).front)) (window_in window.now) → ⊥ }
 {
-    let known = parameters(alloc, window)?;
-    let search = first_known(alloc, window, &known, false)?;
-    Ok(placed(&window.tree, &search))
-}
-
-/// What a search found in a window, with its place.
-fn placed(tree: &WindowTree, search: &Search) -> Option<ReadyNode>
-    requires { tree_size (tree_in tree.now) < 2 ^ 31 }
-    ensures { result ≡ placed search.now.best (place_found search.now.best search.now.way.items (front_in tree.now)) }
-{
-    match search.best {
-        None => None,
-        Some(found) => Some(ReadyNode {
-            tag: found.tag,
-            origin: found.origin,
-            place: place_behind(tree, &search.way, found.depth),
-            item: found.item,
-        }),
+    let counts = count_front(&window.tree);
+    let mut first = None;
+    for place in 0..window.size() {
+        first = first_with(window, counts, place, first);
     }
-}
-
-/// The first of all, and the way to it, where these names are known before the window, and tags are
-/// said never to fall behind its front, or nothing is said of them.
-pub(crate) fn first_known(
-    alloc: Global,
-    window: &Window,
-    known: &[bool],
-    in_order: bool,
-) -> Result<Search, AllocError>
-    requires small { tree_size (tree_in window.now.tree) < 2 ^ 31 }
-    requires in_order { in_order ≡ true → TagsInOrderBehind (front_in window.now.tree) }
-    ensures { IfOk result (λ search. FindsFirst (known_in known.now) (window_in window.now) search.best search.way.items) }
-{
-    let setting = Setting {
-        window,
-        known,
-        counts: count_front(&window.tree),
-        in_order,
-    };
-    let mut search = Search {
-        best: None,
-        way: Vec::new(alloc),
-    };
-    look_through(&window.tree, &setting, &Path::Root, &mut search)?;
-    Ok(search)
+    first
 }

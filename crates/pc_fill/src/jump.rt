@@ -8,9 +8,9 @@ ghost use Rattle.pc_fill.specs.models.Way.{Reaches, some_sides, crosses_along};
 ghost use Rattle.pc_fill.specs.models.Walk.{found_at};
 ghost use Rattle.pc_fill.specs.models.TagOrder.{TagsInOrderBehind};
 
-use crate::first::Found;
 use crate::landing::{Coming, land};
 use crate::twin::{Seeker, twin_of};
+use crate::walk::Found;
 use pc_window::{NameTable, Window, WindowTree};
 use pc_word::Item;
 use std::alloc::{AllocError, Global};

@@ -1,16 +1,18 @@
-//! The names that are known before a window.
+//! The names that are known before a window: in a table by name, and at a place, by what stands above it.
 ghost use Rattle.std.specs.Prelude.{◌≡◌, ◌↔◌, ◌<◌, ◌≤◌, true, false, length, IfOk};
-ghost use Rattle.pc_word.specs.Items.{dest_of};
+ghost use Rattle.std.specs.List.{AllByRecursion};
+ghost use Rattle.pc_word.specs.Items.{dest_of, operand_list};
 ghost use Rattle.pc_window.specs.Opening.{OperandBelow, ItemBelow, StubBelow, TreeBelow};
 ghost use Rattle.pc_window.specs.Names.{IsKnown, ReadsKnown, uses};
 ghost use Rattle.pc_window.specs.Steps.{IsProper};
 ghost use Rattle.pc_window.specs.Tree.{whole};
 ghost use Rattle.pc_window.specs.StoredWindow.{tree_in, window_in};
-ghost use Rattle.pc_fill.specs.models.Places.{known_in};
+ghost use Rattle.pc_fill.specs.models.Places.{known_in, unwritten_above};
 ghost use Rattle.pc_fill.specs.models.Known.{with_operand, with_reads, with_homes, without_dest, used_with};
 
+use crate::readiness::size_up_to;
 use pc_window::{Home, Window, WindowTree};
-use pc_word::{Item, Operand};
+use pc_word::{Item, Operand, Operands};
 use std::alloc::{AllocError, Global};
 
 /// Whether an operand is known.
@@ -48,6 +50,62 @@ pub(crate) fn reads_known(known: &[bool], item: Item) -> bool
         Item::Print { value } => is_known(known, value),
         Item::Read { .. } => true,
         Item::More { .. } => true,
+    }
+}
+
+/// Whether no item above a place of a tree writes a name.
+#[tactic(auto, using(crate::proofs::AtPlaces::unwritten))]
+fn is_unwritten_above(tree: &WindowTree, place: u32, name: u32) -> bool
+    ensures { result ≡ unwritten_above (tree_in tree.now) place name }
+{
+    if place == 0 {
+        return true;
+    }
+    match tree {
+        WindowTree::Step { item, rest, .. } => {
+            if item.writes(name) {
+                return false;
+            }
+            is_unwritten_above(rest, place - 1, name)
+        }
+        WindowTree::Test { yes, no, .. } => {
+            let on_yes = size_up_to(yes, place);
+            if place - 1 < on_yes {
+                return is_unwritten_above(yes, place - 1, name);
+            }
+            is_unwritten_above(no, place - 1 - on_yes, name)
+        }
+        WindowTree::Node { below } => is_unwritten_above(below, place, name),
+        WindowTree::Exit { .. } => true,
+        WindowTree::Stop => true,
+        WindowTree::Trap { .. } => true,
+    }
+}
+
+/// Whether an operand that is read at a place of a window is known before the window: no item above
+/// writes it.
+fn is_known_at(tree: &WindowTree, place: u32, operand: Operand) -> bool
+    ensures { (result ≡ true) ↔ IsKnown (unwritten_above (tree_in tree.now) place) operand }
+{
+    match operand {
+        Operand::Name(name) => is_unwritten_above(tree, place, name),
+        Operand::Lit(_) => true,
+    }
+}
+
+/// Whether all operands that are read at a place of a window are known before the window.
+pub(crate) fn are_known_at(tree: &WindowTree, place: u32, operands: Operands) -> bool
+    ensures { (result ≡ true) ↔ AllByRecursion (IsKnown (unwritten_above (tree_in tree.now) place)) (operand_list operands) }
+{
+    match operands {
+        Operands::None => true,
+        Operands::One(one) => is_known_at(tree, place, one),
+        Operands::Two(one, other) => {
+            if !is_known_at(tree, place, one) {
+                return false;
+            }
+            is_known_at(tree, place, other)
+        }
     }
 }
 

@@ -13,7 +13,7 @@ mod room;
 mod tag_order;
 mod taking;
 mod twin;
-mod way;
+mod walk;
 
 pub use filling::fill;
 pub use first::{ReadyNode, first_ready};

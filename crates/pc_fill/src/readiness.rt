@@ -2,8 +2,8 @@
 ghost use Rattle.std.specs.Prelude.{◌≡◌, ◌↔◌, ◌<◌, ◌≤◌, ◌^◌, true};
 ghost use Rattle.pc_window.specs.Tree.{tree_size};
 ghost use Rattle.pc_window.specs.Ready.{MayStandBehind};
-ghost use Rattle.pc_window.specs.StoredWindow.{tree_in, forms_in};
-ghost use Rattle.pc_fill.specs.models.Places.{MayPass, MayCross, MayRise};
+ghost use Rattle.pc_window.specs.StoredWindow.{tree_in, front_in, forms_in};
+ghost use Rattle.pc_fill.specs.models.Places.{MayPass, MayCross, MayRise, MayComeFrom};
 
 use pc_window::{NameTable, WindowTree};
 use pc_word::Item;
@@ -88,6 +88,39 @@ pub(crate) fn may_rise(names: &NameTable, what: Option<Item>, tree: &WindowTree,
                 return may_rise(names, what, yes, place - 1);
             }
             may_rise(names, what, no, place - 1 - on_yes)
+        }
+        WindowTree::Node { below } => may_rise(names, what, below, place),
+        WindowTree::Exit { .. } => true,
+        WindowTree::Stop => true,
+        WindowTree::Trap { .. } => true,
+    }
+}
+
+/// Whether an item, or a test, may come into the front from a place of a window.
+#[tactic(auto, using(crate::proofs::Ways::coming))]
+pub(crate) fn may_come(names: &NameTable, what: Option<Item>, tree: &WindowTree, place: u32) -> bool
+    requires { tree_size (tree_in tree.now) < 2 ^ 31 }
+    ensures { (result ≡ true) ↔ MayComeFrom (forms_in names.now.forms) what (front_in tree.now) place }
+{
+    match tree {
+        WindowTree::Step { item, rest, .. } => {
+            if place == 0 {
+                return false;
+            }
+            if !may_stand_behind(names, *item, what) {
+                return false;
+            }
+            may_come(names, what, rest, place - 1)
+        }
+        WindowTree::Test { yes, no, .. } => {
+            if place == 0 {
+                return false;
+            }
+            let on_yes = size_up_to(yes, place);
+            if place - 1 < on_yes {
+                return may_come(names, what, yes, place - 1);
+            }
+            may_come(names, what, no, place - 1 - on_yes)
         }
         WindowTree::Node { below } => may_rise(names, what, below, place),
         WindowTree::Exit { .. } => true,

@@ -133,7 +133,7 @@ fn filled(alloc: Global, limits: Limits) -> Result<(Option<u32>, Vec<u32>), Wind
 {
     let table = table(alloc)?;
     let window = Window::of_region(alloc, &table, 0, limits)?;
-    let place = place_of(first_ready(alloc, &window)?);
+    let place = place_of(first_ready(&window));
     let window = fill(alloc, window)?;
     let mut listed = Vec::new(alloc);
     list_origins(&window.tree, &mut listed)?;

@@ -1,9 +1,8 @@
 //! Filling by single moves.
-ghost use Rattle.std.specs.Prelude.{◌≡◌, None, OnOk, IfOk, IfErr};
+ghost use Rattle.std.specs.Prelude.{◌≡◌, Ok, None, OnOk, IfOk, IfErr};
 ghost use Rattle.pc_window.specs.Steps.{IsProper};
 ghost use Rattle.pc_window.specs.StoredWindow.{window_in};
 ghost use Rattle.pc_replay.specs.Replaying.{ComesTo, IsSmall, NothingIsReady};
-ghost use Rattle.pc_replay.specs.declared.error.ReplayError.TheVariants.{Memory};
 
 use crate::bounds::is_small;
 use crate::error::ReplayError;
@@ -63,17 +62,16 @@ fn bring(alloc: Global, window: &mut Window, ready: ReadyNode) -> Result<(), Rep
 
 /// What is first of all that is ready, where there is something.
 #[tactic(auto, using(crate::proofs::Moved::wholes))]
-fn first(alloc: Global, window: &Window) -> Result<Option<ReadyNode>, ReplayError>
+fn first(window: &Window) -> Result<Option<ReadyNode>, ReplayError>
     requires { IsProper (window_in window.now) }
     ensures none { IfOk result (λ found. found ≡ None → NothingIsReady window.now) }
     ensures some { IfOk result (λ found. NothingIsReady window.now → found ≡ None) }
-    ensures fails { IfErr result (λ why. IsSmall window.now → why ≡ Memory) }
+    ensures fails { IfErr result (λ why. IsSmall window.now → ⊥) }
 {
     if !is_small(window) {
         return Err(ReplayError::TooLarge);
     }
-    let ready = first_ready(alloc, window)?;
-    Ok(ready)
+    Ok(first_ready(window))
 }
 
 /// What is ready comes into the front, one after another, until nothing is.
@@ -87,7 +85,7 @@ fn bring_all(alloc: Global, window: Window, ready: ReadyNode) -> Result<Window, 
     let mut ready = ready;
     for _ in 0..MOST_STEPS {
         bring(alloc, &mut window, ready)?;
-        match first(alloc, &window)? {
+        match first(&window)? {
             None => return Ok(window),
             Some(next) => ready = next,
         }
@@ -100,16 +98,16 @@ fn bring_all(alloc: Global, window: Window, ready: ReadyNode) -> Result<Window, 
 /// up node by node, and two that filling would make one become one, until nothing is ready.
 ///
 /// It fails where a single move is refused: so where an item has an equal one on the other side of a
-/// test that cannot be brought up to that test, which filling leaves where it stands. Where nothing is
-/// ready in a small window, `Memory` is the only error.
+/// test that cannot be brought up to that test, which filling leaves where it stands. It never fails where
+/// nothing is ready in a small window.
 #[tactic(auto, using(crate::proofs::Moved::moves))]
 pub fn replay(alloc: Global, window: Window) -> Result<Window, ReplayError>
     requires { IsProper (window_in window) }
     ensures kept { IfOk result (λ later. ComesTo window later) }
     ensures done { IfOk result NothingIsReady }
-    ensures needless { IsSmall window → NothingIsReady window → IfErr result (λ why. why ≡ Memory) }
+    ensures needless { IsSmall window → NothingIsReady window → result ≡ Ok window }
 {
-    match first(alloc, &window)? {
+    match first(&window)? {
         None => Ok(window),
         Some(ready) => bring_all(alloc, window, ready),
     }

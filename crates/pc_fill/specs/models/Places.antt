@@ -1,9 +1,10 @@
 -- What stands at a preorder place of a tree, and whether it is ready there, place by place on the way down.
-use Rattle.std.specs.Prelude.{◌≡◌, ℕ, ◌-◌, Bool, true, List, [], ◌∷◌, ◌++◌, nat_eq, nat_lt, Option, Some, None, slice_index_or, false}
+use Rattle.std.specs.Prelude.{◌≡◌, ℕ, ◌-◌, Bool, true, false, not, ◌&&◌, if◌then◌else◌, nat_eq, nat_lt, List, [], ◌∷◌, ◌++◌, Option, Some, None, slice_index_or}
 use Rattle.std.specs.List.{AllByRecursion}
 use Rattle.pc_word.specs.declared.item.Item.{Item}
 use Rattle.pc_word.specs.declared.item.Operand.{Operand}
-use Rattle.pc_word.specs.Items.{operands_of, only_computes}
+use Rattle.pc_word.specs.Items.{dest_of, operands_of, operand_list, only_computes}
+use Rattle.pc_word.specs.Commit.{writes}
 use Rattle.pc_linear.specs.Form.{Form}
 use Rattle.pc_window.specs.Hold.{Side}
 use Rattle.pc_window.specs.Tree.{Tree, Pending, Undecided, Exit, Stop_exit, Trap_exit, Front, Issued, Split, Unfinished, whole, tree_size}
@@ -12,6 +13,7 @@ use Rattle.pc_window.specs.Conflict.{NoConflict}
 use Rattle.pc_window.specs.Ready.{MayStandBehind}
 use Rattle.pc_window.specs.WindowRun.{Window}
 use Rattle.pc_window.specs.Filled.{HasSpace}
+use Rattle.pc_fill.specs.declared.first.Candidate.{Candidate}
 
 -- an item or test of a tree: `what` is the item, or nothing where it is a test
 pub record Node : Type 0 where
@@ -27,6 +29,14 @@ nodes_of (Undecided tag origin on on_yes on_no) = record { tag = tag; origin = o
 nodes_of (Exit region tag homes) = []
 nodes_of Stop_exit = []
 nodes_of (Trap_exit kind line) = []
+
+-- what code found at a place
+abbrev pub node_of : Candidate → Node
+node_of it = record { tag = it.tag; origin = it.origin; what = it.item; operands = operand_list it.operands }
+
+abbrev pub node_in : Option Candidate → Option Node
+node_in (Some it) = Some (node_of it)
+node_in None = None
 
 -- ---- on the way down to a place
 
@@ -57,6 +67,16 @@ MayComeFrom forms what (Split tag origin on on_yes on_no) place =
     Side (nat_eq place 0) ⊥
     (Side (nat_lt (place - 1) (tree_size (whole on_yes))) (MayComeFrom forms what on_yes (place - 1)) (MayComeFrom forms what on_no (place - 1 - tree_size (whole on_yes))))
 MayComeFrom forms what (Unfinished rest) place = MayRise forms what rest place
+
+-- whether no item above a place of a tree writes a name
+abbrev pub unwritten_above : Tree → ℕ → ℕ → Bool
+unwritten_above (Pending tag origin item rest) place x = if nat_eq place 0 then true else (not (writes (dest_of item) x) && unwritten_above rest (place - 1) x)
+unwritten_above (Undecided tag origin on on_yes on_no) place x =
+    if nat_eq place 0 then true
+    else if nat_lt (place - 1) (tree_size on_yes) then unwritten_above on_yes (place - 1) x else unwritten_above on_no (place - 1 - tree_size on_yes) x
+unwritten_above (Exit region tag homes) place x = true
+unwritten_above Stop_exit place x = true
+unwritten_above (Trap_exit kind line) place x = true
 
 -- ---- known names in a table
 

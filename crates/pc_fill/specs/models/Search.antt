@@ -37,10 +37,14 @@ HasRoom limits None counts = counts.tests < limits.tests
 pub record StandsAt (tree : Tree) (place : ℕ) (all : Tree) : Type 0 where
   pub at : (k : ℕ) → k < tree_size tree → slice_get (nodes_of all) (place + k) ≡ slice_get (nodes_of tree) k
 
--- whether a tag and an origin come before those of what was found
+-- whether a tag and an origin come before others
+abbrev pub precedes : (tag origin : ℕ) → (other_tag other_origin : ℕ) → Bool
+precedes tag origin other_tag other_origin = nat_lt tag other_tag || (nat_eq tag other_tag && nat_lt origin other_origin)
+
+-- whether they come before those of what was found
 abbrev pub comes_before : ℕ → ℕ → Option ReadyNode → Bool
 comes_before tag origin None = true
-comes_before tag origin (Some best) = nat_lt tag best.tag || (nat_eq tag best.tag && nat_lt origin best.origin)
+comes_before tag origin (Some best) = precedes tag origin best.tag best.origin
 
 -- what was found before a place is the first of what is ready and has room before it
 abbrev pub IsBest : (known : ℕ → Bool) → Window → ℕ → Option ReadyNode → Type 0

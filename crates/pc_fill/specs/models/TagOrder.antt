@@ -1,7 +1,7 @@
 -- Trees whose tags never fall on the way down: what stands below an item or test has no lesser tag than it.
 use Rattle.std.specs.Prelude.{ℕ, ◌≤◌, Bool, false, ◌&&◌, nat_lt, Option, Some, None}
 use Rattle.pc_window.specs.Tree.{Tree, Pending, Undecided, Exit, Stop_exit, Trap_exit, Front, Issued, Split, Unfinished}
-use Rattle.pc_fill.specs.declared.first.Found.{Found}
+use Rattle.pc_fill.specs.declared.walk.Found.{Found}
 
 -- no tag is less than the one above it, nor than this
 abbrev pub TagsInOrder : ℕ → Tree → Type 0

@@ -9,17 +9,17 @@ use Rattle.pc_window.specs.Tree.{Tree, Front, tree_size}
 use Rattle.pc_window.specs.Names.{IsKnown}
 use Rattle.pc_window.specs.WindowRun.{Window}
 use Rattle.pc_window.specs.Ready.{ReadyPlace}
-use Rattle.pc_fill.specs.declared.first.Found.{Found}
+use Rattle.pc_fill.specs.declared.walk.Found.{Found}
 use Rattle.pc_fill.specs.declared.first.ReadyNode.{ReadyNode}
 use Rattle.pc_fill.specs.FirstReady.{IsFirstReady}
-use Rattle.pc_fill.specs.declared.first.Setting.{Setting}
-use Rattle.pc_fill.specs.declared.first.Search.{Search}
+use Rattle.pc_fill.specs.declared.walk.Setting.{Setting}
+use Rattle.pc_fill.specs.declared.walk.Search.{Search}
 use Rattle.pc_fill.specs.declared.path.Path.{Path}
 use Rattle.pc_fill.specs.models.Path.{MayComeAlong, sides_of, LeadsOn}
 use Rattle.pc_fill.specs.models.Places.{Node, nodes_of, known_in, MayRise, MayComeFrom}
 use Rattle.pc_fill.specs.models.Search.{AreCounts, HasRoom, StandsAt, BestBefore}
 use Rattle.pc_fill.specs.models.TagOrder.{TagsInOrder, TagsInOrderBehind}
-use Rattle.pc_fill.specs.models.Way.{Leads, Reaches, place_behind}
+use Rattle.pc_fill.specs.models.Way.{Leads, Reaches}
 
 -- ---- the window that is looked through
 
@@ -48,11 +48,6 @@ found_at it place = record { tag = it.tag; origin = it.origin; place = place; it
 abbrev pub placed : Option Found → ℕ → Option ReadyNode
 placed (Some it) place = Some (found_at it place)
 placed None place = None
-
--- the place to which a way leads, 0 where nothing was found
-abbrev pub place_found : Option Found → List Bool → Front → ℕ
-place_found (Some it) way front = place_behind front way it.depth
-place_found None way front = 0
 
 -- a way leads to what was found
 abbrev pub LeadsToFound : Front → Option Found → List Bool → ℕ → Type 0

@@ -34,22 +34,6 @@ pub data Reaches : Front → List Bool → ℕ → ℕ → Type 0 where
   Behind_no : (tag origin : ℕ) (on : Operand) (p q : Front) (sides : List Bool) (depth place : ℕ) → Reaches q sides depth place
       → Reaches (Split tag origin on p q) (false ∷ sides) depth (suc (tree_size (whole p) + place))
 
--- ---- the place where a way leads
-
-abbrev pub place_along : Tree → List Bool → ℕ → ℕ
-place_along (Pending tag origin item rest) sides depth = if nat_eq depth 0 then 0 else suc (place_along rest sides (depth - 1))
-place_along (Undecided tag origin on p q) [] depth = 0
-place_along (Undecided tag origin on p q) (side ∷ sides) depth = if side then suc (place_along p sides depth) else suc (tree_size p + place_along q sides depth)
-place_along (Exit region tag homes) sides depth = 0
-place_along Stop_exit sides depth = 0
-place_along (Trap_exit kind line) sides depth = 0
-
-abbrev pub place_behind : Front → List Bool → ℕ → ℕ
-place_behind (Issued tag origin item rest) sides depth = suc (place_behind rest sides depth)
-place_behind (Split tag origin on p q) [] depth = 0
-place_behind (Split tag origin on p q) (side ∷ sides) depth = if side then suc (place_behind p sides depth) else suc (tree_size (whole p) + place_behind q sides depth)
-place_behind (Unfinished rest) sides depth = place_along rest sides depth
-
 -- ---- what comes along a way
 
 -- the item where a way leads is gone; below it, its name is this one

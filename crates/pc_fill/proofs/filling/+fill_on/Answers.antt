@@ -2,7 +2,7 @@ use Rattle.std.proofs.Common.{List, Bool, Option, sym, subst}
 use Rattle.pc_window.specs.Filled.{Filled}
 use Rattle.pc_window.specs.StoredWindow.{window_in}
 use Rattle.pc_window.specs.declared.window.Window.{Window as StoredWindow}
-use Rattle.pc_fill.specs.declared.first.Found.{Found}
+use Rattle.pc_fill.specs.declared.walk.Found.{Found}
 use Rattle.pc_fill.specs.models.Places.{known_in}
 use Rattle.pc_fill.specs.models.CanFill.{GrowsTo}
 use Rattle.pc_fill.specs.models.Walk.{FindsFirst, found_at}

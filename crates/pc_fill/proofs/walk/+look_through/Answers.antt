@@ -5,7 +5,7 @@ use Rattle.pc_window.specs.StoredWindow.{tree_in, front_in}
 use Rattle.pc_window.proofs.WindowsStored.{whole_in}
 use Rattle.pc_fill.proofs.Landed.{ok_imply}
 use Rattle.pc_fill.proofs.WalkedFront.{went_past, went_on_sides}
-use Rattle.pc_fill.proofs.first.+look_through.Goals as goal
+use Rattle.pc_fill.proofs.walk.+look_through.Goals as goal
 
 pub returns-else-is_plain : goal.returns-else-is_plain
 returns-else-is_plain t c =

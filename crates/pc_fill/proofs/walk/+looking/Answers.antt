@@ -4,7 +4,7 @@ use Rattle.pc_window.specs.declared.tree.WindowTree.{WindowTree}
 use Rattle.pc_window.specs.StoredWindow.{tree_in}
 use Rattle.pc_fill.proofs.Landed.{ok_imply}
 use Rattle.pc_fill.proofs.Walked.{item_left_out, test_left_out, looked_past, looked_over}
-use Rattle.pc_fill.proofs.first.+looking.Goals as goal
+use Rattle.pc_fill.proofs.walk.+looking.Goals as goal
 
 pub look_behind-returns-then-comes_later : goal.look_behind-returns-then-comes_later
 look_behind-returns-then-comes_later t c =

@@ -1,6 +1,6 @@
 use Rattle.pc_word.specs.Items.{operands_of}
 use Rattle.pc_fill.proofs.Looked.{plain_there}
-use Rattle.pc_fill.proofs.first.is_item_ready.Goals as goal
+use Rattle.pc_fill.proofs.walk.is_item_ready.Goals as goal
 
 pub returns-then-is_plain : goal.returns-then-is_plain
 returns-then-is_plain c =
