@@ -77,7 +77,7 @@ fn counts(alloc: Global, marks: &[bool]) -> Result<Vec<u32>, AllocError>
     requires { length marks.now < 2 ^ 32 }
     ensures { IfOk result (λ counts. counts.items ≡ counts_from 0 marks.now) }
 {
-    let mut counts = Vec::new(alloc);
+    let mut counts = Vec::with_capacity(alloc, marks.len() + 1)?;
     let mut count = 0;
     for at in 0..marks.len() {
         counts.push(count)?;
