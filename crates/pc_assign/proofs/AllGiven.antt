@@ -1,5 +1,5 @@
 -- States that get registers, one after the other.
-use Rattle.std.proofs.Common.{◌≡◌, ℕ, zero, suc, ◌+◌, ◌<◌, ◌≤◌, ◌^◌, inl, inr, Bool, true, false, List, [], ◌∷◌, ◌++◌, length, take, Option, Some}
+use Rattle.std.proofs.Common.{◌≡◌, ℕ, zero, suc, ◌+◌, ◌<◌, ◌≤◌, inl, inr, Bool, true, false, List, [], ◌∷◌, ◌++◌, length, take, Option, Some}
 use Rattle.std.proofs.Common.{None, refl, sym, ◌∙◌, ap, subst, arith, unwrap_or}
 use Rattle.std.specs.Prelude.{nat_eq, slice_get, if◌then◌else◌}
 use Rattle.std.specs.Option.{option_or}
@@ -233,10 +233,10 @@ written_count (Either on on_yes on_no) =
     ∙ (λ i. written_count on_yes i + written_count on_no i)
 written_count (At_leaf leaf) = refl
 
--- a state's names are few enough to be counted
-pub names_fit : (state : AutomatonState) (keys : List ℕ) (count : ℕ) → keys ≡ state_names state → count ≡ length keys → count < 2 ^ 63
-    → definitions_in state.row + length state.parameters < 2 ^ 63
-names_fit state keys count are is fits =
+-- a state's names are what its row defines and its parameters
+pub names_counted : (state : AutomatonState) (keys : List ℕ) (count : ℕ) → keys ≡ state_names state → count ≡ length keys
+    → definitions_in state.row + length state.parameters ≡ count
+names_counted state keys count are is =
     let long : length keys ≡ length (state_names state) = ap length are in
     omega (arith, long, length_both state.parameters (names_written state.row), written_count state.row, is)
 

@@ -2,11 +2,9 @@
 use Rattle.std.proofs.Common.{◌≡◌, ℕ, zero, suc, ◌+◌, ◌<◌, ◌≤◌, max, Bool, true, false, ◌||◌, ◌⊎◌, inl, inr, List, [], ◌∷◌, ◌++◌, length, take}
 use Rattle.std.proofs.Common.{Option, Some, None, refl, sym, ◌∙◌, ap, subst, arith}
 use Rattle.std.specs.Prelude.{nat_eq, slice_get, count_by, IsSomeAnd, MatchBool}
-use Rattle.std.specs.List.{IsDistinct, AllByRecursion, filter_map, cons_option}
+use Rattle.std.specs.List.{IsDistinct, AllByRecursion, cons_option}
 use Rattle.std.proofs.lemmas.List.{append_cancel_left, append_assoc}
-use Rattle.std.proofs.lemmas.List.Elements.{filter_map-append}
-use Rattle.pc_word.specs.Row.{Row, items_of}
-use Rattle.pc_word.specs.Items.{dest_of}
+use Rattle.pc_word.specs.Row.{Row}
 use Rattle.pc_word.proofs.Truth.{decide_le}
 use Rattle.pc_window.specs.Names.{named}
 use Rattle.pc_window.specs.Rebasing.{is_in}

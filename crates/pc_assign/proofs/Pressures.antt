@@ -1,12 +1,14 @@
 -- The pressure of a row, item by item.
-use Rattle.std.proofs.Common.{◌≡◌, ℕ, suc, ◌+◌, max, List, Option, Some, None, sym, ◌∙◌, ap, arith}
+use Rattle.std.proofs.Common.{◌≡◌, ℕ, suc, ◌+◌, ◌≤◌, max, List, Option, Some, None, length, sym, ◌∙◌, ap, arith}
 use Rattle.std.specs.Prelude.{count_by}
+use Rattle.std.proofs.lemmas.List.Sums.{count_by-le-length}
 use Rattle.pc_word.specs.declared.item.Item.{Item}
-use Rattle.pc_word.specs.Row.{Row, Then}
+use Rattle.pc_word.specs.Row.{Row, Then, Either, At_leaf}
 use Rattle.pc_word.specs.Items.{dest_of}
 use Rattle.pc_automaton.specs.declared.automaton.AutomatonLeaf.{AutomatonLeaf}
 use Rattle.pc_assign.specs.Uses.{row_uses}
-use Rattle.pc_assign.specs.Pressure.{definitions_with, item_pressure, row_pressure}
+use Rattle.pc_automaton.specs.Automaton.{AutomatonState}
+use Rattle.pc_assign.specs.Pressure.{allowed, definitions_with, item_pressure, row_pressure, pressure_of}
 use Rattle.pc_assign.specs.models.Choosing.{definitions_in}
 
 module _ (parameters : List ℕ) (above : ℕ) where
@@ -40,5 +42,24 @@ definitions_some whole rest item dest is some = ap definitions_in is ∙ ap (λ 
 pub definitions_none : (whole rest : Row AutomatonLeaf) (item : Item) → whole ≡ Then item rest → dest_of item ≡ None
     → definitions_in whole ≡ definitions_in rest
 definitions_none whole rest item is none = ap definitions_in is ∙ ap (λ (found : Option ℕ). definitions_with found (definitions_in rest)) none
+
+-- ---- few names
+
+-- no item's pressure is above what is defined and the parameters
+row_pressure-most : (parameters : List ℕ) (above : ℕ) (row : Row AutomatonLeaf) → row_pressure parameters above row ≤ above + (definitions_in row + length parameters)
+row_pressure-most parameters above (Then item rest) = by (λ n. row_pressure-most parameters n rest) (dest_of item)
+  where
+    by : ((n : ℕ) → row_pressure parameters n rest ≤ n + (definitions_in rest + length parameters)) → (found : Option ℕ)
+        → max (item_pressure parameters above rest found) (row_pressure parameters (definitions_with found above) rest)
+        ≤ above + (definitions_with found (definitions_in rest) + length parameters)
+    by later None = let below = later above in omega (arith, below)
+    by later (Some dest) = let here = count_by-le-length (row_uses rest) parameters in let below = later (suc above) in omega (arith, here, below)
+row_pressure-most parameters above (Either on on_yes on_no) =
+    let yes = row_pressure-most parameters above on_yes in let no = row_pressure-most parameters above on_no in omega (arith, yes, no)
+row_pressure-most parameters above (At_leaf leaf) = omega arith
+
+-- a state with no more names than there are registers has a low pressure
+pub few_low : (state : AutomatonState) (names : ℕ) → definitions_in state.row + length state.parameters ≡ names → names ≤ allowed → pressure_of state ≤ allowed
+few_low state names are few = let most = row_pressure-most state.parameters 0 state.row in omega (arith, are, few, most)
 
 pub ruleset pressures = (defining_pressure, other_pressure, definitions_some, definitions_none)

@@ -4,13 +4,17 @@ ghost use Rattle.pc_assign.specs.Assigned.{operand_register};
 ghost use Rattle.pc_assign.specs.Stored.{registers_in, beside};
 
 use indexmap::IndexSet;
+use pc_short::ShortSeq;
 use pc_word::{Operand, Seq};
+
+/// Registers of names, in the names' order. Most states have at most 16 names.
+pub(crate) type RegisterList = ShortSeq<u32, 16>;
 
 /// The registers of a state's names: its names in order, with a register beside each.
 #[derive(Drop)]
 pub(crate) struct StateRegisters {
     pub(crate) names: IndexSet<u32>,
-    pub(crate) registers: Seq<u32>,
+    pub(crate) registers: RegisterList,
 }
 
 /// The registers of an automaton's names.

@@ -11,14 +11,14 @@ ghost use Rattle.pc_assign.specs.models.Passing.{noted};
 ghost use Rattle.pc_assign.specs.models.Assigning.{IsGiven, RefusesState};
 ghost use Rattle.pc_word.specs.StoredRow.{row_in};
 
-use crate::assigned::{Assigned, StateRegisters};
+use crate::assigned::{Assigned, RegisterList, StateRegisters};
 use crate::definitions::{Held, define};
 use crate::error::AssignError;
 use crate::naming::names_of;
 use crate::parameters::{parameter_registers, set_of};
 use crate::passing::{PassedList, note};
-use crate::pressure::pressure_of;
-use crate::register_set::{RegisterSet, SCRATCH};
+use crate::pressure::high_pressure;
+use crate::register_set::RegisterSet;
 use pc_automaton::{Automaton, AutomatonLeaf, AutomatonState};
 use pc_word::{RowTree, Seq};
 use std::alloc::{AllocError, Global};
@@ -46,12 +46,9 @@ pub fn assign(alloc: Global, automaton: &Automaton) -> Result<Assigned, AssignEr
 
 /// Whether the parameters of the first state are variables, as `assign` requires.
 pub fn begins_with_variables(automaton: &Automaton) -> bool
-    requires { length automaton.now < 2 ^ 32 }
     ensures { (result ≡ true) ↔ BeginsWithVariables (states_in automaton.now) }
 {
-    // It tells that there is a first state.
-    let _states = automaton.count();
-    are_variables(automaton.state(0).parameters.as_slice())
+    are_variables(automaton.first().parameters.as_slice())
 }
 
 /// Whether each of some names is a variable.
@@ -97,10 +94,7 @@ fn assign_state(
     ensures { MatchResult result (IsGiven number passed.now (state_in state.now)) (RefusesState number (state_in state.now)) }
 {
     let names = names_of(alloc, state)?;
-    // That the names are counted bounds what the pressure counts.
-    let _fits = names.len();
-    let live = pressure_of(state);
-    if is_high(live) {
+    if let Some(live) = high_pressure(state, names.len()) {
         return Err(AssignError::Pressure {
             state: number,
             live,
@@ -112,21 +106,13 @@ fn assign_state(
     Ok(StateRegisters { names, registers })
 }
 
-/// Whether as many names are too many.
-fn is_high(live: u64) -> bool
-    ensures high { result ≡ true → allowed < live }
-    ensures low { result ≡ false → live ≤ allowed }
-{
-    live > u64::from(SCRATCH)
-}
-
 /// The registers of a state's parameters, in their order.
 fn held_by(
     alloc: Global,
     number: u32,
     parameters: &[u32],
     passed: &[Option<u32>],
-) -> Result<Seq<u32>, AllocError>
+) -> Result<RegisterList, AllocError>
     requires variables { number ≡ 0 → AllByRecursion (λ variable. variable < 96) parameters.now }
     requires passed { PassedMost passed.now }
     ensures count { IfOk result (λ held. length held ≡ length parameters.now) }
@@ -134,7 +120,7 @@ fn held_by(
     ensures chosen { IfOk result (AreHeld number passed.now parameters.now) }
 {
     if number == 0 {
-        return Seq::from_slice(alloc, parameters);
+        return RegisterList::from_slice(alloc, parameters);
     }
     parameter_registers(alloc, parameters, passed)
 }
@@ -145,13 +131,13 @@ fn with_defined(
     parameters: &[u32],
     held: &[u32],
     row: &RowTree<AutomatonLeaf>,
-) -> Result<Seq<u32>, AllocError>
+) -> Result<RegisterList, AllocError>
     requires few { length parameters.now ≤ allowed }
     requires as_many { length held.now ≡ length parameters.now }
     requires most { AreMost held.now }
     ensures { IfOk result (AreChosen parameters.now held.now (λ register. false) (row_in (λ leaf. leaf) row.now) held.now) }
 {
-    let mut registers = Seq::from_slice(alloc, held)?;
+    let mut registers = RegisterList::from_slice(alloc, held)?;
     let given = Held {
         parameters,
         registers: held,

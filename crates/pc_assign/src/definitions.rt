@@ -6,10 +6,11 @@ ghost use Rattle.pc_assign.specs.Pressure.{allowed};
 ghost use Rattle.pc_assign.specs.models.Choosing.{member, AreMost, used_holds, IsHeld, IsChosen, AreChosen};
 ghost use Rattle.pc_word.specs.StoredRow.{row_in};
 
+use crate::assigned::RegisterList;
 use crate::register_set::{RegisterSet, SCRATCH};
 use crate::uses::used_in;
 use pc_automaton::AutomatonLeaf;
-use pc_word::{RowTree, Seq};
+use pc_word::RowTree;
 use std::alloc::AllocError;
 
 /// Parameters, their registers in the same order, and these as a set.
@@ -26,7 +27,7 @@ pub(crate) fn define(
     held: &Held,
     above: RegisterSet,
     row: &RowTree<AutomatonLeaf>,
-    registers: &mut Seq<u32>,
+    registers: &mut RegisterList,
 ) -> Result<(), AllocError>
     requires { IsHeld held.now.parameters.now held.now.registers.now held.now.taken }
     ensures { OnOk result (AreChosen held.now.parameters.now held.now.registers.now (member above)

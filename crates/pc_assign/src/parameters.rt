@@ -5,8 +5,8 @@ ghost use Rattle.pc_assign.specs.Pressure.{allowed};
 ghost use Rattle.pc_assign.specs.Assigned.{passed_at};
 ghost use Rattle.pc_assign.specs.models.Choosing.{member, AreMost, PassedMost, IsParameterTaken, AreParameters};
 
+use crate::assigned::RegisterList;
 use crate::register_set::RegisterSet;
-use pc_word::Seq;
 use std::alloc::{AllocError, Global};
 
 /// The registers of the parameters of another state than the first, in their order.
@@ -14,13 +14,13 @@ pub(crate) fn parameter_registers(
     alloc: Global,
     parameters: &[u32],
     passed: &[Option<u32>],
-) -> Result<Seq<u32>, AllocError>
+) -> Result<RegisterList, AllocError>
     requires { PassedMost passed.now }
     ensures count { IfOk result (λ held. length held ≡ length parameters.now) }
     ensures most { IfOk result AreMost }
     ensures chosen { IfOk result (AreParameters passed.now) }
 {
-    let mut held = Seq::new(alloc);
+    let mut held = RegisterList::with_capacity(alloc, parameters.len())?;
     let mut taken = RegisterSet::empty();
     for at in 0..parameters.len() {
         let register = parameter_register(taken, passed_at(passed, at));

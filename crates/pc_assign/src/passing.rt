@@ -8,11 +8,13 @@ ghost use Rattle.pc_word.specs.StoredRow.{row_in};
 
 use crate::assigned::StateRegisters;
 use pc_automaton::AutomatonLeaf;
-use pc_word::{Operand, RowTree, Seq};
+use pc_short::ShortSeq;
+use pc_word::{Operand, RowTree};
 use std::alloc::{AllocError, Global};
 
 /// The registers of what is passed to a state, in the order of its parameters, where they are names.
-pub(crate) type PassedList = Seq<Option<u32>>;
+/// Most states have at most eight.
+pub(crate) type PassedList = ShortSeq<Option<u32>, 8>;
 
 /// Notes what the leaves of a row pass, for each state the first leaf alone.
 pub(crate) fn note(
@@ -78,7 +80,7 @@ fn passed_registers(
 ) -> Result<PassedList, AllocError>
     ensures { IfOk result (λ passed. passed ≡ map (operand_register (beside registers.now.names.keys registers.now.registers)) arguments.now) }
 {
-    let mut passed = PassedList::new(alloc);
+    let mut passed = PassedList::with_capacity(alloc, arguments.len())?;
     for at in 0..arguments.len() {
         passed.push(registers.register_of(arguments[at]))?;
     }

@@ -1,8 +1,8 @@
 //! How many names of a state are live together.
-ghost use Rattle.std.specs.Prelude.{◌≡◌, ◌+◌, ◌<◌, ◌≤◌, ◌^◌, suc, length, count_by};
+ghost use Rattle.std.specs.Prelude.{◌≡◌, ◌+◌, ◌<◌, ◌≤◌, ◌^◌, suc, length, count_by, MatchOption};
 ghost use Rattle.pc_automaton.specs.Automaton.{state_in};
 ghost use Rattle.pc_assign.specs.Uses.{row_uses};
-ghost use Rattle.pc_assign.specs.Pressure.{allowed, pressure_of, row_pressure};
+ghost use Rattle.pc_assign.specs.Pressure.{allowed, pressure_of, row_pressure, IsLow};
 ghost use Rattle.pc_assign.specs.models.Choosing.{definitions_in, IsUsedSet};
 ghost use Rattle.pc_word.specs.StoredRow.{row_in};
 
@@ -18,8 +18,25 @@ struct Below {
     live: u64,
 }
 
+/// The pressure of a state with so many names, where it is too high. It is at most their number, so
+/// where there are registers for all of them nothing is counted.
+pub(crate) fn high_pressure(state: &AutomatonState, names: usize) -> Option<u64>
+    requires names { definitions_in (row_in (λ leaf. leaf) state.now.row) + length state.now.parameters ≡ names }
+    requires fits { names < 2 ^ 63 }
+    ensures { MatchOption result (IsLow (state_in state.now)) (λ live. (live ≡ pressure_of (state_in state.now)) × (allowed < live)) }
+{
+    if names <= SCRATCH as usize {
+        return None;
+    }
+    let live = pressure_of(state);
+    if live <= u64::from(SCRATCH) {
+        return None;
+    }
+    Some(live)
+}
+
 /// The pressure of a state.
-pub(crate) fn pressure_of(state: &AutomatonState) -> u64
+fn pressure_of(state: &AutomatonState) -> u64
     requires { definitions_in (row_in (λ leaf. leaf) state.now.row) + length state.now.parameters < 2 ^ 63 }
     ensures { result ≡ pressure_of (state_in state.now) }
 {

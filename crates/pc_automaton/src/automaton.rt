@@ -77,6 +77,13 @@ impl Automaton {
         self.states.len() as u32
     }
 
+    /// The state where the automaton begins.
+    pub fn first(&self) -> &AutomatonState
+        ensures { slice_get self.now 0 ≡ Some result.now }
+    {
+        &self.states.as_slice()[0]
+    }
+
     /// A state by its number.
     pub fn state(&self, number: u32) -> &AutomatonState
         requires { number < length self.now }

@@ -98,6 +98,8 @@ impl LinForm {
     pub fn combine(op: OpCode, left: &LinForm, right: &LinForm) -> Option<LinForm>
         ensures value { result ≡ combine op left.now right.now }
         ensures kept { IfSome result IsForm }
+        ensures left { IsForm left.now }
+        ensures right { IsForm right.now }
         ensures values { IfSome result (λ form. HasValueOf op left.now right.now form) }
         ensures means { IfSome result (λ form. MeansResultOf op left.now right.now form) }
     {
@@ -128,7 +130,8 @@ impl LinForm {
 
     /// The term at a place, counted from 0; `None` where the form has no more than `place` terms.
     pub fn term(&self, place: u16) -> Option<Term>
-        ensures { result ≡ slice_get self.now.terms place }
+        ensures value { result ≡ slice_get self.now.terms place }
+        ensures kept { IsForm self.now }
     {
         self.terms().get(place as usize).copied()
     }
@@ -136,7 +139,7 @@ impl LinForm {
     /// The form in other variables: `numbers` gives each variable another one, and has to let them rise as before.
     pub fn in_variables(&self, numbers: &[u32]) -> LinForm
         requires below { AllByRecursion (λ (term : Term). term.variable < length numbers.now) self.now.terms }
-        requires form { IsForm (in_variables (slice_index numbers.now) self.now) }
+        requires form { IsForm self.now → IsForm (in_variables (slice_index numbers.now) self.now) }
         ensures { result ≡ in_variables (slice_index numbers.now) self.now }
     {
         let mut terms = self.terms;

@@ -7,7 +7,7 @@ use Rattle.std.proofs.lemmas.Bool.Decides.{eqb_tells, nat_tests, Decides-int_eq}
 use Rattle.pc_word.specs.Word.{word_sub}
 use Rattle.pc_word.proofs.Lists.{set_length}
 use Rattle.pc_linear.specs.declared.term.Term.{Term}
-use Rattle.pc_linear.specs.Form.{Form, most_terms, IsNormal, IsForm, factor_of}
+use Rattle.pc_linear.specs.Form.{Form, most_terms, IsForm, factor_of}
 use Rattle.pc_linear.specs.Combine.{plus, variable_form}
 use Rattle.pc_window.specs.declared.names.NameTable.{NameTable}
 use Rattle.pc_window.specs.Opening.{Supply, TermsBelow, FormBelow, FormsBelow}
@@ -20,8 +20,7 @@ use Rattle.pc_rebase.specs.models.Standing.{shifted, standing_or, stands_in, wri
 use Rattle.pc_rebase.specs.models.Turning.{reversed, turned, unturned}
 use Rattle.pc_window.proofs.Listed.{or_false}
 use Rattle.pc_rebase.proofs.ParameterTurns.{reversed-more, first_below}
-use Rattle.pc_rebase.proofs.Replacing.{zero_normal}
-use Rattle.pc_rebase.proofs.Substituting.{rewritten-same, form_rewritten, written-normal, written-few, written-without, written-itself}
+use Rattle.pc_rebase.proofs.Substituting.{rewritten-same, form_rewritten, written-few, written-without, written-itself}
 use Rattle.pc_rebase.proofs.Entries.{factor_own, less-word, taken_out, StandsForBase, Stands, stands-normal, stands-one, stands-without, base-without, set_stands, set_stands-other}
 use Rattle.pc_rebase.proofs.GivenForms.{given_in, rewritten_at_once, written_at_once}
 
@@ -62,12 +61,9 @@ alone first x f made = by f.terms f.constant made
     by (t ∷ []) c s = by_tests t c (int_eq t.factor (pos 1)) (nat_lt t.variable first) refl refl s
     by (t ∷ u ∷ ts) c s = absurd (cc)
 
-module _ (all : List ℕ) (old : Supply) (kept : (n : ℕ) → IsForm (old.forms n)) (found : Found) (so_far : IsFound all old found) where
+module _ (all : List ℕ) (old : Supply) (kept : (n : ℕ) → is_in n all ≡ true → IsForm (old.forms n)) (found : Found) (so_far : IsFound all old found) where
   abbrev now : ℕ → Form
   now n = written_by (stands_in found.stands) (old.forms n)
-
-  now-normal : (n : ℕ) → IsNormal (now n)
-  now-normal n = let k = kept n in written-normal (stands_in found.stands) (old.forms n) k.normal
 
   shown_form : (n : ℕ) → is_in n all ≡ true → (shown all old found).names.forms n ≡ now n
   shown_form n there = ap (λ (b : Bool). if b then now n else old.forms n) there
@@ -126,7 +122,7 @@ module _ (all : List ℕ) (old : Supply) (kept : (n : ℕ) → IsForm (old.forms
         by : Stands old.next_variable x (stands_in found.stands x) → stands_in found.stands x ≡ variable_form x
         by (inl itself) = itself
         by (inr other) =
-            let k = kept p in
+            let k = kept p among in
             let no_factor : factor_of (now p).terms x ≡ pos 0 = written-without (stands_in found.stands) x (none other) (old.forms p) k.normal in
             let factor : factor_of (now p).terms x ≡ pos 1 = ap (λ (f : Form). factor_of f.terms x) its.is ∙ factor_own x constant x refl in
             let clash : pos 0 ≡ pos 1 = sym no_factor ∙ factor in
@@ -154,18 +150,18 @@ module _ (all : List ℕ) (old : Supply) (kept : (n : ℕ) → IsForm (old.forms
             (inr (record { base = found.next_variable; constant = word_sub (pos 0) constant; is = set_stands found.stands x entry its.old; word = less-word constant; later = so_far.later }))
         by (inr apart) = subst (λ (f : Form). Stands old.next_variable v f) (sym (set_stands-other found.stands x v entry apart.1)) (so_far.stands v)
 
-    form_next : (n : ℕ) → rewritten x taken (now n) ≡ written_by (stands_in next.stands) (old.forms n)
-    form_next n =
-        let k = kept n in
+    form_next : (n : ℕ) → is_in n all ≡ true → rewritten x taken (now n) ≡ written_by (stands_in next.stands) (old.forms n)
+    form_next n there =
+        let k = kept n there in
         form_rewritten x taken (stands_in found.stands) (λ v. stands-normal old.next_variable v (stands_in found.stands v) (so_far.stands v)) (old.forms n) k.normal
         ∙ ap (λ (σ : ℕ → Form). written_by σ (old.forms n)) (λ i v. stands_rewritten v i)
 
-    few_next : (n : ℕ) → length (rewritten x taken (now n)).terms ≤ most_terms
-    few_next n =
-        let k = kept n in
+    few_next : (n : ℕ) → is_in n all ≡ true → length (rewritten x taken (now n)).terms ≤ most_terms
+    few_next n there =
+        let k = kept n there in
         let few = k.few in
         let le = written-few (stands_in next.stands) (λ v. stands-one old.next_variable v (stands_in next.stands v) (stands_later v)) (old.forms n) in
-        subst (λ (f : Form). length f.terms ≤ most_terms) (sym (form_next n)) (omega arith)
+        subst (λ (f : Form). length f.terms ≤ most_terms) (sym (form_next n there)) (omega arith)
 
     -- all forms rewritten by one base more
     names_next : make_base all p x (shown all old found).names ≡ (shown all old next).names
@@ -173,13 +169,13 @@ module _ (all : List ℕ) (old : Supply) (kept : (n : ℕ) → IsForm (old.forms
         ap (λ (f : Form). rewrite_all x (plus (variable_form found.next_variable) (negsuc 0) f) (shown all old found).names.forms all (one_variable_more (shown all old found).names))
         (shown_form p among ∙ its.is)
         ∙ rewritten_at_once x taken (shown all old found).names.forms all (one_variable_more (shown all old found).names)
-        (λ n there. subst (λ (f : Form). length (rewritten x taken f).terms ≤ most_terms) (sym (shown_form n there)) (few_next n))
-        ∙ (λ i. record { forms = λ n. by n (is_in n all) i; next = old.next; next_variable = suc found.next_variable })
+        (λ n there. subst (λ (f : Form). length (rewritten x taken f).terms ≤ most_terms) (sym (shown_form n there)) (few_next n there))
+        ∙ (λ i. record { forms = λ n. by n (is_in n all) refl i; next = old.next; next_variable = suc found.next_variable })
       where
-        by : (n : ℕ) (b : Bool) → (if b then rewritten x taken (if b then now n else old.forms n) else (if b then now n else old.forms n))
+        by : (n : ℕ) (b : Bool) → is_in n all ≡ b → (if b then rewritten x taken (if b then now n else old.forms n) else (if b then now n else old.forms n))
             ≡ (if b then written_by (stands_in next.stands) (old.forms n) else old.forms n)
-        by n true = form_next n
-        by n false = refl
+        by n true there = form_next n there
+        by n false there = refl
 
     turn_based : shown all old next ≡ first_turn all p (Some x) (shown all old found)
     turn_based = λ i. record { names = sym names_next i; bases = reversed-more found.bases found.next_variable i; left = found.left }
@@ -217,7 +213,7 @@ module _ (all : List ℕ) (old : Supply) (kept : (n : ℕ) → IsForm (old.forms
 
 -- ---- all of them
 
-module _ (all : List ℕ) (old : Supply) (kept : (n : ℕ) → IsForm (old.forms n)) where
+module _ (all : List ℕ) (old : Supply) (kept : (n : ℕ) → is_in n all ≡ true → IsForm (old.forms n)) where
   turns_found : (ps : List ℕ) (found : Found) → IsFound all old found → AllByRecursion (λ p. is_in p all ≡ true) ps
       → shown all old (found_all old.forms ps found) ≡ first_turns all ps (shown all old found)
   turns_found [] found so_far among = refl
@@ -253,13 +249,13 @@ module _ (all : List ℕ) (old : Supply) (kept : (n : ℕ) → IsForm (old.forms
   nothing = nothing_found old.next_variable
 
   nothing_shown : shown all old nothing ≡ unturned old
-  nothing_shown = λ i. record { names = record { forms = λ n. form n (is_in n all) i; next = old.next; next_variable = old.next_variable }; bases = []; left = [] }
+  nothing_shown = λ i. record { names = record { forms = λ n. form n (is_in n all) refl i; next = old.next; next_variable = old.next_variable }; bases = []; left = [] }
     where
-      form : (n : ℕ) (b : Bool) → (if b then written_by (stands_in nothing.stands) (old.forms n) else old.forms n) ≡ old.forms n
-      form n true =
-          let k = kept n in
+      form : (n : ℕ) (b : Bool) → is_in n all ≡ b → (if b then written_by (stands_in nothing.stands) (old.forms n) else old.forms n) ≡ old.forms n
+      form n true there =
+          let k = kept n there in
           ap (λ (σ : ℕ → Form). written_by σ (old.forms n)) (λ i v. each_stands old.next_variable v i) ∙ written-itself (old.forms n) k.normal
-      form n false = refl
+      form n false there = refl
 
   nothing_yet : FormsBelow old → IsFound all old nothing
   nothing_yet below = record {
@@ -277,22 +273,25 @@ module _ (all : List ℕ) (old : Supply) (kept : (n : ℕ) → IsForm (old.forms
 
 -- ---- in memory
 
--- each name has a form
-forms_kept : (forms : List Form) → AllByRecursion IsForm forms → (n : ℕ) → IsForm (forms_in forms n)
-forms_kept [] all n = record { normal = zero_normal; few = omega arith }
-forms_kept (f ∷ forms) all zero = all.0
-forms_kept (f ∷ forms) all (suc n) = forms_kept forms all.1 n
+-- what holds of all names holds of each
+of_each : (P : ℕ → Type 0) (names : List ℕ) → AllByRecursion P names → (n : ℕ) → is_in n names ≡ true → P n
+of_each P [] h n there = absurd (cc)
+of_each P (m ∷ names) h n there = by (of_each P names h.1 n) (nat_eq n m) refl
+  where
+    by : (is_in n names ≡ true → P n) → (b : Bool) → nat_eq n m ≡ b → P n
+    by later true e = let same : m ≡ n = grind (arith, nat_tests) in subst P same h.0
+    by later false e = later (sym (ap (λ (b : Bool). b || is_in n names) e) ∙ there)
 
-module _ (all ps : List ℕ) (names later : NameTable) (found : Found) where
-  pub names_turned : AllByRecursion IsForm names.forms → FormsBelow (supply_in names) → AllByRecursion (λ p. is_in p all ≡ true) ps
+module _ (all ps : List ℕ) (names later : NameTable) (found : Found) (old : List Form) where
+  pub names_turned : AllByRecursion (λ (name : ℕ). IsForm (forms_in old name)) all → old ≡ names.forms → FormsBelow (supply_in names) → AllByRecursion (λ p. is_in p all ≡ true) ps
       → found ≡ found_all (forms_in names.forms) ps (nothing_found names.next_variable)
       → supply_in later ≡ all_written (stands_in found.stands) (forms_in names.forms) all (supply_in names)
       → turned (record { names = record { forms = later.forms; next_variable = found.next_variable }; bases = found.bases }) found.left ≡ first_turns all ps (unturned (supply_in names))
-  names_turned kept below among is written =
+  names_turned read same below among is written =
+      let kept : AllByRecursion (λ (name : ℕ). IsForm (forms_in names.forms name)) all =
+      subst (λ (forms : List Form). AllByRecursion (λ (name : ℕ). IsForm (forms_in forms name)) all) same read in
       let once : supply_in later ≡ given_in (λ n. written_by (stands_in found.stands) (forms_in names.forms n)) all (supply_in names) =
       written ∙ written_at_once (stands_in found.stands) (forms_in names.forms) all (supply_in names) in
       (λ i. record { names = record { forms = (once i).forms; next = (once i).next; next_variable = found.next_variable }; bases = reversed found.bases; left = found.left })
       ∙ ap (shown all (supply_in names)) is
-      ∙ all_found all (supply_in names) (forms_kept names.forms kept) ps below among
-
-pub ruleset turns = (names_turned)
+      ∙ all_found all (supply_in names) (of_each (λ (name : ℕ). IsForm (forms_in names.forms name)) all kept) ps below among

@@ -1,7 +1,6 @@
 //! New form variables, and names whose forms are given anew.
 ghost use Rattle.std.specs.Prelude.{◌≡◌, ◌<◌, ℕ, length, negsuc, IfOk, OnOk};
 ghost use Rattle.std.specs.List.{AllByRecursion};
-ghost use Rattle.pc_linear.specs.Form.{IsForm};
 ghost use Rattle.pc_linear.specs.Combine.{plus, variable_form};
 ghost use Rattle.pc_window.specs.Opening.{FormBelow, FormsBelow};
 ghost use Rattle.pc_window.specs.Rebasing.{with_variable, one_variable_more, rewrite_all, make_base};
@@ -53,8 +52,7 @@ fn rewrite_all(
     requires all { AllByRecursion (λ name. name < length names.old.forms) all.now }
     requires as_many { length old.now ≡ length names.old.forms }
     requires below { (name : ℕ) → FormBelow base (forms_in old.now name) }
-    requires parameter { IsForm parameter.now }
-    requires parameter_below { FormBelow base parameter.now }
+    requires parameter { FormBelow base parameter.now }
     ensures { OnOk result (supply_in names.new ≡ rewrite_all variable (plus (variable_form base) (negsuc 0) parameter.now) (forms_in old.now) all.now (supply_in names.old)) }
 {
     for at in 0..all.len() {

@@ -31,7 +31,6 @@ pub(crate) struct Found {
 
 /// Names after the first turns of these parameters, in order: each becomes a base, or is left for the
 /// second turn. The forms of all names are written anew at once, when all bases were found.
-#[tactic(auto, using(crate::proofs::FirstBases::turns))]
 pub(crate) fn first_turns(
     alloc: Global,
     names: NameTable,
@@ -45,7 +44,7 @@ pub(crate) fn first_turns(
     ensures { IfOk result (λ it. turned it.0 it.1 ≡ first_turns all.now parameters.now (unturned (supply_in names))) }
 {
     let mut names = names;
-    let old = known_forms(alloc, names.forms.as_slice())?;
+    let old = FormList::from_slice(alloc, names.forms.as_slice())?;
     let mut found = nothing_found(alloc, names.next_variable)?;
     find_all(&mut found, old.as_slice(), parameters)?;
     let Found {
@@ -57,18 +56,6 @@ pub(crate) fn first_turns(
     write_all(&mut names, old.as_slice(), all, stands.as_slice());
     names.next_variable = next_variable;
     Ok((Turning { names, bases }, left))
-}
-
-/// A copy of forms. Going over them tells that each is one, which the caller's proof rests on.
-fn known_forms(alloc: Global, forms: &[LinForm]) -> Result<FormList, AllocError>
-    ensures same { IfOk result (λ known. known ≡ forms.now) }
-    ensures kept { IfOk result (λ known. AllByRecursion IsForm forms.now) }
-{
-    for form in forms {
-        // A form's getter tells that it is a form.
-        let _offset = form.offset();
-    }
-    FormList::from_slice(alloc, forms)
 }
 
 /// Nothing is found yet, and each variable below a number stands for itself.
@@ -138,7 +125,8 @@ fn add_base(found: &mut Found, variable: u32, offset: i32) -> Result<(), WindowE
 fn write_all(names: &mut NameTable, old: &[LinForm], all: &[u32], stands: &[Standing])
     requires all { AllByRecursion (λ name. name < length names.old.forms) all.now }
     requires as_many { length old.now ≡ length names.old.forms }
-    ensures { supply_in names.new ≡ all_written (stands_in stands.now) (forms_in old.now) all.now (supply_in names.old) }
+    ensures written { supply_in names.new ≡ all_written (stands_in stands.now) (forms_in old.now) all.now (supply_in names.old) }
+    ensures kept { AllByRecursion (λ name. IsForm (forms_in old.now name)) all.now }
 {
     for at in 0..all.len() {
         let form = form_of(old, all[at]);

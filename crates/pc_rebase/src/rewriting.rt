@@ -20,10 +20,8 @@ pub(crate) fn rewritten(
     base: u32,
     parameter: &LinForm,
 ) -> Option<LinForm>
-    requires form { IsForm form.now }
-    requires form_below { FormBelow base form.now }
-    requires parameter { IsForm parameter.now }
-    requires parameter_below { FormBelow base parameter.now }
+    requires form { FormBelow base form.now }
+    requires parameter { FormBelow base parameter.now }
     ensures { result ≡ fitting (rewritten variable (plus (variable_form base) (negsuc 0) parameter.now) form.now) }
 {
     let factor = factor_from(form, variable, 0);
@@ -35,7 +33,8 @@ pub(crate) fn rewritten(
 
 /// A form less so many times another, and as many times a variable more.
 fn replaced(form: &LinForm, factor: i32, base: u32, parameter: &LinForm) -> Option<LinForm>
-    ensures { result ≡ replaced form.now factor base parameter.now }
+    ensures value { result ≡ replaced form.now factor base parameter.now }
+    ensures kept { IsForm parameter.now }
 {
     let factor = LinForm::constant(factor);
     let goes = LinForm::combine(OpCode::Mul, &factor, parameter)?;

@@ -36,8 +36,8 @@ pub(crate) fn each_itself(alloc: Global, count: u32) -> Result<StandingList, All
 /// A form with what each of its variables stands for in the variable's place.
 #[tactic(auto, using(crate::proofs::Stored::wholes))]
 pub(crate) fn written_by(form: &LinForm, stands: &[Standing]) -> LinForm
-    requires { IsForm form.now }
-    ensures { result ≡ written_by (stands_in stands.now) form.now }
+    ensures value { result ≡ written_by (stands_in stands.now) form.now }
+    ensures kept { IsForm form.now }
 {
     if stays(form, stands, 0) {
         return *form;
@@ -48,8 +48,8 @@ pub(crate) fn written_by(form: &LinForm, stands: &[Standing]) -> LinForm
 /// Whether the variables of a form, from a term on, stand for themselves.
 #[tactic(auto, using(crate::proofs::Stored::stays))]
 fn stays(form: &LinForm, stands: &[Standing], place: u16) -> bool
-    requires { IsForm form.now }
-    ensures { result ≡ all_stay stands.now (drop place form.now.terms) }
+    ensures value { result ≡ all_stay stands.now (drop place form.now.terms) }
+    ensures kept { IsForm form.now }
 {
     match form.term(place) {
         None => true,
@@ -71,8 +71,7 @@ fn is_itself(stands: &[Standing], variable: u32) -> bool
 /// variables' places.
 #[tactic(auto, using(crate::proofs::Stored::sums))]
 fn and_terms(form: &LinForm, stands: &[Standing], place: u16, sum: &LinForm) -> LinForm
-    requires form { IsForm form.now }
-    requires sum { length sum.now.terms ≤ place }
+    requires { length sum.now.terms ≤ place }
     ensures { result ≡ and_terms (stands_in stands.now) (drop place form.now.terms) sum.now }
 {
     match form.term(place) {

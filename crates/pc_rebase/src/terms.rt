@@ -21,20 +21,16 @@ pub(crate) enum FewTerms {
 #[tactic(auto, using(crate::proofs::FormTable::reading))]
 pub(crate) fn form_of(forms: &[LinForm], name: u32) -> LinForm
     requires { name < length forms.now }
-    ensures form { result ≡ forms_in forms.now name }
-    ensures kept { IsForm result }
+    ensures { result ≡ forms_in forms.now name }
 {
-    let form = forms[name as usize];
-    // A form's getter tells that it is a form.
-    let _offset = form.offset();
-    form
+    forms[name as usize]
 }
 
 /// The factor of a variable in the terms of a form from a place on, and 0 where it has none.
 #[tactic(auto, using(crate::proofs::TermPlaces::places))]
 pub(crate) fn factor_from(form: &LinForm, variable: u32, place: u16) -> i32
-    requires { IsForm form.now }
-    ensures { result ≡ factor_of (drop place form.now.terms) variable }
+    ensures value { result ≡ factor_of (drop place form.now.terms) variable }
+    ensures kept { IsForm form.now }
 {
     match form.term(place) {
         None => 0,
@@ -51,7 +47,6 @@ pub(crate) fn factor_from(form: &LinForm, variable: u32, place: u16) -> i32
 /// The terms of a form from a place on whose variables are no bases.
 #[tactic(auto, using(crate::proofs::TermPlaces::places))]
 pub(crate) fn free_terms(form: &LinForm, bases: &[u32], place: u16) -> FewTerms
-    requires { IsForm form.now }
     ensures { result ≡ few_of (free_terms bases.now (drop place form.now.terms)) }
 {
     match form.term(place) {

@@ -59,17 +59,7 @@ fn renumbered_forms(forms: Vec<LinForm>, numbers: &[u32]) -> Vec<LinForm>
 {
     let mut forms = forms;
     for at in 0..forms.len() {
-        forms[at] = renumbered_form(&forms[at], numbers);
+        forms[at] = forms[at].in_variables(numbers);
     }
     forms
-}
-
-/// A form with the new variables.
-fn renumbered_form(form: &LinForm, numbers: &[u32]) -> LinForm
-    requires { Rise numbers.now form.now.terms }
-    ensures { result ≡ in_variables (slice_index numbers.now) form.now }
-{
-    // A form's getter tells that it is a form.
-    let _offset = form.offset();
-    form.in_variables(numbers)
 }

@@ -20,7 +20,7 @@ pub(crate) fn no_numbers(alloc: Global, count: usize) -> Result<Vec<Option<u32>>
     ensures many { IfOk result (λ numbers. length numbers.items ≡ count) }
     ensures none { IfOk result (λ numbers. AreNumbers numbers.items []) }
 {
-    let mut numbers = Vec::new(alloc);
+    let mut numbers = Vec::with_capacity(alloc, count)?;
     for name in 0..count {
         numbers.push(None)?;
     }

@@ -1,7 +1,6 @@
 //! The new numbers of form variables.
 ghost use Rattle.std.specs.Prelude.{◌≡◌, ◌<◌, ◌^◌, true, length, drop, slice_set, IfOk};
 ghost use Rattle.std.specs.List.{AllByRecursion};
-ghost use Rattle.pc_linear.specs.Form.{IsForm};
 ghost use Rattle.pc_window.specs.Opening.{FormBelow, TermsBelow};
 ghost use Rattle.pc_renumber.specs.models.Numbering.{and_terms, and_forms, counts_from, AreNew};
 
@@ -46,25 +45,14 @@ fn mark_forms(forms: &[LinForm], marks: &mut [bool])
     ensures { marks.new ≡ and_forms forms.now marks.old }
 {
     for at in 0..forms.len() {
-        mark_form(&forms[at], marks);
+        mark_terms(&forms[at], 0, marks);
     }
-}
-
-/// Marks the variables of a form.
-fn mark_form(form: &LinForm, marks: &mut [bool])
-    requires { FormBelow (length marks.old) form.now }
-    ensures { marks.new ≡ and_terms form.now.terms marks.old }
-{
-    // A form's getter tells that it is a form.
-    let _offset = form.offset();
-    mark_terms(form, 0, marks);
 }
 
 /// Marks the variables of the terms of a form, from one on.
 #[tactic(auto, using(crate::proofs::Marks::terms))]
 fn mark_terms(form: &LinForm, at: u16, marks: &mut [bool])
-    requires form { IsForm form.now }
-    requires below { TermsBelow (length marks.old) (drop at form.now.terms) }
+    requires { TermsBelow (length marks.old) (drop at form.now.terms) }
     ensures { marks.new ≡ and_terms (drop at form.now.terms) marks.old }
 {
     match form.term(at) {
@@ -89,7 +77,7 @@ fn counts(alloc: Global, marks: &[bool]) -> Result<Vec<u32>, AllocError>
     requires { length marks.now < 2 ^ 32 }
     ensures { IfOk result (λ counts. counts.items ≡ counts_from 0 marks.now) }
 {
-    let mut counts = Vec::new(alloc);
+    let mut counts = Vec::with_capacity(alloc, marks.len() + 1)?;
     let mut count = 0;
     for at in 0..marks.len() {
         counts.push(count)?;

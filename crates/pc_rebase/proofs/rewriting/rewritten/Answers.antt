@@ -11,5 +11,6 @@ returns c =
     let factor = c.factor_from-factor.result in
     let fits : FitsSigned w32 factor = search rules in
     let other : factor ≢ pos 0 = search rules in
-    is_replaced form c.args.variable factor c.requires.form c.factor_from-factor.ensures c.args.parameter.now c.args.base c.replaced.result c.requires.parameter c.requires.form_below
-    c.requires.parameter_below other (c.replaced.ensures ∙ ap (λ (z : ℤ). replaced form z c.args.base c.args.parameter.now) (to_z-of_z w32 factor fits))
+    is_replaced form c.args.variable factor c.factor_from-factor.ensures.kept c.factor_from-factor.ensures.value
+    c.args.parameter.now c.args.base c.replaced.result c.replaced.ensures.kept c.requires.form c.requires.parameter other
+    (c.replaced.ensures.value ∙ ap (λ (z : ℤ). replaced form z c.args.base c.args.parameter.now) (to_z-of_z w32 factor fits))
