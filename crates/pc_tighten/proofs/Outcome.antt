@@ -9,7 +9,7 @@ use Rattle.pc_tighten.specs.Compact.{Compact}
 use Rattle.pc_tighten.specs.Removals.{HasNoGotoAlone}
 use Rattle.pc_tighten.specs.Removing.{Shrinks}
 use Rattle.pc_tighten.specs.Tightened.{ByMoves, Tightens, EachIsReachable, IsTightened}
-use Rattle.pc_tighten.specs.models.Gotos.{AreRemoved}
+use Rattle.pc_tighten.specs.models.Gotos.{AreRemoved, AreTightened}
 use Rattle.pc_tighten.specs.models.Raising.{code_with, IsRaised}
 use Rattle.pc_tighten.proofs.Sizes.{tightening_takes_no_more_room}
 use Rattle.pc_tighten.proofs.Tightened.{moves_keep_reachable, tightening_keeps_form, tightening_is_no_slower, tightening_keeps_reachable, tightening_keeps_limits, tightening_keeps_arrays}
@@ -28,17 +28,27 @@ is_tightened well steps compact none_left = record {
   no_goto_alone = none_left;
 }
 
--- items of the rows go up, and then rows go
-pub tightened_rows : (limits : Limits) (arrays : List ℕ) (before after : List (RowTree Leaf)) (old new : List CodeRow) (lifted left : List (RowTree Leaf))
-    → old ≡ rows_of before → rows_of lifted ≡ new → after ≡ left → IsRaised limits old new → AreRemoved (rows_of lifted) (rows_of left)
-    → WellFormed (code_with limits arrays (rows_of before)) → IsTightened (code_with limits arrays (rows_of before)) (code_with limits arrays (rows_of after))
-tightened_rows limits arrays before after old new lifted left e d same raised gone well =
-    subst (λ (rows : List (RowTree Leaf)). IsTightened (code_with limits arrays (rows_of before)) (code_with limits arrays (rows_of rows))) (sym same)
-    (is_tightened well (record { between = code_with limits arrays new; moves = up; removals = down.removals })
-    (λ all. down.compact (moves_keep_reachable up all) (raised.compact arrays)) gone.none_left)
-  where
-    up : ByMoves (code_with limits arrays (rows_of before)) (code_with limits arrays new)
-    up = subst (λ (rows : List CodeRow). ByMoves (code_with limits arrays rows) (code_with limits arrays new)) e (raised.moves_up arrays)
+-- items of the rows go up, also as the rows are built anew
+pub rows_raised : (limits : Limits) (before old new left : List CodeRow) → IsRaised limits old new → old ≡ before → left ≡ new → IsRaised limits before left
+rows_raised limits before old new left raised e d =
+    subst (λ (rows : List CodeRow). IsRaised limits before rows) (sym d) (subst (λ (rows : List CodeRow). IsRaised limits rows new) e raised)
 
-    down : Shrinks (code_with limits arrays new) (code_with limits arrays (rows_of left))
-    down = subst (λ (rows : List CodeRow). Shrinks (code_with limits arrays rows) (code_with limits arrays (rows_of left))) d (gone.shrink limits arrays)
+-- and then rows go
+pub rows_tightened : (limits : Limits) (before between after : List CodeRow) → IsRaised limits before between → AreRemoved between after → AreTightened limits before after
+rows_tightened limits before between after raised removed = record { between = between; raised = raised; removed = removed }
+
+pub ruleset in_order = (rows_raised, rows_tightened)
+
+-- what the code is then
+pub code_tightened : (limits : Limits) (arrays : List ℕ) (before after left : List (RowTree Leaf)) → AreTightened limits (rows_of before) (rows_of left) → after ≡ left
+    → WellFormed (code_with limits arrays (rows_of before)) → IsTightened (code_with limits arrays (rows_of before)) (code_with limits arrays (rows_of after))
+code_tightened limits arrays before after left tight same well =
+    subst (λ (rows : List (RowTree Leaf)). IsTightened (code_with limits arrays (rows_of before)) (code_with limits arrays (rows_of rows))) (sym same)
+    (is_tightened well (record { between = code_with limits arrays tight.between; moves = up; removals = down.removals })
+    (λ all. down.compact (moves_keep_reachable up all) (tight.raised.compact arrays)) tight.removed.none_left)
+  where
+    up : ByMoves (code_with limits arrays (rows_of before)) (code_with limits arrays tight.between)
+    up = tight.raised.moves_up arrays
+
+    down : Shrinks (code_with limits arrays tight.between) (code_with limits arrays (rows_of left))
+    down = tight.removed.shrink limits arrays
