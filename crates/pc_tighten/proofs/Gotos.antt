@@ -14,14 +14,14 @@ use Rattle.pc_machine.specs.declared.tree.Leaf.{Leaf}
 use Rattle.pc_tighten.specs.declared.removing.Places.{Places}
 use Rattle.pc_tighten.specs.Removals.{IsGotoAlone, HasNoGotoAlone}
 use Rattle.pc_tighten.specs.Removing.{unmarked_rows, rank, placed_row, Shrinks, AreMarks}
-use Rattle.pc_tighten.specs.Tightened.{Done}
+use Rattle.pc_tighten.specs.Tightened.{No_removal}
 use Rattle.pc_tighten.specs.models.Gotos.{goto_of, gotos_of, unless_stays, goto_target, unless_leads_on, if_at_end, sent_on, goes, new_place_by, new_place, AreCounted, AreRanks, ArePlacesFrom}
 use Rattle.pc_tighten.specs.models.Gotos.{rows_left, RowsShrink, HasRemoved, AreRemoved}
 use Rattle.pc_tighten.specs.models.Raising.{code_with}
 use Rattle.pc_tighten.proofs.Lists.{nat_eq-apart}
 use Rattle.pc_tighten.proofs.Moves.{same_or_apart}
 use Rattle.pc_tighten.proofs.Shrunk.{marked_go, none_alone}
-use Rattle.pc_tighten.proofs.Tightened.{tightens_on, tightening_keeps_reachable}
+use Rattle.pc_tighten.proofs.Tightened.{removals_on, removals_keep_reachable}
 use Rattle.pc_word.proofs.Places.{get_front, get_last, length_more, set_there, set_elsewhere}
 
 -- ---- how many stay below a number
@@ -388,12 +388,12 @@ round_ends rows gotos it is are none = (refl, none_left rows it (subst (λ (l : 
 
 shrinks_on : {code next after : RowCode} → Shrinks code next → Shrinks next after → Shrinks code after
 shrinks_on first second = record {
-  tightens = tightens_on first.tightens second.tightens;
-  compact = λ all compact. second.compact (tightening_keeps_reachable first.tightens all) (first.compact all compact);
+  removals = removals_on first.removals second.removals;
+  compact = λ all compact. second.compact (removals_keep_reachable first.removals all) (first.compact all compact);
 }
 
 pub rows_same : (rows : List CodeRow) → RowsShrink rows rows
-rows_same rows limits arrays = record { tightens = Done; compact = λ all compact. compact }
+rows_same rows limits arrays = record { removals = No_removal; compact = λ all compact. compact }
 
 -- a round in which some go
 pub rounds_go_on : (old now new : List CodeRow) (some : Bool) → some ≡ true → RowsShrink old now → HasRemoved now new some → RowsShrink old new × (length new < length now)

@@ -1,16 +1,18 @@
--- What moves and removals give, of which the moves end in a compact code.
-use Rattle.std.proofs.Common.{◌≡◌, ℕ, List, subst}
+-- What moves, which end in a compact code, and removals after them give.
+use Rattle.std.proofs.Common.{◌≡◌, ℕ, List, sym, subst}
 use Rattle.pc_word.specs.declared.item.Limits.{Limits}
-use Rattle.pc_machine.specs.MachineCode.{CodeRow, RowCode}
+use Rattle.pc_word.specs.declared.row_tree.RowTree.{RowTree}
+use Rattle.pc_machine.specs.declared.tree.Leaf.{Leaf}
+use Rattle.pc_machine.specs.MachineCode.{CodeRow, RowCode, rows_of}
 use Rattle.pc_machine.specs.WellFormed.{WellFormed}
 use Rattle.pc_tighten.specs.Compact.{Compact}
 use Rattle.pc_tighten.specs.Removals.{HasNoGotoAlone}
 use Rattle.pc_tighten.specs.Removing.{Shrinks}
-use Rattle.pc_tighten.specs.Tightened.{Tightens, EachIsReachable, IsTightened}
-use Rattle.pc_tighten.specs.models.Gotos.{AreRemoved}
+use Rattle.pc_tighten.specs.Tightened.{ByMoves, Tightens, EachIsReachable, IsTightened}
+use Rattle.pc_tighten.specs.models.Gotos.{AreRemoved, AreTightened}
 use Rattle.pc_tighten.specs.models.Raising.{code_with, IsRaised}
 use Rattle.pc_tighten.proofs.Sizes.{tightening_takes_no_more_room}
-use Rattle.pc_tighten.proofs.Tightened.{tightening_keeps_form, tightening_is_no_slower, tightening_keeps_reachable, tightening_keeps_limits, tightening_keeps_arrays, tightens_on}
+use Rattle.pc_tighten.proofs.Tightened.{moves_keep_reachable, tightening_keeps_form, tightening_is_no_slower, tightening_keeps_reachable, tightening_keeps_limits, tightening_keeps_arrays}
 
 is_tightened : {code after : RowCode} → WellFormed code → Tightens code after → (EachIsReachable code.rows → Compact after) → HasNoGotoAlone after.rows
     → IsTightened code after
@@ -26,14 +28,27 @@ is_tightened well steps compact none_left = record {
   no_goto_alone = none_left;
 }
 
--- items of the rows go up, and then rows go
-pub tightened_rows : (limits : Limits) (arrays : List ℕ) (before old new left after : List CodeRow) → old ≡ before → left ≡ new → IsRaised limits old new → AreRemoved left after
-    → WellFormed (code_with limits arrays before) → IsTightened (code_with limits arrays before) (code_with limits arrays after)
-tightened_rows limits arrays before old new left after e d raised gone well =
-    is_tightened well (tightens_on up down.tightens) (λ all. down.compact (tightening_keeps_reachable up all) (raised.compact arrays)) gone.none_left
-  where
-    up : Tightens (code_with limits arrays before) (code_with limits arrays new)
-    up = subst (λ (rows : List CodeRow). Tightens (code_with limits arrays rows) (code_with limits arrays new)) e (raised.tightens arrays)
+-- items of the rows go up, also as the rows are built anew
+pub rows_raised : (limits : Limits) (before old new left : List CodeRow) → IsRaised limits old new → old ≡ before → left ≡ new → IsRaised limits before left
+rows_raised limits before old new left raised e d =
+    subst (λ (rows : List CodeRow). IsRaised limits before rows) (sym d) (subst (λ (rows : List CodeRow). IsRaised limits rows new) e raised)
 
-    down : Shrinks (code_with limits arrays new) (code_with limits arrays after)
-    down = subst (λ (rows : List CodeRow). Shrinks (code_with limits arrays rows) (code_with limits arrays after)) d (gone.shrink limits arrays)
+-- and then rows go
+pub rows_tightened : (limits : Limits) (before between after : List CodeRow) → IsRaised limits before between → AreRemoved between after → AreTightened limits before after
+rows_tightened limits before between after raised removed = record { between = between; raised = raised; removed = removed }
+
+pub ruleset in_order = (rows_raised, rows_tightened)
+
+-- what the code is then
+pub code_tightened : (limits : Limits) (arrays : List ℕ) (before after left : List (RowTree Leaf)) → AreTightened limits (rows_of before) (rows_of left) → after ≡ left
+    → WellFormed (code_with limits arrays (rows_of before)) → IsTightened (code_with limits arrays (rows_of before)) (code_with limits arrays (rows_of after))
+code_tightened limits arrays before after left tight same well =
+    subst (λ (rows : List (RowTree Leaf)). IsTightened (code_with limits arrays (rows_of before)) (code_with limits arrays (rows_of rows))) (sym same)
+    (is_tightened well (record { between = code_with limits arrays tight.between; moves = up; removals = down.removals })
+    (λ all. down.compact (moves_keep_reachable up all) (tight.raised.compact arrays)) tight.removed.none_left)
+  where
+    up : ByMoves (code_with limits arrays (rows_of before)) (code_with limits arrays tight.between)
+    up = tight.raised.moves_up arrays
+
+    down : Shrinks (code_with limits arrays tight.between) (code_with limits arrays (rows_of left))
+    down = tight.removed.shrink limits arrays

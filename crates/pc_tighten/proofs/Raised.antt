@@ -23,14 +23,14 @@ use Rattle.pc_tighten.specs.declared.draft.Draft.{Draft}
 use Rattle.pc_tighten.specs.declared.parents.Parents.{Parents}
 use Rattle.pc_tighten.specs.Compact.{is_dest, is_full, comes_after, is_awaited_by, stays, paths_to, IsPair}
 use Rattle.pc_tighten.specs.Moves.{below, with_item, MayMove}
-use Rattle.pc_tighten.specs.Tightened.{Tightens, Done, Moves}
+use Rattle.pc_tighten.specs.Tightened.{ByMoves, No_move, Move}
 use Rattle.pc_tighten.specs.models.Drafts.{draft_row, draft_rows, BeginsWithNoItem, IsSplit, held, items_but, FirstStay, MayGoUp}
 use Rattle.pc_tighten.specs.models.Parents.{HasParent, StandAbove, parent_of}
 use Rattle.pc_tighten.specs.models.Raising.{place_by, place_of, weigh, code_with, Raises, CanRise, MovesUp, MayRise, IsSettled}
 use Rattle.pc_tighten.proofs.Drafting.{below_append, items_below}
 use Rattle.pc_tighten.proofs.Ends.{paths-count, each_alone}
 use Rattle.pc_tighten.proofs.Rows.{below-leaves, set_elsewhere}
-use Rattle.pc_tighten.proofs.Tightened.{tightens_on}
+use Rattle.pc_tighten.proofs.Tightened.{moves_on}
 use Rattle.pc_tighten.proofs.WellMoved.{set_all, with_item-leaves, with_item-length, below-tests}
 use Rattle.pc_word.proofs.Places.{set_elsewhere as set_other}
 
@@ -184,9 +184,9 @@ module _ (limits : Limits) (places : List (Option ℕ)) (old new : List Draft) (
 
   pub move_raises : Raises limits places 1 old new
   move_raises = record {
-    tightens = λ arrays.
-        subst (λ (rows : List CodeRow). Tightens (code_with limits arrays (draft_rows old)) (code_with limits arrays rows)) (sym new_is)
-        (Moves m t above xs can.free.0 rest (may_move arrays) Done);
+    moves_up = λ arrays.
+        subst (λ (rows : List CodeRow). ByMoves (code_with limits arrays (draft_rows old)) (code_with limits arrays rows)) (sym new_is)
+        (Move m t above xs can.free.0 rest (may_move arrays) No_move);
     leaves =
         ap (map leaves_of) new_is
         ∙ map_set leaves_of (slice_set (draft_rows old) m (with_item t can.free.0 above)) t (below xs rest) (below xs (Then can.free.0 rest)) at_t_then
@@ -201,7 +201,7 @@ module _ (limits : Limits) (places : List (Option ℕ)) (old new : List Draft) (
 -- ---- one after another
 
 pub raises_none : (limits : Limits) (places : List (Option ℕ)) (rows : List Draft) → Raises limits places 0 rows rows
-raises_none limits places rows = record { tightens = λ arrays. Done; leaves = refl; lower = omega arith; split = λ all. all }
+raises_none limits places rows = record { moves_up = λ arrays. No_move; leaves = refl; lower = omega arith; split = λ all. all }
 
 -- ---- rows with the same leaves
 
@@ -378,7 +378,7 @@ ok_then (Err e) P Q f h = tt
 pub raises_more : (limits : Limits) (places : List (Option ℕ)) (n k : ℕ) (old mid new : List Draft) → Raises limits places n old mid → Raises limits places k mid new
     → Raises limits places n old new
 raises_more limits places n k old mid new first more = record {
-  tightens = λ arrays. tightens_on (first.tightens arrays) (more.tightens arrays);
+  moves_up = λ arrays. moves_on (first.moves_up arrays) (more.moves_up arrays);
   leaves = more.leaves ∙ first.leaves;
   split = λ all. more.split (first.split all);
   lower = (let a = first.lower in let b = more.lower in omega arith);

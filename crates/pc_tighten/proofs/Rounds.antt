@@ -212,7 +212,7 @@ pub round_ends : (limits : Limits) (it : Parents) (old mid new : List Draft) (mo
 round_ends limits it old mid new true is are split raises same settled = absurd (cc)
 round_ends limits it old mid new false is are split raises same settled =
     let now = subst (λ (rows : List Draft). Raises limits it.listing.places.items 0 old rows) (sym same) raises in
-    record { tightens = now.tightens; compact = λ arrays. settled_compact limits arrays it old new are now.leaves (now.split split) settled }
+    record { moves_up = now.moves_up; compact = λ arrays. settled_compact limits arrays it old new are now.leaves (now.split split) settled }
 
 pub rounds_within : (limits : Limits) (it : Parents) (old mid : List Draft) → AreParents (draft_rows old) it → Raises limits it.listing.places.items 0 old mid
     → AreWithin it.listing.order.items (length mid)

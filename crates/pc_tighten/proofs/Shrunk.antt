@@ -9,7 +9,7 @@ use Rattle.pc_machine.specs.declared.tree.Leaf.TheVariants.{Goto, Stop, Trap}
 use Rattle.pc_machine.specs.MachineCode.{CodeRow, RowCode}
 use Rattle.pc_word.specs.Row.{Then, Either, At_leaf}
 use Rattle.pc_tighten.specs.Removals.{shifted, sent, sent_row, without_row, removed, IsGotoAlone}
-use Rattle.pc_tighten.specs.Tightened.{Done, Removes}
+use Rattle.pc_tighten.specs.Tightened.{No_removal, Removal}
 use Rattle.pc_tighten.specs.Removing.{unmarked_rows, rank, placed_row, without_marked, Shrinks, IsMarked, AreMarks}
 use Rattle.pc_tighten.proofs.Compacted.{shifted-injective, removal_keeps_compact}
 use Rattle.pc_tighten.proofs.Lists.{nat_eq-refl, nat_eq-apart}
@@ -205,7 +205,7 @@ shrinks_by n [] code place marks size going others ranks =
     let same = λ (x : ℕ). ranks x (none x) ∙ rank_all marks x none in
     subst (Shrinks code) (sym (code_rows code (map (placed_row place) (unmarked_rows marks code.rows)) code.rows
     (all_placed_same place same (unmarked_rows marks code.rows) ∙ kept_all marks code.rows none)))
-    (record { tightens = Done; compact = λ all compact. compact })
+    (record { removals = No_removal; compact = λ all compact. compact })
 shrinks_by zero (t ∷ rest) code place marks size going others ranks = absurd (omega arith)
 shrinks_by (suc n) (t ∷ rest) code place marks size going others ranks =
     let h = going.0 in
@@ -221,7 +221,7 @@ shrinks_by (suc n) (t ∷ rest) code place marks size going others ranks =
     let same = ap (map (placed_row later)) (kept_map left (sent_row t u) (without_row t code.rows) ∙ ap (map (sent_row t u)) (kept_without marks t code.rows h.marked))
     ∙ all_placed_sent place later t u (place_sent t u h.not_entry h.not_itself place h.same_place) (unmarked_rows marks code.rows) in
     subst (Shrinks code) (code_rows code (map (placed_row later) (unmarked_rows left next.rows)) (map (placed_row place) (unmarked_rows marks code.rows)) same) (record {
-      tightens = Removes t u may more.tightens;
+      removals = Removal t u may more.removals;
       compact = λ all compact. more.compact (removal_keeps_all_reached code t u may all) (removal_keeps_compact code t u may all compact);
     })
 

@@ -12,7 +12,7 @@ use Rattle.pc_machine.specs.MachineCode.{CodeRow, RowCode, is_goto}
 use Rattle.pc_tighten.specs.Moves.{below, with_item, moved, MayMove}
 use Rattle.pc_tighten.specs.Removals.{sent, sent_row, without_row}
 use Rattle.pc_tighten.specs.Sizes.{Room, row_room, rows_room}
-use Rattle.pc_tighten.specs.Tightened.{Tightens, Done, Moves, Removes}
+use Rattle.pc_tighten.specs.Tightened.{ByMoves, No_move, Move, ByRemovals, No_removal, Removal, Tightens}
 use Rattle.pc_tighten.proofs.Rows.{set_elsewhere}
 
 grow : (a b c : ℕ) → (a + b) * c ≡ a * c + b * c
@@ -115,15 +115,25 @@ module _ (room : Room) where
       let h = rooms-without t rows in
       omega arith
 
-  -- both together
-  pub tightening_takes_no_more_room : {code after : RowCode} → Tightens code after → rows_room room after.rows ≤ rows_room room code.rows
-  tightening_takes_no_more_room Done = omega arith
-  tightening_takes_no_more_room {code} (Moves m t above xs x rest may steps) =
-      let h = tightening_takes_no_more_room steps in
+  -- as many as there are
+  moves_take_no_more_room : {code after : RowCode} → ByMoves code after → rows_room room after.rows ≤ rows_room room code.rows
+  moves_take_no_more_room No_move = omega arith
+  moves_take_no_more_room {code} (Move m t above xs x rest may steps) =
+      let h = moves_take_no_more_room steps in
       let a = move_keeps_room code m t above xs x rest may in
       omega arith
-  tightening_takes_no_more_room {code} (Removes t u may steps) =
-      let h = tightening_takes_no_more_room steps in
+
+  removals_take_no_more_room : {code after : RowCode} → ByRemovals code after → rows_room room after.rows ≤ rows_room room code.rows
+  removals_take_no_more_room No_removal = omega arith
+  removals_take_no_more_room {code} (Removal t u may steps) =
+      let h = removals_take_no_more_room steps in
       let a = rooms-sent t u (without_row t code.rows) in
       let b = rooms-without t code.rows in
+      omega arith
+
+  -- both together
+  pub tightening_takes_no_more_room : {code after : RowCode} → Tightens code after → rows_room room after.rows ≤ rows_room room code.rows
+  tightening_takes_no_more_room steps =
+      let a = moves_take_no_more_room steps.moves in
+      let b = removals_take_no_more_room steps.removals in
       omega arith

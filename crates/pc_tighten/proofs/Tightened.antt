@@ -10,7 +10,7 @@ use Rattle.pc_machine.specs.MachineRun.{machine_run}
 use Rattle.pc_machine.specs.WellFormed.{WellFormed}
 use Rattle.pc_tighten.specs.Moves.{moved}
 use Rattle.pc_tighten.specs.Removals.{removed}
-use Rattle.pc_tighten.specs.Tightened.{Tightens, Done, Moves, Removes, EachIsReachable}
+use Rattle.pc_tighten.specs.Tightened.{ByMoves, No_move, Move, ByRemovals, No_removal, Removal, Tightens, EachIsReachable}
 use Rattle.pc_tighten.specs.Pace.{IsNoSlower}
 use Rattle.pc_tighten.proofs.Moves.{move_agrees, move_keeps_pace}
 use Rattle.pc_tighten.proofs.Removals.{removal_agrees, removal_keeps_pace}
@@ -27,51 +27,93 @@ never_faulting X Y agree never n fault is =
     ends (Some e) same h = h.1 ∙ same
     ends None same h = absurd (cc)
 
+no_slower-refl : (X : Run) → IsNoSlower X X
+no_slower-refl X = record { agree = Agree-refl X; pace = λ n. Answers-refl (X n) }
+
 no_slower-trans : (X Y Z : Run) → IsNoSlower X Y → IsNoSlower Y Z → IsNoSlower X Z
 no_slower-trans X Y Z a b = record {
   agree = Agree-trans X Y Z a.agree b.agree;
   pace = λ n. Answers-trans (X n) (Y n) (Z n) (X n).end (Y n).end refl (a.pace n) (b.pace n);
 }
 
-pub tightening_keeps_form : {code after : RowCode} → Tightens code after → WellFormed code → WellFormed after
-tightening_keeps_form Done well = well
-tightening_keeps_form {code} (Moves m t above xs x rest may more) well = tightening_keeps_form more (move_keeps_form code well m t above xs x rest may)
-tightening_keeps_form {code} (Removes t u may more) well = tightening_keeps_form more (removal_keeps_form code well t u may)
+-- ---- moves
 
-pub tightening_is_no_slower : {code after : RowCode} → Tightens code after → WellFormed code → (input : List ℤ) → NeverFaults (machine_run code input)
+moves_keep_form : {code after : RowCode} → ByMoves code after → WellFormed code → WellFormed after
+moves_keep_form No_move well = well
+moves_keep_form {code} (Move m t above xs x rest may more) well = moves_keep_form more (move_keeps_form code well m t above xs x rest may)
+
+moves_are_no_slower : {code after : RowCode} → ByMoves code after → WellFormed code → (input : List ℤ) → NeverFaults (machine_run code input)
     → IsNoSlower (machine_run code input) (machine_run after input)
-tightening_is_no_slower {code} Done well input never = record { agree = Agree-refl (machine_run code input); pace = λ n. Answers-refl (machine_run code input n) }
-tightening_is_no_slower {code} {after} (Moves m t above xs x rest may more) well input never =
+moves_are_no_slower {code} No_move well input never = no_slower-refl (machine_run code input)
+moves_are_no_slower {code} {after} (Move m t above xs x rest may more) well input never =
     let next = moved code m t above xs x rest in
     let agree = move_agrees code well m t above xs x rest may input never in
     no_slower-trans (machine_run code input) (machine_run next input) (machine_run after input)
     (record { agree = agree; pace = move_keeps_pace code well m t above xs x rest may input never })
-    (tightening_is_no_slower more (move_keeps_form code well m t above xs x rest may) input (never_faulting (machine_run code input) (machine_run next input) agree never))
-tightening_is_no_slower {code} {after} (Removes t u may more) well input never =
-    let next = removed code t u in
-    let agree = removal_agrees code t u may input in
-    no_slower-trans (machine_run code input) (machine_run next input) (machine_run after input)
-    (record { agree = agree; pace = removal_keeps_pace code t u may input })
-    (tightening_is_no_slower more (removal_keeps_form code well t u may) input (never_faulting (machine_run code input) (machine_run next input) agree never))
+    (moves_are_no_slower more (move_keeps_form code well m t above xs x rest may) input (never_faulting (machine_run code input) (machine_run next input) agree never))
+
+pub moves_keep_reachable : {code after : RowCode} → ByMoves code after → EachIsReachable code.rows → EachIsReachable after.rows
+moves_keep_reachable No_move all = all
+moves_keep_reachable {code} (Move m t above xs x rest may more) all = moves_keep_reachable more (move_keeps_all_reached code m t above xs x rest may all)
+
+-- some after others
+pub moves_on : {code next after : RowCode} → ByMoves code next → ByMoves next after → ByMoves code after
+moves_on No_move more = more
+moves_on (Move m t above xs x rest may steps) more = Move m t above xs x rest may (moves_on steps more)
+
+moves_keep_limits : {code after : RowCode} → ByMoves code after → after.limits ≡ code.limits
+moves_keep_limits No_move = refl
+moves_keep_limits (Move m t above xs x rest may more) = moves_keep_limits more
+
+moves_keep_arrays : {code after : RowCode} → ByMoves code after → after.arrays ≡ code.arrays
+moves_keep_arrays No_move = refl
+moves_keep_arrays (Move m t above xs x rest may more) = moves_keep_arrays more
+
+-- ---- removals
+
+removals_keep_form : {code after : RowCode} → ByRemovals code after → WellFormed code → WellFormed after
+removals_keep_form No_removal well = well
+removals_keep_form {code} (Removal t u may more) well = removals_keep_form more (removal_keeps_form code well t u may)
+
+removals_are_no_slower : {code after : RowCode} → ByRemovals code after → (input : List ℤ) → IsNoSlower (machine_run code input) (machine_run after input)
+removals_are_no_slower {code} No_removal input = no_slower-refl (machine_run code input)
+removals_are_no_slower {code} {after} (Removal t u may more) input =
+    no_slower-trans (machine_run code input) (machine_run (removed code t u) input) (machine_run after input)
+    (record { agree = removal_agrees code t u may input; pace = removal_keeps_pace code t u may input }) (removals_are_no_slower more input)
+
+pub removals_keep_reachable : {code after : RowCode} → ByRemovals code after → EachIsReachable code.rows → EachIsReachable after.rows
+removals_keep_reachable No_removal all = all
+removals_keep_reachable {code} (Removal t u may more) all = removals_keep_reachable more (removal_keeps_all_reached code t u may all)
+
+-- some after others
+pub removals_on : {code next after : RowCode} → ByRemovals code next → ByRemovals next after → ByRemovals code after
+removals_on No_removal more = more
+removals_on (Removal t u may steps) more = Removal t u may (removals_on steps more)
+
+removals_keep_limits : {code after : RowCode} → ByRemovals code after → after.limits ≡ code.limits
+removals_keep_limits No_removal = refl
+removals_keep_limits (Removal t u may more) = removals_keep_limits more
+
+removals_keep_arrays : {code after : RowCode} → ByRemovals code after → after.arrays ≡ code.arrays
+removals_keep_arrays No_removal = refl
+removals_keep_arrays (Removal t u may more) = removals_keep_arrays more
+
+-- ---- removals after moves
+
+pub tightening_keeps_form : {code after : RowCode} → Tightens code after → WellFormed code → WellFormed after
+tightening_keeps_form steps well = removals_keep_form steps.removals (moves_keep_form steps.moves well)
+
+pub tightening_is_no_slower : {code after : RowCode} → Tightens code after → WellFormed code → (input : List ℤ) → NeverFaults (machine_run code input)
+    → IsNoSlower (machine_run code input) (machine_run after input)
+tightening_is_no_slower {code} {after} steps well input never =
+    no_slower-trans (machine_run code input) (machine_run steps.between input) (machine_run after input)
+    (moves_are_no_slower steps.moves well input never) (removals_are_no_slower steps.removals input)
 
 pub tightening_keeps_reachable : {code after : RowCode} → Tightens code after → EachIsReachable code.rows → EachIsReachable after.rows
-tightening_keeps_reachable Done all = all
-tightening_keeps_reachable {code} (Moves m t above xs x rest may more) all =
-    tightening_keeps_reachable more (move_keeps_all_reached code m t above xs x rest may all)
-tightening_keeps_reachable {code} (Removes t u may more) all = tightening_keeps_reachable more (removal_keeps_all_reached code t u may all)
-
--- one tightening after another
-pub tightens_on : {code next after : RowCode} → Tightens code next → Tightens next after → Tightens code after
-tightens_on Done more = more
-tightens_on (Moves m t above xs x rest may steps) more = Moves m t above xs x rest may (tightens_on steps more)
-tightens_on (Removes t u may steps) more = Removes t u may (tightens_on steps more)
+tightening_keeps_reachable steps all = removals_keep_reachable steps.removals (moves_keep_reachable steps.moves all)
 
 pub tightening_keeps_limits : {code after : RowCode} → Tightens code after → after.limits ≡ code.limits
-tightening_keeps_limits Done = refl
-tightening_keeps_limits (Moves m t above xs x rest may more) = tightening_keeps_limits more
-tightening_keeps_limits (Removes t u may more) = tightening_keeps_limits more
+tightening_keeps_limits steps = removals_keep_limits steps.removals ∙ moves_keep_limits steps.moves
 
 pub tightening_keeps_arrays : {code after : RowCode} → Tightens code after → after.arrays ≡ code.arrays
-tightening_keeps_arrays Done = refl
-tightening_keeps_arrays (Moves m t above xs x rest may more) = tightening_keeps_arrays more
-tightening_keeps_arrays (Removes t u may more) = tightening_keeps_arrays more
+tightening_keeps_arrays steps = removals_keep_arrays steps.removals ∙ moves_keep_arrays steps.moves

@@ -5,7 +5,7 @@ use Rattle.pc_machine.specs.declared.tree.Leaf.TheVariants.{Goto, Stop, Trap}
 use Rattle.pc_machine.specs.MachineCode.{CodeRow, RowCode}
 use Rattle.pc_word.specs.Row.{Then, Either, At_leaf}
 use Rattle.pc_tighten.specs.Compact.{Compact}
-use Rattle.pc_tighten.specs.Tightened.{Tightens, EachIsReachable}
+use Rattle.pc_tighten.specs.Tightened.{ByRemovals, EachIsReachable}
 
 -- the rows that are not marked
 abbrev pub unmarked_rows : (ℕ → Bool) → List CodeRow → List CodeRow
@@ -35,7 +35,7 @@ without_marked place marks code = record { limits = code.limits; arrays = code.a
 
 -- rows go away, and where all rows are reachable a compact code stays compact
 pub record Shrinks (code after : RowCode) : Type 0 where
-  pub tightens : Tightens code after
+  pub removals : ByRemovals code after
   pub compact : EachIsReachable code.rows → Compact code → Compact after
 
 -- a marked row: a goto alone to another row, which stands further down or is not marked, and has its place

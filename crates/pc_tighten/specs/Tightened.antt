@@ -12,12 +12,22 @@ use Rattle.pc_tighten.specs.Removals.{IsGotoAlone, removed, HasNoGotoAlone}
 use Rattle.pc_tighten.specs.Pace.{IsNoSlower}
 use Rattle.pc_tighten.specs.Sizes.{Room, rows_room}
 
--- one code comes from another by moves and removals
-pub data Tightens : RowCode → RowCode → Type 0 where
-  Done : {code : RowCode} → Tightens code code
-  Moves : {code after : RowCode} (m t : ℕ) (above : CodeRow) (xs : List Item) (x : Item) (rest : CodeRow)
-      → MayMove code m t above xs x rest → Tightens (moved code m t above xs x rest) after → Tightens code after
-  Removes : {code after : RowCode} (t u : ℕ) → IsGotoAlone code.rows t u → Tightens (removed code t u) after → Tightens code after
+-- one code comes from another by moves alone
+pub data ByMoves : RowCode → RowCode → Type 0 where
+  No_move : {code : RowCode} → ByMoves code code
+  Move : {code after : RowCode} (m t : ℕ) (above : CodeRow) (xs : List Item) (x : Item) (rest : CodeRow)
+      → MayMove code m t above xs x rest → ByMoves (moved code m t above xs x rest) after → ByMoves code after
+
+-- one code comes from another by removals alone
+pub data ByRemovals : RowCode → RowCode → Type 0 where
+  No_removal : {code : RowCode} → ByRemovals code code
+  Removal : {code after : RowCode} (t u : ℕ) → IsGotoAlone code.rows t u → ByRemovals (removed code t u) after → ByRemovals code after
+
+-- one code comes from another by moves alone, and then by removals alone
+pub record Tightens (code after : RowCode) : Type 0 where
+  pub between : RowCode
+  pub moves : ByMoves code between
+  pub removals : ByRemovals between after
 
 -- each row is row 0, or leaves lead to it from row 0
 abbrev pub EachIsReachable : List CodeRow → Type 0
@@ -25,7 +35,7 @@ EachIsReachable rows = (i : ℕ) (row : CodeRow) → slice_get rows i ≡ Some r
 
 -- the code after the tightening of a code
 pub record IsTightened (before after : RowCode) : Type 0 where
-  -- by moves and removals alone
+  -- first items move, and then rows are removed
   pub tightens : Tightens before after
   pub form : WellFormed after
   pub limits : after.limits ≡ before.limits

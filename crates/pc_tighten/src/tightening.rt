@@ -4,12 +4,15 @@ ghost use Rattle.pc_machine.specs.MachineCode.{code_of, rows_of};
 ghost use Rattle.pc_machine.specs.WellFormed.{WellFormed};
 ghost use Rattle.pc_tighten.specs.Tightened.{IsTightened};
 ghost use Rattle.pc_tighten.specs.models.Drafts.{IsSplit, draft_rows};
+ghost use Rattle.pc_tighten.specs.models.Gotos.{AreTightened};
+ghost use Rattle.pc_tighten.specs.models.Raising.{IsRaised};
 
 use crate::draft::{Draft, drafted, rebuilt};
 use crate::error::TightenError;
 use crate::raising::raise_all;
 use crate::removing::remove_all;
 use pc_machine::{Code, Tree, TreeList};
+use pc_word::Limits;
 use std::alloc::{AllocError, Global};
 
 /// The code with each item brought up as many rows as it may go: from a row to which one leaf alone leads to the
@@ -26,15 +29,34 @@ pub fn tighten(alloc: Global, code: Code) -> Result<Code, TightenError>
         arrays,
         rows,
     } = code;
-    let mut drafts = drafts(alloc, rows)?;
-    raise_all(alloc, limits, &mut drafts)?;
-    let mut rows = trees(alloc, drafts)?;
-    remove_all(alloc, &mut rows)?;
+    let rows = tightened(alloc, limits, rows)?;
     Ok(Code {
         limits,
         arrays,
         rows: TreeList::from_vec(rows),
     })
+}
+
+/// The rows with each item brought up as many rows as it may go, and then without those that are a goto
+/// alone to another row.
+#[tactic(auto, using(crate::proofs::Outcome::in_order))]
+fn tightened(alloc: Global, limits: Limits, rows: TreeList) -> Result<Vec<Tree>, AllocError>
+    ensures { IfOk result (λ after. AreTightened limits (rows_of rows) (rows_of after.items)) }
+{
+    let mut rows = raised(alloc, limits, rows)?;
+    remove_all(alloc, &mut rows)?;
+    Ok(rows)
+}
+
+/// The rows with each item brought up as many rows as it may go.
+#[tactic(auto, using(crate::proofs::Outcome::in_order))]
+fn raised(alloc: Global, limits: Limits, rows: TreeList) -> Result<Vec<Tree>, AllocError>
+    ensures { IfOk result (λ raised. IsRaised limits (rows_of rows) (rows_of raised.items)) }
+{
+    let mut drafts = drafts(alloc, rows)?;
+    raise_all(alloc, limits, &mut drafts)?;
+    let rows = trees(alloc, drafts)?;
+    Ok(rows)
 }
 
 /// The drafts of rows.

@@ -6,7 +6,7 @@ use Rattle.pc_machine.specs.MachineCode.{CodeRow, target_of}
 use Rattle.pc_tighten.specs.declared.removing.Places.{Places}
 use Rattle.pc_tighten.specs.Removals.{HasNoGotoAlone}
 use Rattle.pc_tighten.specs.Removing.{unmarked_rows, rank, placed_row, Shrinks}
-use Rattle.pc_tighten.specs.models.Raising.{code_with}
+use Rattle.pc_tighten.specs.models.Raising.{code_with, IsRaised}
 
 -- ---- which rows go
 
@@ -94,3 +94,9 @@ HasRemoved old new false = (new ≡ old) × HasNoGotoAlone old
 pub record AreRemoved (old new : List CodeRow) : Type 0 where
   pub shrink : RowsShrink old new
   pub none_left : HasNoGotoAlone new
+
+-- items of rows have gone up, and then rows have gone
+pub record AreTightened (limits : Limits) (before after : List CodeRow) : Type 0 where
+  pub between : List CodeRow
+  pub raised : IsRaised limits before between
+  pub removed : AreRemoved between after

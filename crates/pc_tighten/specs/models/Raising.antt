@@ -8,7 +8,7 @@ use Rattle.pc_machine.specs.MachineCode.{CodeRow, RowCode, row_of}
 use Rattle.pc_tighten.specs.declared.draft.Draft.{Draft}
 use Rattle.pc_tighten.specs.Compact.{Compact}
 use Rattle.pc_tighten.specs.Moves.{below, with_item}
-use Rattle.pc_tighten.specs.Tightened.{Tightens}
+use Rattle.pc_tighten.specs.Tightened.{ByMoves}
 use Rattle.pc_tighten.specs.models.Drafts.{draft_row, draft_rows, IsSplit, FirstStay, MayGoUp}
 use Rattle.pc_tighten.specs.declared.parents.Parents.{Parents}
 use Rattle.pc_tighten.specs.models.Parents.{parent_of}
@@ -34,7 +34,7 @@ code_with limits arrays rows = record { limits = limits; arrays = arrays; rows =
 
 -- rows come from others by moves, of which there are at least so many
 pub record Raises (limits : Limits) (places : List (Option ℕ)) (moves : ℕ) (old new : List Draft) : Type 0 where
-  pub tightens : (arrays : List ℕ) → Tightens (code_with limits arrays (draft_rows old)) (code_with limits arrays (draft_rows new))
+  pub moves_up : (arrays : List ℕ) → ByMoves (code_with limits arrays (draft_rows old)) (code_with limits arrays (draft_rows new))
   pub leaves : map leaves_of (draft_rows new) ≡ map leaves_of (draft_rows old)
   pub lower : weigh (place_of places) 0 (draft_rows new) + moves ≤ weigh (place_of places) 0 (draft_rows old)
   pub split : AllByRecursion IsSplit old → AllByRecursion IsSplit new
@@ -83,5 +83,5 @@ AreWithin order count = (k row : ℕ) → slice_get order k ≡ Some row → row
 
 -- rows come from others by moves, and what is left stays
 pub record IsRaised (limits : Limits) (old new : List CodeRow) : Type 0 where
-  pub tightens : (arrays : List ℕ) → Tightens (code_with limits arrays old) (code_with limits arrays new)
+  pub moves_up : (arrays : List ℕ) → ByMoves (code_with limits arrays old) (code_with limits arrays new)
   pub compact : (arrays : List ℕ) → Compact (code_with limits arrays new)
