@@ -98,7 +98,7 @@ module _ (program : ResolvedProgram) (first flow : FlowGraph) (table : Table) (l
   all_plain_is_short keeps = plain_is_short table few_regions_in_all few_units_in_all few_loops_in_all keeps.few_arrays
 
 -- a run that agrees with a program's never faults
-never_faults : (program : ResolvedProgram) (runs : List ℤ → Run) → AgreeOnInputs runs (source_run program) → (input : List ℤ) → All IsWord input
+pub never_faults : (program : ResolvedProgram) (runs : List ℤ → Run) → AgreeOnInputs runs (source_run program) → (input : List ℤ) → All IsWord input
     → NeverFaults (runs input)
 never_faults program runs agree input words =
     NeverFaults-follows (runs input) (source_run program input) (agree input words).forth (λ n fault. source_run-faultless program input n fault)
@@ -148,6 +148,7 @@ is_compiled program Passed limits extent first flow table forms choices object f
       passed = passed;
       kept = kept;
       cut = cut;
+      table_keeps = keeps;
       forms = forms;
       chosen = chosen;
       loose = made.loose;

@@ -8,7 +8,7 @@ pub mod FormsGiven
 pub mod Taken
 pub mod Progress
 pub mod Standing
-pub mod Order
+pub mod OneAnswer
 pub mod BareTraps
 pub mod Emittable
 pub mod Compilations
@@ -22,5 +22,7 @@ pub mod Costs
 pub mod Needs
 pub mod SchedulePlaces
 pub mod Paces
+pub mod RegionPaces
+pub mod CostBounds
 pub mod SourcePace
 pub mod Worked

@@ -1,8 +1,8 @@
 -- Emitted rows keep pace with the schedule of their forms, and so does a code after its tightening.
-use Rattle.std.proofs.Common.{◌≡◌, ℕ, zero, suc, ◌+◌, List, [], Option, Some, refl, sym, subst, arith}
+use Rattle.std.proofs.Common.{◌≡◌, ℕ, zero, suc, ◌+◌, List, Option, Some, refl, sym, subst, arith, zero-add}
 use Rattle.pc_word.specs.declared.item.Limits.{Limits}
 use Rattle.pc_word.specs.State.{State, start_state}
-use Rattle.pc_word.specs.Run.{Run, Seen, Step, Goes, Answers, after_printing, seen_of, run_from}
+use Rattle.pc_word.specs.Run.{Run, Seen, Step, Answers, after_printing, seen_of, run_from}
 use Rattle.pc_word.proofs.Runs.{Answers-after}
 use Rattle.pc_table.specs.Table.{region_tree}
 use Rattle.pc_table.specs.TableKeeps.{TableKeeps}
@@ -16,9 +16,9 @@ use Rattle.pc_emit.specs.Emitted.{Emission, RegionForm, Plain, ByAutomaton, form
 use Rattle.pc_emit.specs.PackedForm.{IsRegionForm}
 use Rattle.pc_emit.specs.Laws.{code_with}
 use Rattle.pc_emit.proofs.Leading.{leaf_run, leaf_grows}
-use Rattle.pc_compile.specs.ScheduleRun.{SchedulePlace, At_tree, At_state, begins_in, schedule_step, schedule_run, step_cost, cost_behind, cost_from, schedule_cost}
+use Rattle.pc_compile.specs.ScheduleRun.{SchedulePlace, At_tree, At_state, begins_in, schedule_step, schedule_run, step_cost, cost_behind, cost_from, start_cost, schedule_cost}
 use Rattle.pc_compile.specs.Laws.{EmittedRowsKeepPace, TightenedCodesKeepPace}
-use Rattle.pc_compile.proofs.SchedulePlaces.{code, Meets, Pays, pays_on, pays_end, form_meets, pays, first_pays}
+use Rattle.pc_compile.proofs.SchedulePlaces.{code, Meets, Pays, pays_on, pays_end, form_meets, pays, BeginsPlain, begins_there, first_begins}
 
 module _ (e : Emission) (keeps : TableKeeps e.table) (limits : Limits) (rows : List CodeRow) (emitted : IsEmitted e rows)
     (forms : (region : ℕ) (form : RegionForm) → e.forms region ≡ Some form → IsRegionForm e.table region form) where
@@ -60,22 +60,35 @@ module _ (e : Emission) (keeps : TableKeeps e.table) (limits : Limits) (rows : L
   alike_itself : (s : State) → AlikeAtHead e.table 0 s s
   alike_itself s = record { cells = refl; input = refl; names = λ variable live. refl }
 
+  -- the steps from where the schedule begins, after the cycles before the first of them
+  abbrev IsInTimeAfter : (start : ℕ) → ℕ → SchedulePlace → State → Type 0
+  IsInTimeAfter start n place m = Answers (schedule n place) (shown (Goto 0) m (start + cost n place)) (schedule n place).end
+
+  begins_in_time : (n : ℕ) (place : SchedulePlace) (m : State) → BeginsPlain e keeps limits rows emitted forms place (shown (Goto 0) m) → IsInTimeAfter 1 n place m
+  begins_in_time n place m (begins_there {leaf} {m = moved} cycles within same meets) =
+      answer_of_answer (schedule n place) (shown leaf moved (cost n place)) (shown (Goto 0) m (1 + cost n place)) (in_time n place leaf moved meets)
+      (subst (λ (x : Seen). Answers x (shown (Goto 0) m (1 + cost n place)) x.end) (same (cost n place))
+      (leaf_grows (code e keeps limits rows emitted forms) (Goto 0) m (cycles + cost n place) (1 + cost n place) (omega (arith, within))))
+
   first_in_time : BeginsAtFirstRow e → (form : RegionForm) → e.forms 0 ≡ Some form → emitted.first ≡ form_leaf e 0 form → (s : State) (n : ℕ)
-      → IsInTime n (begins_in 0 (Some form) s) (Goto 0) s
-  first_in_time at_first Plain has is s zero = ((shown (Goto 0) s 0).printed, refl)
-  first_in_time at_first Plain has is s (suc n) =
-      step_in_time n (Goes [] (At_tree (region_tree e.table 0) s)) 1 (Goto 0) s (λ next target moved h. in_time n next target moved h)
-      (first_pays e keeps limits rows emitted forms has s s (alike_itself s) emitted.first emitted.begins is)
+      → IsInTimeAfter (start_cost (Some form)) n (begins_in e.table 0 (Some form) s) s
+  first_in_time at_first Plain has is s n =
+      begins_in_time n (At_tree (region_tree e.table 0) s) s
+      (first_begins e keeps limits rows emitted forms emitted.first emitted.begins (At_tree (region_tree e.table 0) s) s
+      (subst (λ (l : Leaf). Meets e keeps limits rows emitted forms (At_tree (region_tree e.table 0) s) l s) (sym is)
+      (form_meets e keeps limits rows emitted forms 0 Plain has s s (alike_itself s))))
   first_in_time at_first (ByAutomaton states registers) has is s n =
-      subst (λ (row : ℕ). IsInTime n (At_state 0 states 0 s) (Goto row) s) (at_first states registers has)
+      subst (λ (cycles : ℕ). Answers (schedule n (At_state 0 states 0 s)) (shown (Goto 0) s cycles) (schedule n (At_state 0 states 0 s)).end)
+      (sym (zero-add (cost n (At_state 0 states 0 s))))
+      (subst (λ (row : ℕ). IsInTime n (At_state 0 states 0 s) (Goto row) s) (at_first states registers has)
       (in_time n (At_state 0 states 0 s) (Goto (e.places.state 0 0)) s
-      (form_meets e keeps limits rows emitted forms 0 (ByAutomaton states registers) has s s (alike_itself s)))
+      (form_meets e keeps limits rows emitted forms 0 (ByAutomaton states registers) has s s (alike_itself s))))
 
 pub emitted_rows_keep_pace : EmittedRowsKeepPace
 emitted_rows_keep_pace e keeps limits rows same emitted at_first forms input n =
     subst (λ (ops : ℕ). Answers (schedule_run e.table e.forms input n) (machine_run (code_with limits e rows) input (schedule_cost e.table e.forms ops input n))
     (schedule_run e.table e.forms input n).end) (sym same)
-    (subst (λ (it : Option RegionForm). IsInTime e keeps limits rows emitted forms n (begins_in 0 it (start_state input)) (Goto 0) (start_state input))
+    (subst (λ (it : Option RegionForm). IsInTimeAfter e keeps limits rows emitted forms (start_cost it) n (begins_in e.table 0 it (start_state input)) (start_state input))
     (sym emitted.leads.has)
     (first_in_time e keeps limits rows emitted forms at_first emitted.leads.form emitted.leads.has emitted.leads.is (start_state input) n))
 

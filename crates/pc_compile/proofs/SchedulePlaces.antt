@@ -14,7 +14,7 @@ use Rattle.pc_word.specs.Items.{operand_value}
 use Rattle.pc_word.specs.Commit.{fault_of, prints_of, state_after}
 use Rattle.pc_word.specs.Row.{Then, Either, At_leaf, RowOutcome, commit_of, row_step}
 use Rattle.pc_word.specs.Run.{Run, Seen, Step, Goes, Stops, after_printing, seen_of, run_from}
-use Rattle.pc_table.specs.Table.{TableTree, Does, Asks, region_tree, region_live}
+use Rattle.pc_table.specs.Table.{TableTree, Does, Asks, region_live}
 use Rattle.pc_table.specs.RegionRun.{lead_on}
 use Rattle.pc_table.specs.TableKeeps.{TableKeeps, units}
 use Rattle.pc_table.specs.Laws.{AlikeAtHead}
@@ -41,7 +41,7 @@ use Rattle.pc_emit.proofs.Passed.{region_passed}
 use Rattle.pc_emit.proofs.Leading.{leaf_run, leaf_seen, row_seen, passes_back}
 use Rattle.pc_emit.proofs.PackedRuns.{Leads, StandsAt, both_step, next_stands}
 use Rattle.pc_emit.proofs.PlainRuns.{IsRoot, roots, test_shown}
-use Rattle.pc_compile.specs.ScheduleRun.{SchedulePlace, Before, At_tree, At_state, begins_in, begins_at, behind, schedule_leaf_step, schedule_outcome_step, schedule_state_step, schedule_step}
+use Rattle.pc_compile.specs.ScheduleRun.{SchedulePlace, At_tree, At_state, begins_in, begins_at, behind, schedule_leaf_step, schedule_outcome_step, schedule_state_step, schedule_step}
 use Rattle.pc_compile.specs.ScheduleRun.{leaf_cost, outcome_cost, state_cost, step_cost}
 use Rattle.pc_compile.proofs.Costs.{passing_few, arguments_many, homes_many}
 use Rattle.pc_compile.proofs.Needs.{Agrees, item_alike, behind_item, test_alike, behind_yes, behind_no, agrees_at_head, alike_at_head}
@@ -78,8 +78,6 @@ module _ (e : Emission) (keeps : TableKeeps e.table) (limits : Limits) (rows : L
   pub data Meets : SchedulePlace → Leaf → State → Type 0 where
     meets_state : {region number : ℕ} {states : List AutomatonState} {registers : ℕ → ℕ → Option ℕ} {s m : State} (has : e.forms region ≡ Some (ByAutomaton states registers))
         → Stands region states registers has number s m → Meets (At_state region states number s) (machine.Goto (e.places.state region number)) m
-    meets_region : {region : ℕ} {s m : State} → e.forms region ≡ Some Plain → AlikeAtHead e.table region s m
-        → Meets (Before region s) (root_leaf (e.places.entry region) (region_tree e.table region)) m
     meets_tree : {row : ℕ} {tree : TableTree} {s m : State} → TreeStands e rows row tree → IsRoot tree → Agrees e.table tree s m
         → Meets (At_tree tree s) (root_leaf row tree) m
 
@@ -92,14 +90,15 @@ module _ (e : Emission) (keeps : TableKeeps e.table) (limits : Limits) (rows : L
 
   -- a leaf that leads to a region leads to where it begins
   pub form_meets : (region : ℕ) (form : RegionForm) → e.forms region ≡ Some form → (s m : State) → AlikeAtHead e.table region s m
-      → Meets (begins_in region (Some form) s) (form_leaf e region form) m
-  form_meets region Plain has s m alike = meets_region has alike
+      → Meets (begins_in e.table region (Some form) s) (form_leaf e region form) m
+  form_meets region Plain has s m alike =
+      meets_tree (emitted.stands region Plain has) (roots e.table keeps region) (agrees_at_head e.table s m keeps region alike)
   form_meets region (ByAutomaton states registers) has s m alike = meets_state has (stands_first region states registers has s m alike)
 
   region_meets : (region : ℕ) (form : RegionForm) → e.forms region ≡ Some form → (s m : State) → AlikeAtHead e.table region s m
-      → Meets (begins_at e.forms region s) (form_leaf e region form) m
+      → Meets (begins_at e.table e.forms region s) (form_leaf e region form) m
   region_meets region form has s m alike =
-      subst (λ (it : Option RegionForm). Meets (begins_in region it s) (form_leaf e region form) m) (sym has) (form_meets region form has s m alike)
+      subst (λ (it : Option RegionForm). Meets (begins_in e.table region it s) (form_leaf e region form) m) (sym has) (form_meets region form has s m alike)
 
   -- ---- packed regions
 
@@ -111,7 +110,7 @@ module _ (e : Emission) (keeps : TableKeeps e.table) (limits : Limits) (rows : L
 
     leaf_pays : (of : ℕ → ℕ) (out : List ℤ) (s m : State) (leaf : AutomatonLeaf) (below : Leaf) → LeadsOn of leaf below → LeafHolds of leaf s m
         → (shown : Run) → ((j : ℕ) → shown (suc j) ≡ after_printing out (leaf_run code below m j))
-        → Pays (schedule_leaf_step e.forms region states out s leaf) (leaf_cost e.ops leaf) shown
+        → Pays (schedule_leaf_step e.table e.forms region states out s leaf) (leaf_cost e.ops leaf) shown
     leaf_pays of out s m (To number arguments) below (leads, leads_to_state moves) holds shown same =
         pays_on (suc (length moves.copies))
         (passing_few (argument_moves of (register_of (registers number)) (state_parameters (slice_get states number)) arguments) e.ops e.scratch moves.copies moves.arranged
@@ -127,7 +126,7 @@ module _ (e : Emission) (keeps : TableKeeps e.table) (limits : Limits) (rows : L
         (passing_few (home_moves of homes) e.ops e.scratch moves.copies moves.arranged (length homes) (homes_many of homes))
         (λ k. let one : suc (length moves.copies) + k ≡ suc (length moves.copies + k) = omega arith in
         ap shown one ∙ same (length moves.copies + k) ∙ ap (λ (x : Seen). after_printing out x) (passes_back code moves.passes m k))
-        (subst (λ (l : Leaf). Meets (begins_at e.forms to (home_state s homes)) l u) (sym there.is)
+        (subst (λ (l : Leaf). Meets (begins_at e.table e.forms to (home_state s homes)) l u) (sym there.is)
         (region_meets to there.form there.has (home_state s homes) u
         (region_passed e.table of s m u e.scratch to homes leads.1.live holds (moves.arranged.done e.table.arrays m))))
     leaf_pays of out s m Stop below (leads, ends_here) holds shown same = pays_end 1 (omega arith) (same 0 ∙ sym (leaf_seen code out m below 0))
@@ -135,7 +134,7 @@ module _ (e : Emission) (keeps : TableKeeps e.table) (limits : Limits) (rows : L
 
     outcome_pays : (of : ℕ → ℕ) (a : RowOutcome AutomatonLeaf) (b : RowOutcome Leaf) → OutcomeStands (LeadsOn of) of a b
         → (shown : Run) → ((j : ℕ) → shown (suc j) ≡ seen_of (after_row b) (run_from (machine_step code) j))
-        → Pays (schedule_outcome_step e.forms region states a) (outcome_cost e.ops a) shown
+        → Pays (schedule_outcome_step e.table e.forms region states a) (outcome_cost e.ops a) shown
     outcome_pays of a b both_fault shown same = pays_end 1 (omega arith) (same 0)
     outcome_pays of a b (both_commit {printed} {new} {moved} {leaf} {below} leads holds) shown same =
         leaf_pays of printed new moved leaf below leads holds shown (λ j. same j ∙ leaf_seen code printed moved below j)
@@ -155,11 +154,11 @@ module _ (e : Emission) (keeps : TableKeeps e.table) (limits : Limits) (rows : L
 
   -- what stands after an item or a test
   behind_meets : {row : ℕ} {tree : TableTree} {leaf : Leaf} (s m : State) → LeadsBehind e row tree leaf → TreeStands e rows row tree → Agrees e.table tree s m
-      → Meets (behind e.forms tree s) leaf m
+      → Meets (behind e.table e.forms tree s) leaf m
   behind_meets s m to_item stands agrees = meets_tree stands tt agrees
   behind_meets s m to_test stands agrees = meets_tree stands tt agrees
   behind_meets s m (to_region {region} {leaf} there) stands agrees =
-      subst (λ (l : Leaf). Meets (begins_at e.forms region s) l m) (sym there.is)
+      subst (λ (l : Leaf). Meets (begins_at e.table e.forms region s) l m) (sym there.is)
       (region_meets region there.form there.has s m (alike_at_head e.table s m region agrees))
   behind_meets s m to_end stands agrees = meets_tree stands tt agrees
   behind_meets s m to_trap stands agrees = meets_tree stands tt agrees
@@ -177,7 +176,7 @@ module _ (e : Emission) (keeps : TableKeeps e.table) (limits : Limits) (rows : L
 
       by_fault : (f : Option MachineFault)
           → ((j : ℕ) → leaf_run code (machine.Goto row) m (suc j) ≡ seen_of (after_row (commit_of e.table.arrays m (item ∷ []) leaf f)) (run_from (machine_step code) j))
-          → Pays (lead_on (commit_of e.table.arrays s (item ∷ []) rest f) (behind e.forms)) 1 (leaf_run code (machine.Goto row) m)
+          → Pays (lead_on (commit_of e.table.arrays s (item ∷ []) rest f) (behind e.table e.forms)) 1 (leaf_run code (machine.Goto row) m)
       by_fault (Some fault) same = pays_end 1 (omega arith) (same 0)
       by_fault None same =
           let new = state_after e.table.arrays m (item ∷ []) in
@@ -197,7 +196,7 @@ module _ (e : Emission) (keeps : TableKeeps e.table) (limits : Limits) (rows : L
       ∙ ap (λ (value : ℤ). leaf_run code (if holds value then yes_leaf else no_leaf) m j) (test_alike e.table s m origin on on_yes on_no agrees))
     where
       by_test : (b : Bool) → ((j : ℕ) → leaf_run code (machine.Goto row) m (suc j) ≡ leaf_run code (if b then yes_leaf else no_leaf) m j)
-          → Pays (Goes [] (behind e.forms (if b then on_yes else on_no) s)) 1 (leaf_run code (machine.Goto row) m)
+          → Pays (Goes [] (behind e.table e.forms (if b then on_yes else on_no) s)) 1 (leaf_run code (machine.Goto row) m)
       by_test true same =
           pays_on 1 (omega arith) (λ k. let one : 1 + k ≡ suc k = omega arith in ap (leaf_run code (machine.Goto row) m) one ∙ same k)
           (behind_meets s m yes_leads yes_below (behind_yes e.table s m origin on on_yes on_no agrees))
@@ -219,22 +218,17 @@ module _ (e : Emission) (keeps : TableKeeps e.table) (limits : Limits) (rows : L
   pub pays : {place : SchedulePlace} {leaf : Leaf} {m : State} → Meets place leaf m
       → Pays (schedule_step e.table e.forms place) (step_cost e.table.arrays e.ops place) (leaf_run code leaf m)
   pays (meets_state {region} {number} {states} {registers} {s} {m} has at) = state_pays region states registers has number s m at
-  pays (meets_region {region} {s} {m} has alike) =
-      pays_on 0 (omega arith)
-      (λ k. let none : 0 + k ≡ k = omega arith in ap (leaf_run code (root_leaf (e.places.entry region) (region_tree e.table region)) m) none)
-      (meets_tree (emitted.stands region Plain has) (roots e.table keeps region) (agrees_at_head e.table s m keeps region alike))
   pays (meets_tree {row} {tree} {s} {m} stands root agrees) = tree_pays s m stands root agrees
 
-  -- from row 0, where region 0 is plain: that row is the first of its tree, or the leaf alone that leads there
-  pub first_pays : e.forms 0 ≡ Some Plain → (s m : State) → AlikeAtHead e.table 0 s m → (leaf : Leaf) → BeginsAt rows leaf
-      → leaf ≡ root_leaf (e.places.entry 0) (region_tree e.table 0) → Pays (Goes [] (At_tree (region_tree e.table 0) s)) 1 (leaf_run code (machine.Goto 0) m)
-  first_pays has s m alike leaf begins is = by_row begins (subst (λ (l : Leaf). Meets (At_tree (region_tree e.table 0) s) l m) (sym is)
-      (meets_tree (emitted.stands 0 Plain has) (roots e.table keeps 0) (agrees_at_head e.table s m keeps 0 alike)))
-    where
-      by_row : {leaf : Leaf} → BeginsAt rows leaf → Meets (At_tree (region_tree e.table 0) s) leaf m
-          → Pays (Goes [] (At_tree (region_tree e.table 0) s)) 1 (leaf_run code (machine.Goto 0) m)
-      by_row at_first_row meets = pays_on 0 (omega arith) (λ k. let none : 0 + k ≡ k = omega arith in ap (leaf_run code (machine.Goto 0) m) none) meets
-      by_row (by_leaf_alone {leaf} there) meets =
-          pays_on 1 (omega arith)
-          (λ k. let one : 1 + k ≡ suc k = omega arith in
-          ap (leaf_run code (machine.Goto 0) m) one ∙ row_seen code 0 (At_leaf leaf) m k there ∙ leaf_seen code [] m leaf k) meets
+  -- row 0, where region 0 is plain: it is the first row of its tree, or a leaf alone that leads there
+  pub data BeginsPlain (place : SchedulePlace) : Run → Type 0 where
+    begins_there : {leaf : Leaf} {m : State} {shown : Run} (cycles : ℕ) → cycles ≤ 1 → ((k : ℕ) → shown (cycles + k) ≡ leaf_run code leaf m k) → Meets place leaf m
+        → BeginsPlain place shown
+
+  pub first_begins : (leaf : Leaf) → BeginsAt rows leaf → (place : SchedulePlace) (m : State) → Meets place leaf m → BeginsPlain place (leaf_run code (machine.Goto 0) m)
+  first_begins leaf at_first_row place m meets =
+      begins_there 0 (omega arith) (λ k. let none : 0 + k ≡ k = omega arith in ap (leaf_run code (machine.Goto 0) m) none) meets
+  first_begins leaf (by_leaf_alone there) place m meets =
+      begins_there 1 (omega arith)
+      (λ k. let one : 1 + k ≡ suc k = omega arith in
+      ap (leaf_run code (machine.Goto 0) m) one ∙ row_seen code 0 (At_leaf leaf) m k there ∙ leaf_seen code [] m leaf k) meets

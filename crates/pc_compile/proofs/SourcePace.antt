@@ -1,13 +1,23 @@
--- The regions of a compiled program keep pace with its source.
-use Rattle.std.proofs.Common.{◌≡◌, ℕ, suc, List, length, refl, sym, subst}
+-- The regions of a compiled program keep pace with its source, and so does its object.
+use Rattle.std.proofs.Common.{suc, ◌+◌, ◌*◌, length, refl, sym, subst, arith}
 use Rattle.pc_word.specs.Run.{Seen, Answers}
 use Rattle.pc_word.proofs.Runs.{Answers-trans}
 use Rattle.pc_meaning.specs.SourceRun.{source_run}
 use Rattle.pc_meaning.specs.Trace.{trace_of}
 use Rattle.pc_flow.specs.FlowRun.{flow_run}
-use Rattle.pc_regions.proofs.CutRuns.{cut_shows}
+use Rattle.pc_regions.proofs.CutRuns.{cut_shows, cut_agrees}
 use Rattle.pc_table.specs.RegionRun.{table_run}
-use Rattle.pc_compile.specs.Laws.{RegionsKeepPaceWithTheSource}
+use Rattle.pc_flow.specs.FlowGraph.{FlowGraph}
+use Rattle.pc_word.specs.declared.item.Limits.{Limits}
+use Rattle.pc_word.proofs.Runs.{AgreeOnInputs-trans, run_from-answers}
+use Rattle.pc_window.proofs.Paces.{answer_of_answer}
+use Rattle.pc_machine.specs.MachineRun.{machine_step, machine_start, machine_run}
+use Rattle.pc_emit.specs.Emitting.{region_forms}
+use Rattle.pc_compile.specs.ScheduleRun.{schedule_run, schedule_cost}
+use Rattle.pc_compile.specs.Laws.{RegionsKeepPaceWithTheSource, ObjectsKeepPaceWithTheSource, ObjectsKeepPaceInCycles}
+use Rattle.pc_compile.proofs.Compilations.{never_faults}
+use Rattle.pc_compile.proofs.CostBounds.{steps_cost_few}
+use Rattle.pc_compile.proofs.RegionPaces.{schedules_keep_pace}
 
 -- the source's own graph is at most one node after it, passes make no graph slower, and a cut keeps step with its graph
 pub regions_keep_pace : RegionsKeepPaceWithTheSource
@@ -16,3 +26,28 @@ regions_keep_pace program first flow table lowered kept cut input n =
     let source = source_run program input n in
     subst (λ (seen : Seen). Answers source seen source.end) (sym (cut_shows flow table cut input m))
     (Answers-trans source (flow_run first input m) (flow_run flow input m) source.end (flow_run first input m).end refl (lowered.paced input n) (kept.pace input m))
+
+pub objects_keep_pace : (Passed : FlowGraph → FlowGraph → Type 0) → ObjectsKeepPaceWithTheSource Passed
+objects_keep_pace Passed program limits extent flow table choices object it input words n =
+    let m = suc (length (trace_of program input n)) in
+    let forms = region_forms it.forms in
+    let source = source_run program input n in
+    let regions = table_run table input m in
+    let steps = schedule_run table forms input m in
+    let of_table = AgreeOnInputs-trans (table_run table) (flow_run flow) (source_run program) (cut_agrees flow table it.cut)
+    (AgreeOnInputs-trans (flow_run flow) (flow_run it.first) (source_run program) it.kept.agrees it.lowered.agree) in
+    let never = never_faults program (table_run table) of_table input words in
+    let shown = machine_run object.code input (schedule_cost table forms limits.ops input m) in
+    answer_of_answer source regions shown (regions_keep_pace program it.first flow table it.lowered it.kept it.cut input n)
+    (answer_of_answer regions steps shown (schedules_keep_pace table it.table_keeps limits extent choices forms it.chosen input never m)
+    (subst (λ (given : Limits). Answers steps (machine_run object.code input (schedule_cost table forms given.ops input m)) steps.end) it.limited (it.pace input words m)))
+
+-- in plain numbers
+pub objects_in_cycles : (Passed : FlowGraph → FlowGraph → Type 0) → ObjectsKeepPaceInCycles Passed
+objects_in_cycles Passed program limits extent flow table choices object it input words n =
+    let k = length (trace_of program input n) in
+    let cost = schedule_cost table (region_forms it.forms) limits.ops input (suc k) in
+    let few = steps_cost_few table it.table_keeps limits extent choices (region_forms it.forms) it.chosen limits.ops input (suc k) in
+    answer_of_answer (source_run program input n) (machine_run object.code input cost) (machine_run object.code input (256 + 255 * k))
+    (objects_keep_pace Passed program limits extent flow table choices object it input words n)
+    (run_from-answers (machine_step object.code) cost (256 + 255 * k) (machine_start input) (omega (arith, few)))

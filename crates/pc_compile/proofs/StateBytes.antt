@@ -90,7 +90,7 @@ rising_few xs most rises small = by (length xs) refl
         let below = small (slice_index xs at) (listed xs at (slice_index xs at) (index_stands xs at lt)) in
         omega (arith, past, below)
 
-live_few : (table : Table) → TableKeeps table → (region : ℕ) → length (region_live table region) ≤ 96
+pub live_few : (table : Table) → TableKeeps table → (region : ℕ) → length (region_live table region) ≤ 96
 live_few table keeps region = by (slice_get table.regions region) refl (λ x h. keeps.small region x h)
   where
     by : (found : Option TableRegion) → slice_get table.regions region ≡ found
@@ -98,7 +98,7 @@ live_few table keeps region = by (slice_get table.regions region) refl (λ x h. 
     by None e small = omega arith
     by (Some here) e small = rising_few here.live 96 (keeps.each region here e).rising small
 
-takes_few : (states : List AutomatonState) → LowBefore states (length states) → (number count : ℕ) → Takes (slice_get states number) count → count ≤ 127
+pub takes_few : (states : List AutomatonState) → LowBefore states (length states) → (number count : ℕ) → Takes (slice_get states number) count → count ≤ 127
 takes_few states low number count takes = by (slice_get states number) refl takes
   where
     by : (found : Option AutomatonState) → slice_get states number ≡ found → Takes found count → count ≤ 127
@@ -121,7 +121,7 @@ leaf_most table keeps states low (Trap kind line) leads there = omega arith
 
 -- ---- states
 
-all_both_hold : {X : Type 0} (P Q R : X → Type 0) (xs : List X) → ((x : X) → P x → Q x → R x) → AllByRecursion P xs → AllByRecursion Q xs → AllByRecursion R xs
+pub all_both_hold : {X : Type 0} (P Q R : X → Type 0) (xs : List X) → ((x : X) → P x → Q x → R x) → AllByRecursion P xs → AllByRecursion Q xs → AllByRecursion R xs
 all_both_hold P Q R [] f h k = tt
 all_both_hold P Q R (x ∷ xs) f h k = (f x h.0 k.0, all_both_hold P Q R xs f h.1 k.1)
 

@@ -21,11 +21,11 @@ seven = record {
 abbrev plain : ℕ → Option RegionForm
 plain region = Some Plain
 
--- it is entered, prints, and stops, each of which may take a cycle
-entered : schedule_run seven plain [] 1 ≡ record { printed = []; end = None }
-entered = refl
+-- it prints and stops, each of which may take a cycle, and one more may pass before
+printed : schedule_run seven plain [] 1 ≡ record { printed = pos 7 ∷ []; end = None }
+printed = refl
 
-stopped : schedule_run seven plain [] 3 ≡ record { printed = pos 7 ∷ []; end = Some Ended }
+stopped : schedule_run seven plain [] 2 ≡ record { printed = pos 7 ∷ []; end = Some Ended }
 stopped = refl
 
 stopped_cost : schedule_cost seven plain 4 [] 5 ≡ 3

@@ -11,6 +11,7 @@ use Rattle.pc_flow.specs.FlowGraph.{FlowGraph}
 use Rattle.pc_lower.specs.Lowered.{IsLowered}
 use Rattle.pc_pass.specs.Pass.{Keeps}
 use Rattle.pc_table.specs.Table.{Table}
+use Rattle.pc_table.specs.TableKeeps.{TableKeeps}
 use Rattle.pc_regions.specs.Cut.{IsCutOf}
 use Rattle.pc_machine.specs.MachineCode.{CodeRow, RowCode}
 use Rattle.pc_machine.specs.MachineRun.{machine_run}
@@ -33,7 +34,7 @@ loose_code limits arrays rows = record { limits = limits; arrays = arrays; rows 
 
 -- The object does what the program does, for every input of words, and may be written; it has the given limits and the
 -- program's arrays. The passes made the graph of the program's own graph, as `Passed` says, and it shows what that shows; the table
--- is this graph's cut. Each region that is reachable from region 0 got the first form that was not refused. The code is that of the
+-- is this graph's cut, and keeps what tables keep. Each region that is reachable from region 0 got the first form that was not refused. The code is that of the
 -- regions' rows in their forms, tightened: it is compact, leaves lead to each row from row 0, and no row but row 0 is a goto alone
 -- to another row; and on every input of words it keeps pace with the schedule of the regions in their forms. The notes tell the
 -- forms of the loops.
@@ -48,6 +49,7 @@ pub record IsCompiled (program : ResolvedProgram) (Passed : FlowGraph → FlowGr
   pub passed : Passed first flow
   pub kept : Keeps first flow
   pub cut : IsCutOf flow table
+  pub table_keeps : TableKeeps table
   pub forms : List (Option RegionForm)
   pub chosen : AreChosen table limits extent choices (region_forms forms)
   pub loose : List CodeRow

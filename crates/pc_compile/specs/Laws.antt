@@ -1,6 +1,7 @@
 -- The laws of chosen forms and of pace. Each is the contract of a function of laws.rt, which does nothing.
-use Rattle.std.specs.Prelude.{◌≡◌, ℕ, suc, ◌≤◌, ℤ, Bool, true, false, List, length, map, Option, Some, None}
+use Rattle.std.specs.Prelude.{◌≡◌, ℕ, suc, ◌+◌, ◌*◌, ◌≤◌, ℤ, List, All, length, Option, Some, None}
 use Rattle.pc_word.specs.Run.{Answers, NeverFaults}
+use Rattle.pc_word.specs.Word.{IsWord}
 use Rattle.pc_syntax.specs.Source.{ResolvedProgram}
 use Rattle.pc_meaning.specs.SourceRun.{source_run}
 use Rattle.pc_meaning.specs.Trace.{trace_of}
@@ -14,19 +15,22 @@ use Rattle.pc_word.specs.declared.item.Extent.{Extent}
 use Rattle.pc_word.specs.MachineLimits.{most_object}
 use Rattle.pc_table.specs.Table.{Table}
 use Rattle.pc_table.specs.TableKeeps.{TableKeeps}
+use Rattle.pc_window.specs.Kept.{KeepsPace}
+use Rattle.pc_window.specs.Steps.{Positive}
+use Rattle.pc_object.specs.ObjectText.{CodeWithNotes}
 use Rattle.pc_machine.specs.MachineCode.{CodeRow, RowCode}
 use Rattle.pc_machine.specs.MachineRun.{machine_run}
 use Rattle.pc_emit.specs.Emitted.{Emission, RegionForm, BeginsAtFirstRow, IsEmitted}
-use Rattle.pc_emit.specs.Emitting.{AreForms}
+use Rattle.pc_emit.specs.Emitting.{region_forms, AreForms}
 use Rattle.pc_emit.specs.PackedForm.{IsRegionForm}
 use Rattle.pc_emit.specs.Bytes.{object_bytes}
 use Rattle.pc_emit.specs.Laws.{code_with}
 use Rattle.pc_tighten.specs.Tightened.{IsTightened}
-use Rattle.pc_compile.specs.declared.choice.Form.{Form}
-use Rattle.pc_compile.specs.declared.choice.Form.TheVariants as kind
 use Rattle.pc_compile.specs.declared.choice.Choice.{Choice}
 use Rattle.pc_compile.specs.Choosing.{AreChosen}
 use Rattle.pc_compile.specs.Pace.{KeepsPaceOn}
+use Rattle.pc_compile.specs.ScheduleRun.{schedule_run, schedule_cost}
+use Rattle.pc_compile.specs.Compiled.{IsCompiled}
 
 -- ---- chosen forms
 
@@ -36,19 +40,12 @@ ChosenFormsMayBeEmitted = (table : Table) → TableKeeps table → (limits : Lim
     → (choices : List Choice) (forms : ℕ → Option RegionForm) → AreChosen table limits extent choices forms
     → AreForms table limits forms × ((region : ℕ) (form : RegionForm) → forms region ≡ Some form → IsRegionForm table region form)
 
--- whether a form is that of an automaton: such a one is pipelined or packed
-abbrev pub has_automaton : Form → Bool
-has_automaton (kind.Pipelined states rows) = true
-has_automaton kind.Packed = true
-has_automaton kind.Plain = false
-
--- the forms fix in which order regions are taken, and of which it is told that they are plain; with the causes they fix all
-abbrev pub FormsFixTheChoices : Type 0
-FormsFixTheChoices = (table : Table) (limits : Limits) (extent : Extent) (forms : ℕ → Option RegionForm) (choices others : List Choice)
-    → AreChosen table limits extent choices forms → AreChosen table limits extent others forms
-    → (map (λ choice. choice.region) choices ≡ map (λ choice. choice.region) others)
-    × (map (λ choice. has_automaton choice.form) choices ≡ map (λ choice. has_automaton choice.form) others)
-    × (map (λ choice. choice.causes) choices ≡ map (λ choice. choice.causes) others → choices ≡ others)
+-- a table has one answer: whatever choices and forms may be given for it, within the same limits, are the same, each region's form with
+-- the same states, names and registers, and each choice with the same causes and numbers
+abbrev pub ATableHasOneAnswer : Type 0
+ATableHasOneAnswer = (table : Table) → TableKeeps table → (limits : Limits) → Positive limits → (extent : Extent) (choices others : List Choice)
+    (forms forms' : ℕ → Option RegionForm) → AreChosen table limits extent choices forms → AreChosen table limits extent others forms'
+    → (choices ≡ others) × ((region : ℕ) → forms region ≡ forms' region)
 
 -- ---- pace
 
@@ -64,6 +61,23 @@ abbrev pub TightenedCodesKeepPace : Type 0
 TightenedCodesKeepPace = (table : Table) (forms : ℕ → Option RegionForm) (before after : RowCode) → IsTightened before after
     → (input : List ℤ) → NeverFaults (machine_run before input) → KeepsPaceOn table forms before input → KeepsPaceOn table forms after input
 
+-- in forms that were chosen the schedule keeps pace with the regions: on each input on which these never fault, n of its steps show
+-- at least what n items and tests of the regions show
+abbrev pub SchedulesKeepPaceWithTheRegions : Type 0
+SchedulesKeepPaceWithTheRegions = (table : Table) → TableKeeps table → (limits : Limits) (extent : Extent) (choices : List Choice) (forms : ℕ → Option RegionForm)
+    → AreChosen table limits extent choices forms
+    → (input : List ℤ) → NeverFaults (table_run table input) → KeepsPace (table_run table input) (schedule_run table forms input)
+
+-- the most cycles that a step of a schedule costs: those of a row and of two rows of copies for each of at most 127 values that its leaf passes
+abbrev pub most_step_cost : ℕ
+most_step_cost = 255
+
+-- in forms that were chosen no step costs more, and but for one cycle before the first all cost no more together
+abbrev pub StepsCostFewCycles : Type 0
+StepsCostFewCycles = (table : Table) → TableKeeps table → (limits : Limits) (extent : Extent) (choices : List Choice) (forms : ℕ → Option RegionForm)
+    → AreChosen table limits extent choices forms
+    → (ops : ℕ) (input : List ℤ) (n : ℕ) → schedule_cost table forms ops input n ≤ 1 + most_step_cost * n
+
 -- Where a graph is that of a program, passes keep it, and the table is the cut of what they made, as `IsCompiled` has it, the regions keep
 -- pace with the source: on every input they show what the source shows with n iterations of loops after as many items and tests as the
 -- source's evaluation has passed by then, and one unit more, that of the end.
@@ -71,3 +85,19 @@ abbrev pub RegionsKeepPaceWithTheSource : Type 0
 RegionsKeepPaceWithTheSource = (program : ResolvedProgram) (first flow : FlowGraph) (table : Table) → IsLowered program first → Keeps first flow → IsCutOf flow table
     → (input : List ℤ) (n : ℕ)
     → Answers (source_run program input n) (table_run table input (suc (length (trace_of program input n)))) (source_run program input n).end
+
+-- The object of a program keeps pace with the source: what the source shows with n iterations of loops, on any input of words, its
+-- object has shown after the cycles that one step of the schedule may cost for each node that the source's evaluation has passed by
+-- then, and one more.
+abbrev pub ObjectsKeepPaceWithTheSource : (FlowGraph → FlowGraph → Type 0) → Type 0
+ObjectsKeepPaceWithTheSource Passed = (program : ResolvedProgram) (limits : Limits) (extent : Extent) (flow : FlowGraph) (table : Table) (choices : List Choice)
+    (object : CodeWithNotes) → (it : IsCompiled program Passed limits extent flow table choices object) → (input : List ℤ) → All IsWord input → (n : ℕ)
+    → (let cycles = schedule_cost table (region_forms it.forms) limits.ops input (suc (length (trace_of program input n))) in
+    Answers (source_run program input n) (machine_run object.code input cycles) (source_run program input n).end)
+
+-- In plain numbers: the object has shown it after 255 cycles for each of these nodes, and 256 more.
+abbrev pub ObjectsKeepPaceInCycles : (FlowGraph → FlowGraph → Type 0) → Type 0
+ObjectsKeepPaceInCycles Passed = (program : ResolvedProgram) (limits : Limits) (extent : Extent) (flow : FlowGraph) (table : Table) (choices : List Choice)
+    (object : CodeWithNotes) → IsCompiled program Passed limits extent flow table choices object → (input : List ℤ) → All IsWord input → (n : ℕ)
+    → (let cycles = 256 + 255 * length (trace_of program input n) in
+    Answers (source_run program input n) (machine_run object.code input cycles) (source_run program input n).end)

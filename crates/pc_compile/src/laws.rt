@@ -1,24 +1,40 @@
 //! Laws of chosen forms and of pace. No function here does anything: each one's contract is its laws, and that
 //! they are proved is all that it is for.
-ghost use Rattle.pc_compile.specs.Laws.{ChosenFormsMayBeEmitted, FormsFixTheChoices};
-ghost use Rattle.pc_compile.specs.Laws.{EmittedRowsKeepPace, TightenedCodesKeepPace, RegionsKeepPaceWithTheSource};
+ghost use Rattle.pc_compile.specs.Laws.{ChosenFormsMayBeEmitted, ATableHasOneAnswer};
+ghost use Rattle.std.specs.Prelude.{List};
+ghost use Rattle.pc_pass.specs.Pass.{Chain};
+ghost use Rattle.pc_compile.specs.Laws.{RegionsKeepPaceWithTheSource, SchedulesKeepPaceWithTheRegions, EmittedRowsKeepPace, TightenedCodesKeepPace};
+ghost use Rattle.pc_compile.specs.Laws.{StepsCostFewCycles, ObjectsKeepPaceWithTheSource, ObjectsKeepPaceInCycles};
+
+use pc_pass::Pass;
 
 /// Forms that were chosen may be emitted, and each is one that its region may have.
 pub fn law_of_chosen_forms()
     ensures { ChosenFormsMayBeEmitted }
 {}
 
-/// The forms fix in which order the regions are taken, which of them are said to be plain, and, where the
-/// causes are the same too, all that is said of each.
+/// A table has one answer: within the same limits, all choices and forms that may be given for it are the
+/// same.
 pub fn law_of_choices()
-    ensures { FormsFixTheChoices }
+    ensures { ATableHasOneAnswer }
 {}
 
 /// The regions of a compiled program show what its source shows, after as many items and tests as the
-/// source's evaluation passes and one unit more. Emitted rows show, in as many cycles as the schedule may
-/// cost, at least what the schedule shows; and so does a code after its tightening.
+/// source's evaluation passes and one unit more. The schedule of their forms shows, in as many steps,
+/// at least what they show, and none of them costs more than 255 cycles. Emitted rows show, in as many
+/// cycles as the schedule may cost, at least what the schedule shows; and so does a code after its
+/// tightening.
 pub fn laws_of_pace()
     ensures regions { RegionsKeepPaceWithTheSource }
+    ensures schedules { SchedulesKeepPaceWithTheRegions }
+    ensures costs { StepsCostFewCycles }
     ensures emitted { EmittedRowsKeepPace }
     ensures tightened { TightenedCodesKeepPace }
+{}
+
+/// The object of a program keeps pace with its source, whatever passes were applied: by what the steps of
+/// its schedule may cost, and in plain numbers.
+pub fn law_of_objects<P: Pass>()
+    ensures steps { (before after : List P) → ObjectsKeepPaceWithTheSource (Chain P.does P.changed before after) }
+    ensures cycles { (before after : List P) → ObjectsKeepPaceInCycles (Chain P.does P.changed before after) }
 {}

@@ -1,56 +1,29 @@
 -- A code in which the rows of regions stand shows what the table shows.
-use Rattle.std.proofs.Common.{◌≡◌, ℕ, zero, suc, ◌<◌, List, [], ◌∷◌, length, Option, Some, None, refl, sym, ◌∙◌, ap, subst, inl, inr, arith}
-use Rattle.std.specs.Prelude.{true, nat_eq, slice_get}
+use Rattle.std.proofs.Common.{◌≡◌, ℕ, zero, suc, ◌<◌, List, [], ◌∷◌, Option, Some, refl, sym, ◌∙◌, ap, subst, inl, inr, arith}
+use Rattle.std.specs.Prelude.{true, nat_eq}
 use Rattle.std.specs.List.{AllByRecursion}
 use Rattle.pc_word.specs.declared.item.Limits.{Limits}
 use Rattle.pc_word.specs.State.{State, start_state}
-use Rattle.pc_word.specs.Row.{Row, Then, Either, At_leaf, row_step}
+use Rattle.pc_word.specs.Row.{At_leaf}
 use Rattle.pc_word.specs.Run.{Seen, Answers, Agree, run_from, NeverFaults}
-use Rattle.pc_table.specs.Table.{TableTree, Table, TableRegion, Next, tree_of, region_tree}
+use Rattle.pc_table.specs.Table.{TableTree, Next, region_tree}
 use Rattle.pc_table.specs.RegionRun.{region_step, region_run}
-use Rattle.pc_table.specs.TableKeeps.{TableKeeps, ComesUntested, By_one, By_more, untested}
-use Rattle.pc_window.specs.Kept.{HasItems}
+use Rattle.pc_table.specs.TableKeeps.{TableKeeps}
 use Rattle.pc_window.specs.Rebasing.{is_in}
 use Rattle.pc_window.specs.Unwinding.{or_zero}
 use Rattle.pc_window.proofs.Paces.{answer_of_answer, NeverFaults-follows}
 use Rattle.pc_window.proofs.Uses.{nat_eq-tells}
-use Rattle.pc_window.specs.models.Ranks.{rank}
-use Rattle.pc_window.proofs.Ranking.{rank_falls}
-use Rattle.pc_automaton.specs.declared.automaton.AutomatonLeaf.{AutomatonLeaf}
-use Rattle.pc_automaton.specs.declared.automaton.AutomatonLeaf.TheVariants.{To, Out}
 use Rattle.pc_automaton.specs.Automaton.{AutomatonState}
 use Rattle.pc_automaton.specs.AutomatonRun.{automaton_run}
 use Rattle.pc_machine.specs.declared.tree.Leaf.{Leaf}
 use Rattle.pc_machine.specs.MachineCode.{CodeRow}
 use Rattle.pc_emit.specs.Emitted.{Emission, RegionForm, Plain, ByAutomaton, form_leaf, BeginsAt, at_first_row, by_leaf_alone, IsEmitted}
-use Rattle.pc_automaton.specs.RunsAsRegion.{LeadsUntested}
 use Rattle.pc_emit.specs.PackedForm.{IsPackedForm, IsRegionForm}
 use Rattle.pc_emit.specs.Laws.{EmittedRowsDoWhatTheirTableDoes}
 use Rattle.pc_emit.proofs.Leading.{row_run, leaf_run, leaf_seen, row_seen, leaf_grows}
-use Rattle.pc_emit.proofs.PackedRuns.{code, ForthIn, BackAt, StandsAt, CommitsAt, state_forth, row_back, state_back}
+use Rattle.pc_emit.proofs.PackedRuns.{code, ForthIn, BackAt, StandsAt, state_forth, state_back}
 use Rattle.pc_emit.proofs.PlainRuns.{roots, tree_forth, tree_back}
 use Rattle.pc_word.proofs.Truth.{or_true}
-
--- a region that leads on without a test is in the table
-untested_there : (table : Table) (region to : ℕ) → untested (region_tree table region) ≡ Some to → region < length table.regions
-untested_there table region to is = by_region (slice_get table.regions region) refl is
-  where
-    in_list : (regions : List TableRegion) (at : ℕ) (r : TableRegion) → slice_get regions at ≡ Some r → at < length regions
-    in_list [] at r e = absurd (cc)
-    in_list (x ∷ regions) zero r e = omega arith
-    in_list (x ∷ regions) (suc at) r e = let less = in_list regions at r e in omega arith
-
-    by_region : (r : Option TableRegion) → slice_get table.regions region ≡ r → untested (tree_of r) ≡ Some to → region < length table.regions
-    by_region None at e = absurd (cc)
-    by_region (Some r) at e = in_list table.regions region r at
-
--- fewer follow a region to which another comes without a test
-rank_of : (table : Table) → TableKeeps table → (region to : ℕ) → ComesUntested table region to → rank table to < rank table region
-rank_of table keeps region to (By_one is) = rank_falls table keeps region to (untested_there table region to is) is
-rank_of table keeps region to (By_more {mid} comes is) =
-    let falls = rank_of table keeps region mid comes in
-    let less = rank_falls table keeps mid to (untested_there table mid to is) is in
-    omega arith
 
 all_in : (P : ℕ → Type 0) (xs : List ℕ) (x : ℕ) → AllByRecursion P xs → is_in x xs ≡ true → P x
 all_in P [] x all there = absurd (cc)
@@ -100,47 +73,14 @@ module _ (e : Emission) (keeps : TableKeeps e.table) (limits : Limits) (rows : L
       abbrev IsShown : Type 0
       IsShown = (k : ℕ) × Answers (region_run e.table (Next region) m n) (row_run (code e keeps limits rows) (e.places.state region 0) m k) (region_run e.table (Next region) m n).end
 
-      -- where the first row has an item or a test
-      with_items : ((k : ℕ) → k < n → (to : ℕ) → BackAt e keeps limits rows k to) → HasItems packed.first.row → IsShown
-      with_items regions items =
+      packed_back : ((k : ℕ) → k < n → (to : ℕ) → BackAt e keeps limits rows k to) → IsShown
+      packed_back regions =
           let k = state_back e keeps limits rows region states registers packed.automaton packed.apart packed.there (emitted.stands region (ByAutomaton states registers) has)
           n regions 0 m m (begins_at m) (never_automaton m never) in (
             k.0,
             answer_of_answer (region_run e.table (Next region) m n) (automaton_run e.table states m n) (row_run (code e keeps limits rows) (e.places.state region 0) m k.0)
-                ((packed.runs m never).pace items n) k.1,
+                ((packed.runs m never).pace n) k.1,
           )
-
-      -- the leaf at which a row that is a leaf alone commits
-      alone_at : (leaf other : AutomatonLeaf) → packed.first.row ≡ At_leaf leaf
-          → CommitsAt e keeps limits rows region states registers packed.automaton packed.apart packed.there (emitted.stands region (ByAutomaton states registers) has)
-          (row_step e.table.arrays packed.first.row m) other
-          → packed.first.row ≡ At_leaf other
-      alone_at leaf other is at =
-          is ∙ ap (λ (l : AutomatonLeaf). At_leaf l)
-          (subst (λ (r : Row AutomatonLeaf).
-          CommitsAt e keeps limits rows region states registers packed.automaton packed.apart packed.there (emitted.stands region (ByAutomaton states registers) has)
-          (row_step e.table.arrays r m) other) is at)
-
-      -- and where it has none
-      without_items : ((to : ℕ) → ComesUntested e.table region to → BackAt e keeps limits rows n to) → (leaf : AutomatonLeaf) → packed.first.row ≡ At_leaf leaf → IsShown
-      unfolding begins_at
-      without_items lower leaf is =
-          let k = row_back e keeps limits rows region states registers packed.automaton packed.apart packed.there (emitted.stands region (ByAutomaton states registers) has)
-          n 0 m m (begins_at m) (never_automaton m never)
-          (λ next arguments at t u stands never'. absurd (subst (LeadsUntested e.table region) (alone_at leaf (To next arguments) is at) packed.untested))
-          (λ to homes at. lower to (subst (LeadsUntested e.table region) (alone_at leaf (Out to homes) is at) packed.untested)) in (
-            k.0,
-            answer_of_answer (region_run e.table (Next region) m n) (automaton_run e.table states m (suc n)) (row_run (code e keeps limits rows) (e.places.state region 0) m k.0)
-                ((packed.runs m never).behind n) k.1,
-          )
-
-      packed_back : ((k : ℕ) → k < n → (to : ℕ) → BackAt e keeps limits rows k to) → ((to : ℕ) → ComesUntested e.table region to → BackAt e keeps limits rows n to) → IsShown
-      packed_back regions lower = by_row packed.first.row refl
-        where
-          by_row : (row : Row AutomatonLeaf) → packed.first.row ≡ row → IsShown
-          by_row (Then item rest) is = with_items regions (subst (λ (r : Row AutomatonLeaf). HasItems r) (sym is) tt)
-          by_row (Either on p q) is = with_items regions (subst (λ (r : Row AutomatonLeaf). HasItems r) (sym is) tt)
-          by_row (At_leaf leaf) is = without_items lower leaf is
 
   -- ---- forth
 
@@ -160,23 +100,16 @@ module _ (e : Emission) (keeps : TableKeeps e.table) (limits : Limits) (rows : L
 
   -- ---- back
 
-  region_back : (n region : ℕ) → ((k : ℕ) → k < n → (to : ℕ) → BackAt e keeps limits rows k to)
-      → ((to : ℕ) → ComesUntested e.table region to → BackAt e keeps limits rows n to) → BackAt e keeps limits rows n region
-  region_back n region regions lower Plain has m never =
+  region_back : (n region : ℕ) → ((k : ℕ) → k < n → (to : ℕ) → BackAt e keeps limits rows k to) → BackAt e keeps limits rows n region
+  region_back n region regions Plain has m never =
       let k = tree_back e keeps limits rows n (e.places.entry region) (region_tree e.table region) m regions (emitted.stands region Plain has) (roots e.table keeps region)
       (never_tree region m never) in
       (k.0, subst (λ (x : Seen). Answers x (leaf_run (code e keeps limits rows) (form_leaf e region Plain) m k.0) x.end) (tree_same region m n) k.1)
-  region_back n region regions lower (ByAutomaton states registers) has m never = packed_back region states registers has n m never regions lower
-
-  -- by the number of units, and then by how many regions follow without a test
-  back_ranked : (n r region : ℕ) → rank e.table region < r → ((k : ℕ) → k < n → (to : ℕ) → BackAt e keeps limits rows k to) → BackAt e keeps limits rows n region
-  back_ranked n zero region less regions = absurd (omega arith)
-  back_ranked n (suc r) region less regions =
-      region_back n region regions (λ to comes. let falls = rank_of e.table keeps region to comes in back_ranked n r to (omega arith) regions)
+  region_back n region regions (ByAutomaton states registers) has m never = packed_back region states registers has n m never regions
 
   back_below : (n k : ℕ) → k < n → (region : ℕ) → BackAt e keeps limits rows k region
   back_below zero k less region = absurd (omega arith)
-  back_below (suc n) k less region = back_ranked k (suc (rank e.table region)) region (omega arith) (λ j fewer to. back_below n j (omega arith) to)
+  back_below (suc n) k less region = region_back k region (λ j fewer to. back_below n j (omega arith) to)
 
   -- ---- the whole
 

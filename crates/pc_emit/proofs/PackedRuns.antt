@@ -5,7 +5,7 @@ use Rattle.std.specs.List.{AllByRecursion}
 use Rattle.pc_word.specs.declared.item.Operand.{Operand}
 use Rattle.pc_word.specs.declared.item.Limits.{Limits}
 use Rattle.pc_word.specs.State.{State}
-use Rattle.pc_word.specs.Row.{Row, leaves_of, RowOutcome, Faults, Commits, row_step}
+use Rattle.pc_word.specs.Row.{Row, leaves_of, RowOutcome, row_step}
 use Rattle.pc_word.specs.Run.{Seen, Run, Answers, after_printing, seen_of, run_from, NeverFaults}
 use Rattle.pc_word.proofs.Lists.{all_front, all_back, all_at}
 use Rattle.pc_word.proofs.Runs.{Answers-equal, Answers-after}
@@ -211,14 +211,14 @@ module _ (e : Emission) (keeps : TableKeeps e.table) (limits : Limits) (rows : L
 
     leaf_back : (n : ℕ) (of : ℕ → ℕ) (out : List ℤ) (s m : State) (leaf : AutomatonLeaf) (below : Leaf) → Leads of leaf below → LeafHolds of leaf s m
         → NeverFaults (seen_after out s leaf)
-        → ((number : ℕ) (arguments : List Operand) → leaf ≡ To number arguments → (t u : State) → StandsAt number t u → NeverFaults (state_run number t)
+        → ((number : ℕ) (t u : State) → StandsAt number t u → NeverFaults (state_run number t)
         → (k : ℕ) × Answers (state_run number t n) (row_run code (e.places.state region number) u k) (state_run number t n).end)
-        → ((to : ℕ) (homes : List Home) → leaf ≡ Out to homes → BackAt n to)
+        → ((to : ℕ) → BackAt n to)
         → (k : ℕ) × Answers (seen_after out s leaf n) (after_printing out (leaf_run code below m k)) (seen_after out s leaf n).end
     leaf_back n of out s m (To number arguments) below (leads, leads_to_state moves) holds never next regions =
         let t = passed_state s (state_parameters (slice_get states number)) arguments in
         let u = after_rows table.arrays moves.copies m in
-        let k = next number arguments refl t u (next_stands of s m number arguments below leads.0 holds moves)
+        let k = next number t u (next_stands of s m number arguments below leads.0 holds moves)
         (never_after out (seen_after out s (To number arguments)) (state_run number t) (λ j. refl) never) in (
           length moves.copies + k.0,
           Answers-after out (state_run number t n) (leaf_run code below m (length moves.copies + k.0)) (state_run number t n).end
@@ -231,7 +231,7 @@ module _ (e : Emission) (keeps : TableKeeps e.table) (limits : Limits) (rows : L
         out_seen out s to homes n ∙ ap (λ (x : Seen). after_printing out x) (sym (same n)) in
         let never_there : NeverFaults (region_run table (Next to) u) =
         never_after out (seen_after out s (Out to homes)) (region_run table (Next to) u) (λ j. out_seen out s to homes j ∙ ap (λ (x : Seen). after_printing out x) (sym (same j))) never in
-        let k = regions to homes refl there.form there.has u never_there in
+        let k = regions to there.form there.has u never_there in
         let x = region_run table (Next to) u n in (
           length moves.copies + k.0,
           subst (λ (z : Seen). Answers z (after_printing out (leaf_run code below m (length moves.copies + k.0))) z.end) (sym seen)
@@ -243,16 +243,11 @@ module _ (e : Emission) (keeps : TableKeeps e.table) (limits : Limits) (rows : L
     leaf_back n of out s m (Trap kind line) below (leads, traps_here) holds never next regions =
         (0, Answers-equal (seen_after out s (Trap kind line) n) (after_printing out (leaf_run code (machine.Trap kind line) m 0)) (leaf_seen code out m (machine.Trap kind line) 0))
 
-    -- the leaf at which a row commits
-    abbrev pub CommitsAt : RowOutcome AutomatonLeaf → AutomatonLeaf → Type 0
-    CommitsAt (Faults fault) at = ⊥
-    CommitsAt (Commits printed new leaf) at = leaf ≡ at
-
     outcome_back : (n : ℕ) (of : ℕ → ℕ) (a : RowOutcome AutomatonLeaf) (b : RowOutcome Leaf) → OutcomeStands (Leads of) of a b
         → NeverFaults (λ k. seen_of (outcome_step table states a) (run_from (automaton_step table states) k))
-        → ((number : ℕ) (arguments : List Operand) → CommitsAt a (To number arguments) → (t u : State) → StandsAt number t u → NeverFaults (state_run number t)
+        → ((number : ℕ) (t u : State) → StandsAt number t u → NeverFaults (state_run number t)
         → (k : ℕ) × Answers (state_run number t n) (row_run code (e.places.state region number) u k) (state_run number t n).end)
-        → ((to : ℕ) (homes : List Home) → CommitsAt a (Out to homes) → BackAt n to)
+        → ((to : ℕ) → BackAt n to)
         → (k : ℕ) × Answers (seen_of (outcome_step table states a) (run_from (automaton_step table states) n)) (seen_of (after_row b) (run_from (machine_step code) k))
         (seen_of (outcome_step table states a) (run_from (automaton_step table states) n)).end
     outcome_back n of a b both_fault never next regions = (0, (refl, refl))
@@ -260,29 +255,20 @@ module _ (e : Emission) (keeps : TableKeeps e.table) (limits : Limits) (rows : L
         let k = leaf_back n of printed new moved leaf below leads holds never next regions in
         (k.0, subst (λ (y : Seen). Answers (seen_after printed new leaf n) y (seen_after printed new leaf n).end) (sym (leaf_seen code printed moved below k.0)) k.1)
 
-    -- a row, and as many rows as this
-    pub row_back : (n number : ℕ) (s m : State) (at : StandsAt number s m) → NeverFaults (state_run number s)
-        → ((next : ℕ) (arguments : List Operand) → CommitsAt (row_step table.arrays at.state.row s) (To next arguments) → (t u : State) → StandsAt next t u
-        → NeverFaults (state_run next t) → (k : ℕ) × Answers (state_run next t n) (row_run code (e.places.state region next) u k) (state_run next t n).end)
-        → ((to : ℕ) (homes : List Home) → CommitsAt (row_step table.arrays at.state.row s) (Out to homes) → BackAt n to)
-        → (k : ℕ) × Answers (state_run number s (suc n)) (row_run code (e.places.state region number) m k) (state_run number s (suc n)).end
-    row_back n number s m at never next regions =
+    -- as many rows as this, where regions that follow are shown for fewer units
+    pub state_back : (n : ℕ) → ((k : ℕ) → k < n → (to : ℕ) → BackAt k to) → (number : ℕ) (s m : State) → StandsAt number s m → NeverFaults (state_run number s)
+        → (k : ℕ) × Answers (state_run number s n) (row_run code (e.places.state region number) m k) (state_run number s n).end
+    state_back zero regions number s m at never = (0, ([], refl))
+    state_back (suc n) regions number s m at never =
         let b = both_step number s m at in
         let a = row_step table.arrays at.state.row s in
         let goes = λ (k : ℕ). state_goes number s at.state k at.there in
         let k = outcome_back n (register_of (registers number)) a (row_step table.arrays b.0 m) b.2
-        (λ k fault is. never (suc k) fault (ap (λ (x : Seen). x.end) (goes k) ∙ is)) next regions in (
+        (λ k fault is. never (suc k) fault (ap (λ (x : Seen). x.end) (goes k) ∙ is))
+        (λ number' t u at' never'. state_back n (λ k less to. regions k (omega arith) to) number' t u at' never') (λ to. regions n (omega arith) to) in (
           suc k.0,
           subst (λ (x : Seen). Answers x (row_run code (e.places.state region number) m (suc k.0)) x.end) (sym (goes n))
               (subst (λ (y : Seen). Answers (seen_of (outcome_step table states a) (run_from (automaton_step table states) n)) y
               (seen_of (outcome_step table states a) (run_from (automaton_step table states) n)).end)
               (sym (row_seen code (e.places.state region number) b.0 m k.0 b.1)) k.1),
         )
-
-    -- as many rows as this, where regions that follow are shown for fewer units
-    pub state_back : (n : ℕ) → ((k : ℕ) → k < n → (to : ℕ) → BackAt k to) → (number : ℕ) (s m : State) → StandsAt number s m → NeverFaults (state_run number s)
-        → (k : ℕ) × Answers (state_run number s n) (row_run code (e.places.state region number) m k) (state_run number s n).end
-    state_back zero regions number s m at never = (0, ([], refl))
-    state_back (suc n) regions number s m at never =
-        row_back n number s m at never
-        (λ number' arguments is t u at' never'. state_back n (λ k less to. regions k (omega arith) to) number' t u at' never') (λ to homes is. regions n (omega arith) to)

@@ -7,7 +7,7 @@ use Rattle.pc_table.specs.Table.{Table, Next, region_live}
 use Rattle.pc_table.specs.RegionRun.{region_run}
 use Rattle.pc_automaton.specs.Automaton.{AutomatonState, IsAutomaton}
 use Rattle.pc_automaton.specs.There.{StateIsThere}
-use Rattle.pc_automaton.specs.RunsAsRegion.{RunsAlike, LeadsUntested}
+use Rattle.pc_automaton.specs.RunsAsRegion.{RunsAlike}
 use Rattle.pc_assign.specs.Apart.{IsApart}
 use Rattle.pc_emit.specs.Emitted.{RegionForm, Plain, ByAutomaton}
 
@@ -17,8 +17,7 @@ pub record IsPackedForm (table : Table) (region : ℕ) (states : List AutomatonS
   pub automaton : IsAutomaton states
   pub first : AutomatonState
   pub is_first : slice_get states 0 ≡ Some first
-  pub runs : (s : State) → NeverFaults (region_run table (Next region) s) → RunsAlike table region states first s
-  pub untested : LeadsUntested table region first.row
+  pub runs : (s : State) → NeverFaults (region_run table (Next region) s) → RunsAlike table region states s
   pub live : AllByRecursion (λ variable. list_any (nat_eq variable) (region_live table region) ≡ true) first.parameters
   pub variables : AllByRecursion (λ variable. registers 0 variable ≡ Some variable) first.parameters
   pub apart : (number : ℕ) (state : AutomatonState) → slice_get states number ≡ Some state → IsApart (registers number) state

@@ -26,7 +26,7 @@ module _ (rules : Rules) where
       let same = unwinding_one rules.table rules.number w p.unwound q.unwound p.unwinds q.unwinds in
       p.tidies ∙ sym (subst (λ (u : Window). Tidies u b) (sym same) q.tidies)
 
-  brings_one : (w a b : Window) → BringsOn rules w a → BringsOn rules w b → a ≡ b
+  pub brings_one : (w a b : Window) → BringsOn rules w a → BringsOn rules w b → a ≡ b
   brings_one w a b p q =
       let same : p.rebased ≡ q.rebased = p.rebases ∙ sym q.rebases in
       settles_one p.rebased a b p.settles (subst (λ (u : Window). Settles rules u b) (sym same) q.settles)
@@ -40,7 +40,7 @@ module _ (rules : Rules) where
   known_or_new members a b same new known =
       new known.0 known.1 known.2 (subst (λ (u : Window). Shifted u known.1) (sym same) known.3)
 
-  bare_or_not : (a b : Window) (leaf : AutomatonLeaf) → a ≡ b → bare_leaf (whole a.front) ≡ None → bare_leaf (whole b.front) ≡ Some leaf → ⊥
+  pub bare_or_not : (a b : Window) (leaf : AutomatonLeaf) → a ≡ b → bare_leaf (whole a.front) ≡ None → bare_leaf (whole b.front) ≡ Some leaf → ⊥
   bare_or_not a b leaf same items bare = let e : None ≡ Some leaf = sym items ∙ ap (λ (u : Window). bare_leaf (whole u.front)) same ∙ bare in cc
 
   looks_one : {members more more' : List Window} {left : Left} → Looks rules members left more → Looks rules members left more' → more ≡ more'
@@ -118,19 +118,19 @@ looks_grows looks_end = omega arith
 looks_grows looks_trap = omega arith
 
 -- a search, some steps before, has no more members
-record Before (rules : Rules) (region steps : ℕ) (members : List Window) : Type 0 where
-  earlier : List Window
-  number : ℕ
-  lefts : List Left
-  search : Search rules region steps earlier number lefts
-  fewer : length earlier ≤ length members
+pub record Before (rules : Rules) (region steps : ℕ) (members : List Window) : Type 0 where
+  pub earlier : List Window
+  pub number : ℕ
+  pub lefts : List Left
+  pub search : Search rules region steps earlier number lefts
+  pub fewer : length earlier ≤ length members
 
 before_of : {rules : Rules} {region : ℕ} (n : ℕ) (earlier members : List Window) → Before rules region n earlier → length earlier ≤ length members
     → Before rules region n members
 before_of n earlier members b le =
     record { earlier = b.earlier; number = b.number; lefts = b.lefts; search = b.search; fewer = omega (arith, le, b.fewer) }
 
-decide_less : (n m : ℕ) → (n ≤ m) ⊎ (suc m ≤ n)
+pub decide_less : (n m : ℕ) → (n ≤ m) ⊎ (suc m ≤ n)
 decide_less n m = grind arith
 
 before_same : {rules : Rules} {region steps number : ℕ} {members : List Window} {lefts : List Left} (n : ℕ)
@@ -143,7 +143,7 @@ before_same {rules} {region} {number} {members} {lefts} n s e = record {
   fewer = omega arith;
 }
 
-before : {rules : Rules} {region steps number : ℕ} {members : List Window} {lefts : List Left} (n : ℕ)
+pub before : {rules : Rules} {region steps number : ℕ} {members : List Window} {lefts : List Left} (n : ℕ)
     → Search rules region steps members number lefts → n ≤ steps → Before rules region n members
 before n (begins p q) le = before_same n (begins p q) (omega arith)
 before n (takes {steps} s at row) le = elim (decide_less n steps) [
@@ -157,7 +157,7 @@ before n (looks {steps} {members} {more} s adds) le = elim (decide_less n steps)
 
 module _ (rules : Rules) (region : ℕ) where
   -- from where a search is closed no step leads on
-  no_step : {steps number : ℕ} {members others : List Window} {lefts : List Left} → Search rules region steps members (length members) []
+  pub no_step : {steps number : ℕ} {members others : List Window} {lefts : List Left} → Search rules region steps members (length members) []
       → Search rules region (suc steps) others number lefts → ⊥
   no_step {members} closed (takes {number} {members = others} {w} s at row) =
       let h = search_one rules closed s in

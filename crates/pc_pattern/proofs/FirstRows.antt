@@ -14,6 +14,7 @@ use Rattle.pc_window.specs.Kept.{Left, Gone, Finished, Trapped_at, IsBare, HasFr
 use Rattle.pc_window.specs.Steps.{Positive, UnwindsTo, cut_row}
 use Rattle.pc_window.proofs.Settling.{fills_front, cuts_front}
 use Rattle.pc_automaton.specs.declared.automaton.AutomatonLeaf.{AutomatonLeaf}
+use Rattle.pc_automaton.specs.declared.automaton.AutomatonLeaf.TheVariants.{Stop, Trap}
 use Rattle.pc_automaton.specs.Automaton.{AutomatonState}
 use Rattle.pc_automaton.specs.RunsAsRegion.{LeadsUntested}
 use Rattle.pc_canon.specs.Pairs.{Pair, themselves}
@@ -40,6 +41,15 @@ module _ (rules : Rules) (members : List Window) (table : Table) (region : ℕ) 
   trap_leads : (kind : TrapKind) (line : ℕ) {names : List Pair} {row : Row AutomatonLeaf} → RowsNamed (LeafFor rules members) names (At_leaf (Trapped_at kind line)) row
       → LeadsUntested table region row
   trap_leads kind line (named_leaf to_trap) = tt
+
+-- a row that is the end alone, and one that is a trap alone
+module _ (rules : Rules) (members : List Window) where
+  end_row : {names : List Pair} {row : Row AutomatonLeaf} → RowsNamed (LeafFor rules members) names (At_leaf Finished) row → row ≡ At_leaf Stop
+  end_row (named_leaf to_end) = refl
+
+  trap_row : (kind : TrapKind) (line : ℕ) {names : List Pair} {row : Row AutomatonLeaf} → RowsNamed (LeafFor rules members) names (At_leaf (Trapped_at kind line)) row
+      → row ≡ At_leaf (Trap kind line)
+  trap_row kind line (named_leaf to_trap) = refl
 
 -- ---- the first row
 
@@ -71,6 +81,14 @@ module _ (rules : Rules) (members : List Window) (region : ℕ) (w : Window) (fi
   first_leads (Trap_exit kind line) is comes =
       trap_leads rules members rules.table region kind line
       (subst Matches (cut_is (Trap_exit kind line) is (subst (λ (front : Front). IsBare (whole front)) (sym is) tt)) f.matches)
+
+  -- a window that is an end has a row that is that end
+  pub first_ends : w.front ≡ front_of Stop_exit → first.row ≡ At_leaf Stop
+  first_ends is = end_row rules members (subst Matches (cut_is Stop_exit is (subst (λ (front : Front). IsBare (whole front)) (sym is) tt)) f.matches)
+
+  pub first_traps : (kind : TrapKind) (line : ℕ) → w.front ≡ front_of (Trap_exit kind line) → first.row ≡ At_leaf (Trap kind line)
+  first_traps kind line is =
+      trap_row rules members kind line (subst Matches (cut_is (Trap_exit kind line) is (subst (λ (front : Front). IsBare (whole front)) (sym is) tt)) f.matches)
 
 pub same_state : (a b : AutomatonState) → Some a ≡ Some b → a ≡ b
 same_state a b e = cc

@@ -1,8 +1,8 @@
 -- The row that the code makes of a cut row is the row of a state: its leaves lead on, and each place that writes a name has one
 -- of its own.
-use Rattle.std.proofs.Common.{◌≡◌, ℕ, suc, ◌≤◌, ◌<◌, List, [], ◌∷◌, ◌++◌, ◌⊎◌, inl, inr, refl, sym, ◌∙◌, ap}
+use Rattle.std.proofs.Common.{◌≡◌, ℕ, suc, ◌+◌, ◌≤◌, ◌<◌, List, [], ◌∷◌, ◌++◌, length, length-append, ◌⊎◌, inl, inr, refl, sym, ◌∙◌, ap, zero-add}
 use Rattle.std.proofs.Common.{subst, arith}
-use Rattle.std.specs.Prelude.{Bool, true, false, not, ◌&&◌, ◌||◌, if◌then◌else◌, nat_eq, Option, Some, None}
+use Rattle.std.specs.Prelude.{Bool, true, false, not, ◌&&◌, ◌||◌, if◌then◌else◌, nat_eq, Option, Some, None, IfSome}
 use Rattle.std.specs.List.{AllByRecursion, IsDistinct, cons_option}
 use Rattle.std.proofs.lemmas.Bool.{eqb-true, eq-eqb}
 use Rattle.std.proofs.lemmas.List.Elements.{filter_map-append}
@@ -34,7 +34,7 @@ use Rattle.pc_automaton.specs.declared.automaton.AutomatonLeaf.{AutomatonLeaf}
 use Rattle.pc_automaton.specs.declared.automaton.AutomatonLeaf.TheVariants.{Out, Stop, Trap}
 use Rattle.pc_automaton.specs.Automaton.{names_written}
 use Rattle.pc_canon.specs.Pairs.{Pair, corresponds, others, themselves, defined, operands_for, OperandsAlike, ArgumentsAlike, HomesAlike}
-use Rattle.pc_pattern.specs.NamedRow.{RowsNamed, named_item, named_test, named_leaf, LeavesAlike}
+use Rattle.pc_pattern.specs.NamedRow.{RowsNamed, named_item, named_test, named_leaf, LeavesAlike, WritesInOrder}
 use Rattle.pc_pattern.specs.Searches.{Rules, BringsOn, bare_leaf, LeafFor, to_member, to_bare, to_region, to_end, to_trap}
 use Rattle.pc_pattern.specs.models.Renaming.{renamed_name, renamed_operand, renamed_homes, renamed_leaf, renamed_bare, arguments_for}
 use Rattle.pc_pattern.specs.models.Pools.{Pool}
@@ -373,3 +373,40 @@ row_fresh {next} {later} (leads_test {mid} {yes_row} {no_row} one other) =
     subst (λ (l : List ℕ). Fresh next later l) (sym (filter_map-append dest_of (items_of yes_row) (items_of no_row)))
     (fresh_both next mid later (names_written yes_row) (names_written no_row) (row_next one) (row_next other) (row_fresh one) (row_fresh other))
 row_fresh {next} (leads_leaf leads) = fresh_none next next
+
+-- ---- the order of names
+
+-- an item that writes this name, if any
+dest_is_next : (next : ℕ) (item : Item) → IfSome (dest_of (with_dest next item)) (λ name. name ≡ next)
+dest_is_next next item = elim (write_next next item) [
+  | inl e ↦ subst (λ (d : Option ℕ). IfSome d (λ name. name ≡ next)) (sym e.2) refl
+  | inr e ↦ subst (λ (d : Option ℕ). IfSome d (λ name. name ≡ next)) (sym e.1) tt
+]
+
+order_both : (next : ℕ) (xs ys : List Item) → WritesInOrder next xs → WritesInOrder (length xs + next) ys → WritesInOrder next (xs ++ ys)
+order_both next [] ys h k = subst (λ (n : ℕ). WritesInOrder n ys) (zero-add next) k
+order_both next (x ∷ xs) ys h k =
+    let same : suc (length xs) + next ≡ length xs + suc next = omega arith in
+    (h.0, order_both (suc next) xs ys h.1 (subst (λ (n : ℕ). WritesInOrder n ys) same k))
+
+-- a row takes a number for each of its items
+row_counts : {rules : Rules} {written : List Pair} {next later : ℕ} {pool after : Pool} {row : Row Left} {other : Row AutomatonLeaf}
+    → RowLeads rules written next pool row other later after → later ≡ length (items_of other) + next
+row_counts (leads_plain none leads) = let h = row_counts leads in omega (arith, h)
+row_counts (leads_written some leads) = let h = row_counts leads in omega (arith, h)
+row_counts (leads_test {yes_row} {no_row} one other) =
+    let h = row_counts one in
+    let k = row_counts other in
+    let both = length-append (items_of yes_row) (items_of no_row) in
+    omega (arith, h, k, both)
+row_counts {next} (leads_leaf leads) = sym (zero-add next)
+
+-- and its names are those numbers in order
+pub row_ordered : {rules : Rules} {written : List Pair} {next later : ℕ} {pool after : Pool} {row : Row Left} {other : Row AutomatonLeaf}
+    → RowLeads rules written next pool row other later after → WritesInOrder next (items_of other)
+row_ordered {next} (leads_plain {item} none leads) = (dest_is_next next item, row_ordered leads)
+row_ordered {next} (leads_written {item} some leads) = (dest_is_next next item, row_ordered leads)
+row_ordered {next} (leads_test {yes_row} {no_row} one other) =
+    order_both next (items_of yes_row) (items_of no_row) (row_ordered one)
+    (subst (λ (n : ℕ). WritesInOrder n (items_of no_row)) (row_counts one) (row_ordered other))
+row_ordered (leads_leaf leads) = tt

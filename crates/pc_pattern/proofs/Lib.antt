@@ -5,6 +5,7 @@ pub mod Brought
 pub mod Keeping
 pub mod Passing
 pub mod Closing
+pub mod FirstPaces
 pub mod Members
 pub mod Keys
 pub mod Determinism
@@ -12,7 +13,9 @@ pub mod RowsFit
 pub mod Automata
 pub mod Ends
 pub mod FirstRows
+pub mod FirstRuns
 pub mod NamedThere
+pub mod OneStates
 pub mod Patterns
 pub mod Traps
 pub mod Placed

@@ -3,33 +3,31 @@ use Rattle.std.proofs.Common.{◌≡◌, ℕ, zero, suc, ◌<◌, List, [], ◌�
 use Rattle.std.specs.Prelude.{Option, Some, None, slice_get}
 use Rattle.std.specs.List.{AllByRecursion}
 use Rattle.std.proofs.lemmas.Option.{slice_get_within}
-use Rattle.pc_word.specs.Run.{Answers, NeverFaults}
+use Rattle.pc_word.specs.Run.{Answers, Agree, NeverFaults}
 use Rattle.pc_word.proofs.Runs.{Agree-trans}
 use Rattle.pc_word.proofs.Lists.{all_both, all_at}
 use Rattle.pc_word.specs.State.{State}
 use Rattle.pc_word.specs.Row.{Row, Then, Either, At_leaf, leaves_of}
-use Rattle.pc_table.specs.Table.{Table, Next}
+use Rattle.pc_table.specs.Table.{Next}
 use Rattle.pc_table.specs.TableKeeps.{TableKeeps}
 use Rattle.pc_table.specs.RegionRun.{region_run}
 use Rattle.std.specs.Prelude.{Bool, true, false}
 use Rattle.pc_word.specs.declared.item.Item.{Item}
 use Rattle.pc_word.specs.declared.item.Operand.{Operand}
 use Rattle.pc_linear.specs.Form.{Form}
-use Rattle.pc_window.specs.Names.{uses}
 use Rattle.pc_window.specs.Jump.{Rises, Root, Past_item, Past_yes, Past_no, DividesTree, Root_test, Past, EntersFront, Lands, Lands_renamed, Lands_test}
 use Rattle.pc_window.specs.Jump.{Lands_once, Behind_item, On_yes, On_no}
 use Rattle.pc_window.specs.Filled.{Filled, Full, Goes_on}
 use Rattle.pc_window.specs.Tree.{Tree, Pending, Undecided, Exit, Stop_exit, Trap_exit, Front, Issued, Split, Unfinished, whole}
 use Rattle.pc_window.specs.WindowRun.{Window, window_run}
-use Rattle.pc_window.specs.Kept.{Left, IsBare, IsRooted, HasFront, HasItems}
-use Rattle.pc_window.specs.Steps.{LeftIs, EachLeft, Positive, IsProper, cut_row, opened_window}
+use Rattle.pc_window.specs.Kept.{Left, KeepsPace, IsBare, IsRooted, HasFront, HasItems}
+use Rattle.pc_window.specs.Steps.{LeftIs, EachLeft, Positive, IsProper, opened_window}
 use Rattle.pc_window.proofs.Paces.{answer_of_answer, NeverFaults-follows}
 use Rattle.pc_window.proofs.Proper.{opens_proper, fills_proper, cuts_proper}
 use Rattle.pc_window.proofs.Settling.{opens_alike, tidies_roots, fills_front, cuts_front}
 use Rattle.pc_automaton.specs.declared.automaton.AutomatonLeaf.{AutomatonLeaf}
 use Rattle.pc_automaton.specs.Automaton.{AutomatonState}
 use Rattle.pc_automaton.specs.AutomatonRun.{automaton_run}
-use Rattle.pc_automaton.specs.RunsAsRegion.{RunsAlike}
 use Rattle.pc_canon.specs.Pairs.{Pair}
 use Rattle.pc_pattern.specs.NamedRow.{RowsNamed, named_item, named_test, named_leaf}
 use Rattle.pc_pattern.specs.Searches.{Rules, Settles, bare_leaf, Looks, looks_new, looks_known, looks_bare, looks_out, looks_end, looks_trap}
@@ -62,11 +60,6 @@ matched_items (named_item name h) items = tt
 matched_items (named_test h k) items = tt
 matched_items (named_leaf h) items = items
 
-pub matched_back : {L M : Type 0} {R : List Pair → L → M → Type 0} {names : List Pair} {row : Row L} {other : Row M} → RowsNamed R names row other → HasItems other → HasItems row
-matched_back (named_item name h) items = tt
-matched_back (named_test h k) items = tt
-matched_back (named_leaf h) items = items
-
 -- ---- windows without items and tests
 
 risen_items : (forms : ℕ → Form) (tag origin : ℕ) (stood x : Item) (crosses : Bool) (from left : Tree) → Rises forms tag origin stood x crosses from left → IsBare from → ⊥
@@ -94,12 +87,6 @@ entered_items known forms forms' new comes from to (On_no t o on c p q q' apart 
 pub bare_fills : (known : ℕ → Bool) (w v : Window) → Filled known w v → IsBare (whole w.front) → v ≡ w
 bare_fills known w v (Full w' none) bare = refl
 bare_fills known w v (Goes_on w' v' u jump first filled) bare = absurd (entered_items known w'.forms v'.forms jump.new jump.comes w'.front v'.front jump.enters bare)
-
--- and its row has neither
-bare_cut : (table : Table) (w : Window) (front : Front) → IsBare (whole front) → HasItems (cut_row table w front) → ⊥
-bare_cut table w (Issued tag origin item rest) bare items = bare
-bare_cut table w (Split tag origin on on_yes on_no) bare items = bare
-bare_cut table w (Unfinished rest) bare items = items
 
 module _ (rules : Rules) (keeps : TableKeeps rules.table) (room : Positive rules.limits) (region : ℕ) where
   abbrev Rooted : Window → Type 0
@@ -190,22 +177,17 @@ module _ (rules : Rules) (keeps : TableKeeps rules.table) (room : Positive rules
   same_found : {X : Type 0} (a b : X) → Some a ≡ Some b → a ≡ b
   same_found a b e = cc
 
-  -- the first row has neither item nor test where the first member has none
-  first_items : (members : List Window) (states : List AutomatonState) → Automates rules members states → (w : Window) → slice_get members 0 ≡ Some w → (first : AutomatonState)
-      → slice_get states 0 ≡ Some first → HasItems first.row → IsBare (whole w.front) → ⊥
-  first_items members states auto w at first here items bare =
-      let e = auto.each 0 w at in
-      let row = e.2.row_for in
-      let cut = matched_back e.2.matches (subst (λ (x : AutomatonState). HasItems x.row) (sym (same_found e.0 first (sym e.1 ∙ here))) items) in
-      bare_cut rules.table w w.front bare
-      (subst (λ (v : Window). HasItems (cut_row rules.table v v.front)) (bare_fills (uses (whole w.front)) w row.filled row.fills bare)
-      (subst (λ (r : Row Left). HasItems r) row.cuts cut))
+  -- the run of a closed search's automaton beside that of the region and that of the first member
+  pub record ClosedRuns (first : Window) (states : List AutomatonState) (s : State) : Type 0 where
+    pub agree : Agree (automaton_run rules.table states s) (region_run rules.table (Next region) s)
+    pub level : KeepsPace (region_run rules.table (Next region) s) (window_run rules.table first s)
+    pub pace : (IsBare (whole first.front) → ⊥) → KeepsPace (window_run rules.table first s) (automaton_run rules.table states s)
+    pub behind : (n : ℕ) → Answers (window_run rules.table first s n) (automaton_run rules.table states s (suc n)) (window_run rules.table first s n).end
 
   -- where a search is closed, its automaton does what the region does, in every state from which the region's run never faults
-  pub closed_runs : (members : List Window) (states : List AutomatonState) → IsClosed rules region members → Automates rules members states
-      → (first : AutomatonState) → slice_get states 0 ≡ Some first → (s : State) → NeverFaults (region_run rules.table (Next region) s)
-      → RunsAlike rules.table region states first s
-  closed_runs members states closed auto first here s never =
+  pub closed_runs : (members : List Window) (states : List AutomatonState) → (closed : IsClosed rules region members) → Automates rules members states
+      → (s : State) → NeverFaults (region_run rules.table (Next region) s) → ClosedRuns (begins_with closed.1).first states s
+  closed_runs members states closed auto s never =
       let b = begins_with closed.1 in
       let o = opens_alike rules.table keeps rules.limits region b.opened b.opens s in
       let p = opens_proper rules.table rules.limits region b.opened room b.opens in
@@ -216,14 +198,12 @@ module _ (rules : Rules) (keeps : TableKeeps rules.table) (room : Positive rules
       let r = state_agrees rules keeps members states auto (λ number w here. all_at Rooted members number w (members_rooted closed.1) here)
       (λ number w here. all_at IsProper members number w (members_proper closed.1).0 here) 0 b.first s at k.forms (never_kept rules.table b.opened b.first s k never_opened) in
       let X = region_run rules.table (Next region) s in
-      let level : (n : ℕ) → Answers (X n) (window_run rules.table b.first s n) (X n).end =
-      λ n. answer_of_answer (X n) (window_run rules.table b.opened s n) (window_run rules.table b.first s n) (o.pace n) (k.pace n) in
       record {
         agree = Agree-trans (automaton_run rules.table states s) (window_run rules.table b.first s) X r.agree
             (Agree-trans (window_run rules.table b.first s) (window_run rules.table b.opened s) X (record { forth = k.back; back = λ n. (n, k.pace n) }) o.agree);
-        pace = λ items n. answer_of_answer (X n) (window_run rules.table b.first s n) (automaton_run rules.table states s n) (level n)
-            (r.pace (first_items members states auto b.first at first here items) n);
-        behind = λ n. answer_of_answer (X n) (window_run rules.table b.first s n) (automaton_run rules.table states s (suc n)) (level n) (r.behind n);
+        level = λ n. answer_of_answer (X n) (window_run rules.table b.opened s n) (window_run rules.table b.first s n) (o.pace n) (k.pace n);
+        pace = r.pace;
+        behind = r.behind;
       }
 
   -- a front that is rooted has an item or a test, where something is left to do
@@ -311,5 +291,6 @@ state_more rules members more w state h = record {
   cut = h.cut;
   row_for = h.row_for;
   matches = rows_more rules members more h.matches;
+  ordered = h.ordered;
   once = h.once;
 }

@@ -9,8 +9,9 @@ use Rattle.pc_pattern.specs.Searches.{Rules, IsPattern}
 use Rattle.pc_pattern.specs.Pattern.{IsFound}
 use Rattle.pc_pattern.specs.Laws.{PatternsRunAsTheRegion, PatternsHaveNoEmptyStates, PatternsFit, PatternsAreAutomata, SearchesHaveOneAnswer}
 use Rattle.pc_pattern.specs.Laws.{SearchesAreOne}
-use Rattle.pc_pattern.proofs.Members.{closed_runs, no_empty_states}
+use Rattle.pc_pattern.proofs.Members.{no_empty_states}
 use Rattle.pc_pattern.proofs.FirstRows.{first_untested}
+use Rattle.pc_pattern.proofs.FirstRuns.{runs_alike}
 use Rattle.pc_pattern.proofs.RowsFit.{states_fit}
 use Rattle.pc_pattern.proofs.Automata.{all_from_places, are_automaton}
 use Rattle.pc_pattern.proofs.NamedThere.{patterns_there, patterns_live}
@@ -18,7 +19,7 @@ use Rattle.pc_pattern.proofs.Determinism.{search_one, one_answer}
 
 pub patterns_run : PatternsRunAsTheRegion
 patterns_run rules keeps room region rows states p = record {
-  alike = closed_runs rules keeps room region p.members states p.closed p.automates;
+  alike = runs_alike rules keeps room region p.members states p.closed p.automates;
   untested = first_untested rules keeps room region p.members states p.closed p.automates;
 }
 

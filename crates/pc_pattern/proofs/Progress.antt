@@ -32,7 +32,7 @@ use Rattle.pc_pattern.proofs.Pools.{KeysStand, last_in, LeadsTo, either_side, ro
 use Rattle.pc_pattern.proofs.Keys.{key_at}
 use Rattle.pc_pattern.proofs.Members.{slice_get_more, members_proper, state_more}
 use Rattle.pc_pattern.proofs.RowsFit.{members_limited}
-use Rattle.pc_pattern.proofs.LedRows.{cut_scoped, LeavesScoped, renames_parameters, row_leads, row_fresh, distinct_apart}
+use Rattle.pc_pattern.proofs.LedRows.{cut_scoped, LeavesScoped, renames_parameters, row_leads, row_fresh, row_ordered, distinct_apart}
 use Rattle.pc_pattern.proofs.Sizes.{filled_next, later_small, all_later_small, IsRest, each_and, cut_rests, first_small, IsNext, row_small}
 use Rattle.pc_pattern.proofs.Looking.{row_looked, row_refused}
 
@@ -62,6 +62,7 @@ made_state rules keeps final w pool state after proper m each stand =
       row_for = record { filled = m.filled; fills = m.fills; cuts = m.cuts };
       matches = row_leads keeps final known (themselves ps) (renames_parameters known ps m.filled.next (parameters_listed (whole w.front)) below) each scoped
           m.row stand;
+      ordered = row_ordered m.row;
       once = subst (λ (l : List ℕ). IsDistinct nat_eq (l ++ names_written state.row)) (sym m.parameters) once;
     }
 

@@ -56,6 +56,11 @@ SearchesAreOne = (rules : Rules) (region steps : ℕ) (members others : List Win
     → Search rules region steps members taken lefts → Search rules region steps others taken' lefts'
     → (members ≡ others) × (taken ≡ taken') × (lefts ≡ lefts')
 
+-- a search has one pattern: its members close in one way, and each has one state, whatever number of rows is allowed
+abbrev pub PatternsAreOne : Type 0
+PatternsAreOne = (rules : Rules) → TableKeeps rules.table → Positive rules.limits → (region rows most : ℕ) (states others : List AutomatonState)
+    → IsPattern rules region rows states → IsPattern rules region most others → states ≡ others
+
 -- the state that is a trap alone
 abbrev pub trap_state : TrapKind → ℕ → AutomatonState
 trap_state kind line = record { parameters = []; row = At_leaf (Trap kind line) }

@@ -1,5 +1,5 @@
 -- Rows that differ in the names that they write: an automaton's row has a name of its own for each place that writes one.
-use Rattle.std.specs.Prelude.{◌≡◌, ℕ, List}
+use Rattle.std.specs.Prelude.{◌≡◌, ℕ, suc, List, [], ◌∷◌, IfSome}
 use Rattle.pc_word.specs.declared.item.Item.{Item}
 use Rattle.pc_word.specs.declared.item.Operand.{Operand}
 use Rattle.pc_word.specs.Items.{dest_of}
@@ -19,6 +19,11 @@ pub data RowsNamed {L M : Type 0} (Related : List Pair → L → M → Type 0) :
       → RowsNamed Related names on_yes other_yes → RowsNamed Related names on_no other_no
       → RowsNamed Related names (Either on on_yes on_no) (Either on other_yes other_no)
   named_leaf : {names : List Pair} {leaf : L} {other : M} → Related names leaf other → RowsNamed Related names (At_leaf leaf) (At_leaf other)
+
+-- the names that items write are numbers in order, from this one on: one for each item, whether it writes a name or none
+abbrev pub WritesInOrder : ℕ → List Item → Type 0
+WritesInOrder next [] = Unit {0}
+WritesInOrder next (item ∷ items) = IfSome (dest_of item) (λ name. name ≡ next) × WritesInOrder (suc next) items
 
 -- the same leaf, but for names
 abbrev pub LeavesAlike : List Pair → AutomatonLeaf → AutomatonLeaf → Type 0

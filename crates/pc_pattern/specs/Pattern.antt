@@ -28,7 +28,7 @@ NoneIsEmpty states = (at : ℕ) (state : AutomatonState) → slice_get states (s
 -- from every state from which the region's run never faults, the states do what the region does, and are not behind it; the
 -- first leads out without an item or test only to a region to which its own leads without a test
 pub record RunsAsTheRegion (table : Table) (region : ℕ) (states : List AutomatonState) : Type 0 where
-  pub alike : (first : AutomatonState) → slice_get states 0 ≡ Some first → (s : State) → NeverFaults (region_run table (Next region) s) → RunsAlike table region states first s
+  pub alike : (s : State) → NeverFaults (region_run table (Next region) s) → RunsAlike table region states s
   pub untested : (first : AutomatonState) → slice_get states 0 ≡ Some first → LeadsUntested table region first.row
 
 -- the first state is passed variables that are live at the region's head

@@ -4,7 +4,7 @@ use Rattle.std.specs.List.{IsDistinct}
 use Rattle.pc_word.specs.declared.item.Limits.{Limits}
 use Rattle.pc_word.specs.declared.item.Operand.{Operand}
 use Rattle.pc_word.specs.declared.item.TrapKind.{TrapKind}
-use Rattle.pc_word.specs.Row.{Row, leaves_of}
+use Rattle.pc_word.specs.Row.{Row, items_of, leaves_of}
 use Rattle.pc_table.specs.Table.{Table}
 use Rattle.pc_window.specs.declared.home.Home.{Home}
 use Rattle.pc_window.specs.Tree.{Tree, Pending, Undecided, Exit, Stop_exit, Trap_exit, whole}
@@ -20,7 +20,7 @@ use Rattle.pc_renumber.specs.Renumbering.{Renumbers}
 use Rattle.pc_automaton.specs.declared.automaton.AutomatonLeaf.{AutomatonLeaf}
 use Rattle.pc_automaton.specs.declared.automaton.AutomatonLeaf.TheVariants.{To, Out, Stop, Trap}
 use Rattle.pc_automaton.specs.Automaton.{AutomatonState, names_written}
-use Rattle.pc_pattern.specs.NamedRow.{RowsNamed, LeavesAlike}
+use Rattle.pc_pattern.specs.NamedRow.{RowsNamed, LeavesAlike, WritesInOrder}
 
 -- what a search goes by: the regions, the limits of fronts, and the window number: how many turns of its loop a window may hold
 pub record Rules : Type 0 where
@@ -118,13 +118,14 @@ pub data LeafFor (rules : Rules) (members : List Window) : List Pair → Left �
   to_end : {names : List Pair} → LeafFor rules members names Finished Stop
   to_trap : {names : List Pair} {kind : TrapKind} {line : ℕ} → LeafFor rules members names (Trapped_at kind line) (Trap kind line)
 
--- the state of a member: its parameters, and its row with a name of its own for each place that writes one, and with leaves
--- that lead on
+-- the state of a member: its parameters, and its row with a name of its own for each place that writes one, in preorder the numbers
+-- from the first on that is new once the member is filled, and with leaves that lead on
 pub record StateFor (rules : Rules) (members : List Window) (w : Window) (state : AutomatonState) : Type 0 where
   pub parameters : state.parameters ≡ parameters_of (whole w.front)
   pub cut : Row Left
   pub row_for : RowFor rules w cut
   pub matches : RowsNamed (LeafFor rules members) (themselves (parameters_of (whole w.front))) cut state.row
+  pub ordered : WritesInOrder row_for.filled.next (items_of state.row)
   pub once : IsDistinct nat_eq (state.parameters ++ names_written state.row)
 
 -- one state for each member, in their order
