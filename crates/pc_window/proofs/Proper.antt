@@ -166,7 +166,8 @@ sound_proper g limits inside room s = becomes_proper g.tree g.names limits insid
 
 pub opens_proper : (table : Table) (limits : Limits) (region : ℕ) (w : Window) → Positive limits → Opens table limits region w → IsProper w
 opens_proper table limits region w room is =
-    subst (λ (u : Window). IsProper u) (sym is) (sound_proper (opened table (innermost_loop table region) region) limits (innermost_loop table region) room (opened-sound table (innermost_loop table region) region))
+    subst (λ (u : Window). IsProper u) (sym is)
+    (sound_proper (opened table (innermost_loop table region) region) limits (innermost_loop table region) room (opened-sound table (innermost_loop table region) region))
 
 pub unwinds_proper : (table : Table) (number : ℕ) (w v : Window) → UnwindsTo table number w v → IsProper w → IsProper v
 unwinds_proper table number w v h p =

@@ -120,7 +120,8 @@ opens_alike table keeps limits region w is s =
     subst (λ (u : Window). OpensAlike table region u s) (sym is) (record {
       forms = subst (λ (t : Tree). TreeHolds g.names.forms table.arrays t s) same (opened_holds table (innermost_loop table region) region s);
       agree = subst (λ (t : Tree). Agree (tree_run table t s) (region_run table (Next region) s)) same
-          (Agree-trans (tree_run table g.tree s) (free_run table g.tree s) (region_run table (Next region) s) (free_agrees table g.tree s) (opened_agrees table keeps (innermost_loop table region) region s));
+          (Agree-trans (tree_run table g.tree s) (free_run table g.tree s) (region_run table (Next region) s)
+          (free_agrees table g.tree s) (opened_agrees table keeps (innermost_loop table region) region s));
       pace = subst (λ (t : Tree). KeepsPace (region_run table (Next region) s) (tree_run table t s)) same (opened_pace table keeps (innermost_loop table region) region s);
     })
 

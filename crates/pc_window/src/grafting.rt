@@ -39,13 +39,13 @@ fn replace_home(homes: &mut [Operand; VARIABLES], variable: u32, home: Operand) 
 fn listed(alloc: Global, homes: &[Operand], variables: &[u32]) -> Result<HomeList, AllocError>
     ensures { IfOk result (λ list. list ≡ homes_at (homes_in homes.now) variables.now) }
 {
-    let mut list = HomeList::new(alloc);
+    let mut list = Vec::with_capacity(alloc, variables.len())?;
     for at in 0..variables.len() {
         let variable = variables[at];
         let value = at_home(homes, Operand::Name(variable));
         list.push(Home { variable, value })?;
     }
-    Ok(list)
+    Ok(HomeList::from_vec(list))
 }
 
 /// The stub that leads to a region.

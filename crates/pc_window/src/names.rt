@@ -9,6 +9,7 @@ ghost use Rattle.pc_window.specs.Opening.{with_name, first_supply};
 ghost use Rattle.pc_window.specs.StoredWindow.{forms_in, supply_in};
 
 use crate::FormList;
+use crate::grafting::VARIABLES;
 use pc_linear::LinForm;
 use pc_word::{Item, MOST_SCALARS, MOST_TEMPORARIES, Operand};
 use std::alloc::{AllocError, Global};
@@ -26,12 +27,12 @@ impl NameTable {
     pub(crate) fn first(alloc: Global) -> Result<NameTable, AllocError>
         ensures { IfOk result (λ names. supply_in names ≡ first_supply) }
     {
-        let mut forms = FormList::new(alloc);
+        let mut forms = Vec::with_capacity(alloc, VARIABLES)?;
         for variable in 0..MOST_SCALARS + MOST_TEMPORARIES {
             forms.push(LinForm::variable(variable))?;
         }
         Ok(NameTable {
-            forms,
+            forms: FormList::from_vec(forms),
             next_variable: MOST_SCALARS + MOST_TEMPORARIES,
         })
     }

@@ -4,5 +4,5 @@ use Rattle.pc_window.proofs.grafting.listed.Goals as goal
 
 pub loop-at-preserved : goal.loop-at-preserved
 loop-at-preserved c =
-    home_added c.args.homes.now c.args.variables.now c.loop-at.at c.loop-at.list c.push.new.self _ c.loop-at.invariant c.at_home-value.ensures c.in_ok-push.ensures.ok
+    home_added c.args.homes.now c.args.variables.now c.loop-at.at c.loop-at.list.items c.push.new.self.items _ c.loop-at.invariant c.at_home-value.ensures c.in_ok-push.ensures.items
     (omega (arith, c.loop-at-test.true))

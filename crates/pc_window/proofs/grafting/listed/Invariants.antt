@@ -5,4 +5,4 @@ use Rattle.pc_window.specs.StoredWindow.{homes_in}
 use Rattle.pc_window.proofs.grafting.listed.Given as goal
 
 abbrev pub invariant-loop-at : goal.invariant-loop-at
-invariant-loop-at l = l.list ≡ homes_at (homes_in l.fn.homes) (take l.at l.fn.variables)
+invariant-loop-at l = l.list.items ≡ homes_at (homes_in l.fn.homes) (take l.at l.fn.variables)

@@ -3,4 +3,4 @@ use Rattle.pc_window.specs.models.Stored.{variable_forms}
 use Rattle.pc_window.proofs.names.NameTable.first.Given as goal
 
 abbrev pub invariant-loop-variable : goal.invariant-loop-variable
-invariant-loop-variable l = l.forms ≡ variable_forms l.variable
+invariant-loop-variable l = l.forms.items ≡ variable_forms l.variable
