@@ -1,5 +1,5 @@
-//! Tests of the front end and of the words and samples beside it: texts become tokens, trees and checked
-//! programs.
+//! Tests of the front end and of the words, lists and samples beside it: texts become tokens, trees and
+//! checked programs.
 #![tactic(auto)]
 
 #[cfg(test)]
@@ -12,6 +12,8 @@ mod lexer;
 mod parser;
 #[cfg(test)]
 mod sample;
+#[cfg(test)]
+mod short_lists;
 #[cfg(test)]
 mod sources;
 #[cfg(test)]
