@@ -7,7 +7,7 @@ use indexmap::IndexSet;
 use pc_short::ShortSeq;
 use pc_word::{Operand, Seq};
 
-/// Registers of names, in the names' order. Most states have at most 16 names.
+/// Registers of names, in the names' order. A state of a usual loop has some twelve names.
 pub(crate) type RegisterList = ShortSeq<u32, 16>;
 
 /// The registers of a state's names: its names in order, with a register beside each.

@@ -13,7 +13,7 @@ use pc_word::{Operand, RowTree};
 use std::alloc::{AllocError, Global};
 
 /// The registers of what is passed to a state, in the order of its parameters, where they are names.
-/// Most states have at most eight.
+/// A state of a usual loop has some eight.
 pub(crate) type PassedList = ShortSeq<Option<u32>, 8>;
 
 /// Notes what the leaves of a row pass, for each state the first leaf alone.
