@@ -71,9 +71,6 @@ module _ (known : ℕ → Bool) (w : StoredWindow) (can : CanFill known w) where
   pub is_full : (ReadyPlace known (window_in w) → ⊥) → Filled known (window_in w) (window_in w)
   is_full never = Full (window_in w) (λ v jump. never (jumps_were_ready known (window_in w) v jump).0)
 
-  pub grows_not : GrowsTo w w
-  grows_not = record { nodes = can.nodes; names = omega arith; variables = omega arith }
-
   module _ (r : ReadyNode) (first : IsFirstReady known (window_in w) r) (v : StoredWindow) (come : HasCome (window_in w) r (window_in v)) where
     pub jumps : FirstJumpTo known (window_in w) (window_in v)
     jumps = come_first known (window_in w) can.window fresh_here r first (window_in v) come

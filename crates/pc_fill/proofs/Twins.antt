@@ -91,12 +91,6 @@ module _ (forms : ℕ → Form) (next tag origin : ℕ) (item : Item) (all : Tre
   pub none_from : (place end : ℕ) → end ≡ place + 0 → FirstFrom forms next tag origin item all place end None
   none_from place end e = record { is = λ k le lt. absurd (omega arith) }
 
-  -- the first of all is at the place where one looks
-  pub first_here : (place end : ℕ) → place < end → (tag' origin' : ℕ) (other : Item) (rest : Tree) → StandsAt (Pending tag' origin' other rest) place all
-      → TwinsAt forms next tag origin item tag' origin' other all place → FirstFrom forms next tag origin item all place end (Some place)
-  first_here place end within tag' origin' other rest stands h =
-      record { is = (twin_here forms next tag origin item tag' origin' other all place (item_stands tag' origin' other rest place all stands) h, within, λ k le lt twin. le) }
-
   -- what is first behind a place is first from it, where none is there
   skip : (place after end : ℕ) (found : Option ℕ) → after ≡ place + 1 → (TwinHere forms next tag origin item all place → ⊥) → FirstFrom forms next tag origin item all after end found
       → FirstFrom forms next tag origin item all place end found

@@ -170,10 +170,10 @@ fn first_with(
 /// The first item or test, in the order of tag, origin and preorder place, that stands behind the
 /// front, is ready and has room; `None` exactly where there is none.
 ///
-/// It takes no memory: each place is gone down to anew, and a name is known where nothing above the
-/// place writes it. So the time that it takes grows with the square of the window's size, times the
-/// tests above a place. `fill`, which looks once for each item that comes, goes down once instead,
-/// with a table of what is known.
+/// It takes no memory: it goes down to each place anew, and a name that is read there is known before
+/// the window where no item above writes it. So it takes time in proportion to the square of the
+/// window's size, times the tests above a place. `fill`, which looks once for each item that comes,
+/// has a walk of its own, with a table of what is known.
 pub fn first_ready(window: &Window) -> Option<ReadyNode>
     requires proper { IsProper (window_in window.now) }
     requires small { tree_size (whole (window_in window.now).front) < 2 ^ 31 }
