@@ -1,12 +1,16 @@
 -- How the compiler ends, put together from what its steps leave.
-use Rattle.std.proofs.Common.{◌≡◌, ℕ, ◌<◌, ◌≤◌, ◌⊎◌, inl, inr, List, length, Bool, true, false, Option, Some, None, refl, sym, ◌∙◌, ap, subst, arith}
+use Rattle.std.proofs.Common.{◌≡◌, ℕ, ◌<◌, ◌≤◌, ◌⊎◌, inl, inr, List, length, Bool, true, false, Option, Some, None, Result, Ok, Err, refl, sym, ◌∙◌, ap, subst, arith}
+use Rattle.std.proofs.lemmas.List.{length-map}
 use Rattle.std.specs.Prelude.{IsSome}
 use Rattle.std.specs.Borrow.{Bor}
 use Rattle.std.specs.Io.KnownBytes.{Appends}
 use Rattle.pc_word.specs.Count.{Rose}
 use Rattle.pc_syntax.specs.Source.{SourceProgram}
 use Rattle.pc_flow.specs.FlowGraph.{FlowGraph}
-use Rattle.pc_object.specs.ObjectText.{CodeWithNotes, object_text}
+use Rattle.pc_table.specs.StoredTable.{table_of}
+use Rattle.pc_machine.specs.MachineCode.{row_of}
+use Rattle.pc_object.specs.ObjectText.{CodeWithNotes, IsObject, object_of, object_text}
+use Rattle.pc_compile.specs.declared.program.Compiled.{Compiled as Built}
 use Rattle.pc_outside.specs.Shelf.{Files, Shelved, ReadFaultOf, WriteFaultOf, ReadKeeps, OnlyFileDiffers, HoldsFile}
 use Rattle.pc_outside.specs.Stream.{AppendsPart}
 use Rattle.pc_word.specs.SourceLimits.{most_source}
@@ -24,10 +28,12 @@ use Rattle.pc_driver.specs.Files.{HoldsText}
 use Rattle.pc_tool.specs.Files.{HasSource, HoldsSource}
 use Rattle.pc_driver.specs.Streams.{Streamed}
 use Rattle.pc_driver.specs.Outside.{Outside}
+use Rattle.pc_tool.specs.Scheduled.{IsScheduledAs}
 use Rattle.pc_tool.specs.Source.{IsSomeSource}
 use Rattle.pc_tool.specs.SourceFaults.{HasFault, Long}
 use Rattle.pc_tool.specs.declared.translation.Translation.{Translation}
-use Rattle.pc_tool.specs.models.Compiling.{FailsToRead, Not_read, Too_long, No_memory, HasTranslation, reported, ReportEnds, Unasked, Sent, Broken_off, Unmade, WriteEnds, Written, Not_written, Write_lacks}
+use Rattle.pc_tool.specs.models.Compiling.{FailsToRead, Not_read, Too_long, No_memory, HasTranslation, reported, EndsWith, With_compiled, With_fault}
+use Rattle.pc_tool.specs.models.Compiling.{ReportEnds, Unasked, Sent, Broken_off, Unmade, WriteEnds, Written, Not_written, Write_lacks}
 use Rattle.pc_driver.proofs.Files.{held_map}
 use Rattle.pc_driver.proofs.Streams.{sends_part, sends_none}
 use Rattle.pc_tool.proofs.Files.{has_holds, same_keeps}
@@ -37,7 +43,8 @@ use Rattle.pc_tool.proofs.Files.{has_holds, same_keeps}
 rose_later : (one two three : ℕ) → one ≤ two → Rose two three → Rose one three
 rose_later one two three le rose = omega (arith, le, rose)
 
-module _ (Passed : FlowGraph → FlowGraph → Type 0) (passes : List PassCount) (request : CompileRequest) (old mid new : Shelved) (out out_now : Streamed) (keeps : ReadKeeps old mid) where
+module _ (Scheduled : CompileRequest → SourceProgram → CodeWithNotes → Type 0) (passes : List PassCount) (request : CompileRequest)
+    (old mid new : Shelved) (out out_now : Streamed) (keeps : ReadKeeps old mid) where
   keeps_behind : ReadKeeps mid new → ReadKeeps old new
   keeps_behind later = record {
     held = later.held ∙ keeps.held;
@@ -58,86 +65,145 @@ module _ (Passed : FlowGraph → FlowGraph → Type 0) (passes : List PassCount)
   differs_behind : (name : List ℕ) → OnlyFileDiffers mid.held new.held name → OnlyFileDiffers old.held new.held name
   differs_behind name h = subst (λ (held : Option Files). OnlyFileDiffers held new.held name) keeps.held h
 
-  compiled_behind : (program : SourceProgram) (object : CodeWithNotes) → Compiled Passed request program object mid new → Compiled Passed request program object old new
+  compiled_behind : (program : SourceProgram) (object : CodeWithNotes) → Compiled Scheduled request program object mid new → Compiled Scheduled request program object old new
   compiled_behind program object it = record {
     text = it.text;
     in_source = subst (λ (held : Option Files). HasSource held request.source it.text) keeps.held it.in_source;
     translates = it.translates;
     written = subst (λ (held : Option Files). HoldsFile held new.held request.object (object_text object)) keeps.held it.written;
+    scheduled = it.scheduled;
   }
 
-  lacks_behind : CompilerLacks Passed passes mid new out out_now (Some request) → CompilerLacks Passed passes old new out out_now (Some request)
+  lacks_behind : CompilerLacks Scheduled passes mid new out out_now (Some request) → CompilerLacks Scheduled passes old new out out_now (Some request)
   lacks_behind (Early later same) = Early (keeps_behind later) same
   lacks_behind (Writing source differs same) = Writing (holds_behind IsSomeSource source) (differs_behind request.object differs) same
   lacks_behind (Reporting {program} {object} asked it sent) = Reporting asked (compiled_behind program object it) sent
 
   -- what a command comes to after a read, it comes to from before it
-  pub ends_behind : (due : Option ToolFault) → CompilerEnds Passed passes mid new out out_now (Some request) due → CompilerEnds Passed passes old new out out_now (Some request) due
-  ends_behind due (Done {program} {object} it sent) = Done (compiled_behind program object it) sent
-  ends_behind due (Unread {name} is later fault same) = Unread is (keeps_behind later) (read_fault_behind name.now fault) same
-  ends_behind due (Refused {what} later source same) = Refused (keeps_behind later) (holds_behind (λ text. HasFault text what) source) same
-  ends_behind due (Unwritten {name} is source differs fault same) =
+  same_end : (due : Option ToolFault) → CompilerEnds Scheduled passes mid new out out_now (Some request) due → CompilerEnds Scheduled passes old new out out_now (Some request) due
+  same_end due (Done {program} {object} it sent) = Done (compiled_behind program object it) sent
+  same_end due (Unread {name} is later fault same) = Unread is (keeps_behind later) (read_fault_behind name.now fault) same
+  same_end due (Refused {what} later source same) = Refused (keeps_behind later) (holds_behind (λ text. HasFault text what) source) same
+  same_end due (Unwritten {name} is source differs fault same) =
       Unwritten is (holds_behind IsSomeSource source) (differs_behind name.now differs) (write_fault_behind name.now fault) same
-  ends_behind due (Unreported {program} {object} asked it rose part) = Unreported asked (compiled_behind program object it) rose part
-  ends_behind due (Lacking lacks) = Lacking (lacks_behind lacks)
+  same_end due (Unreported {program} {object} asked it rose part) = Unreported asked (compiled_behind program object it) rose part
+  same_end due (Lacking lacks) = Lacking (lacks_behind lacks)
+
+-- how it ended after a read, with what it answered
+pub ends_behind : (Passed : FlowGraph → FlowGraph → Type 0) (passes : List PassCount) (request : CompileRequest) (old mid new : Shelved) (out out_now : Streamed) → ReadKeeps old mid
+    → (answer : Result Built ToolFault) → EndsWith Passed passes mid new out out_now (Some request) answer → EndsWith Passed passes old new out out_now (Some request) answer
+ends_behind Passed passes request old mid new out out_now keeps answer (With_compiled {it} ends) =
+    With_compiled (same_end (IsScheduledAs Passed (Some it)) passes request old mid new out out_now keeps None ends)
+ends_behind Passed passes request old mid new out out_now keeps answer (With_fault {why} ends) =
+    With_fault (same_end (IsScheduledAs Passed None) passes request old mid new out out_now keeps (Some why) ends)
 
 -- ---- each step
 
 -- no source was read
-pub read_ends : (Passed : FlowGraph → FlowGraph → Type 0) (passes : List PassCount) (request : CompileRequest) (old new : Shelved) (out : Streamed) (why : ToolFault) → ReadKeeps old new → FailsToRead request.source old new why
-    → CompilerEnds Passed passes old new out out (Some request) (Some why)
-read_ends Passed passes request old new out why keeps (Not_read is fault) = Unread is keeps fault refl
-read_ends Passed passes request old new out why keeps (Too_long long) = Refused keeps long refl
-read_ends Passed passes request old new out why keeps No_memory = Lacking (Early keeps refl)
+pub read_ends : (Passed : FlowGraph → FlowGraph → Type 0) (passes : List PassCount) (request : CompileRequest) (old new : Shelved) (out : Streamed) (why : ToolFault)
+    → ReadKeeps old new → FailsToRead request.source old new why
+    → EndsWith Passed passes old new out out (Some request) (Err why)
+read_ends Passed passes request old new out why keeps (Not_read is fault) = With_fault (Unread is keeps fault refl)
+read_ends Passed passes request old new out why keeps (Too_long long) = With_fault (Refused keeps long refl)
+read_ends Passed passes request old new out why keeps No_memory = With_fault (Lacking (Early keeps refl))
 
 -- nothing was touched, for want of memory
-pub memory_ends : (Passed : FlowGraph → FlowGraph → Type 0) (passes : List PassCount) (given : Option CompileRequest) (old : Shelved) (out : Streamed) → CompilerEnds Passed passes old old out out given (Some (fault.NoMemory Pcc))
-memory_ends Passed passes given old out = Lacking (Early (same_keeps old) refl)
+pub memory_ends : (Passed : FlowGraph → FlowGraph → Type 0) (passes : List PassCount) (given : Option CompileRequest) (old : Shelved) (out : Streamed)
+    → EndsWith Passed passes old old out out given (Err (fault.NoMemory Pcc))
+memory_ends Passed passes given old out = With_fault (Lacking (Early (same_keeps old) refl))
 
 -- the words are no command
-pub usage_ends : (Passed : FlowGraph → FlowGraph → Type 0) (passes : List PassCount) (given : Option CompileRequest) (old : Shelved) (out : Streamed) → given ≡ None → CompilerEnds Passed passes old old out out given (Some (fault.Usage Pcc))
-usage_ends Passed passes given old out none = subst (λ (g : Option CompileRequest). CompilerEnds Passed passes old old out out g (Some (fault.Usage Pcc))) (sym none) (Misused refl refl)
+pub usage_ends : (Passed : FlowGraph → FlowGraph → Type 0) (passes : List PassCount) (given : Option CompileRequest) (old : Shelved) (out : Streamed) → given ≡ None
+    → EndsWith Passed passes old old out out given (Err (fault.Usage Pcc))
+usage_ends Passed passes given old out none =
+    subst (λ (g : Option CompileRequest). EndsWith Passed passes old old out out g (Err (fault.Usage Pcc))) (sym none) (With_fault (Misused refl refl))
 
 -- the text has a fault
-pub text_ends : (Passed : FlowGraph → FlowGraph → Type 0) (passes : List PassCount) (request : CompileRequest) (old : Shelved) (out : Streamed) (text : List ℕ) (what : SourceFault) → HasSource old.held request.source text
-    → HasFault text what → CompilerEnds Passed passes old old out out (Some request) (Some (fault.Source Pcc what))
+pub text_ends : (Passed : FlowGraph → FlowGraph → Type 0) (passes : List PassCount) (request : CompileRequest) (old : Shelved) (out : Streamed) (text : List ℕ) (what : SourceFault)
+    → HasSource old.held request.source text → HasFault text what → EndsWith Passed passes old old out out (Some request) (Err (fault.Source Pcc what))
 text_ends Passed passes request old out text what has faulty =
-    Refused (same_keeps old) (has_holds old.held request.source text (λ text. HasFault text what) has faulty) refl
+    With_fault (Refused (same_keeps old) (has_holds old.held request.source text (λ text. HasFault text what) has faulty) refl)
 
-module _ (Passed : FlowGraph → FlowGraph → Type 0) (passes : List PassCount) (request : CompileRequest) (old new : Shelved) (out out_now : Streamed) (it : Translation) (has : HasTranslation Passed old.held request it) where
+-- ---- an object that was written
+
+module _ (Passed : FlowGraph → FlowGraph → Type 0) (passes : List PassCount) (request : CompileRequest) (old new : Shelved) (out out_now : Streamed) (it : Translation)
+    (has : HasTranslation Passed old.held request it) where
+  abbrev object : CodeWithNotes
+  object = object_of it.compiled.object
+
   is_source : HoldsSource old.held request.source IsSomeSource
   is_source = has_holds old.held request.source has.text IsSomeSource has.in_source (has.is.program, has.is.translates.source)
 
-  compiled : HoldsFile old.held new.held request.object it.bytes.items → Compiled Passed request has.is.program has.is.object old new
-  compiled written = record {
+  -- as what is handed out, or as some such
+  as_handed : IsScheduledAs Passed (Some it.compiled) request has.is.program object
+  unfolding IsScheduledAs
+  as_handed = (refl, has.is.compiled)
+
+  as_some : IsScheduledAs Passed None request has.is.program object
+  unfolding IsScheduledAs
+  as_some = record { flow = it.compiled.flow; table = table_of it.compiled.table; choices = it.compiled.choices; compiled = has.is.compiled }
+
+  compiled : (Scheduled : CompileRequest → SourceProgram → CodeWithNotes → Type 0) → Scheduled request has.is.program object
+      → HoldsFile old.held new.held request.object it.bytes.items → Compiled Scheduled request has.is.program object old new
+  compiled Scheduled scheduled written = record {
     text = has.text;
     in_source = has.in_source;
     translates = has.is.translates;
     written = subst (λ bytes. HoldsFile old.held new.held request.object bytes) has.is.bytes written;
+    scheduled = scheduled;
   }
 
-  same_report : reported it passes ≡ report_on has.is.program has.is.object passes
-  same_report = rw (has.is.nodes, has.is.rows, has.is.notes) refl
+  same_report : reported it.compiled passes ≡ report_on has.is.program object passes
+  same_report = rw (has.is.nodes, length-map it.compiled.object.code.rows row_of) refl
 
-  same_lines : report_lines (reported it passes) ≡ report_lines (report_on has.is.program has.is.object passes)
+  same_lines : report_lines (reported it.compiled passes) ≡ report_lines (report_on has.is.program object passes)
   same_lines = ap report_lines same_report
 
-  -- it was written
-  report_ends : (due : Option ToolFault) → HoldsFile old.held new.held request.object it.bytes.items
-      → ReportEnds request.report (report_lines (reported it passes)) out out_now due → CompilerEnds Passed passes old new out out_now (Some request) due
-  report_ends due written (Unasked asked same) = Done (compiled written) (rw asked same)
-  report_ends due written (Sent asked sent) = Done (compiled written) (rw asked (subst (λ text. Appends out.told out_now.told text) same_lines sent))
-  report_ends due written (Broken_off asked rose part) =
-      Unreported asked (compiled written) rose (subst (λ text. AppendsPart out.told out_now.told text) same_lines part)
-  report_ends due written (Unmade asked same) =
-      Lacking (Reporting asked (compiled written) (sends_none out out_now (report_lines (report_on has.is.program has.is.object passes)) same))
+  -- it was written, and nothing is due
+  reports_all : HoldsFile old.held new.held request.object it.bytes.items → ReportEnds request.report (report_lines (reported it.compiled passes)) out out_now None
+      → CompilerEnds (IsScheduledAs Passed (Some it.compiled)) passes old new out out_now (Some request) None
+  reports_all written (Unasked asked same) = Done (compiled _ as_handed written) (rw asked same)
+  reports_all written (Sent asked sent) = Done (compiled _ as_handed written) (rw asked (subst (λ text. Appends out.told out_now.told text) same_lines sent))
 
-  -- what stands after the object and the report is how the compiler ends
-  pub write_ends : (due : Option ToolFault) → WriteEnds request it.bytes.items (report_lines (reported it passes)) old new out out_now due
-      → CompilerEnds Passed passes old new out out_now (Some request) due
-  write_ends due (Written written ends) = report_ends due written ends
-  write_ends due (Not_written {name} is differs failed same) = Unwritten is is_source differs failed same
-  write_ends due (Write_lacks differs same) = Lacking (Writing is_source differs same)
+  -- it was written, and a fault is due
+  reports_part : (why : ToolFault) → HoldsFile old.held new.held request.object it.bytes.items
+      → ReportEnds request.report (report_lines (reported it.compiled passes)) out out_now (Some why)
+      → CompilerEnds (IsScheduledAs Passed None) passes old new out out_now (Some request) (Some why)
+  reports_part why written (Broken_off asked rose part) =
+      Unreported asked (compiled _ as_some written) rose (subst (λ text. AppendsPart out.told out_now.told text) same_lines part)
+  reports_part why written (Unmade asked same) =
+      Lacking (Reporting asked (compiled _ as_some written) (sends_none out out_now (report_lines (report_on has.is.program object passes)) same))
+
+  -- what stands after the object and the report, of which these are the bytes and the counts
+  as_written : (bytes : List ℕ) (counts : List PassCount) (due is : Option ToolFault) → bytes ≡ it.bytes.items → counts ≡ passes → due ≡ is
+      → WriteEnds request bytes (report_lines (reported it.compiled counts)) old new out out_now due
+      → WriteEnds request it.bytes.items (report_lines (reported it.compiled passes)) old new out out_now is
+  as_written bytes counts due is same_bytes same_counts same_due ends =
+      subst (λ bytes. WriteEnds request bytes (report_lines (reported it.compiled passes)) old new out out_now is) same_bytes
+      (subst (λ counts. WriteEnds request bytes (report_lines (reported it.compiled counts)) old new out out_now is) same_counts
+      (subst (λ (due : Option ToolFault). WriteEnds request bytes (report_lines (reported it.compiled counts)) old new out out_now due) same_due ends))
+
+  one_is_due : (why : ToolFault) → WriteEnds request it.bytes.items (report_lines (reported it.compiled passes)) old new out out_now (Some why)
+      → EndsWith Passed passes old new out out_now (Some request) (Err why)
+  one_is_due why (Written written ends) = With_fault (reports_part why written ends)
+  one_is_due why (Not_written {name} is differs failed same) = With_fault (Unwritten is is_source differs failed same)
+  one_is_due why (Write_lacks differs same) = With_fault (Lacking (Writing is_source differs same))
+
+  all_done : WriteEnds request it.bytes.items (report_lines (reported it.compiled passes)) old new out out_now None
+      → EndsWith Passed passes old new out out_now (Some request) (Ok it.compiled)
+  all_done (Written written ends) = With_compiled (reports_all written ends)
+
+  -- it is how the compiler ends: with what was compiled
+  pub done_ends : (bytes : List ℕ) (counts : List PassCount) (due : Option ToolFault) → bytes ≡ it.bytes.items → counts ≡ passes → due ≡ None
+      → WriteEnds request bytes (report_lines (reported it.compiled counts)) old new out out_now due
+      → EndsWith Passed passes old new out out_now (Some request) (Ok it.compiled)
+  done_ends bytes counts due same_bytes same_counts same_due ends = all_done (as_written bytes counts due None same_bytes same_counts same_due ends)
+
+  -- or with the fault that is due
+  pub due_ends : (bytes : List ℕ) (counts : List PassCount) (due : Option ToolFault) (why : ToolFault) → bytes ≡ it.bytes.items → counts ≡ passes → due ≡ Some why
+      → WriteEnds request bytes (report_lines (reported it.compiled counts)) old new out out_now due
+      → EndsWith Passed passes old new out out_now (Some request) (Err why)
+  due_ends bytes counts due why same_bytes same_counts same_due ends = one_is_due why (as_written bytes counts due (Some why) same_bytes same_counts same_due ends)
 
 -- ---- what is due after a read and after a report
 
@@ -188,36 +254,56 @@ pub ruleset writes_due = (object_written, object_unwritten, object_lacks)
 -- ---- no memory for a line
 
 -- where a fault is due, what stands is what may stand where memory ran out
-pub ends_lacking : (Passed : FlowGraph → FlowGraph → Type 0) (passes : List PassCount) (given : Option CompileRequest) (old new : Shelved) (out out_now : Streamed) (why : ToolFault)
-    → CompilerEnds Passed passes old new out out_now given (Some why) → CompilerLacks Passed passes old new out out_now given
-ends_lacking Passed passes given old new out out_now why (Misused same quiet) = Early (subst (λ (now : Shelved). ReadKeeps old now) (sym same) (same_keeps old)) quiet
-ends_lacking Passed passes given old new out out_now why (Unread is keeps failed same) = Early keeps same
-ends_lacking Passed passes given old new out out_now why (Refused keeps source same) = Early keeps same
-ends_lacking Passed passes given old new out out_now why (Unwritten {request} {name} is source differs failed same) =
+pub ends_lacking : (Scheduled : CompileRequest → SourceProgram → CodeWithNotes → Type 0) (passes : List PassCount) (given : Option CompileRequest)
+    (old new : Shelved) (out out_now : Streamed) (why : ToolFault)
+    → CompilerEnds Scheduled passes old new out out_now given (Some why) → CompilerLacks Scheduled passes old new out out_now given
+ends_lacking Scheduled passes given old new out out_now why (Misused same quiet) = Early (subst (λ (now : Shelved). ReadKeeps old now) (sym same) (same_keeps old)) quiet
+ends_lacking Scheduled passes given old new out out_now why (Unread is keeps failed same) = Early keeps same
+ends_lacking Scheduled passes given old new out out_now why (Refused keeps source same) = Early keeps same
+ends_lacking Scheduled passes given old new out out_now why (Unwritten {request} {name} is source differs failed same) =
     Writing source (subst (λ name. OnlyFileDiffers old.held new.held name) (sym is) differs) same
-ends_lacking Passed passes given old new out out_now why (Unreported {request} {program} {object} asked it rose part) =
+ends_lacking Scheduled passes given old new out out_now why (Unreported {request} {program} {object} asked it rose part) =
     Reporting asked it (sends_part out out_now (report_lines (report_on program object passes)) part)
-ends_lacking Passed passes given old new out out_now why (Lacking lacks) = lacks
+ends_lacking Scheduled passes given old new out out_now why (Lacking lacks) = lacks
 
--- what the compiler came to is what it promises, once it is reported
-pub compiler_promise : (given : Option CompileRequest) (Passed : FlowGraph → FlowGraph → Type 0) (passes : List PassCount) (old new : Outside) (due : Option ToolFault) (code : ℕ)
-    → CompilerEnds Passed passes old.shelf new.shelf old.out new.out given due → new.input ≡ old.input
-    → Told due old.err new.err code ⊎ (IsSome due × Told (Some (fault.NoMemory Pcc)) old.err new.err code)
-    → CompilerPromise given Passed passes old new code
-compiler_promise given Passed passes old new due code ends input (inl told) = record { due = due; ends = ends; told = told; input = input }
-compiler_promise given Passed passes old new (Some why) code ends input (inr told) = record {
+-- the object of what is handed out may be encoded
+done_object : (Passed : FlowGraph → FlowGraph → Type 0) (passes : List PassCount) (old new : Shelved) (out out_now : Streamed) (given : Option CompileRequest) (it : Built)
+    (due : Option ToolFault) → CompilerEnds (IsScheduledAs Passed (Some it)) passes old new out out_now given due → due ≡ None → IsObject (object_of it.object)
+unfolding IsScheduledAs
+done_object Passed passes old new out out_now given it due (Done {request} {program} {object} done sent) none =
+    subst IsObject (sym done.scheduled.0) done.translates.loads.is_object
+done_object Passed passes old new out out_now given it due _ none = absurd cc
+
+pub handed_object : (Passed : FlowGraph → FlowGraph → Type 0) (passes : List PassCount) (old new : Shelved) (out out_now : Streamed) (given : Option CompileRequest) (it : Built)
+    → EndsWith Passed passes old new out out_now given (Ok it) → IsObject (object_of it.object)
+handed_object Passed passes old new out out_now given it (With_compiled ends) = done_object Passed passes old new out out_now given it None ends refl
+
+-- what was compiled is handed out, and nothing is told
+pub done_promise : (given : Option CompileRequest) (Passed : FlowGraph → FlowGraph → Type 0) (passes : List PassCount) (old new : Outside) (it : Built)
+    → EndsWith Passed passes old.shelf new.shelf old.out new.out given (Ok it) → new.input ≡ old.input → new.err ≡ old.err
+    → CompilerPromise given (IsScheduledAs Passed (Some it)) passes old new 0
+done_promise given Passed passes old new it (With_compiled ends) input silent = record { due = None; ends = ends; told = (refl, silent); input = input }
+
+abbrev some_fault : ToolFault → Option ToolFault
+some_fault why = Some why
+
+-- the fault that is due is told
+pub due_promise : (given : Option CompileRequest) (Passed : FlowGraph → FlowGraph → Type 0) (passes : List PassCount) (old new : Outside) (why : ToolFault) (code : ℕ)
+    → EndsWith Passed passes old.shelf new.shelf old.out new.out given (Err why) → new.input ≡ old.input
+    → Told (Some why) old.err new.err code ⊎ (IsSome (some_fault why) × Told (Some (fault.NoMemory Pcc)) old.err new.err code)
+    → CompilerPromise given (IsScheduledAs Passed None) passes old new code
+due_promise given Passed passes old new why code (With_fault ends) input (inl told) = record { due = Some why; ends = ends; told = told; input = input }
+due_promise given Passed passes old new why code (With_fault ends) input (inr told) = record {
   due = Some (fault.NoMemory Pcc);
-  ends = Lacking (ends_lacking Passed passes given old.shelf new.shelf old.out new.out why ends);
+  ends = Lacking (ends_lacking (IsScheduledAs Passed None) passes given old.shelf new.shelf old.out new.out why ends);
   told = told.1;
   input = input;
 }
-compiler_promise given Passed passes old new None code ends input (inr told) = let none = told.0 in absurd cc
 
 pub ruleset compiler_endings = (
   read_ends,
   memory_ends,
   usage_ends,
   text_ends,
-  write_ends,
   ends_behind,
 )

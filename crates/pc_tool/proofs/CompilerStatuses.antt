@@ -2,7 +2,6 @@
 use Rattle.std.proofs.Common.{◌≡◌, ℕ, ◌≤◌, ◌⊎◌, inl, inr, List, false, Option, Some, None, refl, sym, ap, subst, arith}
 use Rattle.std.specs.Option.{IsSomeAnd}
 use Rattle.pc_syntax.specs.Source.{SourceProgram}
-use Rattle.pc_flow.specs.FlowGraph.{FlowGraph}
 use Rattle.pc_object.specs.ObjectText.{CodeWithNotes}
 use Rattle.pc_outside.specs.Shelf.{Shelved, ReadKeeps, OnlyFileDiffers}
 use Rattle.pc_command.specs.Requests.{CompileRequest}
@@ -23,18 +22,18 @@ use Rattle.pc_driver.proofs.Statuses.{due_status, status_of}
 
 -- ---- what is due, by how it ended
 
-module _ (Passed : FlowGraph → FlowGraph → Type 0) (passes : List PassCount) (old new : Outside) where
+module _ (Scheduled : CompileRequest → SourceProgram → CodeWithNotes → Type 0) (passes : List PassCount) (old new : Outside) where
   -- how it ended, with the status of what was due
   abbrev Ends : Option CompileRequest → Option ToolFault → Type 0
-  Ends given due = CompilerEnds Passed passes old.shelf new.shelf old.out new.out given due
+  Ends given due = CompilerEnds Scheduled passes old.shelf new.shelf old.out new.out given due
 
   compiled_of : (given : Option CompileRequest) (due : Option ToolFault) (code : ℕ) → Ends given due → Told due old.err new.err code → due_status due ≡ 0
-      → IsSomeAnd given (HasCompiled Passed passes old new)
+      → IsSomeAnd given (HasCompiled Scheduled passes old new)
   compiled_of given due code (Done {request} {program} {object} it sent) told e =
       record { program = program; object = object; compiled = it; reported = sent; silent = told.1 }
   compiled_of given due code _ told e = absurd cc
 
-  lacking_of : (given : Option CompileRequest) (due : Option ToolFault) → Ends given due → due_status due ≡ 1 → CompilerLacks Passed passes old.shelf new.shelf old.out new.out given
+  lacking_of : (given : Option CompileRequest) (due : Option ToolFault) → Ends given due → due_status due ≡ 1 → CompilerLacks Scheduled passes old.shelf new.shelf old.out new.out given
   lacking_of given due (Lacking lacks) e = lacks
   lacking_of given due _ e = absurd cc
 
@@ -82,7 +81,7 @@ module _ (Passed : FlowGraph → FlowGraph → Type 0) (passes : List PassCount)
   read_keeps_others None keeps = keeps.held
   read_keeps_others (Some request) keeps = kept_differs old.shelf.held new.shelf.held request.object keeps.held
 
-  others_lacking : (given : Option CompileRequest) → CompilerLacks Passed passes old.shelf new.shelf old.out new.out given → KeepsOthers given old new
+  others_lacking : (given : Option CompileRequest) → CompilerLacks Scheduled passes old.shelf new.shelf old.out new.out given → KeepsOthers given old new
   others_lacking given (Early keeps same) = read_keeps_others given keeps
   others_lacking given (Writing source differs same) = differs
   others_lacking given (Reporting {request} asked it sent) = written_differs old.shelf.held new.shelf.held request.object _ it.written
@@ -98,7 +97,7 @@ module _ (Passed : FlowGraph → FlowGraph → Type 0) (passes : List PassCount)
   others_of given due (Lacking lacks) = others_lacking given lacks
 
   -- a report that is asked for is not left out
-  unasked_lacking : (request : CompileRequest) → CompilerLacks Passed passes old.shelf new.shelf old.out new.out (Some request) → request.report ≡ false → new.out ≡ old.out
+  unasked_lacking : (request : CompileRequest) → CompilerLacks Scheduled passes old.shelf new.shelf old.out new.out (Some request) → request.report ≡ false → new.out ≡ old.out
   unasked_lacking request (Early keeps same) off = same
   unasked_lacking request (Writing source differs same) off = same
   unasked_lacking request (Reporting asked it sent) off = absurd cc
@@ -131,7 +130,7 @@ module _ (Passed : FlowGraph → FlowGraph → Type 0) (passes : List PassCount)
 
   -- the source of an object that was written, of a text that is told
   compiled_source : (request : CompileRequest) (text : List ℕ) (program : SourceProgram) (object : CodeWithNotes) → IsTold old.shelf.held request.source text
-      → Compiled Passed request program object old.shelf new.shelf → IsSomeSource text
+      → Compiled Scheduled request program object old.shelf new.shelf → IsSomeSource text
   compiled_source request text program object told it =
       subst IsSomeSource (text_told old.shelf.held request.source text it.text told it.in_source) (program, it.translates.source)
 
@@ -157,10 +156,10 @@ module _ (Passed : FlowGraph → FlowGraph → Type 0) (passes : List PassCount)
       | inr part ↦ broken part
     ]
 
-    pub statuses : CompilerStatuses given Passed passes old new code
+    pub statuses : CompilerStatuses given Scheduled passes old new code
     statuses = record {
-      compiled = by_status (λ code. code ≡ 0 → IsSomeAnd given (HasCompiled Passed passes old new)) (λ e. compiled_of given due code ends told e) (λ part e. absurd (omega (arith, part.0, e)));
-      lacking = by_status (λ code. code ≡ 1 → CompilerLacks Passed passes old.shelf new.shelf old.out new.out given) (lacking_of given due ends) (λ part e. absurd (omega (arith, part.0, e)));
+      compiled = by_status (λ code. code ≡ 0 → IsSomeAnd given (HasCompiled Scheduled passes old new)) (λ e. compiled_of given due code ends told e) (λ part e. absurd (omega (arith, part.0, e)));
+      lacking = by_status (λ code. code ≡ 1 → CompilerLacks Scheduled passes old.shelf new.shelf old.out new.out given) (lacking_of given due ends) (λ part e. absurd (omega (arith, part.0, e)));
       misused = by_status (λ code. code ≡ 2 → (given ≡ None) × (new.shelf ≡ old.shelf)) (misused_of given due ends) (λ part e. absurd (omega (arith, part.0, e)));
       unread = by_status (λ code. code ≡ 3 → IsSomeAnd given (HasReadFault old new)) (unread_of given due ends) (λ part e. absurd (omega (arith, part.0, e)));
       refused = by_status (λ code. code ≡ 4 → IsSomeAnd given (λ request. HoldsSource old.shelf.held request.source IsNoSource))
@@ -182,6 +181,7 @@ module _ (Passed : FlowGraph → FlowGraph → Type 0) (passes : List PassCount)
     }
 
 -- the promise says all this
-pub statuses_of : (given : Option CompileRequest) (Passed : FlowGraph → FlowGraph → Type 0) (passes : List PassCount) (old new : Outside) (code : ℕ) → CompilerPromise given Passed passes old new code
-    → CompilerStatuses given Passed passes old new code
-statuses_of given Passed passes old new code promise = statuses Passed passes old new given promise.due code promise.ends promise.told
+pub statuses_of : (given : Option CompileRequest) (Scheduled : CompileRequest → SourceProgram → CodeWithNotes → Type 0)
+    (passes : List PassCount) (old new : Outside) (code : ℕ) → CompilerPromise given Scheduled passes old new code
+    → CompilerStatuses given Scheduled passes old new code
+statuses_of given Scheduled passes old new code promise = statuses Scheduled passes old new given promise.due code promise.ends promise.told

@@ -11,6 +11,7 @@ use Rattle.pc_check.specs.Sizes.{size, resolved_size}
 use Rattle.pc_check.proofs.ResolvedSizes.{size-resolved}
 use Rattle.pc_flow.specs.FlowGraph.{FlowGraph}
 use Rattle.pc_table.specs.Table.{Table}
+use Rattle.pc_table.specs.StoredTable.{table_of}
 use Rattle.pc_compile.specs.declared.choice.Choice.{Choice}
 use Rattle.pc_compile.specs.Compiled.{IsCompiled, IsUncompiled}
 use Rattle.pc_compile.specs.declared.error.CompileError.{CompileError}
@@ -23,7 +24,7 @@ use Rattle.pc_machine.specs.Reachable.{IsReachable}
 use Rattle.pc_tighten.specs.Tightened.{EachIsReachable}
 use Rattle.pc_meaning.specs.SourceRun.{source_run}
 use Rattle.pc_object.specs.Numbers.{HasWords}
-use Rattle.pc_object.specs.ObjectText.{CodeWithNotes, object_text}
+use Rattle.pc_object.specs.ObjectText.{CodeWithNotes, object_of, object_text}
 use Rattle.pc_tool.specs.declared.translation.Translation.{Translation}
 use Rattle.pc_tool.specs.Compilation.{Translates}
 use Rattle.pc_tool.specs.SourceFaults.{Large}
@@ -39,9 +40,9 @@ reachable : (rows : List CodeRow) → EachIsReachable rows → (row : ℕ) → r
 reachable rows each row less = each row (get_or rows row (At_leaf Stop)) (slice_get-get_or rows row (At_leaf Stop) less)
 
 -- the object of a checked text translates it
-pub translates : (Passed : FlowGraph → FlowGraph → Type 0) (limits : Limits) (extent : Extent) (text : List ℕ) (checked : ResolvedProgram) (flow : FlowGraph) (table : Table) (choices : List Choice)
+translates : (Passed : FlowGraph → FlowGraph → Type 0) (limits : Limits) (extent : Extent) (text : List ℕ) (checked : ResolvedProgram) (flow : FlowGraph) (table : Table) (choices : List Choice)
     (object : CodeWithNotes) (h : IsChecked text checked)
-    → IsCompiled checked Passed limits extent flow table choices object → HasWords object → Translates Passed limits extent text h.program object
+    → IsCompiled checked Passed limits extent flow table choices object → HasWords object → Translates limits text h.program object
 translates Passed limits extent text checked flow table choices object h compiled words =
     let same = sized text checked h in
     let few = compiled.lowered.few in
@@ -53,28 +54,23 @@ translates Passed limits extent text checked flow table choices object h compile
       reached = reachable object.code.rows compiled.reached;
       compact = compiled.compact;
       same = subst (λ (program : ResolvedProgram). AgreeOnInputs (source_run program) (machine_run object.code)) (sym h.is_resolved) compiled.agree;
-      scheduled = record {
-        flow = flow;
-        table = table;
-        choices = choices;
-        compiled = subst (λ (program : ResolvedProgram). IsCompiled program Passed limits extent flow table choices object) (sym h.is_resolved) compiled;
-      };
     }
 
--- so does what is made of it: its bytes, and what is reported of it
-pub is_translation : (Passed : FlowGraph → FlowGraph → Type 0) (limits : Limits) (extent : Extent) (text : List ℕ) (checked : ResolvedProgram) (flow : FlowGraph) (table : Table) (choices : List Choice)
-    (object : CodeWithNotes) (it : Translation) → IsChecked text checked
-    → IsCompiled checked Passed limits extent flow table choices object → HasWords object → it.bytes.items ≡ object_text object → it.nodes ≡ length flow.nodes
-    → it.rows ≡ length object.code.rows → it.notes ≡ object.notes → IsTranslation Passed limits extent text it
-is_translation Passed limits extent text checked flow table choices object it h compiled words bytes nodes rows notes = record {
-  program = h.program;
-  object = object;
-  translates = translates Passed limits extent text checked flow table choices object h compiled words;
-  bytes = bytes;
-  nodes = nodes ∙ compiled.kept.as_many ∙ compiled.lowered.counted ∙ sized text checked h;
-  rows = rows;
-  notes = notes;
-}
+-- what is compiled of a checked text, with the bytes of its object
+pub is_translation : (Passed : FlowGraph → FlowGraph → Type 0) (limits : Limits) (extent : Extent) (text : List ℕ) (checked : ResolvedProgram) (it : Translation)
+    → IsChecked text checked
+    → IsCompiled checked Passed limits extent it.compiled.flow (table_of it.compiled.table) it.compiled.choices (object_of it.compiled.object)
+    → HasWords (object_of it.compiled.object) → it.bytes.items ≡ object_text (object_of it.compiled.object) → IsTranslation Passed limits extent text it
+is_translation Passed limits extent text checked it h compiled words bytes =
+    let made = it.compiled in
+    record {
+      program = h.program;
+      translates = translates Passed limits extent text checked made.flow (table_of made.table) made.choices (object_of made.object) h compiled words;
+      compiled = subst (λ (program : ResolvedProgram). IsCompiled program Passed limits extent made.flow (table_of made.table) made.choices (object_of made.object))
+          (sym h.is_resolved) compiled;
+      nodes = compiled.kept.as_many ∙ compiled.lowered.counted ∙ sized text checked h;
+      bytes = bytes;
+    }
 
 -- a checked text without an object is too large
 pub uncompiled : (error : CompileError) (text : List ℕ) (checked : ResolvedProgram) → IsChecked text checked

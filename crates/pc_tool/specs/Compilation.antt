@@ -1,12 +1,10 @@
 -- What is compiled: the object that stands for a source, and what is reported of it.
 use Rattle.std.specs.Prelude.{◌≡◌, ℕ, ◌<◌, Bool, true, false, List, length, map}
 use Rattle.std.specs.Io.KnownBytes.{Appends}
-use Rattle.pc_word.specs.declared.item.Extent.{Extent}
 use Rattle.pc_word.specs.declared.item.Limits.{Limits}
 use Rattle.pc_syntax.specs.Source.{SourceProgram}
 use Rattle.pc_check.specs.Resolution.{resolved}
 use Rattle.pc_check.specs.Sizes.{size}
-use Rattle.pc_flow.specs.FlowGraph.{FlowGraph}
 use Rattle.pc_machine.specs.Reachable.{IsReachable}
 use Rattle.pc_tighten.specs.Compact.{Compact}
 use Rattle.pc_object.specs.ObjectText.{CodeWithNotes, object_text}
@@ -17,13 +15,11 @@ use Rattle.pc_tool.specs.Files.{HasSource}
 use Rattle.pc_tool.specs.Meaning.{Same}
 use Rattle.pc_driver.specs.Objects.{Loads}
 use Rattle.pc_driver.specs.Streams.{Streamed}
-use Rattle.pc_tool.specs.Scheduled.{IsScheduled}
 use Rattle.pc_tool.specs.Source.{IsSource}
 
 -- The text is the source of this program; the object loads under the limits, with the program's arrays, leaves lead to each of
--- its rows from row 0, and it is compact; for every input of words it does what the source means. How it was scheduled within the
--- limits and the extent, of the graph that the passes made, stands beside that, and nothing else here rests on it.
-pub record Translates (Passed : FlowGraph → FlowGraph → Type 0) (limits : Limits) (extent : Extent) (text : List ℕ) (program : SourceProgram) (object : CodeWithNotes) : Type 0 where
+-- its rows from row 0, and it is compact; for every input of words it does what the source means.
+pub record Translates (limits : Limits) (text : List ℕ) (program : SourceProgram) (object : CodeWithNotes) : Type 0 where
   pub source : IsSource text program
   pub loads : Loads object
   pub limited : object.code.limits ≡ limits
@@ -31,14 +27,16 @@ pub record Translates (Passed : FlowGraph → FlowGraph → Type 0) (limits : Li
   pub reached : (row : ℕ) → row < length object.code.rows → IsReachable object.code.rows row
   pub compact : Compact object.code
   pub same : Same program object.code
-  pub scheduled : IsScheduled (resolved program) Passed limits extent object
 
--- the source that is asked for was translated; its object is held now, and all else is as before
-pub record Compiled (Passed : FlowGraph → FlowGraph → Type 0) (request : CompileRequest) (program : SourceProgram) (object : CodeWithNotes) (old new : Shelved) : Type 0 where
+-- The source that is asked for was translated; its object is held now, and all else is as before. How the object was scheduled is
+-- `Scheduled`; nothing else here rests on that.
+pub record Compiled (Scheduled : CompileRequest → SourceProgram → CodeWithNotes → Type 0) (request : CompileRequest) (program : SourceProgram) (object : CodeWithNotes)
+    (old new : Shelved) : Type 0 where
   pub text : List ℕ
   pub in_source : HasSource old.held request.source text
-  pub translates : Translates Passed request.limits request.extent text program object
+  pub translates : Translates request.limits text program object
   pub written : HoldsFile old.held new.held request.object (object_text object)
+  pub scheduled : Scheduled request program object
 
 -- the names of passes, and how many changes each has made
 abbrev pub counts_of : {P : Type 0} → (P → List ℕ) → (P → ℕ) → List P → List PassCount

@@ -3,7 +3,6 @@ use Rattle.std.specs.Prelude.{◌≡◌, ℕ, true, List, Option, Some, None}
 use Rattle.std.specs.Borrow.{Bor}
 use Rattle.pc_word.specs.Count.{Rose}
 use Rattle.pc_syntax.specs.Source.{SourceProgram}
-use Rattle.pc_flow.specs.FlowGraph.{FlowGraph}
 use Rattle.pc_object.specs.ObjectText.{CodeWithNotes}
 use Rattle.pc_outside.specs.Shelf.{Shelved, ReadFaultOf, WriteFaultOf, ReadKeeps, OnlyFileDiffers}
 use Rattle.pc_outside.specs.Stream.{AppendsPart}
@@ -23,48 +22,50 @@ use Rattle.pc_tool.specs.SourceFaults.{HasFault}
 
 -- What stands where memory ran out: nothing was written and sent; or SRC is a source, and at most OBJ differs; or OBJ holds its
 -- object, and the front of the report was sent.
-pub data CompilerLacks (Passed : FlowGraph → FlowGraph → Type 0) (passes : List PassCount) (old new : Shelved) (out out_now : Streamed) : (given : Option CompileRequest) → Type 0 where
+pub data CompilerLacks (Scheduled : CompileRequest → SourceProgram → CodeWithNotes → Type 0) (passes : List PassCount)
+    (old new : Shelved) (out out_now : Streamed) : (given : Option CompileRequest) → Type 0 where
   Early : {given : Option CompileRequest} →
       ReadKeeps old new →
       out_now ≡ out →
-      CompilerLacks Passed passes old new out out_now given
+      CompilerLacks Scheduled passes old new out out_now given
   Writing : {request : CompileRequest} →
       HoldsSource old.held request.source IsSomeSource →
       OnlyFileDiffers old.held new.held request.object →
       out_now ≡ out →
-      CompilerLacks Passed passes old new out out_now (Some request)
+      CompilerLacks Scheduled passes old new out out_now (Some request)
   Reporting : {request : CompileRequest} {program : SourceProgram} {object : CodeWithNotes} →
       request.report ≡ true →
-      Compiled Passed request program object old new →
+      Compiled Scheduled request program object old new →
       SendsFront out out_now (report_lines (report_on program object passes)) →
-      CompilerLacks Passed passes old new out out_now (Some request)
+      CompilerLacks Scheduled passes old new out out_now (Some request)
 
 -- How the compiler ends, by what is due: what was given, and what stands on the shelf and was sent to the output. `passes` are
--- those over the flow graph, as they are at the end, and `Passed` says of two graphs that they made the one of the other.
-pub data CompilerEnds (Passed : FlowGraph → FlowGraph → Type 0) (passes : List PassCount) (old new : Shelved) (out out_now : Streamed) : (given : Option CompileRequest) (due : Option ToolFault) → Type 0 where
+-- those over the flow graph, as they are at the end, and `Scheduled` says how an object is scheduled.
+pub data CompilerEnds (Scheduled : CompileRequest → SourceProgram → CodeWithNotes → Type 0) (passes : List PassCount)
+    (old new : Shelved) (out out_now : Streamed) : (given : Option CompileRequest) (due : Option ToolFault) → Type 0 where
   -- the object is written, and the report sent where it is asked for
   Done : {request : CompileRequest} {program : SourceProgram} {object : CodeWithNotes} →
-      Compiled Passed request program object old new →
+      Compiled Scheduled request program object old new →
       Reports request.report (report_on program object passes) out out_now →
-      CompilerEnds Passed passes old new out out_now (Some request) None
+      CompilerEnds Scheduled passes old new out out_now (Some request) None
   -- the words are no command
   Misused :
       new ≡ old →
       out_now ≡ out →
-      CompilerEnds Passed passes old new out out_now None (Some (fault.Usage Pcc))
+      CompilerEnds Scheduled passes old new out out_now None (Some (fault.Usage Pcc))
   -- the shelf had a read fault of SRC
   Unread : {request : CompileRequest} {name : Bor (List ℕ)} →
       request.source ≡ OfFile name.now →
       ReadKeeps old new →
       ReadFaultOf old new name.now →
       out_now ≡ out →
-      CompilerEnds Passed passes old new out out_now (Some request) (Some (fault.ReadFile Pcc name))
+      CompilerEnds Scheduled passes old new out out_now (Some request) (Some (fault.ReadFile Pcc name))
   -- SRC has a text with this fault
   Refused : {request : CompileRequest} {what : SourceFault} →
       ReadKeeps old new →
       HoldsSource old.held request.source (λ text. HasFault text what) →
       out_now ≡ out →
-      CompilerEnds Passed passes old new out out_now (Some request) (Some (fault.Source Pcc what))
+      CompilerEnds Scheduled passes old new out out_now (Some request) (Some (fault.Source Pcc what))
   -- SRC is a source, and the shelf had a write fault of OBJ
   Unwritten : {request : CompileRequest} {name : Bor (List ℕ)} →
       request.object ≡ name.now →
@@ -72,24 +73,24 @@ pub data CompilerEnds (Passed : FlowGraph → FlowGraph → Type 0) (passes : Li
       OnlyFileDiffers old.held new.held name.now →
       WriteFaultOf old new name.now →
       out_now ≡ out →
-      CompilerEnds Passed passes old new out out_now (Some request) (Some (fault.WriteFile Pcc name))
+      CompilerEnds Scheduled passes old new out out_now (Some request) (Some (fault.WriteFile Pcc name))
   -- the object is written, and a proper prefix of the report was sent before the output failed
   Unreported : {request : CompileRequest} {program : SourceProgram} {object : CodeWithNotes} →
       request.report ≡ true →
-      Compiled Passed request program object old new →
+      Compiled Scheduled request program object old new →
       Rose out.faults out_now.faults →
       AppendsPart out.told out_now.told (report_lines (report_on program object passes)) →
-      CompilerEnds Passed passes old new out out_now (Some request) (Some (fault.WriteOutput Pcc))
+      CompilerEnds Scheduled passes old new out out_now (Some request) (Some (fault.WriteOutput Pcc))
   -- memory ran out
   Lacking : {given : Option CompileRequest} →
-      CompilerLacks Passed passes old new out out_now given →
-      CompilerEnds Passed passes old new out out_now given (Some (fault.NoMemory Pcc))
+      CompilerLacks Scheduled passes old new out out_now given →
+      CompilerEnds Scheduled passes old new out out_now given (Some (fault.NoMemory Pcc))
 
--- What the compiler promises of the outside before and after it, with these passes at its end, which
--- made of a graph what `Passed` says: it came to an end, what was due then is reported, and the input
--- was not touched.
-pub record CompilerPromise (given : Option CompileRequest) (Passed : FlowGraph → FlowGraph → Type 0) (passes : List PassCount) (old new : Outside) (code : ℕ) : Type 0 where
+-- What the compiler promises of the outside before and after it, with these passes at its end, and objects that are scheduled as
+-- `Scheduled` says: it came to an end, what was due then is reported, and the input was not touched.
+pub record CompilerPromise (given : Option CompileRequest) (Scheduled : CompileRequest → SourceProgram → CodeWithNotes → Type 0)
+    (passes : List PassCount) (old new : Outside) (code : ℕ) : Type 0 where
   pub due : Option ToolFault
-  pub ends : CompilerEnds Passed passes old.shelf new.shelf old.out new.out given due
+  pub ends : CompilerEnds Scheduled passes old.shelf new.shelf old.out new.out given due
   pub told : Told due old.err new.err code
   pub input : new.input ≡ old.input

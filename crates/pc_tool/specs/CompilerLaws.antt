@@ -4,7 +4,6 @@ use Rattle.std.specs.FinMap.{get}
 use Rattle.std.specs.Option.{IsSomeAnd}
 use Rattle.pc_word.specs.Count.{Rose}
 use Rattle.pc_syntax.specs.Source.{SourceProgram}
-use Rattle.pc_flow.specs.FlowGraph.{FlowGraph}
 use Rattle.pc_object.specs.ObjectText.{CodeWithNotes}
 use Rattle.pc_outside.specs.Shelf.{Files, ReadFaultOf, WriteFaultOf, ReadKeeps, OnlyFileDiffers}
 use Rattle.pc_command.specs.Requests.{CompileRequest, SourcePlace, OfFile, OfSample}
@@ -17,10 +16,10 @@ use Rattle.pc_driver.specs.Outside.{Outside, HasErrorFault}
 use Rattle.pc_tool.specs.Source.{IsSomeSource, IsNoSource}
 
 -- the object at OBJ does what the source does, the report was sent where it is asked for, and nothing was told
-pub record HasCompiled (Passed : FlowGraph → FlowGraph → Type 0) (passes : List PassCount) (old new : Outside) (request : CompileRequest) : Type 0 where
+pub record HasCompiled (Scheduled : CompileRequest → SourceProgram → CodeWithNotes → Type 0) (passes : List PassCount) (old new : Outside) (request : CompileRequest) : Type 0 where
   pub program : SourceProgram
   pub object : CodeWithNotes
-  pub compiled : Compiled Passed request program object old.shelf new.shelf
+  pub compiled : Compiled Scheduled request program object old.shelf new.shelf
   pub reported : Reports request.report (report_on program object passes) old.out new.out
   pub silent : new.err ≡ old.err
 
@@ -46,10 +45,11 @@ IsTold held (OfFile name) text = (files : Files) × (held ≡ Some files) × (ge
 IsTold held (OfSample number) text = text ≡ sample_text number
 
 -- what follows
-pub record CompilerStatuses (given : Option CompileRequest) (Passed : FlowGraph → FlowGraph → Type 0) (passes : List PassCount) (old new : Outside) (code : ℕ) : Type 0 where
+pub record CompilerStatuses (given : Option CompileRequest) (Scheduled : CompileRequest → SourceProgram → CodeWithNotes → Type 0)
+    (passes : List PassCount) (old new : Outside) (code : ℕ) : Type 0 where
   -- what each status says
-  pub compiled : code ≡ 0 → IsSomeAnd given (HasCompiled Passed passes old new)
-  pub lacking : code ≡ 1 → CompilerLacks Passed passes old.shelf new.shelf old.out new.out given
+  pub compiled : code ≡ 0 → IsSomeAnd given (HasCompiled Scheduled passes old new)
+  pub lacking : code ≡ 1 → CompilerLacks Scheduled passes old.shelf new.shelf old.out new.out given
   pub misused : code ≡ 2 → (given ≡ None) × (new.shelf ≡ old.shelf)
   pub unread : code ≡ 3 → IsSomeAnd given (HasReadFault old new)
   pub refused : code ≡ 4 → IsSomeAnd given (λ request. HoldsSource old.shelf.held request.source IsNoSource)
@@ -72,8 +72,8 @@ pub record CompilerStatuses (given : Option CompileRequest) (Passed : FlowGraph 
       given ≡ Some request → IsTold old.shelf.held request.source text → IsNoSource text →
       (code ≡ 4) ⊎ (code ≡ 1) ⊎ ((code ≡ 3) × HasReadFault old new request) ⊎ ((code ≡ 5) × HasErrorFault old new)
 
--- the law: the promise says all this, whatever the passes made of a graph
-abbrev pub CompilerPromisesSay : (FlowGraph → FlowGraph → Type 0) → Type 0
-CompilerPromisesSay Passed =
+-- the law: the promise says all this, whatever is said of schedules
+abbrev pub CompilerPromisesSay : (CompileRequest → SourceProgram → CodeWithNotes → Type 0) → Type 0
+CompilerPromisesSay Scheduled =
     (given : Option CompileRequest) (passes : List PassCount) (old new : Outside) (code : ℕ)
-    → CompilerPromise given Passed passes old new code → CompilerStatuses given Passed passes old new code
+    → CompilerPromise given Scheduled passes old new code → CompilerStatuses given Scheduled passes old new code

@@ -1,31 +1,34 @@
 //! The compiler: from the words of its command to the object on the shelf and the report.
-ghost use Rattle.std.specs.Prelude.{◌≡◌, ◌≤◌, length, map, true, IfOk, None, Some};
+ghost use Rattle.std.specs.Prelude.{◌≡◌, ◌≤◌, ◌↔◌, length, map, true, IfOk, IfSome, IsSome, None, OnOk, Some};
 ghost use Rattle.pc_command.specs.Requests.{compile_command_of, compile_request, source_place};
 ghost use Rattle.pc_command.specs.Words.{spelled};
 ghost use Rattle.pc_tool.specs.Compilation.{counts_of};
-ghost use Rattle.pc_tool.specs.Compiler.{CompilerEnds, CompilerPromise};
+ghost use Rattle.pc_tool.specs.Compiler.{CompilerPromise};
 ghost use Rattle.pc_tool.specs.Files.{HasSource};
 ghost use Rattle.pc_driver.specs.Outside.{outside_of};
 ghost use Rattle.pc_driver.specs.Streams.{Streamed, streamed};
-ghost use Rattle.std.specs.List.{AllByRecursion};
-ghost use Rattle.pc_object.specs.ObjectText.{IsChoice};
+ghost use Rattle.pc_object.specs.ObjectText.{IsObject, object_of};
 ghost use Rattle.pc_pass.specs.Pass.{Chain, EachRose};
 ghost use Rattle.pc_report.specs.Report.{pass_of, report_lines};
-ghost use Rattle.pc_tool.specs.models.Compiling.{ReportEnds, WriteEnds, reported};
+ghost use Rattle.pc_tool.specs.Scheduled.{IsScheduledAs};
+ghost use Rattle.pc_tool.specs.models.Compiling.{EndsWith, ReportEnds, WriteEnds, reported};
 ghost use Rattle.pc_word.specs.Ranges.{AreLimits, IsExtent};
 ghost use Rattle.pc_word.specs.SourceLimits.{most_source};
 
 use crate::refusal::Refusal;
 use crate::source::read_source;
+use crate::status::Status;
 use crate::translation::{Translation, translate};
 use pc_command::{CommandError, CompileCommand, compile_command};
+use pc_compile::Compiled;
 use pc_driver::tell;
 use pc_outside::{Shelf, ShelfError, Sink, send};
 use pc_pass::Pass;
 use pc_report::{PassFact, ReportError, ReportFacts, Speaker, ToolFault, report_text};
 use std::alloc::{AllocError, Global};
 
-/// Compiles as the words say, and tells what is due then. An input is not touched.
+/// Compiles as the words say, and tells what is due then; where nothing is, it hands out what was compiled. An
+/// input is not touched.
 pub(crate) fn compiler<P: Pass, H: Shelf, O: Sink, E: Sink>(
     alloc: Global,
     words: &[String],
@@ -33,19 +36,30 @@ pub(crate) fn compiler<P: Pass, H: Shelf, O: Sink, E: Sink>(
     shelf: &mut H,
     out: &mut O,
     err: &mut E,
-) -> u8
-    ensures promise { (input : Streamed) → CompilerPromise (compile_command_of (spelled words.now)) (Chain P.does P.changed passes.old.items passes.new.items) (counts_of P.label P.changed passes.new.items)
+) -> Status
+    ensures promise { (input : Streamed) → CompilerPromise (compile_command_of (spelled words.now))
+        (IsScheduledAs (Chain P.does P.changed passes.old.items passes.new.items) result.compiled) (counts_of P.label P.changed passes.new.items)
         (outside_of (H.state shelf.old) input (streamed (O.taken out.old) (O.faults out.old)) (streamed (E.taken err.old) (E.faults err.old)))
         (outside_of (H.state shelf.new) input (streamed (O.taken out.new) (O.faults out.new)) (streamed (E.taken err.new) (E.faults err.new)))
-        result }
+        result.code }
+    ensures handed { IsSome result.compiled ↔ (result.code ≡ 0) }
+    ensures object { IfSome result.compiled (λ it. IsObject (object_of it.object)) }
     ensures named { map P.label passes.new.items ≡ map P.label passes.old.items }
-    ensures ran { result ≡ 0 → EachRose (map P.runs passes.old.items) (map P.runs passes.new.items) }
+    ensures ran { result.code ≡ 0 → EachRose (map P.runs passes.old.items) (map P.runs passes.new.items) }
 {
-    let due = run_compiler(alloc, words, passes, shelf, out);
-    tell(alloc, Speaker::Pcc, due, err)
+    match run_compiler(alloc, words, passes, shelf, out) {
+        Ok(compiled) => Status {
+            code: 0,
+            compiled: Some(compiled),
+        },
+        Err(fault) => Status {
+            code: tell(alloc, Speaker::Pcc, Some(fault), err),
+            compiled: None,
+        },
+    }
 }
 
-/// Compiles as the words say, and gives what is due then.
+/// Compiles as the words say: what was compiled, or the fault that is due.
 #[tactic(auto, using(crate::proofs::CompilerEndings::compiler_endings))]
 fn run_compiler<'a, P: Pass, H: Shelf, O: Sink>(
     alloc: Global,
@@ -53,16 +67,16 @@ fn run_compiler<'a, P: Pass, H: Shelf, O: Sink>(
     passes: &mut Vec<P>,
     shelf: &mut H,
     out: &mut O,
-) -> Option<ToolFault<'a>>
-    ensures ends { CompilerEnds (Chain P.does P.changed passes.old.items passes.new.items) (counts_of P.label P.changed passes.new.items)
+) -> Result<Compiled, ToolFault<'a>>
+    ensures ends { EndsWith (Chain P.does P.changed passes.old.items passes.new.items) (counts_of P.label P.changed passes.new.items)
         (H.state shelf.old) (H.state shelf.new) (streamed (O.taken out.old) (O.faults out.old)) (streamed (O.taken out.new) (O.faults out.new)) (compile_command_of (spelled words.entry.now)) result }
     ensures named { map P.label passes.new.items ≡ map P.label passes.old.items }
-    ensures ran { result ≡ None → EachRose (map P.runs passes.old.items) (map P.runs passes.new.items) }
+    ensures ran { OnOk result (EachRose (map P.runs passes.old.items) (map P.runs passes.new.items)) }
 {
     match compile_command(alloc, words) {
         Ok(command) => compile_source(alloc, command, passes, shelf, out),
-        Err(CommandError::NoCommand) => Some(ToolFault::Usage { who: Speaker::Pcc }),
-        Err(CommandError::Memory) => Some(ToolFault::NoMemory { who: Speaker::Pcc }),
+        Err(CommandError::NoCommand) => Err(ToolFault::Usage { who: Speaker::Pcc }),
+        Err(CommandError::Memory) => Err(ToolFault::NoMemory { who: Speaker::Pcc }),
     }
 }
 
@@ -74,17 +88,17 @@ fn compile_source<'a, P: Pass, H: Shelf, O: Sink>(
     passes: &mut Vec<P>,
     shelf: &mut H,
     out: &mut O,
-) -> Option<ToolFault<'a>>
+) -> Result<Compiled, ToolFault<'a>>
     requires limits { AreLimits command.limits }
     requires extent { IsExtent command.extent }
-    ensures ends { CompilerEnds (Chain P.does P.changed passes.old.items passes.new.items) (counts_of P.label P.changed passes.new.items)
+    ensures ends { EndsWith (Chain P.does P.changed passes.old.items passes.new.items) (counts_of P.label P.changed passes.new.items)
         (H.state shelf.old) (H.state shelf.new) (streamed (O.taken out.old) (O.faults out.old)) (streamed (O.taken out.new) (O.faults out.new)) (Some (compile_request command.entry)) result }
     ensures named { map P.label passes.new.items ≡ map P.label passes.old.items }
-    ensures ran { result ≡ None → EachRose (map P.runs passes.old.items) (map P.runs passes.new.items) }
+    ensures ran { OnOk result (EachRose (map P.runs passes.old.items) (map P.runs passes.new.items)) }
 {
     match read_source(alloc, command.source, shelf) {
         Ok(text) => compile_text(alloc, text.as_slice(), command, passes, shelf, out),
-        Err(fault) => Some(fault),
+        Err(fault) => Err(fault),
     }
 }
 
@@ -97,26 +111,29 @@ fn compile_text<'a, P: Pass, H: Shelf, O: Sink>(
     passes: &mut Vec<P>,
     shelf: &mut H,
     out: &mut O,
-) -> Option<ToolFault<'a>>
+) -> Result<Compiled, ToolFault<'a>>
     requires few_bytes { length text.now ≤ most_source }
     requires limits { AreLimits command.limits }
     requires extent { IsExtent command.extent }
     requires source { HasSource (H.state shelf.old).held (source_place command.source) text.now }
-    ensures ends { CompilerEnds (Chain P.does P.changed passes.old.items passes.new.items) (counts_of P.label P.changed passes.new.items)
+    ensures ends { EndsWith (Chain P.does P.changed passes.old.items passes.new.items) (counts_of P.label P.changed passes.new.items)
         (H.state shelf.old) (H.state shelf.new) (streamed (O.taken out.old) (O.faults out.old)) (streamed (O.taken out.new) (O.faults out.new)) (Some (compile_request command.entry)) result }
     ensures named { map P.label passes.new.items ≡ map P.label passes.old.items }
-    ensures ran { result ≡ None → EachRose (map P.runs passes.old.items) (map P.runs passes.new.items) }
+    ensures ran { OnOk result (EachRose (map P.runs passes.old.items) (map P.runs passes.new.items)) }
 {
     match translate(alloc, text, passes, command.limits, command.extent) {
-        Ok(translation) => {
-            let passes = passes.as_slice();
-            write_object(alloc, &translation, command, passes, shelf, out)
+        Ok(Translation { compiled, bytes }) => {
+            let (bytes, passes) = (bytes.as_slice(), passes.as_slice());
+            match write_object(alloc, &compiled, bytes, command, passes, shelf, out) {
+                None => Ok(compiled),
+                Some(fault) => Err(fault),
+            }
         }
-        Err(Refusal::Source { fault }) => Some(ToolFault::Source {
+        Err(Refusal::Source { fault }) => Err(ToolFault::Source {
             who: Speaker::Pcc,
             fault,
         }),
-        Err(Refusal::Memory) => Some(ToolFault::NoMemory { who: Speaker::Pcc }),
+        Err(Refusal::Memory) => Err(ToolFault::NoMemory { who: Speaker::Pcc }),
     }
 }
 
@@ -124,18 +141,19 @@ fn compile_text<'a, P: Pass, H: Shelf, O: Sink>(
 #[tactic(auto, using(crate::proofs::CompilerEndings::writes_due))]
 fn write_object<'a, P: Pass, H: Shelf, O: Sink>(
     alloc: Global,
-    translation: &Translation,
+    compiled: &Compiled,
+    bytes: &[u8],
     command: CompileCommand<'a>,
     passes: &[P],
     shelf: &mut H,
     out: &mut O,
 ) -> Option<ToolFault<'a>>
-    requires { AllByRecursion IsChoice translation.now.notes }
-    ensures { WriteEnds (compile_request command.entry) translation.now.bytes.items (report_lines (reported translation.now (counts_of P.label P.changed passes.now)))
+    requires { IsObject (object_of compiled.now.object) }
+    ensures { WriteEnds (compile_request command.entry) bytes.now (report_lines (reported compiled.now (counts_of P.label P.changed passes.now)))
         (H.state shelf.old) (H.state shelf.new) (streamed (O.taken out.old) (O.faults out.old)) (streamed (O.taken out.new) (O.faults out.new)) result }
 {
-    match shelf.write_file(alloc, command.object, translation.bytes.as_slice()) {
-        Ok(()) => report(alloc, translation, passes, command.report, out),
+    match shelf.write_file(alloc, command.object, bytes) {
+        Ok(()) => report(alloc, compiled, passes, command.report, out),
         Err(ShelfError::Failed) => Some(ToolFault::WriteFile {
             who: Speaker::Pcc,
             name: command.object,
@@ -148,19 +166,19 @@ fn write_object<'a, P: Pass, H: Shelf, O: Sink>(
 #[tactic(auto, using(crate::proofs::CompilerEndings::reports_due))]
 fn report<'a, P: Pass, O: Sink>(
     alloc: Global,
-    translation: &Translation,
+    compiled: &Compiled,
     passes: &[P],
     asked: bool,
     out: &mut O,
 ) -> Option<ToolFault<'a>>
-    requires { AllByRecursion IsChoice translation.now.notes }
-    ensures { ReportEnds asked (report_lines (reported translation.now (counts_of P.label P.changed passes.now)))
+    requires { IsObject (object_of compiled.now.object) }
+    ensures { ReportEnds asked (report_lines (reported compiled.now (counts_of P.label P.changed passes.now)))
         (streamed (O.taken out.old) (O.faults out.old)) (streamed (O.taken out.new) (O.faults out.new)) result }
 {
     if !asked {
         return None;
     }
-    match report_of(alloc, translation, passes) {
+    match report_of(alloc, compiled, passes) {
         Ok(text) => send_report(text.as_slice(), out),
         Err(ReportError::Memory) => Some(ToolFault::NoMemory { who: Speaker::Pcc }),
     }
@@ -169,18 +187,19 @@ fn report<'a, P: Pass, O: Sink>(
 /// The text of the report.
 fn report_of<P: Pass>(
     alloc: Global,
-    translation: &Translation,
+    compiled: &Compiled,
     passes: &[P],
 ) -> Result<Vec<u8>, ReportError>
-    requires { AllByRecursion IsChoice translation.now.notes }
-    ensures { IfOk result (λ text. text.items ≡ report_lines (reported translation.now (counts_of P.label P.changed passes.now))) }
+    requires { IsObject (object_of compiled.now.object) }
+    ensures { IfOk result (λ text. text.items ≡ report_lines (reported compiled.now (counts_of P.label P.changed passes.now))) }
 {
     let passes = pass_facts(alloc, passes)?;
+    let object = &compiled.object;
     let facts = ReportFacts {
-        nodes: translation.nodes,
-        rows: translation.rows,
+        nodes: compiled.flow.count(),
+        rows: object.code.rows.len() as u32,
         passes: passes.as_slice(),
-        notes: translation.notes.as_slice(),
+        notes: object.notes.as_slice(),
     };
     report_text(alloc, &facts)
 }

@@ -1,7 +1,8 @@
 //! A program over the real outside: the words of the command line, the working folder, standard input,
 //! standard output and standard error.
 
-use crate::program::{Status, Who, tool};
+use crate::program::{Who, tool};
+use crate::status::Status;
 use pc_driver::{read_words, tell};
 use pc_outside::{DirShelf, StdSink, StdSource};
 use pc_pass::Pass;
@@ -49,5 +50,6 @@ fn no_memory(rt: &HostRuntime, who: Who) -> Status {
     };
     Status {
         code: tell(rt.alloc(), who, Some(ToolFault::NoMemory { who }), &mut err),
+        compiled: None,
     }
 }

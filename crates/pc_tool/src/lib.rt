@@ -7,8 +7,10 @@ mod laws;
 mod program;
 mod refusal;
 mod source;
+mod status;
 mod translation;
 
 pub use host::{run, run_out};
 pub use laws::laws_of_the_compiler;
-pub use program::{Status, Who, tool};
+pub use program::{Who, tool};
+pub use status::Status;

@@ -1,16 +1,19 @@
 //! The top call.
-ghost use Rattle.std.specs.Prelude.{◌≡◌, map};
+ghost use Rattle.std.specs.Prelude.{◌≡◌, ◌↔◌, map, IfSome, IsSome};
 ghost use Rattle.pc_command.specs.Requests.{compile_command_of, simulate_command_of};
 ghost use Rattle.pc_command.specs.Words.{spelled};
 ghost use Rattle.pc_tool.specs.declared.program.Who.TheVariants.{Pcc, Pvm};
+ghost use Rattle.pc_object.specs.ObjectText.{IsObject, object_of};
 ghost use Rattle.pc_pass.specs.Pass.{Chain, EachRose};
 ghost use Rattle.pc_tool.specs.Compilation.{counts_of};
 ghost use Rattle.pc_tool.specs.Compiler.{CompilerPromise};
+ghost use Rattle.pc_tool.specs.Scheduled.{IsScheduledAs};
 ghost use Rattle.pc_driver.specs.Streams.{streamed};
 ghost use Rattle.pc_driver.specs.Outside.{outside_of};
 ghost use Rattle.pc_simulator.specs.Simulator.{SimulatorPromise};
 
 use crate::compile::compiler;
+use crate::status::Status;
 use pc_outside::{Shelf, Sink, Source};
 use pc_pass::Pass;
 use pc_simulator::simulator;
@@ -23,13 +26,6 @@ pub enum Who {
     Pcc,
     /// The simulator.
     Pvm,
-}
-
-/// How a program ends.
-#[derive(Clone, Copy, Debug, PartialEq, Eq)]
-pub struct Status {
-    /// The process's exit status.
-    pub code: u8,
 }
 
 /// The whole program, over the outside that is lent. `words` are those of the command line without the
@@ -67,7 +63,7 @@ pub struct Status {
 /// - 10, 11, 12: the run was trapped by a division by zero, an index out of bounds, the end of input.
 ///
 /// With each status but 0 one line is sent to the error output, which tells what was due, or a proper
-/// prefix of it where that output fails.
+/// prefix of it where that output fails. With status 0 of `Pcc` alone, what was compiled is handed out.
 pub fn tool<H: Shelf, I: Source, O: Sink, E: Sink>(
     alloc: Global,
     who: Who,
@@ -79,7 +75,7 @@ pub fn tool<H: Shelf, I: Source, O: Sink, E: Sink>(
     err: &mut E,
 ) -> Status
     ensures compiler { who ≡ Pcc → CompilerPromise (compile_command_of (spelled words.now))
-        (Chain (λ b. does b) (λ b. changed b) passes.old.items passes.new.items)
+        (IsScheduledAs (Chain (λ b. does b) (λ b. changed b) passes.old.items passes.new.items) result.compiled)
         (counts_of (λ b. label b) (λ b. changed b) passes.new.items)
         (outside_of (H.state shelf.old) (streamed (I.left input.old) (I.faults input.old)) (streamed (O.taken out.old) (O.faults out.old)) (streamed (E.taken err.old) (E.faults err.old)))
         (outside_of (H.state shelf.new) (streamed (I.left input.new) (I.faults input.new)) (streamed (O.taken out.new) (O.faults out.new)) (streamed (E.taken err.new) (E.faults err.new)))
@@ -88,14 +84,18 @@ pub fn tool<H: Shelf, I: Source, O: Sink, E: Sink>(
         (outside_of (H.state shelf.old) (streamed (I.left input.old) (I.faults input.old)) (streamed (O.taken out.old) (O.faults out.old)) (streamed (E.taken err.old) (E.faults err.old)))
         (outside_of (H.state shelf.new) (streamed (I.left input.new) (I.faults input.new)) (streamed (O.taken out.new) (O.faults out.new)) (streamed (E.taken err.new) (E.faults err.new)))
         result.code }
+    ensures handed { IsSome result.compiled ↔ ((who ≡ Pcc) × (result.code ≡ 0)) }
+    ensures object { IfSome result.compiled (λ it. IsObject (object_of it.object)) }
     ensures input_kept { who ≡ Pcc → input.new ≡ input.old }
     ensures ran { who ≡ Pcc → result.code ≡ 0 → EachRose (map (λ b. runs b) passes.old.items) (map (λ b. runs b) passes.new.items) }
     ensures named { map (λ b. label b) passes.new.items ≡ map (λ b. label b) passes.old.items }
     ensures passes_kept { who ≡ Pvm → passes.new ≡ passes.old }
 {
-    let code = match who {
+    match who {
         Who::Pcc => compiler(alloc, words, passes, shelf, out, err),
-        Who::Pvm => simulator(alloc, words, shelf, input, out, err),
-    };
-    Status { code }
+        Who::Pvm => Status {
+            code: simulator(alloc, words, shelf, input, out, err),
+            compiled: None,
+        },
+    }
 }

@@ -10,20 +10,17 @@ use crate::refusal::Refusal;
 use pc_check::{Checked, check};
 use pc_compile::{Compiled, compile_with};
 use pc_lexer::tokens;
-use pc_object::{NoteList, Object, encode};
+use pc_object::encode;
 use pc_parser::parse;
 use pc_pass::Pass;
 use pc_word::{Extent, Limits};
 use std::alloc::Global;
 
-/// An object's bytes, and what is reported of it: the nodes of the flow graph, the rows of the code, and the
-/// notes.
+/// What was compiled, and the bytes of its object.
 #[derive(Debug, Drop)]
 pub(crate) struct Translation {
+    pub(crate) compiled: Compiled,
     pub(crate) bytes: Vec<u8>,
-    pub(crate) nodes: u32,
-    pub(crate) rows: u32,
-    pub(crate) notes: NoteList,
 }
 
 /// The object that does what a source does, after passes over its flow graph.
@@ -42,15 +39,9 @@ pub(crate) fn translate<P: Pass>(
     ensures ran { OnOk result (EachRose (map P.runs passes.old.items) (map P.runs passes.new.items)) }
 {
     let checked = read_program(alloc, text)?;
-    let Compiled { flow, object, .. } = compile_with(alloc, &checked, passes, limits, extent)?;
-    let bytes = encode(alloc, &object)?;
-    let Object { code, notes } = object;
-    Ok(Translation {
-        bytes,
-        nodes: flow.count(),
-        rows: code.rows.len() as u32,
-        notes,
-    })
+    let compiled = compile_with(alloc, &checked, passes, limits, extent)?;
+    let bytes = encode(alloc, &compiled.object)?;
+    Ok(Translation { compiled, bytes })
 }
 
 /// The program that a text is read as, with numbers for names, if none of them is faulty.

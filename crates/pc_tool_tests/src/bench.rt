@@ -1,5 +1,8 @@
 //! Both programs over an outside in memory.
+ghost use Rattle.std.specs.Prelude.{IfOk, IfSome};
+ghost use Rattle.pc_object.specs.ObjectText.{IsObject, object_of};
 
+use pc_compile::Compiled;
 use pc_outside::{CallList, MemoryShelf, MemorySink, MemorySource};
 use pc_pass::Pass;
 use pc_tool::{Who, tool};
@@ -170,4 +173,41 @@ pub(crate) fn answers_with(
         &mut streams,
         wanted,
     ))
+}
+
+/// What the compiler, called with the words of a line and without passes, hands out.
+pub(crate) fn compiled_of(
+    alloc: Global,
+    line: &str,
+    shelf: &mut MemoryShelf,
+) -> Result<Option<Compiled>, Fail>
+    ensures { IfOk result (λ handed. IfSome handed (λ it. IsObject (object_of it.object))) }
+{
+    let words = words_of(alloc, line)?;
+    let mut passes = Vec::new(alloc);
+    let mut streams = streams_of(alloc, b"", NONE_FAILS)?;
+    Ok(handed_out(alloc, words.as_slice(), &mut passes, shelf, &mut streams))
+}
+
+/// What the compiler hands out over these streams.
+fn handed_out(
+    alloc: Global,
+    words: &[String],
+    passes: &mut Vec<Box<dyn Pass>>,
+    shelf: &mut MemoryShelf,
+    streams: &mut Streams,
+) -> Option<Compiled>
+    ensures { IfSome result (λ it. IsObject (object_of it.object)) }
+{
+    let status = tool(
+        alloc,
+        Who::Pcc,
+        words,
+        passes,
+        shelf,
+        &mut streams.input,
+        &mut streams.out,
+        &mut streams.err,
+    );
+    status.compiled
 }

@@ -1,8 +1,13 @@
-//! What is reported of code that is pipelined or packed.
+//! What is reported of code that is pipelined or packed, and what is handed out of its compilation.
+ghost use Rattle.pc_object.specs.ObjectText.{IsObject, object_of};
 
 use crate::bench::{
-    DOT_PRODUCT, EXCHANGE, EXCHANGE_MOSTLY, NONE_FAILS, SILENCE, Wanted, answers, shelf_with,
+    DOT_PRODUCT, EXCHANGE, EXCHANGE_MOSTLY, NONE_FAILS, SILENCE, Wanted, answers, compiled_of,
+    holds, shelf_with,
 };
+use pc_compile::{Choice, Compiled, Form};
+use pc_object::encode;
+use pc_outside::MemoryShelf;
 use pc_tool::Who;
 use std::alloc::Global;
 use std::test::Fail;
@@ -122,5 +127,48 @@ fn rows_and_loops_are_reported(rt: HostRuntime) -> Result<(), Fail> {
     for (number, scheduled) in SCHEDULED.iter().enumerate() {
         assert!(rt; is_scheduled(alloc, scheduled)?, "source {number}");
     }
+    Ok(())
+}
+
+/// How many of the regions are pipelined.
+fn count_pipelined(choices: &[Choice]) -> usize {
+    choices
+        .iter()
+        .filter(|choice| matches!(choice.form, Form::Pipelined { .. }))
+        .count()
+}
+
+/// Whether the bytes of a compilation's object stand under a name.
+fn is_held(
+    alloc: Global,
+    compiled: &Compiled,
+    shelf: &MemoryShelf,
+    name: &str,
+) -> Result<bool, Fail>
+    requires { IsObject (object_of compiled.now.object) }
+{
+    let bytes = encode(alloc, &compiled.object)?;
+    Ok(holds(shelf, name, bytes.as_slice()))
+}
+
+#[test]
+fn what_was_compiled_is_handed_out(rt: HostRuntime) -> Result<(), Fail> {
+    let alloc = rt.alloc();
+    let mut shelf = shelf_with(alloc, "a.c", DOT_PRODUCT, 0)?;
+    let Some(compiled) = compiled_of(alloc, "a.c -o o.tv", &mut shelf)? else {
+        return Err(Fail::from("nothing is handed out"));
+    };
+    assert_eq!(rt; compiled.flow.count(), 34);
+    assert_eq!(rt; count_pipelined(compiled.choices.as_slice()), 2);
+    assert!(rt; is_held(alloc, &compiled, &shelf, "o.tv")?);
+    Ok(())
+}
+
+#[test]
+fn nothing_is_handed_out_of_a_refused_text(rt: HostRuntime) -> Result<(), Fail> {
+    let alloc = rt.alloc();
+    let mut shelf = shelf_with(alloc, "a.c", b"int main(void){x=1;}", 0)?;
+    let handed = compiled_of(alloc, "a.c -o o.tv", &mut shelf)?;
+    assert!(rt; handed.is_none());
     Ok(())
 }

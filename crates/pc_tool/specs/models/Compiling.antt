@@ -1,19 +1,22 @@
 -- What each private answer of the compiler says of the outside before and after it.
-use Rattle.std.specs.Prelude.{◌≡◌, ℕ, Bool, true, false, List, Option, Some, None}
+use Rattle.std.specs.Prelude.{◌≡◌, ℕ, Bool, true, false, List, length, Option, Some, None, Result, Ok, Err}
 use Rattle.std.specs.Borrow.{Bor}
 use Rattle.std.specs.Io.KnownBytes.{Appends}
 use Rattle.pc_word.specs.Count.{Rose}
 use Rattle.pc_flow.specs.FlowGraph.{FlowGraph}
 use Rattle.pc_outside.specs.Shelf.{Files, Shelved, ReadFaultOf, WriteFaultOf, HoldsFile, OnlyFileDiffers}
 use Rattle.pc_outside.specs.Stream.{AppendsPart}
+use Rattle.pc_compile.specs.declared.program.Compiled.{Compiled}
 use Rattle.pc_command.specs.Requests.{CompileRequest, SourcePlace, OfFile}
 use Rattle.pc_report.specs.declared.fault.Speaker.TheVariants.{Pcc}
 use Rattle.pc_report.specs.declared.fault.SourceFault.TheVariants.{TooLong}
 use Rattle.pc_report.specs.declared.fault.ToolFault.{ToolFault}
 use Rattle.pc_report.specs.declared.fault.ToolFault.TheVariants as fault
 use Rattle.pc_report.specs.Report.{PassCount, Report}
+use Rattle.pc_tool.specs.Compiler.{CompilerEnds}
 use Rattle.pc_tool.specs.Files.{HasSource, HoldsSource}
 use Rattle.pc_driver.specs.Streams.{Streamed}
+use Rattle.pc_tool.specs.Scheduled.{IsScheduledAs}
 use Rattle.pc_tool.specs.SourceFaults.{HasFault}
 use Rattle.pc_tool.specs.declared.translation.Translation.{Translation}
 use Rattle.pc_tool.specs.models.Translating.{IsTranslation}
@@ -35,9 +38,9 @@ pub record HasTranslation (Passed : FlowGraph → FlowGraph → Type 0) (held : 
   pub in_source : HasSource held request.source text
   pub is : IsTranslation Passed request.limits request.extent text it
 
--- what is reported of a translation and of the passes
-abbrev pub reported : Translation → List PassCount → Report
-reported it passes = record { nodes = it.nodes; rows = it.rows; passes = passes; notes = it.notes }
+-- what is reported of what was compiled, and of the passes
+abbrev pub reported : Compiled → List PassCount → Report
+reported it passes = record { nodes = length it.flow.nodes; rows = length it.object.code.rows; passes = passes; notes = it.object.notes }
 
 -- what is due after the report, and what was sent of its text
 pub data ReportEnds (asked : Bool) (text : List ℕ) (old new : Streamed) : (due : Option ToolFault) → Type 0 where
@@ -76,3 +79,13 @@ pub data WriteEnds (request : CompileRequest) (bytes text : List ℕ) (old new :
       OnlyFileDiffers old.held new.held request.object →
       out_now ≡ out →
       WriteEnds request bytes text old new out out_now (Some (fault.NoMemory Pcc))
+
+-- how the compiler ends with an answer: what was compiled, which is handed out, or the fault that is due
+pub data EndsWith (Passed : FlowGraph → FlowGraph → Type 0) (passes : List PassCount) (old new : Shelved) (out out_now : Streamed) (given : Option CompileRequest)
+    : (answer : Result Compiled ToolFault) → Type 0 where
+  With_compiled : {it : Compiled} →
+      CompilerEnds (IsScheduledAs Passed (Some it)) passes old new out out_now given None →
+      EndsWith Passed passes old new out out_now given (Ok it)
+  With_fault : {why : ToolFault} →
+      CompilerEnds (IsScheduledAs Passed None) passes old new out out_now given (Some why) →
+      EndsWith Passed passes old new out out_now given (Err why)

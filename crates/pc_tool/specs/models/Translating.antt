@@ -7,7 +7,9 @@ use Rattle.pc_check.specs.Faults.{faults}
 use Rattle.pc_check.specs.Resolution.{resolved}
 use Rattle.pc_check.specs.Sizes.{size}
 use Rattle.pc_flow.specs.FlowGraph.{FlowGraph}
-use Rattle.pc_object.specs.ObjectText.{CodeWithNotes, object_text}
+use Rattle.pc_table.specs.StoredTable.{table_of}
+use Rattle.pc_object.specs.ObjectText.{object_of, object_text}
+use Rattle.pc_compile.specs.Compiled.{IsCompiled}
 use Rattle.pc_tool.specs.Compilation.{Translates}
 use Rattle.pc_tool.specs.Source.{IsRead}
 use Rattle.pc_tool.specs.SourceFaults.{HasFault}
@@ -22,15 +24,14 @@ pub record IsChecked (text : List ℕ) (checked : ResolvedProgram) : Type 0 wher
   pub faultless : faults program ≡ []
   pub is_resolved : resolved program ≡ checked
 
--- the bytes are the text of an object that translates the source, and the numbers are those that are reported of it
+-- the text is the source of a program, of which this was compiled: its object translates the source, its graph has the program's size, and
+-- the bytes are the object's text
 pub record IsTranslation (Passed : FlowGraph → FlowGraph → Type 0) (limits : Limits) (extent : Extent) (text : List ℕ) (it : Translation) : Type 0 where
   pub program : SourceProgram
-  pub object : CodeWithNotes
-  pub translates : Translates Passed limits extent text program object
-  pub bytes : it.bytes.items ≡ object_text object
-  pub nodes : it.nodes ≡ size program
-  pub rows : it.rows ≡ length object.code.rows
-  pub notes : it.notes ≡ object.notes
+  pub translates : Translates limits text program (object_of it.compiled.object)
+  pub compiled : IsCompiled (resolved program) Passed limits extent it.compiled.flow (table_of it.compiled.table) it.compiled.choices (object_of it.compiled.object)
+  pub nodes : length it.compiled.flow.nodes ≡ size program
+  pub bytes : it.bytes.items ≡ object_text (object_of it.compiled.object)
 
 -- why a text was not translated
 abbrev pub RefusesText : Refusal → List ℕ → Type 0

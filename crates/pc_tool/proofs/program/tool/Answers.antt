@@ -4,4 +4,4 @@ use Rattle.pc_tool.proofs.program.tool.Goals as goal
 
 pub returns-in-Pcc-clause-compiler : goal.returns-in-Pcc-clause-compiler
 returns-in-Pcc-clause-compiler g c = λ _.
-    c.compiler-code.ensures.promise (streamed (g.I.Source.left c.args.input.now) (g.I.Source.faults c.args.input.now))
+    c.compiler.ensures.promise (streamed (g.I.Source.left c.args.input.now) (g.I.Source.faults c.args.input.now))
