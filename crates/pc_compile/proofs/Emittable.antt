@@ -65,8 +65,7 @@ module _ (rules : Rules) (keeps : TableKeeps rules.table) (region rows : ℕ) (s
         automaton = has.found.automaton;
         first = first.0;
         is_first = first.1;
-        runs = has.found.runs.alike first.0 first.1;
-        untested = has.found.runs.untested first.0 first.1;
+        runs = has.found.runs.alike;
         live = has.found.live first.0 first.1;
         variables = variables_stay states registers has.assigned first.0 first.1;
         apart = apart;

@@ -68,11 +68,11 @@ SchedulesKeepPaceWithTheRegions = (table : Table) → TableKeeps table → (limi
     → AreChosen table limits extent choices forms
     → (input : List ℤ) → NeverFaults (table_run table input) → KeepsPace (table_run table input) (schedule_run table forms input)
 
--- the most cycles that a step of a schedule costs: those of a row and of two rows of copies for each of at most 127 values that its leaf passes
+-- what the steps of a schedule cost on average, at most: the cycles of a row, and of two rows of copies for each of at most 127 values that its leaf passes
 abbrev pub most_step_cost : ℕ
 most_step_cost = 255
 
--- in forms that were chosen no step costs more, and but for one cycle before the first all cost no more together
+-- in forms that were chosen so many steps cost no more together, but for one cycle before the first
 abbrev pub StepsCostFewCycles : Type 0
 StepsCostFewCycles = (table : Table) → TableKeeps table → (limits : Limits) (extent : Extent) (choices : List Choice) (forms : ℕ → Option RegionForm)
     → AreChosen table limits extent choices forms

@@ -21,9 +21,8 @@ pub fn law_of_choices()
 
 /// The regions of a compiled program show what its source shows, after as many items and tests as the
 /// source's evaluation passes and one unit more. The schedule of their forms shows, in as many steps,
-/// at least what they show, and none of them costs more than 255 cycles. Emitted rows show, in as many
-/// cycles as the schedule may cost, at least what the schedule shows; and so does a code after its
-/// tightening.
+/// at least what they show, and n steps cost at most 255 n + 1 cycles. Emitted rows show, in as many cycles as
+/// the schedule may cost, at least what the schedule shows; and so does a code after its tightening.
 pub fn laws_of_pace()
     ensures regions { RegionsKeepPaceWithTheSource }
     ensures schedules { SchedulesKeepPaceWithTheRegions }

@@ -98,8 +98,8 @@ fn bring_all(alloc: Global, window: Window, ready: ReadyNode) -> Result<Window, 
 /// up node by node, and two that filling would make one become one, until nothing is ready.
 ///
 /// It fails where a single move is refused: so where an item has an equal one on the other side of a
-/// test that cannot be brought up to that test, which filling leaves where it stands. It never fails where
-/// nothing is ready in a small window.
+/// test that cannot be brought up to that test, which filling leaves where it stands. A small window in which
+/// nothing is ready is given back as it is.
 #[tactic(auto, using(crate::proofs::Moved::moves))]
 pub fn replay(alloc: Global, window: Window) -> Result<Window, ReplayError>
     requires { IsProper (window_in window) }

@@ -10,7 +10,7 @@ use Rattle.pc_flow.specs.FlowGraph.{FlowGraph}
 use Rattle.pc_table.specs.StoredTable.{table_of}
 use Rattle.pc_machine.specs.MachineCode.{row_of}
 use Rattle.pc_object.specs.ObjectText.{CodeWithNotes, IsObject, object_of, object_text}
-use Rattle.pc_compile.specs.declared.program.Compiled.{Compiled as Built}
+use Rattle.pc_compile.specs.declared.program.Compiled.{Compiled}
 use Rattle.pc_outside.specs.Shelf.{Files, Shelved, ReadFaultOf, WriteFaultOf, ReadKeeps, OnlyFileDiffers, HoldsFile}
 use Rattle.pc_outside.specs.Stream.{AppendsPart}
 use Rattle.pc_word.specs.SourceLimits.{most_source}
@@ -21,7 +21,7 @@ use Rattle.pc_report.specs.declared.fault.SourceFault.TheVariants.{TooLong}
 use Rattle.pc_report.specs.declared.fault.ToolFault.{ToolFault}
 use Rattle.pc_report.specs.declared.fault.ToolFault.TheVariants as fault
 use Rattle.pc_report.specs.Report.{PassCount, report_lines}
-use Rattle.pc_tool.specs.Compilation.{Compiled, report_on}
+use Rattle.pc_tool.specs.Compilation.{WritesObject, report_on}
 use Rattle.pc_tool.specs.Compiler.{CompilerEnds, Done, Misused, Unread, Refused, Unwritten, Unreported, Lacking, CompilerLacks, Early, Writing, Reporting, CompilerPromise}
 use Rattle.pc_driver.specs.Due.{Told}
 use Rattle.pc_driver.specs.Files.{HoldsText}
@@ -65,7 +65,7 @@ module _ (Scheduled : CompileRequest → SourceProgram → CodeWithNotes → Typ
   differs_behind : (name : List ℕ) → OnlyFileDiffers mid.held new.held name → OnlyFileDiffers old.held new.held name
   differs_behind name h = subst (λ (held : Option Files). OnlyFileDiffers held new.held name) keeps.held h
 
-  compiled_behind : (program : SourceProgram) (object : CodeWithNotes) → Compiled Scheduled request program object mid new → Compiled Scheduled request program object old new
+  compiled_behind : (program : SourceProgram) (object : CodeWithNotes) → WritesObject Scheduled request program object mid new → WritesObject Scheduled request program object old new
   compiled_behind program object it = record {
     text = it.text;
     in_source = subst (λ (held : Option Files). HasSource held request.source it.text) keeps.held it.in_source;
@@ -91,7 +91,7 @@ module _ (Scheduled : CompileRequest → SourceProgram → CodeWithNotes → Typ
 
 -- how it ended after a read, with what it answered
 pub ends_behind : (Passed : FlowGraph → FlowGraph → Type 0) (passes : List PassCount) (request : CompileRequest) (old mid new : Shelved) (out out_now : Streamed) → ReadKeeps old mid
-    → (answer : Result Built ToolFault) → EndsWith Passed passes mid new out out_now (Some request) answer → EndsWith Passed passes old new out out_now (Some request) answer
+    → (answer : Result Compiled ToolFault) → EndsWith Passed passes mid new out out_now (Some request) answer → EndsWith Passed passes old new out out_now (Some request) answer
 ends_behind Passed passes request old mid new out out_now keeps answer (With_compiled {it} ends) =
     With_compiled (same_end (IsScheduledAs Passed (Some it)) passes request old mid new out out_now keeps None ends)
 ends_behind Passed passes request old mid new out out_now keeps answer (With_fault {why} ends) =
@@ -144,7 +144,7 @@ module _ (Passed : FlowGraph → FlowGraph → Type 0) (passes : List PassCount)
   as_some = record { flow = it.compiled.flow; table = table_of it.compiled.table; choices = it.compiled.choices; compiled = has.is.compiled }
 
   compiled : (Scheduled : CompileRequest → SourceProgram → CodeWithNotes → Type 0) → Scheduled request has.is.program object
-      → HoldsFile old.held new.held request.object it.bytes.items → Compiled Scheduled request has.is.program object old new
+      → HoldsFile old.held new.held request.object it.bytes.items → WritesObject Scheduled request has.is.program object old new
   compiled Scheduled scheduled written = record {
     text = has.text;
     in_source = has.in_source;
@@ -267,19 +267,19 @@ ends_lacking Scheduled passes given old new out out_now why (Unreported {request
 ends_lacking Scheduled passes given old new out out_now why (Lacking lacks) = lacks
 
 -- the object of what is handed out may be encoded
-done_object : (Passed : FlowGraph → FlowGraph → Type 0) (passes : List PassCount) (old new : Shelved) (out out_now : Streamed) (given : Option CompileRequest) (it : Built)
+done_object : (Passed : FlowGraph → FlowGraph → Type 0) (passes : List PassCount) (old new : Shelved) (out out_now : Streamed) (given : Option CompileRequest) (it : Compiled)
     (due : Option ToolFault) → CompilerEnds (IsScheduledAs Passed (Some it)) passes old new out out_now given due → due ≡ None → IsObject (object_of it.object)
 unfolding IsScheduledAs
 done_object Passed passes old new out out_now given it due (Done {request} {program} {object} done sent) none =
     subst IsObject (sym done.scheduled.0) done.translates.loads.is_object
 done_object Passed passes old new out out_now given it due _ none = absurd cc
 
-pub handed_object : (Passed : FlowGraph → FlowGraph → Type 0) (passes : List PassCount) (old new : Shelved) (out out_now : Streamed) (given : Option CompileRequest) (it : Built)
+pub handed_object : (Passed : FlowGraph → FlowGraph → Type 0) (passes : List PassCount) (old new : Shelved) (out out_now : Streamed) (given : Option CompileRequest) (it : Compiled)
     → EndsWith Passed passes old new out out_now given (Ok it) → IsObject (object_of it.object)
 handed_object Passed passes old new out out_now given it (With_compiled ends) = done_object Passed passes old new out out_now given it None ends refl
 
 -- what was compiled is handed out, and nothing is told
-pub done_promise : (given : Option CompileRequest) (Passed : FlowGraph → FlowGraph → Type 0) (passes : List PassCount) (old new : Outside) (it : Built)
+pub done_promise : (given : Option CompileRequest) (Passed : FlowGraph → FlowGraph → Type 0) (passes : List PassCount) (old new : Outside) (it : Compiled)
     → EndsWith Passed passes old.shelf new.shelf old.out new.out given (Ok it) → new.input ≡ old.input → new.err ≡ old.err
     → CompilerPromise given (IsScheduledAs Passed (Some it)) passes old new 0
 done_promise given Passed passes old new it (With_compiled ends) input silent = record { due = None; ends = ends; told = (refl, silent); input = input }

@@ -9,7 +9,7 @@ use Rattle.pc_report.specs.Report.{PassCount}
 use Rattle.pc_report.specs.declared.fault.ToolFault.{ToolFault}
 use Rattle.pc_tool.specs.Compiler.{CompilerEnds, Done, Misused, Unread, Refused, Unwritten, Unreported, Lacking, CompilerLacks, Early, Writing, Reporting, CompilerPromise}
 use Rattle.pc_tool.specs.CompilerLaws.{HasCompiled, HasReadFault, HasWriteFault, KeepsOthers, IsTold, CompilerStatuses}
-use Rattle.pc_tool.specs.Compilation.{Compiled, Reports, report_on}
+use Rattle.pc_tool.specs.Compilation.{WritesObject, Reports, report_on}
 use Rattle.pc_driver.specs.Due.{Told}
 use Rattle.pc_tool.specs.Files.{HoldsSource}
 use Rattle.pc_driver.specs.Outside.{Outside, HasErrorFault}
@@ -130,7 +130,7 @@ module _ (Scheduled : CompileRequest → SourceProgram → CodeWithNotes → Typ
 
   -- the source of an object that was written, of a text that is told
   compiled_source : (request : CompileRequest) (text : List ℕ) (program : SourceProgram) (object : CodeWithNotes) → IsTold old.shelf.held request.source text
-      → Compiled Scheduled request program object old.shelf new.shelf → IsSomeSource text
+      → WritesObject Scheduled request program object old.shelf new.shelf → IsSomeSource text
   compiled_source request text program object told it =
       subst IsSomeSource (text_told old.shelf.held request.source text it.text told it.in_source) (program, it.translates.source)
 

@@ -30,7 +30,7 @@ pub record Translates (limits : Limits) (text : List ℕ) (program : SourceProgr
 
 -- The source that is asked for was translated; its object is held now, and all else is as before. How the object was scheduled is
 -- `Scheduled`; nothing else here rests on that.
-pub record Compiled (Scheduled : CompileRequest → SourceProgram → CodeWithNotes → Type 0) (request : CompileRequest) (program : SourceProgram) (object : CodeWithNotes)
+pub record WritesObject (Scheduled : CompileRequest → SourceProgram → CodeWithNotes → Type 0) (request : CompileRequest) (program : SourceProgram) (object : CodeWithNotes)
     (old new : Shelved) : Type 0 where
   pub text : List ℕ
   pub in_source : HasSource old.held request.source text

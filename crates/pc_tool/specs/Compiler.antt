@@ -12,7 +12,7 @@ use Rattle.pc_report.specs.declared.fault.SourceFault.{SourceFault}
 use Rattle.pc_report.specs.declared.fault.ToolFault.{ToolFault}
 use Rattle.pc_report.specs.declared.fault.ToolFault.TheVariants as fault
 use Rattle.pc_report.specs.Report.{PassCount, report_lines}
-use Rattle.pc_tool.specs.Compilation.{Compiled, Reports, report_on}
+use Rattle.pc_tool.specs.Compilation.{WritesObject, Reports, report_on}
 use Rattle.pc_driver.specs.Due.{Told}
 use Rattle.pc_tool.specs.Files.{HoldsSource}
 use Rattle.pc_driver.specs.Streams.{Streamed, SendsFront}
@@ -35,7 +35,7 @@ pub data CompilerLacks (Scheduled : CompileRequest → SourceProgram → CodeWit
       CompilerLacks Scheduled passes old new out out_now (Some request)
   Reporting : {request : CompileRequest} {program : SourceProgram} {object : CodeWithNotes} →
       request.report ≡ true →
-      Compiled Scheduled request program object old new →
+      WritesObject Scheduled request program object old new →
       SendsFront out out_now (report_lines (report_on program object passes)) →
       CompilerLacks Scheduled passes old new out out_now (Some request)
 
@@ -45,7 +45,7 @@ pub data CompilerEnds (Scheduled : CompileRequest → SourceProgram → CodeWith
     (old new : Shelved) (out out_now : Streamed) : (given : Option CompileRequest) (due : Option ToolFault) → Type 0 where
   -- the object is written, and the report sent where it is asked for
   Done : {request : CompileRequest} {program : SourceProgram} {object : CodeWithNotes} →
-      Compiled Scheduled request program object old new →
+      WritesObject Scheduled request program object old new →
       Reports request.report (report_on program object passes) out out_now →
       CompilerEnds Scheduled passes old new out out_now (Some request) None
   -- the words are no command
@@ -77,7 +77,7 @@ pub data CompilerEnds (Scheduled : CompileRequest → SourceProgram → CodeWith
   -- the object is written, and a proper prefix of the report was sent before the output failed
   Unreported : {request : CompileRequest} {program : SourceProgram} {object : CodeWithNotes} →
       request.report ≡ true →
-      Compiled Scheduled request program object old new →
+      WritesObject Scheduled request program object old new →
       Rose out.faults out_now.faults →
       AppendsPart out.told out_now.told (report_lines (report_on program object passes)) →
       CompilerEnds Scheduled passes old new out out_now (Some request) (Some (fault.WriteOutput Pcc))

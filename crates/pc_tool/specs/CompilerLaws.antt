@@ -9,7 +9,7 @@ use Rattle.pc_outside.specs.Shelf.{Files, ReadFaultOf, WriteFaultOf, ReadKeeps, 
 use Rattle.pc_command.specs.Requests.{CompileRequest, SourcePlace, OfFile, OfSample}
 use Rattle.pc_report.specs.Report.{PassCount}
 use Rattle.pc_sample.specs.SampleText.{sample_text}
-use Rattle.pc_tool.specs.Compilation.{Compiled, Reports, report_on}
+use Rattle.pc_tool.specs.Compilation.{WritesObject, Reports, report_on}
 use Rattle.pc_tool.specs.Compiler.{CompilerLacks, CompilerPromise}
 use Rattle.pc_tool.specs.Files.{HoldsSource}
 use Rattle.pc_driver.specs.Outside.{Outside, HasErrorFault}
@@ -19,7 +19,7 @@ use Rattle.pc_tool.specs.Source.{IsSomeSource, IsNoSource}
 pub record HasCompiled (Scheduled : CompileRequest → SourceProgram → CodeWithNotes → Type 0) (passes : List PassCount) (old new : Outside) (request : CompileRequest) : Type 0 where
   pub program : SourceProgram
   pub object : CodeWithNotes
-  pub compiled : Compiled Scheduled request program object old.shelf new.shelf
+  pub compiled : WritesObject Scheduled request program object old.shelf new.shelf
   pub reported : Reports request.report (report_on program object passes) old.out new.out
   pub silent : new.err ≡ old.err
 
