@@ -218,7 +218,7 @@ module _ (flow : FlowGraph) (loop : Option ℕ) where
       let Q : List ℤ → FlowState → Type 0 = Arrives (Name (temporary t)) t q f.state v (set_left rest s) in
       let more = value_of lengths f.state (More (temporary t)) in
       pure-comes nodes lengths (More (temporary t)) (temporary t) g.0 f out (λ o h. Comes nodes lengths (Test_node ∷ Read_node ∷ []) o h Q)
-          (here nodes f.node p _ at g.3.there) (Pure-more (temporary t))
+      (here nodes f.node p _ at g.3.there) (Pure-more (temporary t))
       (λ h at' wrote. test-comes nodes lengths (Name (temporary t)) g.1 g.2 None h out (λ o k. Comes nodes lengths (Read_node ∷ []) o k Q) (here nodes h.node g.0 _ at' g.4.there)
       (read-arrives t q v rest s out (standing (if holds (h.state.names (temporary t)) then g.1 else g.2) h.state) f.state
       (here nodes (if holds (h.state.names (temporary t)) then g.1 else g.2) g.1 _

@@ -88,7 +88,7 @@ lower_binary-returns t c =
     let right = rw (c.above.ensures, c.leading_to.ensures, c.next_temporary-above.ensures) at c.lower_expression-middle.ensures in
     let left = rw c.leading_to-2.ensures at c.lower_expression.ensures in
     lays_binary c.args.site.inside c.args.operation.op c.args.operation.line (expression_of c.args.left.now) (expression_of c.args.right.now)
-        c.args.site.temporary c.args.site.next operation right left
+    c.args.site.temporary c.args.site.next operation right left
 
 -- ---- `&&`
 
