@@ -300,6 +300,8 @@ due_promise given Passed passes old new why code (With_fault ends) input (inr to
   input = input;
 }
 
+pub ruleset compiler_promises = (done_promise, handed_object)
+
 pub ruleset compiler_endings = (
   read_ends,
   memory_ends,

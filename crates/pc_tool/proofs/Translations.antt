@@ -72,6 +72,8 @@ is_translation Passed limits extent text checked it h compiled words bytes =
       bytes = bytes;
     }
 
+pub ruleset translations = (is_translation)
+
 -- a checked text without an object is too large
 pub uncompiled : (error : CompileError) (text : List ℕ) (checked : ResolvedProgram) → IsChecked text checked
     → IsUncompiled (resolved_size checked) error → RefusesText (refusal_of_compile error) text

@@ -29,6 +29,7 @@ use std::alloc::{AllocError, Global};
 
 /// Compiles as the words say, and tells what is due then; where nothing is, it hands out what was compiled. An
 /// input is not touched.
+#[tactic(auto, using(crate::proofs::CompilerEndings::compiler_promises))]
 pub(crate) fn compiler<P: Pass, H: Shelf, O: Sink, E: Sink>(
     alloc: Global,
     words: &[String],

@@ -24,6 +24,7 @@ pub(crate) struct Translation {
 }
 
 /// The object that does what a source does, after passes over its flow graph.
+#[tactic(auto, using(crate::proofs::Translations::translations))]
 pub(crate) fn translate<P: Pass>(
     alloc: Global,
     text: &[u8],

@@ -1,20 +1,11 @@
--- How the compiler ended is what it promises: what was compiled is handed out, or the fault that is due is told.
+-- The fault that is due is told.
 use Rattle.std.proofs.Common.{refl}
 use Rattle.pc_command.specs.Requests.{compile_command_of}
 use Rattle.pc_command.specs.Words.{spelled}
 use Rattle.pc_driver.specs.Outside.{outside_of}
 use Rattle.pc_driver.specs.Streams.{streamed}
-use Rattle.pc_tool.proofs.CompilerEndings.{done_promise, due_promise, handed_object}
+use Rattle.pc_tool.proofs.CompilerEndings.{due_promise}
 use Rattle.pc_tool.proofs.compile.compiler.Goals as goal
-
-pub returns-in-Ok-clause-promise : goal.returns-in-Ok-clause-promise
-returns-in-Ok-clause-promise g c = λ input.
-    let after = c.run_compiler.new in
-    let out = streamed (g.O.Sink.taken c.args.out.now) (g.O.Sink.faults c.args.out.now) in
-    let out_now = streamed (g.O.Sink.taken after.out) (g.O.Sink.faults after.out) in
-    let err = streamed (g.E.Sink.taken c.args.err.now) (g.E.Sink.faults c.args.err.now) in
-    done_promise (compile_command_of (spelled c.args.words.now)) _ _ (outside_of (g.H.Shelf.state c.args.shelf.now) input out err)
-    (outside_of (g.H.Shelf.state after.shelf) input out_now err) _ c.in-Ok.ensures.ends refl refl
 
 pub returns-in-Err-clause-promise : goal.returns-in-Err-clause-promise
 returns-in-Err-clause-promise g c = λ input.
@@ -25,6 +16,3 @@ returns-in-Err-clause-promise g c = λ input.
     let err_now = streamed (g.E.Sink.taken c.tell.new.err) (g.E.Sink.faults c.tell.new.err) in
     due_promise (compile_command_of (spelled c.args.words.now)) _ _ (outside_of (g.H.Shelf.state c.args.shelf.now) input out err)
     (outside_of (g.H.Shelf.state after.shelf) input out_now err_now) _ c.tell.result c.in-Err.ensures.ends refl c.tell.ensures
-
-pub returns-in-Ok-clause-object : goal.returns-in-Ok-clause-object
-returns-in-Ok-clause-object g c = handed_object _ _ _ _ _ _ _ _ c.in-Ok.ensures.ends

@@ -1,7 +1,7 @@
--- What each step leaves, put together.
+-- A checked text without an object is too large.
 use Rattle.std.proofs.lemmas.Result.{err_from_is_err_and}
 use Rattle.pc_check.specs.Checks.{resolved_of}
-use Rattle.pc_tool.proofs.Translations.{is_translation, uncompiled}
+use Rattle.pc_tool.proofs.Translations.{uncompiled}
 use Rattle.pc_tool.proofs.translation.translate.Goals as goal
 
 pub returns-in_err-compiled-clause-translation : goal.returns-in_err-compiled-clause-translation
@@ -9,8 +9,3 @@ returns-in_err-compiled-clause-translation g c =
     let p = err_from_is_err_and c.from_residual-in_err-compiled.result c.from_residual-in_err-compiled.ensures.1 in
     rw (p.1, p.2) (uncompiled c.in_err-compiled.field-0.0 c.args.text.now (resolved_of c.in_ok-checked.checked) c.in_ok-checked.ensures
     c.in_err-compiled.ensures.uncompiled)
-
-pub returns-clause-translation : goal.returns-clause-translation
-returns-clause-translation g c =
-    is_translation _ c.args.limits c.args.extent c.args.text.now (resolved_of c.in_ok-checked.checked) _ c.in_ok-checked.ensures
-    c.in_ok-compiled.ensures.compiled c.in_ok-bytes.ensures.words c.in_ok-bytes.ensures.text
