@@ -48,4 +48,5 @@ module _ {P : Type 0} (does : P → FlowGraph → FlowGraph → ℕ → ℕ → 
       many = i;
       not_all = omega (arith, there, as_many);
       chain = rw (take-set passes i passed, same) chain;
+      rest = rest_next;
     }

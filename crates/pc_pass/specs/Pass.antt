@@ -1,5 +1,5 @@
 -- What passes keep, what they do one after another, and their counts.
-use Rattle.std.specs.Prelude.{◌≡◌, ℕ, ◌<◌, ◌≤◌, ℤ, List, [], ◌∷◌, length, slice_index, take}
+use Rattle.std.specs.Prelude.{◌≡◌, ℕ, ◌+◌, ◌<◌, ◌≤◌, ℤ, List, [], ◌∷◌, length, slice_index, take, drop}
 use Rattle.pc_word.specs.Count.{Rose}
 use Rattle.pc_word.specs.Run.{Answers, AgreeOnInputs}
 use Rattle.pc_flow.specs.FlowGraph.{FlowGraph}
@@ -27,11 +27,13 @@ pub data Chain {P : Type 0} (does : P → FlowGraph → FlowGraph → ℕ → �
       Chain does changed before after mid last →
       Chain does changed (pass ∷ before) (passed ∷ after) first last
 
--- some of the first passes of a list, but not all, were applied so, and the graph is as they left it
+-- some of the first passes of a list, but not all, were applied so, and the graph is as they left it; those after the one that failed
+-- are as before
 pub record BrokenChain {P : Type 0} (does : P → FlowGraph → FlowGraph → ℕ → ℕ → Type 0) (changed : P → ℕ) (before after : List P) (first last : FlowGraph) : Type 0 where
   pub many : ℕ
   pub not_all : many < length before
   pub chain : Chain does changed (take many before) (take many after) first last
+  pub rest : drop (many + 1) after ≡ drop (many + 1) before
 
 -- each of a list of counts rose, or stands at the end of u64
 abbrev pub EachRose : List ℕ → List ℕ → Type 0
