@@ -1,6 +1,6 @@
 -- The flaws of a code, in the order in which its text has the fields at which they stand: the header, and then each
 -- row in preorder, the yes side before the no side.
-use Rattle.std.specs.Prelude.{ℕ, suc, ◌+◌, Bool, true, false, not, ◌&&◌, ◌||◌, nat_eq, nat_lt, nat_le, List, [], ◌∷◌, ◌++◌, length}
+use Rattle.std.specs.Prelude.{ℕ, suc, ℤ, ◌+◌, Bool, true, false, not, ◌&&◌, ◌||◌, nat_eq, nat_lt, nat_le, List, [], ◌∷◌, ◌++◌, length}
 use Rattle.std.specs.List.{flat_map}
 use Rattle.pc_word.specs.declared.item.Item.{Item}
 use Rattle.pc_word.specs.declared.item.Item.TheVariants.{Bin, Copy, Load, Store, Print, Read, More}
@@ -8,7 +8,8 @@ use Rattle.pc_word.specs.declared.item.Operand.{Operand}
 use Rattle.pc_word.specs.declared.item.Operand.TheVariants.{Name, Lit}
 use Rattle.pc_word.specs.declared.item.Limits.{Limits}
 use Rattle.pc_machine.specs.declared.code.Flaw.{Flaw}
-use Rattle.pc_machine.specs.declared.code.Flaw.TheVariants.{HeaderLimit, ArrayCount, ArrayLength, Elements, RowCount, Register, Array, Target}
+use Rattle.pc_machine.specs.declared.code.Flaw.TheVariants.{HeaderLimit, ArrayCount, Registers, ArrayLength, Elements, DataCount, DataTail, RowCount}
+use Rattle.pc_machine.specs.declared.code.Flaw.TheVariants.{Register, Array, Target}
 use Rattle.pc_machine.specs.declared.code.Flaw.TheVariants.{DestTwice, EffectTwice, TooManyOps, TooManyTests, TooManyMem}
 use Rattle.pc_machine.specs.declared.check.Bounds.{Bounds}
 use Rattle.pc_machine.specs.declared.check.Counts.{Counts}
@@ -18,7 +19,9 @@ use Rattle.pc_machine.specs.MachineCode.{CodeRow, RowCode}
 use Rattle.pc_word.specs.Row.{Then, Either, At_leaf}
 use Rattle.pc_word.specs.Items.{dest_of, is_memory, is_effect}
 use Rattle.pc_word.specs.Commit.{writes}
-use Rattle.pc_word.specs.MachineLimits.{most_arrays, most_elements, most_length, most_mem, most_ops, most_tests, registers}
+use Rattle.pc_word.specs.MachineLimits.{most_arrays, most_elements, most_length, most_mem, most_ops, most_tests}
+use Rattle.pc_machine.specs.Registers.{few_registers, most_registers}
+use Rattle.pc_machine.specs.Data.{ends_in_zero}
 
 -- a flaw, where a test says so
 abbrev pub flaw_where : Bool → Flaw → List Flaw
@@ -43,6 +46,10 @@ limits_flaws limits = limit_flaws most_ops limits.ops ++ (limit_flaws most_tests
 abbrev pub array_count_flaws : ℕ → List Flaw
 array_count_flaws count = flaw_where (nat_lt most_arrays count) ArrayCount
 
+-- at the number of registers
+abbrev pub register_count_flaws : ℕ → List Flaw
+register_count_flaws count = flaw_where (not (nat_eq count few_registers || nat_eq count most_registers)) Registers
+
 -- at the length of an array, where the arrays before it have so many elements
 abbrev pub length_flaws : ℕ → ℕ → List Flaw
 length_flaws before elements =
@@ -52,6 +59,23 @@ length_flaws before elements =
 abbrev pub lengths_flaws : ℕ → List ℕ → List Flaw
 lengths_flaws before [] = []
 lengths_flaws before (elements ∷ lengths) = length_flaws before elements ++ lengths_flaws (before + elements) lengths
+
+-- at the count of the words with which an array of so many elements begins
+abbrev pub data_count_flaws : ℕ → ℕ → List Flaw
+data_count_flaws elements count = flaw_where (nat_lt elements count) DataCount
+
+-- at that count, and at the last of these words
+abbrev pub data_flaws : ℕ → List ℤ → List Flaw
+data_flaws elements words = data_count_flaws elements (length words) ++ flaw_where (ends_in_zero words) DataTail
+
+-- at the data of each array
+abbrev pub each_data_flaws : List ℕ → List (List ℤ) → List Flaw
+each_data_flaws (elements ∷ lengths) (words ∷ initial) = data_flaws elements words ++ each_data_flaws lengths initial
+each_data_flaws _ _ = []
+
+-- at the data: an array that has no list of words, or a list that has no array, is told before what is wrong with one
+abbrev pub initial_flaws : List ℕ → List (List ℤ) → List Flaw
+initial_flaws lengths initial = flaw_where (not (nat_eq (length initial) (length lengths))) DataCount ++ each_data_flaws lengths initial
 
 -- at the number of rows
 abbrev pub row_count_flaws : ℕ → List Flaw
@@ -108,18 +132,18 @@ item_tag_flaws limits counts above memory effect =
 abbrev pub test_tag_flaws : Limits → Counts → List Flaw
 test_tag_flaws limits counts = flaw_where (nat_le limits.tests counts.tests) TooManyTests
 
--- at a register
-abbrev pub register_flaws : ℕ → List Flaw
-register_flaws register = flaw_where (nat_le registers register) Register
+-- at a register, of so many
+abbrev pub register_flaws : ℕ → ℕ → List Flaw
+register_flaws registers register = flaw_where (nat_le registers register) Register
 
 -- at the register that an item writes
-abbrev pub dest_flaws : Above → ℕ → List Flaw
-dest_flaws above dest = register_flaws dest ++ flaw_where (above.written dest) DestTwice
+abbrev pub dest_flaws : ℕ → Above → ℕ → List Flaw
+dest_flaws registers above dest = register_flaws registers dest ++ flaw_where (above.written dest) DestTwice
 
 -- at an operand
-abbrev pub operand_flaws : Operand → List Flaw
-operand_flaws (Name register) = register_flaws register
-operand_flaws (Lit value) = []
+abbrev pub operand_flaws : ℕ → Operand → List Flaw
+operand_flaws registers (Name register) = register_flaws registers register
+operand_flaws registers (Lit value) = []
 
 -- at an array, of so many
 abbrev pub array_flaws : ℕ → ℕ → List Flaw
@@ -130,23 +154,26 @@ abbrev pub target_flaws : ℕ → ℕ → List Flaw
 target_flaws rows row = flaw_where (nat_le rows row) Target
 
 -- after the tag of an item, field by field
-abbrev pub field_flaws : ℕ → Above → Item → List Flaw
-field_flaws arrays above (Bin op dest left right) = dest_flaws above dest ++ (operand_flaws left ++ operand_flaws right)
-field_flaws arrays above (Copy dest from) = dest_flaws above dest ++ operand_flaws from
-field_flaws arrays above (Load dest array index) = dest_flaws above dest ++ (array_flaws arrays array ++ operand_flaws index)
-field_flaws arrays above (Store array index value) = array_flaws arrays array ++ (operand_flaws index ++ operand_flaws value)
-field_flaws arrays above (Print value) = operand_flaws value
-field_flaws arrays above (Read dest) = dest_flaws above dest
-field_flaws arrays above (More dest) = dest_flaws above dest
+abbrev pub field_flaws : Bounds → Above → Item → List Flaw
+field_flaws bounds above (Bin op dest left right) =
+    dest_flaws bounds.registers above dest ++ (operand_flaws bounds.registers left ++ operand_flaws bounds.registers right)
+field_flaws bounds above (Copy dest from) = dest_flaws bounds.registers above dest ++ operand_flaws bounds.registers from
+field_flaws bounds above (Load dest array index) =
+    dest_flaws bounds.registers above dest ++ (array_flaws bounds.arrays array ++ operand_flaws bounds.registers index)
+field_flaws bounds above (Store array index value) =
+    array_flaws bounds.arrays array ++ (operand_flaws bounds.registers index ++ operand_flaws bounds.registers value)
+field_flaws bounds above (Print value) = operand_flaws bounds.registers value
+field_flaws bounds above (Read dest) = dest_flaws bounds.registers above dest
+field_flaws bounds above (More dest) = dest_flaws bounds.registers above dest
 
 -- of an item
 abbrev pub item_flaws : Bounds → Counts → Above → Item → List Flaw
 item_flaws bounds counts above item =
-    item_tag_flaws bounds.limits counts above (is_memory item) (is_effect item) ++ field_flaws bounds.arrays above item
+    item_tag_flaws bounds.limits counts above (is_memory item) (is_effect item) ++ field_flaws bounds above item
 
 -- of a test
 abbrev pub test_flaws : Bounds → Counts → Operand → List Flaw
-test_flaws bounds counts on = test_tag_flaws bounds.limits counts ++ operand_flaws on
+test_flaws bounds counts on = test_tag_flaws bounds.limits counts ++ operand_flaws bounds.registers on
 
 -- of a leaf
 abbrev pub leaf_flaws : Bounds → Leaf → List Flaw
@@ -168,12 +195,15 @@ row_flaws bounds counts above (At_leaf leaf) = leaf_flaws bounds leaf
 
 -- what each row of a code is held against
 abbrev pub bounds_of : RowCode → Bounds
-bounds_of code = record { limits = code.limits; arrays = length code.arrays; rows = length code.rows }
+bounds_of code = record { limits = code.limits; registers = code.registers; arrays = length code.arrays; rows = length code.rows }
 
--- of the header: the limits, the number of arrays, their lengths, the number of rows
+-- of the header: the limits, the number of arrays, the number of registers, the lengths of arrays, their data, the number of rows
 abbrev pub header_flaws : RowCode → List Flaw
 header_flaws code =
-    limits_flaws code.limits ++ (array_count_flaws (length code.arrays) ++ (lengths_flaws 0 code.arrays ++ row_count_flaws (length code.rows)))
+    limits_flaws code.limits
+    ++ (array_count_flaws (length code.arrays)
+    ++ (register_count_flaws code.registers
+    ++ (lengths_flaws 0 code.arrays ++ (initial_flaws code.arrays code.initial ++ row_count_flaws (length code.rows)))))
 
 -- all flaws, in the order of the text
 abbrev pub flaws_of : RowCode → List Flaw

@@ -1,4 +1,6 @@
+pub mod Registers
 pub mod MachineCode
+pub mod Data
 pub mod MachineRun
 pub mod Reachable
 pub mod WellFormed

@@ -1,5 +1,5 @@
 -- Rows and codes as plain data, without the pointers that hold a tree together in memory.
-use Rattle.std.specs.Prelude.{ℕ, Bool, false, nat_eq, List, map, Option, Some, None}
+use Rattle.std.specs.Prelude.{ℕ, ℤ, Bool, false, nat_eq, List, map, Option, Some, None}
 use Rattle.pc_word.specs.declared.item.Limits.{Limits}
 use Rattle.pc_word.specs.declared.row_tree.RowTree.{RowTree}
 use Rattle.pc_word.specs.Row.{Row}
@@ -24,10 +24,13 @@ is_goto target (Trap kind line) = false
 abbrev pub CodeRow : Type 0
 CodeRow = Row Leaf
 
--- a code: the limits of its rows, the lengths of its arrays, and its rows by number
+-- a code: the limits of its rows, how many registers it has, the lengths of its arrays and the words with which each begins, and
+-- its rows by number
 pub record RowCode : Type 0 where
   pub limits : Limits
+  pub registers : ℕ
   pub arrays : List ℕ
+  pub initial : List (List ℤ)
   pub rows : List CodeRow
 
 -- the row that a tree in memory is
@@ -40,4 +43,5 @@ rows_of trees = map row_of trees
 
 -- the code that a code in memory is
 abbrev pub code_of : Code → RowCode
-code_of code = record { limits = code.limits; arrays = code.arrays; rows = rows_of code.rows }
+code_of code =
+    record { limits = code.limits; registers = code.registers; arrays = code.arrays; initial = code.initial; rows = rows_of code.rows }

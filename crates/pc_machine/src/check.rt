@@ -3,25 +3,29 @@ ghost use Rattle.std.specs.List.{flat_map};
 ghost use Rattle.pc_machine.specs.MachineCode.{row_of, code_of, rows_of};
 ghost use Rattle.pc_word.specs.Items.{dest_of, is_memory, is_effect};
 ghost use Rattle.pc_machine.specs.WellFormed.{WellFormed};
-ghost use Rattle.pc_machine.specs.Flaws.{limit_flaws, array_count_flaws, length_flaws, lengths_flaws, row_count_flaws, header_flaws, nothing_above};
+ghost use Rattle.pc_machine.specs.Flaws.{limit_flaws, array_count_flaws, register_count_flaws, length_flaws, lengths_flaws, row_count_flaws, header_flaws, nothing_above};
+ghost use Rattle.pc_machine.specs.Flaws.{data_count_flaws, data_flaws, initial_flaws};
 ghost use Rattle.pc_machine.specs.Flaws.{above_with, no_counts, counts_with_item, counts_with_test, counts_after, item_tag_flaws, test_tag_flaws};
 ghost use Rattle.pc_machine.specs.Flaws.{register_flaws, dest_flaws, operand_flaws, array_flaws, target_flaws, field_flaws, item_flaws, test_flaws};
 ghost use Rattle.pc_machine.specs.Flaws.{leaf_flaws, row_flaws, flaws_of};
 ghost use Rattle.pc_word.specs.Exact.{checked};
 ghost use Rattle.pc_machine.specs.Checks.{above_of, IsDest};
 ghost use Rattle.pc_word.specs.MachineLimits.{most_elements};
+ghost use Rattle.pc_machine.specs.Registers.{most_registers};
 
-use crate::code::{Code, Flaw};
+use crate::code::{Code, FEW_REGISTERS, Flaw, MOST_REGISTERS};
 use crate::tree::{Leaf, Tree};
 use pc_word::{
     Item, Limits, MOST_ARRAYS, MOST_ELEMENTS, MOST_LENGTH, MOST_MEM, MOST_OPS, MOST_TESTS, Operand,
-    REGISTERS, RowTree,
+    RowTree, WordList,
 };
 
-/// What each row of a code is held against: its limits, its number of arrays and its number of rows.
+/// What each row of a code is held against: its limits, and how many registers, arrays and rows the
+/// code has.
 #[derive(Clone, Copy, Debug, PartialEq, Eq)]
 pub struct Bounds {
     pub limits: Limits,
+    pub registers: usize,
     pub arrays: usize,
     pub rows: usize,
 }
@@ -38,7 +42,7 @@ pub struct Counts {
 /// print, read or more.
 #[derive(Clone, Copy, Debug)]
 pub struct Path {
-    written: [bool; REGISTERS],
+    written: [bool; MOST_REGISTERS],
     effect: bool,
 }
 
@@ -61,14 +65,14 @@ impl Path {
         ensures { above_of result ≡ nothing_above }
     {
         Path {
-            written: [false; REGISTERS],
+            written: [false; MOST_REGISTERS],
             effect: false,
         }
     }
 
     /// The path below an item.
     pub fn below(&self, item: &Item) -> Path
-        requires { IsDest (dest_of item.now) }
+        requires { IsDest most_registers (dest_of item.now) }
         ensures { above_of result ≡ above_with item.now (above_of self.now) }
     {
         let mut written = self.written;
@@ -81,16 +85,11 @@ impl Path {
         }
     }
 
-    /// Checks the register that an item under this path writes: `Register` where the machine has
-    /// no such register, and else `DestTwice` where the path writes it already.
-    pub fn dest(&self, register: u32) -> Result<(), Flaw>
-        ensures { result ≡ checked (dest_flaws (above_of self.now) register) tt }
+    /// Whether an item on this path writes a register.
+    fn writes(&self, register: u32) -> bool
+        ensures { result ≡ (above_of self.now).written register }
     {
-        is_register(register)?;
-        if self.written[register as usize] {
-            return Err(Flaw::DestTwice);
-        }
-        Ok(())
+        self.written.get(register as usize).copied().unwrap_or(false)
     }
 }
 
@@ -138,6 +137,38 @@ impl Bounds {
         })
     }
 
+    /// Checks that a register is there; else `Register`.
+    pub fn register(&self, register: u32) -> Result<(), Flaw>
+        ensures { result ≡ checked (register_flaws self.now.registers register) tt }
+    {
+        if self.registers <= register as usize {
+            return Err(Flaw::Register);
+        }
+        Ok(())
+    }
+
+    /// Checks the register that an item under this path writes: `Register` where it is not there,
+    /// and else `DestTwice` where the path writes it already.
+    pub fn dest(&self, path: &Path, register: u32) -> Result<(), Flaw>
+        ensures { result ≡ checked (dest_flaws self.now.registers (above_of path.now) register) tt }
+    {
+        self.register(register)?;
+        if path.writes(register) {
+            return Err(Flaw::DestTwice);
+        }
+        Ok(())
+    }
+
+    /// Checks an operand: `Register` where it is a register that is not there.
+    pub fn operand(&self, operand: &Operand) -> Result<(), Flaw>
+        ensures { result ≡ checked (operand_flaws self.now.registers operand.now) tt }
+    {
+        match operand {
+            Operand::Name(register) => self.register(*register),
+            Operand::Lit(_) => Ok(()),
+        }
+    }
+
     /// Checks that an array is there; else `Array`.
     pub fn array(&self, array: u8) -> Result<(), Flaw>
         ensures { result ≡ checked (array_flaws self.now.arrays array) tt }
@@ -160,7 +191,7 @@ impl Bounds {
 
     /// Checks the fields after the tag of an item.
     fn fields(&self, path: &Path, item: &Item) -> Result<(), Flaw>
-        ensures { result ≡ checked (field_flaws self.now.arrays (above_of path.now) item.now) tt }
+        ensures { result ≡ checked (field_flaws self.now (above_of path.now) item.now) tt }
     {
         match item {
             Item::Bin {
@@ -169,18 +200,18 @@ impl Bounds {
                 right,
                 ..
             } => {
-                path.dest(*dest)?;
-                operand(left)?;
-                operand(right)
+                self.dest(path, *dest)?;
+                self.operand(left)?;
+                self.operand(right)
             }
             Item::Copy { dest, from } => {
-                path.dest(*dest)?;
-                operand(from)
+                self.dest(path, *dest)?;
+                self.operand(from)
             }
             Item::Load { dest, array, index } => {
-                path.dest(*dest)?;
+                self.dest(path, *dest)?;
                 self.array(*array)?;
-                operand(index)
+                self.operand(index)
             }
             Item::Store {
                 array,
@@ -188,12 +219,12 @@ impl Bounds {
                 value,
             } => {
                 self.array(*array)?;
-                operand(index)?;
-                operand(value)
+                self.operand(index)?;
+                self.operand(value)
             }
-            Item::Print { value } => operand(value),
-            Item::Read { dest } => path.dest(*dest),
-            Item::More { dest } => path.dest(*dest),
+            Item::Print { value } => self.operand(value),
+            Item::Read { dest } => self.dest(path, *dest),
+            Item::More { dest } => self.dest(path, *dest),
         }
     }
 
@@ -211,7 +242,7 @@ impl Bounds {
         ensures { result ≡ checked (test_flaws self.now counts on.now) (counts_with_test counts) }
     {
         let counts = self.test_tag(counts)?;
-        operand(on)?;
+        self.operand(on)?;
         Ok(counts)
     }
 
@@ -230,6 +261,7 @@ impl Bounds {
     ///
     /// It goes no deeper than the limits let a tree be, since it stops at the first tag too many.
     fn row(&self, counts: Counts, path: &Path, tree: &Tree) -> Result<Counts, Flaw>
+        requires { self.now.registers ≤ most_registers }
         ensures { result ≡ checked (row_flaws self.now counts (above_of path.now) (row_of tree.now)) (counts_after (row_of tree.now) counts) }
     {
         match tree {
@@ -251,6 +283,7 @@ impl Bounds {
 
     /// Checks rows one after the other.
     fn rows(&self, trees: &[Tree]) -> Result<(), Flaw>
+        requires { self.now.registers ≤ most_registers }
         ensures { result ≡ checked (flat_map (row_flaws self.now no_counts nothing_above) (rows_of trees.now)) tt }
     {
         let path = Path::root();
@@ -258,26 +291,6 @@ impl Bounds {
             self.row(Counts::none(), &path, tree)?;
         }
         Ok(())
-    }
-}
-
-/// Checks that the machine has a register; else `Register`.
-pub fn is_register(register: u32) -> Result<(), Flaw>
-    ensures { result ≡ checked (register_flaws register) tt }
-{
-    if REGISTERS <= register as usize {
-        return Err(Flaw::Register);
-    }
-    Ok(())
-}
-
-/// Checks an operand: `Register` where it is a register that the machine does not have.
-pub fn operand(operand: &Operand) -> Result<(), Flaw>
-    ensures { result ≡ checked (operand_flaws operand.now) tt }
-{
-    match operand {
-        Operand::Name(register) => is_register(*register),
-        Operand::Lit(_) => Ok(()),
     }
 }
 
@@ -301,6 +314,16 @@ pub fn array_count(count: usize) -> Result<(), Flaw>
     Ok(())
 }
 
+/// Checks the number of registers, which is 128 or 256; else `Registers`.
+pub fn register_count(count: usize) -> Result<(), Flaw>
+    ensures { result ≡ checked (register_count_flaws count) tt }
+{
+    if count != FEW_REGISTERS && count != MOST_REGISTERS {
+        return Err(Flaw::Registers);
+    }
+    Ok(())
+}
+
 /// Checks the length of an array after arrays of so many elements: `ArrayLength` where it is not
 /// from 1 to 65,536, and then `Elements` where there are more than 1,048,576 elements with it.
 /// Gives the elements with it.
@@ -315,6 +338,17 @@ pub fn array_length(before: u32, length: u32) -> Result<u32, Flaw>
         return Err(Flaw::Elements);
     }
     Ok(before + length)
+}
+
+/// Checks the count of the words with which an array of so many elements begins; `DataCount` where
+/// there are more.
+pub fn data_count(elements: usize, count: usize) -> Result<(), Flaw>
+    ensures { result ≡ checked (data_count_flaws elements count) tt }
+{
+    if elements < count {
+        return Err(Flaw::DataCount);
+    }
+    Ok(())
 }
 
 /// Checks the number of rows, of which there is one; else `RowCount`.
@@ -337,6 +371,30 @@ fn array_lengths(lengths: &[u32]) -> Result<(), Flaw>
     Ok(())
 }
 
+/// Checks the words with which an array of so many elements begins.
+fn data(elements: u32, words: &[i32]) -> Result<(), Flaw>
+    ensures { result ≡ checked (data_flaws elements words.now) tt }
+{
+    data_count(elements as usize, words.len())?;
+    match words {
+        [.., 0] => Err(Flaw::DataTail),
+        _ => Ok(()),
+    }
+}
+
+/// Checks the words of arrays of these lengths.
+fn initial(lengths: &[u32], lists: &[WordList]) -> Result<(), Flaw>
+    ensures { result ≡ checked (initial_flaws lengths.now lists.now) tt }
+{
+    if lists.len() != lengths.len() {
+        return Err(Flaw::DataCount);
+    }
+    for place in 0..lengths.len() {
+        data(lengths[place], lists[place].as_slice())?;
+    }
+    Ok(())
+}
+
 fn header(code: &Code) -> Result<(), Flaw>
     ensures { result ≡ checked (header_flaws (code_of code.now)) tt }
 {
@@ -344,7 +402,9 @@ fn header(code: &Code) -> Result<(), Flaw>
     limit(MOST_TESTS, code.limits.tests)?;
     limit(MOST_MEM, code.limits.mem)?;
     array_count(code.arrays.len())?;
+    register_count(code.registers as usize)?;
     array_lengths(code.arrays.as_slice())?;
+    initial(code.arrays.as_slice(), code.initial.as_slice())?;
     row_count(code.rows.len())
 }
 
@@ -354,6 +414,7 @@ fn check_code(code: &Code) -> Result<(), Flaw>
     header(code)?;
     let bounds = Bounds {
         limits: code.limits,
+        registers: code.registers as usize,
         arrays: code.arrays.len(),
         rows: code.rows.len(),
     };

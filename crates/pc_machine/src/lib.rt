@@ -9,10 +9,10 @@ mod laws;
 mod tree;
 
 pub use check::{
-    Bounds, Counts, Path, array_count, array_length, is_register, limit, operand, row_count,
+    Bounds, Counts, Path, array_count, array_length, data_count, limit, register_count, row_count,
     well_formed,
 };
-pub use code::{Code, Flaw, TreeList};
+pub use code::{Code, DataList, FEW_REGISTERS, Flaw, MOST_REGISTERS, TreeList};
 pub use laws::laws_of_codes;
 pub use pc_word::{End, MachineFault};
 pub use tree::{Leaf, Tree};

@@ -14,7 +14,7 @@ pub enum Leaf {
 /// A tree instruction: a tree of items and tests whose leaves say what comes next.
 ///
 /// All operands and tests read the values from before the row. One path from the root to a leaf is
-/// taken, and its items commit together. Names are registers, from 0 to 127.
+/// taken, and its items commit together. Names are registers, numbered from 0.
 pub type Tree = RowTree<Leaf>;
 
 impl Leaf {
