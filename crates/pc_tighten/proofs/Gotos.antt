@@ -297,7 +297,7 @@ are_marks rows it are = record {
 }
 
 rows_shrink : (rows : List CodeRow) (it : Places) → ArePlacesFrom (gotos_of rows) it 0 → RowsShrink rows (rows_left (gotos_of rows) it rows)
-rows_shrink rows it are limits arrays = marked_go (code_with limits arrays rows) (new_place it) (goes (gotos_of rows)) (length rows) (are_marks rows it are)
+rows_shrink rows it are limits like = marked_go (code_with limits like rows) (new_place it) (goes (gotos_of rows)) (length rows) (are_marks rows it are)
 
 -- the last row, if it goes
 pub left_without : (gotos : List (Option ℕ)) (it : Places) (before rows left : List (RowTree Leaf)) (tree : RowTree Leaf) → before ≡ rows ++ tree ∷ [] → goes gotos (length rows) ≡ true
@@ -393,11 +393,11 @@ shrinks_on first second = record {
 }
 
 pub rows_same : (rows : List CodeRow) → RowsShrink rows rows
-rows_same rows limits arrays = record { removals = No_removal; compact = λ all compact. compact }
+rows_same rows limits like = record { removals = No_removal; compact = λ all compact. compact }
 
 -- a round in which some go
 pub rounds_go_on : (old now new : List CodeRow) (some : Bool) → some ≡ true → RowsShrink old now → HasRemoved now new some → RowsShrink old new × (length new < length now)
-rounds_go_on old now new true is shrink removed = ((λ limits arrays. shrinks_on (shrink limits arrays) (removed.0 limits arrays)), removed.1)
+rounds_go_on old now new true is shrink removed = ((λ limits like. shrinks_on (shrink limits like) (removed.0 limits like)), removed.1)
 rounds_go_on old now new false is shrink removed = absurd (cc)
 
 -- and the last one

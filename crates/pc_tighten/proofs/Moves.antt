@@ -282,14 +282,14 @@ module _ (code : RowCode) (well : WellFormed code) (m t : ℕ) (above : CodeRow)
         (state_after code.arrays c.state (x ∷ []))))) is (under_steps here.state) h.0))
   ]
 
-  module _ (input : List ℤ) (never : NeverFaultsFrom (machine_step code) (machine_start input)) where
-    starts : HasDone [] (machine_start input) (machine_start input)
+  module _ (input : List ℤ) (never : NeverFaultsFrom (machine_step code) (machine_start code input)) where
+    starts : HasDone [] (machine_start code input) (machine_start code input)
     starts = (never, inl (refl, (λ e. may.pair.not_entry (sym e)), refl))
 
     -- the runs agree
     pub move_agrees : Agree (machine_run code input) (machine_run after input)
-    move_agrees = Agree-ahead (machine_step code) (machine_step after) HasDone steps_ahead (machine_start input) (machine_start input) starts
+    move_agrees = Agree-ahead (machine_step code) (machine_step after) HasDone steps_ahead (machine_start code input) (machine_start code input) starts
 
     -- and after as many cycles the second has shown what the first has
     pub move_keeps_pace : (n : ℕ) → Answers (machine_run code input n) (machine_run after input n) (machine_run code input n).end
-    move_keeps_pace n = keeps_pace (machine_step code) (machine_step after) HasDone steps_ahead n [] (machine_start input) (machine_start input) starts
+    move_keeps_pace n = keeps_pace (machine_step code) (machine_step after) HasDone steps_ahead n [] (machine_start code input) (machine_start code input) starts

@@ -12,15 +12,17 @@ use Rattle.pc_tighten.specs.Tightened.{ByMoves, Tightens, EachIsReachable, IsTig
 use Rattle.pc_tighten.specs.models.Gotos.{AreRemoved, AreTightened}
 use Rattle.pc_tighten.specs.models.Raising.{code_with, IsRaised}
 use Rattle.pc_tighten.proofs.Sizes.{tightening_takes_no_more_room}
-use Rattle.pc_tighten.proofs.Tightened.{moves_keep_reachable, tightening_keeps_form, tightening_is_no_slower, tightening_keeps_reachable, tightening_keeps_limits, tightening_keeps_arrays}
+use Rattle.pc_tighten.proofs.Tightened.{moves_keep_reachable, tightening_keeps_form, tightening_is_no_slower, tightening_keeps_reachable, tightening_keeps}
 
 is_tightened : {code after : RowCode} → WellFormed code → Tightens code after → (EachIsReachable code.rows → Compact after) → HasNoGotoAlone after.rows
     → IsTightened code after
 is_tightened well steps compact none_left = record {
   tightens = steps;
   form = tightening_keeps_form steps well;
-  limits = tightening_keeps_limits steps;
-  arrays = tightening_keeps_arrays steps;
+  limits = tightening_keeps (λ (c : RowCode). c.limits) (λ c rows. refl) steps;
+  registers = tightening_keeps (λ (c : RowCode). c.registers) (λ c rows. refl) steps;
+  arrays = tightening_keeps (λ (c : RowCode). c.arrays) (λ c rows. refl) steps;
+  initial = tightening_keeps (λ (c : RowCode). c.initial) (λ c rows. refl) steps;
   runs = λ input never. tightening_is_no_slower steps well input never;
   room = λ room. tightening_takes_no_more_room room steps;
   reachable = λ all. tightening_keeps_reachable steps all;
@@ -40,15 +42,15 @@ rows_tightened limits before between after raised removed = record { between = b
 pub ruleset in_order = (rows_raised, rows_tightened)
 
 -- what the code is then
-pub code_tightened : (limits : Limits) (arrays : List ℕ) (before after left : List (RowTree Leaf)) → AreTightened limits (rows_of before) (rows_of left) → after ≡ left
-    → WellFormed (code_with limits arrays (rows_of before)) → IsTightened (code_with limits arrays (rows_of before)) (code_with limits arrays (rows_of after))
-code_tightened limits arrays before after left tight same well =
-    subst (λ (rows : List (RowTree Leaf)). IsTightened (code_with limits arrays (rows_of before)) (code_with limits arrays (rows_of rows))) (sym same)
-    (is_tightened well (record { between = code_with limits arrays tight.between; moves = up; removals = down.removals })
-    (λ all. down.compact (moves_keep_reachable up all) (tight.raised.compact arrays)) tight.removed.none_left)
+pub code_tightened : (limits : Limits) (like : RowCode) (before after left : List (RowTree Leaf)) → AreTightened limits (rows_of before) (rows_of left) → after ≡ left
+    → WellFormed (code_with limits like (rows_of before)) → IsTightened (code_with limits like (rows_of before)) (code_with limits like (rows_of after))
+code_tightened limits like before after left tight same well =
+    subst (λ (rows : List (RowTree Leaf)). IsTightened (code_with limits like (rows_of before)) (code_with limits like (rows_of rows))) (sym same)
+    (is_tightened well (record { between = code_with limits like tight.between; moves = up; removals = down.removals })
+    (λ all. down.compact (moves_keep_reachable up all) (tight.raised.compact like)) tight.removed.none_left)
   where
-    up : ByMoves (code_with limits arrays (rows_of before)) (code_with limits arrays tight.between)
-    up = tight.raised.moves_up arrays
+    up : ByMoves (code_with limits like (rows_of before)) (code_with limits like tight.between)
+    up = tight.raised.moves_up like
 
-    down : Shrinks (code_with limits arrays tight.between) (code_with limits arrays (rows_of left))
-    down = tight.removed.shrink limits arrays
+    down : Shrinks (code_with limits like tight.between) (code_with limits like (rows_of left))
+    down = tight.removed.shrink limits like

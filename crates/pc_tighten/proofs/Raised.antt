@@ -18,7 +18,7 @@ use Rattle.pc_word.specs.Items.{dest_of}
 use Rattle.pc_word.specs.Row.{Then, items_of, tests_of, leaves_of}
 use Rattle.pc_word.specs.declared.row_tree.RowTree.{RowTree}
 use Rattle.pc_machine.specs.declared.tree.Leaf.{Leaf}
-use Rattle.pc_machine.specs.MachineCode.{CodeRow, row_of, is_goto}
+use Rattle.pc_machine.specs.MachineCode.{CodeRow, RowCode, row_of, is_goto}
 use Rattle.pc_tighten.specs.declared.draft.Draft.{Draft}
 use Rattle.pc_tighten.specs.declared.parents.Parents.{Parents}
 use Rattle.pc_tighten.specs.Compact.{is_dest, is_full, comes_after, is_awaited_by, stays, paths_to, IsPair}
@@ -140,7 +140,7 @@ module _ (limits : Limits) (places : List (Option ℕ)) (old new : List Draft) (
   once : count_by (is_goto t) (leaves_of above) ≡ 1
   once = subst (λ (r : CodeRow). count_by (is_goto t) (leaves_of r) ≡ 1) same_above parent.parent.once
 
-  is_pair : (arrays : List ℕ) → IsPair (code_with limits arrays (draft_rows old)) m t above (below xs (Then can.free.0 rest))
+  is_pair : (like : RowCode) → IsPair (code_with limits like (draft_rows old)) m t above (below xs (Then can.free.0 rest))
   is_pair arrays = record {
     at_m = at_m;
     at_t = at_t;
@@ -149,7 +149,7 @@ module _ (limits : Limits) (places : List (Option ℕ)) (old new : List Draft) (
     not_itself = parent.parent.not_itself;
   }
 
-  may_move : (arrays : List ℕ) → MayMove (code_with limits arrays (draft_rows old)) m t above xs can.free.0 rest
+  may_move : (like : RowCode) → MayMove (code_with limits like (draft_rows old)) m t above xs can.free.0 rest
   may_move arrays = record {
     pair = is_pair arrays;
     free = each_alone (paths_to t above) (λ path. stays limits above path can.free.0 (xs ++ items_of rest) (tests_of rest) ≡ false) (paths-count t above ∙ once)
@@ -184,8 +184,8 @@ module _ (limits : Limits) (places : List (Option ℕ)) (old new : List Draft) (
 
   pub move_raises : Raises limits places 1 old new
   move_raises = record {
-    moves_up = λ arrays.
-        subst (λ (rows : List CodeRow). ByMoves (code_with limits arrays (draft_rows old)) (code_with limits arrays rows)) (sym new_is)
+    moves_up = λ like.
+        subst (λ (rows : List CodeRow). ByMoves (code_with limits like (draft_rows old)) (code_with limits like rows)) (sym new_is)
         (Move m t above xs can.free.0 rest (may_move arrays) No_move);
     leaves =
         ap (map leaves_of) new_is
@@ -201,7 +201,7 @@ module _ (limits : Limits) (places : List (Option ℕ)) (old new : List Draft) (
 -- ---- one after another
 
 pub raises_none : (limits : Limits) (places : List (Option ℕ)) (rows : List Draft) → Raises limits places 0 rows rows
-raises_none limits places rows = record { moves_up = λ arrays. No_move; leaves = refl; lower = omega arith; split = λ all. all }
+raises_none limits places rows = record { moves_up = λ like. No_move; leaves = refl; lower = omega arith; split = λ all. all }
 
 -- ---- rows with the same leaves
 
@@ -378,7 +378,7 @@ ok_then (Err e) P Q f h = tt
 pub raises_more : (limits : Limits) (places : List (Option ℕ)) (n k : ℕ) (old mid new : List Draft) → Raises limits places n old mid → Raises limits places k mid new
     → Raises limits places n old new
 raises_more limits places n k old mid new first more = record {
-  moves_up = λ arrays. moves_on (first.moves_up arrays) (more.moves_up arrays);
+  moves_up = λ like. moves_on (first.moves_up like) (more.moves_up like);
   leaves = more.leaves ∙ first.leaves;
   split = λ all. more.split (first.split all);
   lower = (let a = first.lower in let b = more.lower in omega arith);

@@ -160,15 +160,15 @@ module _ (code : RowCode) (t u : ℕ) (may : IsGotoAlone code.rows t u) where
         (both_step next may.not_itself)
   ]
 
-  same_start : (input : List ℤ) → placed (machine_start input) ≡ machine_start input
-  same_start input = ap (λ (i : ℕ). let c : Cycle = record { row = i; state = (machine_start input).state } in c) (entry_stays t u may.not_entry)
+  same_start : (input : List ℤ) → placed (machine_start code input) ≡ machine_start code input
+  same_start input = ap (λ (i : ℕ). let c : Cycle = record { row = i; state = (machine_start code input).state } in c) (entry_stays t u may.not_entry)
 
   -- the runs agree
   pub removal_agrees : (input : List ℤ) → Agree (machine_run code input) (machine_run shorter input)
   removal_agrees input = subst (λ (c : Cycle). Agree (machine_run code input) (λ n. run_from (machine_step shorter) n c)) (same_start input)
-      (shorter_agrees (machine_step code) (machine_step shorter) placed shortens (machine_start input))
+      (shorter_agrees (machine_step code) (machine_step shorter) placed shortens (machine_start code input))
 
   -- and after as many cycles the second has shown what the first has
   pub removal_keeps_pace : (input : List ℤ) (n : ℕ) → Answers (machine_run code input n) (machine_run shorter input n) (machine_run code input n).end
   removal_keeps_pace input n = subst (λ (c : Cycle). Answers (machine_run code input n) (run_from (machine_step shorter) n c) (machine_run code input n).end) (same_start input)
-      (shorter_pace (machine_step code) (machine_step shorter) placed shortens n (machine_start input))
+      (shorter_pace (machine_step code) (machine_step shorter) placed shortens n (machine_start code input))

@@ -12,7 +12,7 @@ use Rattle.pc_word.specs.declared.item.Item.{Item}
 use Rattle.pc_word.specs.declared.item.Operand.{Operand}
 use Rattle.pc_word.specs.declared.item.Limits.{Limits}
 use Rattle.pc_word.specs.Row.{Then, Either, At_leaf, items_of, tests_of, leaves_of}
-use Rattle.pc_machine.specs.MachineCode.{CodeRow, row_of, is_goto}
+use Rattle.pc_machine.specs.MachineCode.{CodeRow, RowCode, row_of, is_goto}
 use Rattle.pc_tighten.specs.declared.draft.Draft.{Draft}
 use Rattle.pc_tighten.specs.declared.parents.Parents.{Parents}
 use Rattle.pc_tighten.specs.Compact.{paths_to, EachStays, Compact}
@@ -145,10 +145,10 @@ draft_there rows i row at = by_entry (slice_get rows i) refl (sym (slice_get-map
     by_entry None there h = absurd (cc)
 
 -- where all rows of the list are settled the code is compact
-pub settled_compact : (limits : Limits) (arrays : List ℕ) (it : Parents) (old new : List Draft)
+pub settled_compact : (limits : Limits) (like : RowCode) (it : Parents) (old new : List Draft)
     → AreParents (draft_rows old) it → map leaves_of (draft_rows new) ≡ map leaves_of (draft_rows old)
-    → AllByRecursion IsSplit new → AreSettledIf limits it (IsAmongFirst it.listing.order.items (length it.listing.order.items)) new false → Compact (code_with limits arrays (draft_rows new))
-settled_compact limits arrays it old new are e split settled m t above under reached pair =
+    → AllByRecursion IsSplit new → AreSettledIf limits it (IsAmongFirst it.listing.order.items (length it.listing.order.items)) new false → Compact (code_with limits like (draft_rows new))
+settled_compact limits like it old new are e split settled m t above under reached pair =
     let one = draft_there new m above pair.at_m in
     let two = draft_there new t under pair.at_t in
     let was = same_leaves (draft_rows new) (draft_rows old) m above (sym e) pair.at_m in
@@ -212,7 +212,7 @@ pub round_ends : (limits : Limits) (it : Parents) (old mid new : List Draft) (mo
 round_ends limits it old mid new true is are split raises same settled = absurd (cc)
 round_ends limits it old mid new false is are split raises same settled =
     let now = subst (λ (rows : List Draft). Raises limits it.listing.places.items 0 old rows) (sym same) raises in
-    record { moves_up = now.moves_up; compact = λ arrays. settled_compact limits arrays it old new are now.leaves (now.split split) settled }
+    record { moves_up = now.moves_up; compact = λ like. settled_compact limits like it old new are now.leaves (now.split split) settled }
 
 pub rounds_within : (limits : Limits) (it : Parents) (old mid : List Draft) → AreParents (draft_rows old) it → Raises limits it.listing.places.items 0 old mid
     → AreWithin it.listing.order.items (length mid)

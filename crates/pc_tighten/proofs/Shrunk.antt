@@ -193,10 +193,10 @@ module _ (t u : ℕ) (first : t ≢ 0) (itself : u ≢ t) (place : ℕ → ℕ) 
 
 -- ---- all together
 
-code_rows : (limits_of : RowCode) (one other : List CodeRow) → one ≡ other
-    → (let a : RowCode = record { limits = limits_of.limits; arrays = limits_of.arrays; rows = one } in
-    a) ≡ (let b : RowCode = record { limits = limits_of.limits; arrays = limits_of.arrays; rows = other } in b)
-code_rows limits_of one other e = ap (λ (rows : List CodeRow). let a : RowCode = record { limits = limits_of.limits; arrays = limits_of.arrays; rows = rows } in a) e
+code_rows : (code : RowCode) (one other : List CodeRow) → one ≡ other
+    → (let a : RowCode = record code { rows = one } in
+    a) ≡ (let b : RowCode = record code { rows = other } in b)
+code_rows code one other e = ap (λ (rows : List CodeRow). let a : RowCode = record code { rows = rows } in a) e
 
 shrinks_by : (n : ℕ) (gone : List ℕ) (code : RowCode) (place : ℕ → ℕ) (marks : ℕ → Bool) → length gone ≡ n → AreGoing code.rows place marks gone
     → ((x : ℕ) → Absent x gone → marks x ≡ false) → ((x : ℕ) → marks x ≡ false → place x ≡ rank marks x) → Shrinks code (without_marked place marks code)

@@ -61,13 +61,13 @@ pub moves_on : {code next after : RowCode} → ByMoves code next → ByMoves nex
 moves_on No_move more = more
 moves_on (Move m t above xs x rest may steps) more = Move m t above xs x rest may (moves_on steps more)
 
-moves_keep_limits : {code after : RowCode} → ByMoves code after → after.limits ≡ code.limits
-moves_keep_limits No_move = refl
-moves_keep_limits (Move m t above xs x rest may more) = moves_keep_limits more
+-- what the rows have no part in
+OfNoRow : {A : Type 0} → (RowCode → A) → Type 0
+OfNoRow part = (code : RowCode) (rows : List CodeRow) → (let other : RowCode = record code { rows = rows } in part other) ≡ part code
 
-moves_keep_arrays : {code after : RowCode} → ByMoves code after → after.arrays ≡ code.arrays
-moves_keep_arrays No_move = refl
-moves_keep_arrays (Move m t above xs x rest may more) = moves_keep_arrays more
+moves_keep : {A : Type 0} (part : RowCode → A) → OfNoRow part → {code after : RowCode} → ByMoves code after → part after ≡ part code
+moves_keep part same No_move = refl
+moves_keep part same {code} (Move m t above xs x rest may more) = moves_keep part same more ∙ same code (moved code m t above xs x rest).rows
 
 -- ---- removals
 
@@ -90,13 +90,9 @@ pub removals_on : {code next after : RowCode} → ByRemovals code next → ByRem
 removals_on No_removal more = more
 removals_on (Removal t u may steps) more = Removal t u may (removals_on steps more)
 
-removals_keep_limits : {code after : RowCode} → ByRemovals code after → after.limits ≡ code.limits
-removals_keep_limits No_removal = refl
-removals_keep_limits (Removal t u may more) = removals_keep_limits more
-
-removals_keep_arrays : {code after : RowCode} → ByRemovals code after → after.arrays ≡ code.arrays
-removals_keep_arrays No_removal = refl
-removals_keep_arrays (Removal t u may more) = removals_keep_arrays more
+removals_keep : {A : Type 0} (part : RowCode → A) → OfNoRow part → {code after : RowCode} → ByRemovals code after → part after ≡ part code
+removals_keep part same No_removal = refl
+removals_keep part same {code} (Removal t u may more) = removals_keep part same more ∙ same code (removed code t u).rows
 
 -- ---- removals after moves
 
@@ -112,8 +108,6 @@ tightening_is_no_slower {code} {after} steps well input never =
 pub tightening_keeps_reachable : {code after : RowCode} → Tightens code after → EachIsReachable code.rows → EachIsReachable after.rows
 tightening_keeps_reachable steps all = removals_keep_reachable steps.removals (moves_keep_reachable steps.moves all)
 
-pub tightening_keeps_limits : {code after : RowCode} → Tightens code after → after.limits ≡ code.limits
-tightening_keeps_limits steps = removals_keep_limits steps.removals ∙ moves_keep_limits steps.moves
-
-pub tightening_keeps_arrays : {code after : RowCode} → Tightens code after → after.arrays ≡ code.arrays
-tightening_keeps_arrays steps = removals_keep_arrays steps.removals ∙ moves_keep_arrays steps.moves
+-- all but the rows is as before
+pub tightening_keeps : {A : Type 0} (part : RowCode → A) → OfNoRow part → {code after : RowCode} → Tightens code after → part after ≡ part code
+tightening_keeps part same steps = removals_keep part same steps.removals ∙ moves_keep part same steps.moves

@@ -247,14 +247,14 @@ paths-below [] row P h = h
 paths-below (x ∷ xs) row P h = map_of_all P (λ path. x ∷ path) (paths_of (below xs row)) (paths-below xs row (λ path. P (x ∷ path)) h)
 
 module _ (code : RowCode) (well : WellFormed code) (m t : ℕ) (above : CodeRow) (xs : List Item) (x : Item) (rest : CodeRow) (may : MayMove code m t above xs x rest) where
-  was_above : IsRow code.limits (length code.arrays) (length code.rows) above
-  was_above = all_at (IsRow code.limits (length code.arrays) (length code.rows)) code.rows m above well.rows may.pair.at_m
+  was_above : IsRow code.limits code.registers (length code.arrays) (length code.rows) above
+  was_above = all_at (IsRow code.limits code.registers (length code.arrays) (length code.rows)) code.rows m above well.rows may.pair.at_m
 
-  was_under : IsRow code.limits (length code.arrays) (length code.rows) (below xs (Then x rest))
-  was_under = all_at (IsRow code.limits (length code.arrays) (length code.rows)) code.rows t (below xs (Then x rest)) well.rows may.pair.at_t
+  was_under : IsRow code.limits code.registers (length code.arrays) (length code.rows) (below xs (Then x rest))
+  was_under = all_at (IsRow code.limits code.registers (length code.arrays) (length code.rows)) code.rows t (below xs (Then x rest)) well.rows may.pair.at_t
 
-  three_items : AllByRecursion (IsItem (length code.arrays)) (xs ++ (x ∷ items_of rest))
-  three_items = subst (λ (l : List Item). AllByRecursion (IsItem (length code.arrays)) l) (below-items xs (Then x rest)) was_under.items
+  three_items : AllByRecursion (IsItem code.registers (length code.arrays)) (xs ++ (x ∷ items_of rest))
+  three_items = subst (λ (l : List Item). AllByRecursion (IsItem code.registers (length code.arrays)) l) (below-items xs (Then x rest)) was_under.items
 
   -- m is not full
   not_full : is_full code.limits above x ≡ false
@@ -275,7 +275,7 @@ module _ (code : RowCode) (well : WellFormed code) (m t : ℕ) (above : CodeRow)
           omega arith
       fits false e = let same = with_item-no_memory t x above e in let was = was_above.mem in omega arith
 
-  is_above : IsRow code.limits (length code.arrays) (length code.rows) (with_item t x above)
+  is_above : IsRow code.limits code.registers (length code.arrays) (length code.rows) (with_item t x above)
   is_above = record {
     ops = (
         let full = or_left (nat_le code.limits.ops (length (items_of above))) (is_memory x && nat_le code.limits.mem (count_by is_memory (items_of above))) not_full in
@@ -285,8 +285,8 @@ module _ (code : RowCode) (well : WellFormed code) (m t : ℕ) (above : CodeRow)
         omega arith);
     tests = subst (λ (l : List Operand). length l ≤ code.limits.tests) (sym (with_item-tests t x above)) was_above.tests;
     mem = memory_fits;
-    items = with_item-all t x above (IsItem (length code.arrays)) (all_back (IsItem (length code.arrays)) xs (x ∷ items_of rest) three_items).0 was_above.items;
-    operands = subst (λ (l : List Operand). AllByRecursion IsOperand l) (sym (with_item-tests t x above)) was_above.operands;
+    items = with_item-all t x above (IsItem code.registers (length code.arrays)) (all_back (IsItem code.registers (length code.arrays)) xs (x ∷ items_of rest) three_items).0 was_above.items;
+    operands = subst (λ (l : List Operand). AllByRecursion (IsOperand code.registers) l) (sym (with_item-tests t x above)) was_above.operands;
     leaves = subst (λ (l : List Leaf). AllByRecursion (IsLeaf (length code.rows)) l) (sym (with_item-leaves t x above)) was_above.leaves;
     paths = with_item-paths t x above IsPath was_above.paths
         (all_imply (λ path. IsPath path × (stays code.limits above path x (xs ++ items_of rest) (tests_of rest) ≡ false)) (λ path. IsPath (path ++ (x ∷ []))) (paths_to t above)
@@ -294,9 +294,9 @@ module _ (code : RowCode) (well : WellFormed code) (m t : ℕ) (above : CodeRow)
         (all_two IsPath (λ path. stays code.limits above path x (xs ++ items_of rest) (tests_of rest) ≡ false) (paths_to t above) (paths_among t above IsPath was_above.paths) may.free));
   }
 
-  is_under : IsRow code.limits (length code.arrays) (length code.rows) (below xs rest)
+  is_under : IsRow code.limits code.registers (length code.arrays) (length code.rows) (below xs rest)
   is_under =
-      let P = IsItem (length code.arrays) in
+      let P = IsItem code.registers (length code.arrays) in
       record {
         ops = (
             let was = was_under.ops in
@@ -312,7 +312,7 @@ module _ (code : RowCode) (well : WellFormed code) (m t : ℕ) (above : CodeRow)
             omega arith);
         items = subst (λ (l : List Item). AllByRecursion P l) (sym (below-items xs rest))
             (all_both P xs (items_of rest) (all_front P xs (x ∷ items_of rest) three_items) (all_back P xs (x ∷ items_of rest) three_items).1);
-        operands = subst (λ (l : List Operand). AllByRecursion IsOperand l) (below-tests xs (Then x rest) ∙ sym (below-tests xs rest)) was_under.operands;
+        operands = subst (λ (l : List Operand). AllByRecursion (IsOperand code.registers) l) (below-tests xs (Then x rest) ∙ sym (below-tests xs rest)) was_under.operands;
         leaves = subst (λ (l : List Leaf). AllByRecursion (IsLeaf (length code.rows)) l) (below-leaves xs (Then x rest) ∙ sym (below-leaves xs rest)) was_under.leaves;
         paths = paths-below xs rest IsPath (all_imply (λ path. IsPath (xs ++ (x ∷ path))) (λ path. IsPath (xs ++ path)) (paths_of rest) (λ path h. path_less xs x path h)
             (all_of_map (λ path. IsPath (xs ++ path)) (λ path. x ∷ path) (paths_of rest) (below-paths xs (Then x rest) IsPath was_under.paths)));
@@ -324,9 +324,11 @@ module _ (code : RowCode) (well : WellFormed code) (m t : ℕ) (above : CodeRow)
   pub move_keeps_form : WellFormed (moved code m t above xs x rest)
   move_keeps_form = record {
     limits = well.limits;
+    registers = well.registers;
     arrays = well.arrays;
+    initial = well.initial;
     entry = subst (λ (n : ℕ). 1 ≤ n) (sym same_count) well.entry;
-    rows = subst (λ (n : ℕ). AllByRecursion (IsRow code.limits (length code.arrays) n) (moved code m t above xs x rest).rows) (sym same_count)
-        (set_all (IsRow code.limits (length code.arrays) (length code.rows)) t (below xs rest) (slice_set code.rows m (with_item t x above)) is_under
-        (set_all (IsRow code.limits (length code.arrays) (length code.rows)) m (with_item t x above) code.rows is_above well.rows));
+    rows = subst (λ (n : ℕ). AllByRecursion (IsRow code.limits code.registers (length code.arrays) n) (moved code m t above xs x rest).rows) (sym same_count)
+        (set_all (IsRow code.limits code.registers (length code.arrays) (length code.rows)) t (below xs rest) (slice_set code.rows m (with_item t x above)) is_under
+        (set_all (IsRow code.limits code.registers (length code.arrays) (length code.rows)) m (with_item t x above) code.rows is_above well.rows));
   }

@@ -79,7 +79,7 @@ module _ (code : RowCode) (well : WellFormed code) (t u : ℕ) (may : IsGotoAlon
   one_less = without-length t (At_leaf (Goto u)) code.rows may.at
 
   leads_inside : u < length code.rows
-  leads_inside = (all_at (IsRow code.limits (length code.arrays) (length code.rows)) code.rows t (At_leaf (Goto u)) well.rows may.at).leaves.0
+  leads_inside = (all_at (IsRow code.limits code.registers (length code.arrays) (length code.rows)) code.rows t (At_leaf (Goto u)) well.rows may.at).leaves.0
 
   stays_inside : (i : ℕ) → i < suc left → sent t u i < left
   stays_inside i low =
@@ -88,13 +88,13 @@ module _ (code : RowCode) (well : WellFormed code) (t u : ℕ) (may : IsGotoAlon
       let c = one_less in
       sent-below t u i left may.not_itself (omega arith) (omega arith) low
 
-  is_sent : (row : CodeRow) → IsRow code.limits (length code.arrays) (suc left) row → IsRow code.limits (length code.arrays) left (sent_row t u row)
+  is_sent : (row : CodeRow) → IsRow code.limits code.registers (length code.arrays) (suc left) row → IsRow code.limits code.registers (length code.arrays) left (sent_row t u row)
   is_sent row is = record {
     ops = subst (λ (l : List Item). length l ≤ code.limits.ops) (sym (sent-items t u row)) is.ops;
     tests = subst (λ (l : List Operand). length l ≤ code.limits.tests) (sym (sent-tests t u row)) is.tests;
     mem = subst (λ (l : List Item). count_by is_memory l ≤ code.limits.mem) (sym (sent-items t u row)) is.mem;
-    items = subst (λ (l : List Item). AllByRecursion (IsItem (length code.arrays)) l) (sym (sent-items t u row)) is.items;
-    operands = subst (λ (l : List Operand). AllByRecursion IsOperand l) (sym (sent-tests t u row)) is.operands;
+    items = subst (λ (l : List Item). AllByRecursion (IsItem code.registers (length code.arrays)) l) (sym (sent-items t u row)) is.items;
+    operands = subst (λ (l : List Operand). AllByRecursion (IsOperand code.registers) l) (sym (sent-tests t u row)) is.operands;
     leaves = sent-leaves t u left row stays_inside is.leaves;
     paths = subst (λ (l : List (List Item)). AllByRecursion IsPath l) (sym (sent-paths t u row)) is.paths;
   }
@@ -109,16 +109,18 @@ module _ (code : RowCode) (well : WellFormed code) (t u : ℕ) (may : IsGotoAlon
   pub removal_keeps_form : WellFormed (removed code t u)
   removal_keeps_form = record {
     limits = well.limits;
+    registers = well.registers;
     arrays = well.arrays;
+    initial = well.initial;
     entry = (
         let a = within t (At_leaf (Goto u)) code.rows may.at in
         let b = one_less in
         let c = same_length in
         let d = may.not_entry in
         omega arith);
-    rows = subst (λ (n : ℕ). AllByRecursion (IsRow code.limits (length code.arrays) n) (removed code t u).rows) (sym same_length)
-        (map_of_all (IsRow code.limits (length code.arrays) left) (sent_row t u) (without_row t code.rows)
-        (all_imply (IsRow code.limits (length code.arrays) (suc left)) (λ row. IsRow code.limits (length code.arrays) left (sent_row t u row)) (without_row t code.rows) is_sent
-        (without-all (IsRow code.limits (length code.arrays) (suc left)) t code.rows
-        (subst (λ (n : ℕ). AllByRecursion (IsRow code.limits (length code.arrays) n) code.rows) one_less well.rows))));
+    rows = subst (λ (n : ℕ). AllByRecursion (IsRow code.limits code.registers (length code.arrays) n) (removed code t u).rows) (sym same_length)
+        (map_of_all (IsRow code.limits code.registers (length code.arrays) left) (sent_row t u) (without_row t code.rows)
+        (all_imply (IsRow code.limits code.registers (length code.arrays) (suc left)) (λ row. IsRow code.limits code.registers (length code.arrays) left (sent_row t u row)) (without_row t code.rows) is_sent
+        (without-all (IsRow code.limits code.registers (length code.arrays) (suc left)) t code.rows
+        (subst (λ (n : ℕ). AllByRecursion (IsRow code.limits code.registers (length code.arrays) n) code.rows) one_less well.rows))));
   }

@@ -25,4 +25,4 @@ with_item t x (At_leaf leaf) = if is_goto t leaf then Then x (At_leaf leaf) else
 -- the code once x has moved from t to m
 abbrev pub moved : RowCode → ℕ → ℕ → CodeRow → List Item → Item → CodeRow → RowCode
 moved code m t above xs x rest =
-    record { limits = code.limits; arrays = code.arrays; rows = slice_set (slice_set code.rows m (with_item t x above)) t (below xs rest) }
+    record code { rows = slice_set (slice_set code.rows m (with_item t x above)) t (below xs rest) }

@@ -45,4 +45,4 @@ without_row (suc t) (row ∷ rows) = row ∷ without_row t rows
 
 -- the code once t is out
 abbrev pub removed : RowCode → ℕ → ℕ → RowCode
-removed code t u = record { limits = code.limits; arrays = code.arrays; rows = map (sent_row t u) (without_row t code.rows) }
+removed code t u = record code { rows = map (sent_row t u) (without_row t code.rows) }

@@ -31,7 +31,7 @@ placed_row place (At_leaf leaf) = At_leaf (placed_leaf place leaf)
 
 -- the code without the rows that are marked
 abbrev pub without_marked : (ℕ → ℕ) → (ℕ → Bool) → RowCode → RowCode
-without_marked place marks code = record { limits = code.limits; arrays = code.arrays; rows = map (placed_row place) (unmarked_rows marks code.rows) }
+without_marked place marks code = record code { rows = map (placed_row place) (unmarked_rows marks code.rows) }
 
 -- rows go away, and where all rows are reachable a compact code stays compact
 pub record Shrinks (code after : RowCode) : Type 0 where

@@ -39,7 +39,9 @@ pub record IsTightened (before after : RowCode) : Type 0 where
   pub tightens : Tightens before after
   pub form : WellFormed after
   pub limits : after.limits ≡ before.limits
+  pub registers : after.registers ≡ before.registers
   pub arrays : after.arrays ≡ before.arrays
+  pub initial : after.initial ≡ before.initial
   -- where the run of the code before is never a fault, the run of the code after agrees with it and is no slower
   pub runs : (input : List ℤ) → NeverFaults (machine_run before input) → IsNoSlower (machine_run before input) (machine_run after input)
   -- its rows are written in no more room

@@ -26,13 +26,17 @@ pub fn tighten(alloc: Global, code: Code) -> Result<Code, TightenError>
 {
     let Code {
         limits,
+        registers,
         arrays,
+        initial,
         rows,
     } = code;
     let rows = tightened(alloc, limits, rows)?;
     Ok(Code {
         limits,
+        registers,
         arrays,
+        initial,
         rows: TreeList::from_vec(rows),
     })
 }

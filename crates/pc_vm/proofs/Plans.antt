@@ -19,7 +19,7 @@ use Rattle.pc_vm.specs.Contents.{names_of, cells_of}
 use Rattle.pc_vm.specs.models.Made.{lengths_of}
 use Rattle.pc_vm.specs.models.Planned.{Planned, planned_with, planned_by, stored_of, written, with_element, stored, IsInside, IsRegister}
 use Rattle.pc_vm.proofs.Lists.{get_or-write}
-use Rattle.pc_word.specs.MachineLimits.{registers}
+use Rattle.pc_machine.specs.Registers.{most_registers}
 
 -- ---- the writes of a path
 
@@ -54,7 +54,7 @@ planned-writes lengths old (More dest ∷ items) plan = planned-writes lengths o
     ∙ insert_between plan.writes (record { dest = dest; word = value_of lengths old (More dest) }) (writes_of lengths old items)
 
 -- their registers are there
-pub writes-registers : (lengths : List ℕ) (old : State) (arrays : ℕ) (items : List Item) → AllByRecursion (IsItem arrays) items → AllByRecursion IsRegister (writes_of lengths old items)
+pub writes-registers : (lengths : List ℕ) (old : State) (arrays : ℕ) (items : List Item) → AllByRecursion (IsItem most_registers arrays) items → AllByRecursion IsRegister (writes_of lengths old items)
 writes-registers lengths old arrays [] all = tt
 writes-registers lengths old arrays (Bin op dest left right ∷ items) all = (all.0.0, writes-registers lengths old arrays items all.1)
 writes-registers lengths old arrays (Copy dest from ∷ items) all = (all.0.0, writes-registers lengths old arrays items all.1)
@@ -75,15 +75,15 @@ written-last [] w registers = refl
 written-last (v ∷ ws) w registers = ap (λ rs. slice_set rs v.dest v.word) (written-last ws w registers)
 
 -- a name after the first write is done last
-name_written : (ws : List PendingWrite) (words : List ℤ) (dest : ℕ) (word : ℤ) (x : ℕ) (rest : ℤ) → length words ≡ registers → dest < registers
+name_written : (ws : List PendingWrite) (words : List ℤ) (dest : ℕ) (word : ℤ) (x : ℕ) (rest : ℤ) → length words ≡ most_registers → dest < most_registers
     → names_of (written ws words) x ≡ rest → names_of (slice_set (written ws words) dest word) x ≡ (if nat_eq dest x then word else rest)
 name_written ws words dest word x rest many there same =
     let within : dest < length (written ws words) = omega (arith, length-written ws words) in
     get_or-write (written ws words) dest x word (pos 0) within ∙ ap (λ (r : ℤ). if nat_eq dest x then word else r) same
 
 -- the registers once the writes are done are the names after the path
-pub written-names : (lengths : List ℕ) (old : State) (words : List ℤ) (arrays : ℕ) (items : List Item) → length words ≡ registers → old.names ≡ names_of words
-    → AllByRecursion (IsItem arrays) items → (x : ℕ) → names_of (written (writes_of lengths old items) words) x ≡ names_after lengths old items x
+pub written-names : (lengths : List ℕ) (old : State) (words : List ℤ) (arrays : ℕ) (items : List Item) → length words ≡ most_registers → old.names ≡ names_of words
+    → AllByRecursion (IsItem most_registers arrays) items → (x : ℕ) → names_of (written (writes_of lengths old items) words) x ≡ names_after lengths old items x
 written-names lengths old words arrays [] many same all x = ap (λ (f : ℕ → ℤ). f x) (sym same)
 written-names lengths old words arrays (Bin op dest left right ∷ items) many same all x =
     name_written (writes_of lengths old items) words dest (value_of lengths old (Bin op dest left right)) x (names_after lengths old items x) many all.0.0

@@ -21,7 +21,7 @@ use Rattle.pc_vm.proofs.Lists.{list_any-map}
 use Rattle.pc_vm.proofs.Plans.{writes_of, pending_of, any_reads, planned-writes, planned-stores, planned-printed, planned-reads, writes-registers}
 use Rattle.pc_vm.proofs.Plans.{pending-inside, stored-pending, written-names, stored-cells, last_of-one, prints-few, reads-few, any_reads-count}
 use Rattle.pc_vm.proofs.Plans.{taken_one}
-use Rattle.pc_word.specs.MachineLimits.{registers}
+use Rattle.pc_machine.specs.Registers.{most_registers}
 
 -- the plan of a path, from nothing
 abbrev pub plan_of : List ℕ → State → List Item → Planned
@@ -47,7 +47,7 @@ plan-fault lengths old items =
     ∙ ap (λ (b : Bool). fault (list_any is_outside (stores_of lengths old items)) (stores_of lengths old items) b) reads
 
 -- its registers and places are there
-pub plan-registers : (lengths : List ℕ) (old : State) (arrays : ℕ) (items : List Item) (plan : Planned) → plan ≡ plan_of lengths old items → AllByRecursion (IsItem arrays) items
+pub plan-registers : (lengths : List ℕ) (old : State) (arrays : ℕ) (items : List Item) (plan : Planned) → plan ≡ plan_of lengths old items → AllByRecursion (IsItem most_registers arrays) items
     → AllByRecursion IsRegister plan.writes
 plan-registers lengths old arrays items plan is all =
     subst (AllByRecursion IsRegister) (sym (ap (λ (p : Planned). p.writes) is ∙ planned-writes lengths old items nothing_planned)) (writes-registers lengths old arrays items all)
@@ -68,7 +68,7 @@ row-faults row held plan left fault is is_left faults =
     ap (λ (f : Option MachineFault). commit_of (lengths_of held.cells) (state_of held) items leaf f) same
 
 -- the state once a plan is done is that after the path
-pub done-state : (old new : Contents) (items : List Item) (plan : Planned) → length old.registers ≡ registers → AllByRecursion (IsItem (length old.cells)) items → count_by is_effect items ≤ 1
+pub done-state : (old new : Contents) (items : List Item) (plan : Planned) → length old.registers ≡ most_registers → AllByRecursion (IsItem most_registers (length old.cells)) items → count_by is_effect items ≤ 1
     → plan ≡ plan_of (lengths_of old.cells) (state_of old) items
     → new.registers ≡ written plan.writes old.registers → new.cells ≡ stored plan.stores old.cells → new.input ≡ (if plan.reads then drop 1 old.input else old.input)
     → state_of new ≡ state_after (lengths_of old.cells) (state_of old) items
@@ -93,7 +93,7 @@ done-state old new items plan many all few is registers cells input =
 
 -- a row whose plan has none is done
 pub row-commits : (row : CodeRow) (old new : Contents) (plan : Planned) (left : Bool) (printed : Option ℤ) (leaf : Leaf)
-    → length old.registers ≡ registers → AllByRecursion (IsItem (length old.cells)) (path_of (names_of old.registers) row) → count_by is_effect (path_of (names_of old.registers) row) ≤ 1
+    → length old.registers ≡ most_registers → AllByRecursion (IsItem most_registers (length old.cells)) (path_of (names_of old.registers) row) → count_by is_effect (path_of (names_of old.registers) row) ≤ 1
     → plan ≡ plan_of (lengths_of old.cells) (state_of old) (path_of (names_of old.registers) row) → left ≡ some_left old.input → None ≡ planned_fault plan left
     → leaf ≡ leaf_of (names_of old.registers) row → printed ≡ plan.printed
     → new.registers ≡ written plan.writes old.registers → new.cells ≡ stored plan.stores old.cells → new.input ≡ (if plan.reads then drop 1 old.input else old.input)

@@ -1,49 +1,118 @@
 -- A new machine stands at the start of its code's run.
-use Rattle.std.proofs.Common.{◌≡◌, ℕ, zero, suc, ◌≤◌, false, List, [], ◌∷◌, length, map, replicate, get_or, refl, ap, ◌∙◌, arith}
-use Rattle.std.proofs.lemmas.List.{length-map, length-replicate}
+use Rattle.std.proofs.Common.{◌≡◌, ℕ, zero, suc, ◌<◌, ◌≤◌, false, List, [], ◌∷◌, ◌++◌, length, map, take, drop, replicate, get_or, refl, sym, ap, ◌∙◌, arith}
+use Rattle.std.proofs.Common.{length-append}
+use Rattle.std.proofs.lemmas.List.{length-map, length-replicate, length-drop}
 use Rattle.std.specs.Prelude.{ℤ, pos}
 use Rattle.pc_machine.specs.declared.code.Code.{Code}
+use Rattle.pc_machine.specs.Data.{first_cells}
 use Rattle.pc_machine.specs.MachineCode.{row_of, code_of}
 use Rattle.pc_machine.specs.MachineRun.{Cycle, machine_start}
-use Rattle.pc_machine.specs.WellFormed.{WellFormed}
+use Rattle.pc_machine.specs.Registers.{most_registers}
+use Rattle.pc_machine.specs.WellFormed.{IsData, AreData, WellFormed}
 use Rattle.pc_vm.specs.Contents.{Contents, cells_of, state_of}
-use Rattle.pc_vm.specs.models.Made.{lengths_of, new_contents}
+use Rattle.pc_vm.specs.models.Made.{lengths_of, new_array, new_arrays, new_contents}
 use Rattle.pc_vm.specs.models.Planned.{Planned, nothing_planned}
 use Rattle.pc_vm.specs.models.Sound.{IsSound}
-use Rattle.pc_word.specs.MachineLimits.{registers}
+
+-- ---- lists of data
+
+-- there are as many lists of words as arrays
+pub as_many_data : (lengths : List ℕ) (initial : List (List ℤ)) → AreData lengths initial → length initial ≡ length lengths
+as_many_data [] [] are = refl
+as_many_data (elements ∷ lengths) (words ∷ initial) are = ap (λ (n : ℕ). suc n) (as_many_data lengths initial are.1)
+as_many_data [] (words ∷ initial) are = absurd are
+as_many_data (elements ∷ lengths) [] are = absurd are
+
+-- the words of each array have room in it
+pub data_fits : (lengths : List ℕ) (initial : List (List ℤ)) (at elements : ℕ) (words : List ℤ) → AreData lengths initial → at < length lengths
+    → elements ≡ get_or lengths at elements → words ≡ get_or initial at words → length words ≤ elements
+data_fits (n ∷ lengths) (ws ∷ initial) zero elements words are lt is same = omega (arith, are.0.fits, is, ap (λ (l : List ℤ). length l) same)
+data_fits (n ∷ lengths) (ws ∷ initial) (suc at) elements words are lt is same = data_fits lengths initial at elements words are.1 (omega arith) is same
+data_fits [] initial at elements words are lt is same = absurd (omega arith)
+data_fits (n ∷ lengths) [] at elements words are lt is same = absurd are
+
+-- one array more
+pub arrays_with : (lengths : List ℕ) (initial : List (List ℤ)) (at elements : ℕ) (words : List ℤ) → AreData lengths initial → at < length lengths
+    → elements ≡ get_or lengths at elements → words ≡ get_or initial at words
+    → new_arrays (take (suc at) lengths) (take (suc at) initial) ≡ new_arrays (take at lengths) (take at initial) ++ new_array elements words ∷ []
+arrays_with (n ∷ lengths) (ws ∷ initial) zero elements words are lt is same =
+    ap (λ (m : ℕ). new_array m ws ∷ []) (sym is) ∙ ap (λ (l : List ℤ). new_array elements l ∷ []) (sym same)
+arrays_with (n ∷ lengths) (ws ∷ initial) (suc at) elements words are lt is same =
+    ap (λ (l : List (List ℤ)). new_array n ws ∷ l) (arrays_with lengths initial at elements words are.1 (omega arith) is same)
+arrays_with [] initial at elements words are lt is same = absurd (omega arith)
+arrays_with (n ∷ lengths) [] at elements words are lt is same = absurd are
+
+-- ---- elements
 
 zeros : (n x : ℕ) → get_or (replicate n (pos 0)) x (pos 0) ≡ pos 0
 zeros zero x = refl
 zeros (suc n) zero = refl
 zeros (suc n) (suc x) = zeros n x
 
-zero_cells : (lengths : List ℕ) (a p : ℕ) → cells_of (map (λ n. replicate n (pos 0)) lengths) a p ≡ pos 0
-zero_cells [] a p = refl
-zero_cells (n ∷ lengths) zero p = zeros n p
-zero_cells (n ∷ lengths) (suc a) p = zero_cells lengths a p
+zeros_left : (m n x : ℕ) → get_or (drop m (replicate n (pos 0))) x (pos 0) ≡ pos 0
+zeros_left zero n x = zeros n x
+zeros_left (suc m) zero x = refl
+zeros_left (suc m) (suc n) x = zeros_left m n x
 
--- new arrays have their lengths
-new-lengths : (lengths : List ℕ) → lengths_of (map (λ n. replicate n (pos 0)) lengths) ≡ lengths
-new-lengths [] = refl
-new-lengths (n ∷ lengths) = ap (λ (k : ℕ). k ∷ lengths_of (map (λ n. replicate n (pos 0)) lengths)) (length-replicate n (pos 0)) ∙ ap (λ (ls : List ℕ). n ∷ ls) (new-lengths lengths)
+-- what follows the words changes no element, if it is 0 throughout
+ends_in_zeros : (words rest : List ℤ) (x : ℕ) → ((at : ℕ) → get_or rest at (pos 0) ≡ pos 0) → get_or (words ++ rest) x (pos 0) ≡ get_or words x (pos 0)
+ends_in_zeros [] rest x zero_there = zero_there x
+ends_in_zeros (word ∷ words) rest zero zero_there = refl
+ends_in_zeros (word ∷ words) rest (suc x) zero_there = ends_in_zeros words rest x zero_there
+
+-- new arrays have the elements with which a run starts
+new-cells : (lengths : List ℕ) (initial : List (List ℤ)) → AreData lengths initial → (array place : ℕ)
+    → cells_of (new_arrays lengths initial) array place ≡ first_cells initial array place
+new-cells [] [] are array place = refl
+new-cells (n ∷ lengths) (words ∷ initial) are zero place =
+    ends_in_zeros words (drop (length words) (replicate n (pos 0))) place (λ at. zeros_left (length words) n at)
+new-cells (n ∷ lengths) (words ∷ initial) are (suc array) place = new-cells lengths initial are.1 array place
+new-cells [] (words ∷ initial) are array place = absurd are
+new-cells (n ∷ lengths) [] are array place = absurd are
+
+-- and their lengths
+new-length : (n : ℕ) (words : List ℤ) → length words ≤ n → length (new_array n words) ≡ n
+new-length n words fits =
+    let whole = length-append words (drop (length words) (replicate n (pos 0))) in
+    let rest = length-drop (length words) (replicate n (pos 0)) in
+    omega (arith, whole, rest, length-replicate n (pos 0), fits)
+
+new-lengths : (lengths : List ℕ) (initial : List (List ℤ)) → AreData lengths initial → lengths_of (new_arrays lengths initial) ≡ lengths
+new-lengths [] [] are = refl
+new-lengths (n ∷ lengths) (words ∷ initial) are =
+    ap (λ (k : ℕ). k ∷ lengths_of (new_arrays lengths initial)) (new-length n words are.0.fits)
+    ∙ ap (λ (ls : List ℕ). n ∷ ls) (new-lengths lengths initial are.1)
+new-lengths [] (words ∷ initial) are = absurd are
+new-lengths (n ∷ lengths) [] are = absurd are
+
+-- ---- the machine
 
 -- new contents are the start
-pub start-state : (lengths : List ℕ) (input : List ℤ) (held : Contents) → held ≡ new_contents lengths input → ◌≡◌ {A = Cycle} (record { row = 0; state = state_of held }) (machine_start input)
-start-state lengths input held is =
-    let begin : ◌≡◌ {A = Cycle} (record { row = 0; state = state_of (new_contents lengths input) }) (machine_start input) =
-    λ i. record { row = 0; state = record { names = λ x. zeros registers x i; cells = λ a p. zero_cells lengths a p i; input = input } } in
-    ap (λ (c : Contents). let it : Cycle = record { row = 0; state = state_of c } in it) is ∙ begin
+pub start-state : (code : Code) (lengths : List ℕ) (initial : List (List ℤ)) (input : List ℤ) (held : Contents) → WellFormed (code_of code)
+    → lengths ≡ code.arrays → initial ≡ code.initial → held ≡ new_contents lengths initial input
+    → ◌≡◌ {A = Cycle} (record { row = 0; state = state_of held }) (machine_start (code_of code) input)
+start-state code lengths initial input held well same begins is =
+    let first : ◌≡◌ {A = Cycle} (record { row = 0; state = state_of (new_contents code.arrays code.initial input) }) (machine_start (code_of code) input) =
+    λ i. record {
+      row = 0;
+      state = record { names = λ x. zeros most_registers x i; cells = λ a p. new-cells code.arrays code.initial well.initial a p i; input = input };
+    } in
+    let made : held ≡ new_contents code.arrays code.initial input =
+    is ∙ ap (λ (ls : List ℕ). new_contents ls initial input) same ∙ ap (λ (ds : List (List ℤ)). new_contents code.arrays ds input) begins in
+    ap (λ (c : Contents). let it : Cycle = record { row = 0; state = state_of c } in it) made ∙ first
 
 -- and sound
-pub start-sound : (code : Code) (lengths : List ℕ) (input : List ℤ) (held : Contents) (plan : Planned) → WellFormed (code_of code) → lengths ≡ code.arrays
-    → held ≡ new_contents lengths input → plan ≡ nothing_planned
+pub start-sound : (code : Code) (lengths : List ℕ) (initial : List (List ℤ)) (input : List ℤ) (held : Contents) (plan : Planned) → WellFormed (code_of code)
+    → lengths ≡ code.arrays → initial ≡ code.initial → held ≡ new_contents lengths initial input → plan ≡ nothing_planned
     → IsSound (record { code = code; row = 0; values = held; pending = plan; over = false })
-start-sound code lengths input held plan well same is none =
+start-sound code lengths initial input held plan well same begins is none =
     let some : 1 ≤ length (map row_of code.rows) = well.entry in
+    let made : held ≡ new_contents code.arrays code.initial input =
+    is ∙ ap (λ (ls : List ℕ). new_contents ls initial input) same ∙ ap (λ (ds : List (List ℤ)). new_contents code.arrays ds input) begins in
     record {
       well = well;
       row = omega (arith, some, length-map code.rows row_of);
-      registers = ap (λ (c : Contents). length c.registers) is ∙ length-replicate registers (pos 0);
-      lengths = ap (λ (c : Contents). lengths_of c.cells) is ∙ new-lengths lengths ∙ same;
+      registers = ap (λ (c : Contents). length c.registers) made ∙ length-replicate most_registers (pos 0);
+      lengths = ap (λ (c : Contents). lengths_of c.cells) made ∙ new-lengths code.arrays code.initial well.initial;
       planned = none;
     }

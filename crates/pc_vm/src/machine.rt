@@ -52,15 +52,20 @@ impl Model for Machine {
 }
 
 impl Machine {
-    /// A machine at row 0 of the code, with all registers and elements 0. It takes all memory that
-    /// a run needs.
+    /// A machine at row 0 of the code, with all registers 0 and each array as its data has it. It
+    /// takes all memory that a run needs.
     pub fn new(alloc: Global, code: Code, inputs: WordList) -> Result<Machine, MachineError>
         requires { WellFormed (code_of code) }
         ensures code { IfOk result (λ machine. machine.code ≡ code) }
-        ensures start { IfOk result (λ machine. here_of machine ≡ machine_start inputs) }
+        ensures start { IfOk result (λ machine. here_of machine ≡ machine_start (code_of code) inputs) }
         ensures not_over { IfOk result (λ machine. machine.over ≡ false) }
     {
-        let values = Values::new(alloc, code.arrays.as_slice(), inputs)?;
+        let values = Values::new(
+            alloc,
+            code.arrays.as_slice(),
+            code.initial.as_slice(),
+            inputs,
+        )?;
         let pending = Pending::new(alloc)?;
         Ok(Machine {
             code,

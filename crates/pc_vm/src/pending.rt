@@ -2,6 +2,7 @@
 ghost use Rattle.std.specs.Prelude.{◌≡◌, ◌<◌, if◌then◌else◌, [], ◌∷◌, ◌++◌, length, map, drop, vec_capacity, IfOk};
 ghost use Rattle.std.specs.List.{list_any, AllByRecursion};
 ghost use Rattle.pc_word.specs.Commit.{is_at, is_outside, meets_at, some_meet};
+ghost use Rattle.pc_machine.specs.Registers.{most_registers};
 ghost use Rattle.pc_machine.specs.WellFormed.{IsItem};
 ghost use Rattle.pc_vm.specs.models.Made.{lengths_of};
 ghost use Rattle.pc_vm.specs.Contents.{state_of};
@@ -85,7 +86,7 @@ impl Pending {
 
     /// Plans an item, whose words are those that the values have now.
     pub(crate) fn add(&mut self, values: &Values, item: &Item)
-        requires item { IsItem (length values.now.cells) item.now }
+        requires item { IsItem most_registers (length values.now.cells) item.now }
         requires writes { length self.old.writes < most_ops }
         requires stores { length self.old.stores < most_ops }
         ensures { self.new ≡ planned_with (lengths_of values.now.cells) (state_of values.now) item.now self.old }

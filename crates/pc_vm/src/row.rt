@@ -8,7 +8,8 @@ ghost use Rattle.pc_vm.specs.Contents.{names_of, state_of};
 ghost use Rattle.pc_vm.specs.models.Made.{lengths_of};
 ghost use Rattle.pc_vm.specs.models.Planned.{nothing_planned, planned_by};
 ghost use Rattle.pc_vm.specs.models.RowResult.{IsRunnable, longest, outcome_of, KeepsOnFault};
-ghost use Rattle.pc_word.specs.MachineLimits.{most_ops, registers};
+ghost use Rattle.pc_word.specs.MachineLimits.{most_ops};
+ghost use Rattle.pc_machine.specs.Registers.{most_registers};
 
 use crate::pending::Pending;
 use crate::values::Values;
@@ -53,11 +54,11 @@ pub(crate) fn run_row(tree: &Tree, values: &mut Values, pending: &mut Pending) -
     requires row { IsRunnable (length values.old.cells) (row_of tree.now) }
     requires short { longest (row_of tree.now) ≤ most_ops }
     requires one_effect { count_by is_effect (path_of (names_of values.old.registers) (row_of tree.now)) ≤ 1 }
-    requires registers { length values.old.registers ≡ registers }
+    requires registers { length values.old.registers ≡ most_registers }
     requires empty { pending.old ≡ nothing_planned }
     ensures step { outcome_of result (state_of values.new) ≡ row_step (lengths_of values.old.cells) (row_of tree.now) (state_of values.old) }
     ensures fault { KeepsOnFault result values.old values.new }
-    ensures registers { length values.new.registers ≡ registers }
+    ensures registers { length values.new.registers ≡ most_registers }
     ensures lengths { lengths_of values.new.cells ≡ lengths_of values.old.cells }
     ensures planned { pending.new ≡ nothing_planned }
 {

@@ -1,21 +1,22 @@
 //! What a machine holds: its registers, its arrays, and the input that is left.
-ghost use Rattle.std.specs.Prelude.{◌≡◌, ◌<◌, pos, length, map, replicate, drop, slice_get, slice_set, slice_index, IfOk};
+ghost use Rattle.std.specs.Prelude.{◌≡◌, ◌<◌, ◌≤◌, pos, length, replicate, drop, slice_get, slice_set, slice_index, IfOk};
 ghost use Rattle.pc_word.specs.Items.{operand_value, place_in, element_at, next_input, some_left, value_of};
-ghost use Rattle.pc_machine.specs.WellFormed.{IsOperand, IsItem};
+ghost use Rattle.pc_machine.specs.WellFormed.{IsOperand, IsItem, AreData};
 ghost use Rattle.pc_vm.specs.Contents.{names_of, cells_of, state_of};
-ghost use Rattle.pc_vm.specs.models.Made.{lengths_of, new_contents};
+ghost use Rattle.pc_vm.specs.models.Made.{lengths_of, new_array, new_arrays, new_contents};
 ghost use Rattle.pc_vm.specs.models.Planned.{with_element, IsInside};
-ghost use Rattle.pc_word.specs.MachineLimits.{registers};
+ghost use Rattle.pc_machine.specs.Registers.{most_registers};
 
 use crate::pending::{PendingStore, PendingWrite};
-use pc_word::{Item, Operand, REGISTERS, WordList, apply};
+use pc_machine::MOST_REGISTERS;
+use pc_word::{Item, Operand, WordList, apply};
 use std::alloc::{AllocError, Global};
 use std::marker::Model;
 
 /// The registers, the arrays, and the input, of whose words some are taken.
 #[derive(Drop)]
 pub(crate) struct Values {
-    registers: [i32; REGISTERS],
+    registers: [i32; MOST_REGISTERS],
     arrays: Vec<WordList>,
     input: WordList,
     taken: usize,
@@ -33,13 +34,20 @@ impl Model for Values {
 }
 
 impl Values {
-    /// All registers and all elements of arrays of these lengths are 0, and the whole input is left.
-    pub(crate) fn new(alloc: Global, lengths: &[u32], input: WordList) -> Result<Values, AllocError>
-        ensures { IfOk result (λ values. values ≡ new_contents lengths.now input) }
+    /// All registers are 0, arrays of these lengths begin with these words and go on with 0, and the
+    /// whole input is left.
+    pub(crate) fn new(
+        alloc: Global,
+        lengths: &[u32],
+        initial: &[WordList],
+        input: WordList,
+    ) -> Result<Values, AllocError>
+        requires { AreData lengths.now initial.now }
+        ensures { IfOk result (λ values. values ≡ new_contents lengths.now initial.now input) }
     {
-        let arrays = arrays_of_zeros(alloc, lengths)?;
+        let arrays = make_arrays(alloc, lengths, initial)?;
         Ok(Values {
-            registers: [0; REGISTERS],
+            registers: [0; MOST_REGISTERS],
             arrays,
             input,
             taken: 0,
@@ -48,7 +56,7 @@ impl Values {
 
     /// The value of an operand.
     pub(crate) fn operand(&self, operand: &Operand) -> i32
-        requires { IsOperand operand.now }
+        requires { IsOperand most_registers operand.now }
         ensures { result ≡ operand_value (names_of self.now.registers) operand.now }
     {
         match operand {
@@ -90,7 +98,7 @@ impl Values {
 
     /// The word that an item writes or stores or prints.
     pub(crate) fn value(&self, item: &Item) -> i32
-        requires { IsItem (length self.now.cells) item.now }
+        requires { IsItem most_registers (length self.now.cells) item.now }
         ensures { result ≡ value_of (lengths_of self.now.cells) (state_of self.now) item.now }
     {
         match item {
@@ -110,7 +118,7 @@ impl Values {
 
     /// Writes a register.
     pub(crate) fn write(&mut self, write: PendingWrite)
-        requires { write.dest < registers }
+        requires { write.dest < most_registers }
         ensures { self.new ≡ record self.old { registers = slice_set self.old.registers write.dest write.word } }
     {
         self.registers[write.dest as usize] = write.word;
@@ -157,21 +165,29 @@ fn element(elements: &[i32], index: i32) -> i32
     }
 }
 
-/// A list of so many zeros.
-fn zeros(alloc: Global, length: usize) -> Result<WordList, AllocError>
-    ensures { IfOk result (λ list. list ≡ replicate length (pos 0)) }
+/// An array of so many elements that begins with these words and goes on with 0.
+fn make_array(alloc: Global, elements: usize, words: &[i32]) -> Result<WordList, AllocError>
+    requires { length words.now ≤ elements }
+    ensures { IfOk result (λ list. list ≡ new_array elements words.now) }
 {
-    let items = vec![in alloc; 0; length]?;
+    let mut items = vec![in alloc; 0; elements]?;
+    items[..words.len()].copy_from_slice(words);
     Ok(WordList::from_vec(items))
 }
 
-/// An array of zeros for each length.
-fn arrays_of_zeros(alloc: Global, lengths: &[u32]) -> Result<Vec<WordList>, AllocError>
-    ensures { IfOk result (λ arrays. arrays.items ≡ map (λ n. replicate n (pos 0)) lengths.now) }
+/// An array for each length, with its data.
+fn make_arrays(
+    alloc: Global,
+    lengths: &[u32],
+    initial: &[WordList],
+) -> Result<Vec<WordList>, AllocError>
+    requires { AreData lengths.now initial.now }
+    ensures { IfOk result (λ arrays. arrays.items ≡ new_arrays lengths.now initial.now) }
 {
     let mut arrays = Vec::new(alloc);
-    for length in lengths {
-        arrays.push(zeros(alloc, *length as usize)?)?;
+    for place in 0..lengths.len() {
+        let words = initial[place].as_slice();
+        arrays.push(make_array(alloc, lengths[place] as usize, words)?)?;
     }
     Ok(arrays)
 }

@@ -2,7 +2,7 @@
 use Rattle.std.specs.Prelude.{◌≡◌, ℕ, ◌+◌, ◌-◌, ◌<◌, ◌≤◌, Bool, true, false, if◌then◌else◌, nat_eq, nat_lt, is_some, List, map, length, Option, Some, None, slice_get}
 use Rattle.pc_word.specs.declared.item.Limits.{Limits}
 use Rattle.pc_word.specs.Row.{Then, Either, At_leaf}
-use Rattle.pc_machine.specs.MachineCode.{CodeRow, target_of}
+use Rattle.pc_machine.specs.MachineCode.{CodeRow, RowCode, target_of}
 use Rattle.pc_tighten.specs.declared.removing.Places.{Places}
 use Rattle.pc_tighten.specs.Removals.{HasNoGotoAlone}
 use Rattle.pc_tighten.specs.Removing.{unmarked_rows, rank, placed_row, Shrinks}
@@ -83,7 +83,7 @@ rows_left gotos it rows = map (placed_row (new_place it)) (unmarked_rows (goes g
 
 -- rows come from others by removals, whatever else the code has
 abbrev pub RowsShrink : List CodeRow → List CodeRow → Type 0
-RowsShrink old new = (limits : Limits) (arrays : List ℕ) → Shrinks (code_with limits arrays old) (code_with limits arrays new)
+RowsShrink old new = (limits : Limits) (like : RowCode) → Shrinks (code_with limits like old) (code_with limits like new)
 
 -- some rows went, or none was left to go
 abbrev pub HasRemoved : List CodeRow → List CodeRow → Bool → Type 0

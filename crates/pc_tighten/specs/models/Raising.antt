@@ -28,13 +28,13 @@ abbrev pub weigh : (ℕ → ℕ) → ℕ → List CodeRow → ℕ
 weigh place number [] = 0
 weigh place number (row ∷ rows) = place number * length (items_of row) + weigh place (suc number) rows
 
--- the code of these rows
-abbrev pub code_with : Limits → List ℕ → List CodeRow → RowCode
-code_with limits arrays rows = record { limits = limits; arrays = arrays; rows = rows }
+-- the code of these rows, under these limits and else like a code
+abbrev pub code_with : Limits → RowCode → List CodeRow → RowCode
+code_with limits like rows = record like { limits = limits; rows = rows }
 
 -- rows come from others by moves, of which there are at least so many
 pub record Raises (limits : Limits) (places : List (Option ℕ)) (moves : ℕ) (old new : List Draft) : Type 0 where
-  pub moves_up : (arrays : List ℕ) → ByMoves (code_with limits arrays (draft_rows old)) (code_with limits arrays (draft_rows new))
+  pub moves_up : (like : RowCode) → ByMoves (code_with limits like (draft_rows old)) (code_with limits like (draft_rows new))
   pub leaves : map leaves_of (draft_rows new) ≡ map leaves_of (draft_rows old)
   pub lower : weigh (place_of places) 0 (draft_rows new) + moves ≤ weigh (place_of places) 0 (draft_rows old)
   pub split : AllByRecursion IsSplit old → AllByRecursion IsSplit new
@@ -83,5 +83,5 @@ AreWithin order count = (k row : ℕ) → slice_get order k ≡ Some row → row
 
 -- rows come from others by moves, and what is left stays
 pub record IsRaised (limits : Limits) (old new : List CodeRow) : Type 0 where
-  pub moves_up : (arrays : List ℕ) → ByMoves (code_with limits arrays old) (code_with limits arrays new)
-  pub compact : (arrays : List ℕ) → Compact (code_with limits arrays new)
+  pub moves_up : (like : RowCode) → ByMoves (code_with limits like old) (code_with limits like new)
+  pub compact : (like : RowCode) → Compact (code_with limits like new)

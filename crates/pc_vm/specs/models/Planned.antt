@@ -10,7 +10,7 @@ use Rattle.pc_word.specs.Commit.{Stored, is_outside, some_meet}
 use Rattle.pc_word.specs.Items.{operand_value, place_in, value_of}
 use Rattle.pc_vm.specs.declared.pending.PendingWrite.{PendingWrite}
 use Rattle.pc_vm.specs.declared.pending.PendingStore.{PendingStore}
-use Rattle.pc_word.specs.MachineLimits.{registers}
+use Rattle.pc_machine.specs.Registers.{most_registers}
 
 -- the writes and stores, in order, what is printed, and whether an input number is taken
 pub record Planned : Type 0 where
@@ -82,4 +82,4 @@ IsInside lengths store = IfSome store.place (λ place. place < slice_index lengt
 
 -- the register is there
 abbrev pub IsRegister : PendingWrite → Type 0
-IsRegister write = write.dest < registers
+IsRegister write = write.dest < most_registers

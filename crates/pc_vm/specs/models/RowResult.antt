@@ -4,6 +4,7 @@ use Rattle.pc_machine.specs.declared.tree.Leaf.{Leaf}
 use Rattle.pc_machine.specs.MachineCode.{CodeRow}
 use Rattle.pc_word.specs.Row.{Then, Either, At_leaf, RowOutcome, Faults, Commits}
 use Rattle.pc_word.specs.State.{State}
+use Rattle.pc_machine.specs.Registers.{most_registers}
 use Rattle.pc_machine.specs.WellFormed.{IsItem, IsOperand}
 use Rattle.pc_vm.specs.Contents.{Contents}
 use Rattle.pc_vm.specs.declared.row.RowResult.{RowResult}
@@ -11,8 +12,8 @@ use Rattle.pc_vm.specs.declared.row.RowResult.TheVariants.{Faulted, Done}
 
 -- registers and arrays that a row names are there
 abbrev pub IsRunnable : ℕ → CodeRow → Type 0
-IsRunnable arrays (Then item rest) = IsItem arrays item × IsRunnable arrays rest
-IsRunnable arrays (Either on on_yes on_no) = IsOperand on × IsRunnable arrays on_yes × IsRunnable arrays on_no
+IsRunnable arrays (Then item rest) = IsItem most_registers arrays item × IsRunnable arrays rest
+IsRunnable arrays (Either on on_yes on_no) = IsOperand most_registers on × IsRunnable arrays on_yes × IsRunnable arrays on_no
 IsRunnable arrays (At_leaf leaf) = Unit {0}
 
 -- how many items the longest path has
