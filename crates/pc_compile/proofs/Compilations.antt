@@ -1,5 +1,5 @@
 -- A program's graph, its regions and their rows, put together.
-use Rattle.std.proofs.Common.{◌≡◌, ℕ, ◌≤◌, true, List, [], ◌∷◌, length, sum, Option, None, refl, sym, ◌∙◌, ap, subst, arith}
+use Rattle.std.proofs.Common.{◌≡◌, inl, ℕ, ◌≤◌, true, List, [], ◌∷◌, length, replicate, sum, Option, None, refl, sym, ◌∙◌, ap, subst, arith}
 use Rattle.std.specs.Prelude.{nat_le, All, ℤ}
 use Rattle.std.specs.List.{AllByRecursion, list_all}
 use Rattle.std.proofs.lemmas.Bool.Decides.{nat_tests}
@@ -24,9 +24,11 @@ use Rattle.pc_lower.specs.SourceLoops.{SourceLoop}
 use Rattle.pc_lower.proofs.Bounds.{list-loops_sized}
 use Rattle.pc_lower.proofs.LoopMarks.{as_many_marks}
 use Rattle.pc_lower.proofs.Numbered.{loops_counted}
-use Rattle.pc_machine.specs.MachineCode.{CodeRow, RowCode}
+use Rattle.pc_machine.specs.MachineCode.{CodeRow, RowCode, code_without_data}
 use Rattle.pc_machine.specs.MachineRun.{machine_run}
+use Rattle.pc_machine.specs.Registers.{few_registers}
 use Rattle.pc_machine.specs.WellFormed.{AreArrays, WellFormed}
+use Rattle.pc_machine.proofs.Data.{AreData-none}
 use Rattle.pc_word.specs.Ranges.{IsBetween, AreLimits}
 use Rattle.pc_object.specs.declared.object.Note.{Note}
 use Rattle.pc_object.specs.ObjectText.{CodeWithNotes, IsChoice}
@@ -46,7 +48,7 @@ use Rattle.pc_compile.specs.Choosing.{AreChosen}
 use Rattle.pc_compile.proofs.Emittable.{are_forms, form_is}
 use Rattle.pc_compile.proofs.Paces.{emitted_rows_keep_pace, tightened_codes_keep_pace}
 use Rattle.pc_compile.specs.Notes.{notes_of}
-use Rattle.pc_compile.specs.Compiled.{loose_code, IsCompiled}
+use Rattle.pc_compile.specs.Compiled.{IsCompiled}
 use Rattle.pc_compile.proofs.Counts.{all_units}
 use Rattle.pc_compile.specs.models.Made.{IsObjectOf}
 use Rattle.pc_compile.proofs.Origins.{few_units, few_regions}
@@ -114,7 +116,7 @@ is_compiled program Passed limits extent first flow table forms choices object f
     let emitted = made.emitted in
     let tightened = made.tightened in
     let e = emission_of table forms emitted.entries limits.ops in
-    let loose = loose_code limits table.arrays made.loose in
+    let loose = code_without_data limits table.arrays made.loose in
     let same_arrays = cut.arrays ∙ kept.same_arrays ∙ lowered.arrays in
     let plain = all_plain_is_short program first flow table lowered kept cut keeps in
     let may = are_forms table keeps limits extent plain choices (region_forms forms) chosen in
@@ -163,21 +165,40 @@ is_compiled program Passed limits extent first flow table forms choices object f
       notes = made.notes;
     }
 
+-- ---- the code that is tightened
+
+-- a code of these parts, on the fewer registers
+abbrev code_of_parts : Limits → List ℕ → List (List ℤ) → List CodeRow → RowCode
+code_of_parts limits arrays initial rows = record { limits = limits; registers = few_registers; arrays = arrays; initial = initial; rows = rows }
+
+-- over these arrays it has no data
+is_without_data : (limits : Limits) (table : Table) (arrays : List ℕ) (initial : List (List ℤ)) (rows : List CodeRow) → arrays ≡ table.arrays
+    → initial ≡ replicate (length table.arrays) [] → code_of_parts limits arrays initial rows ≡ code_without_data limits table.arrays rows
+is_without_data limits table arrays initial rows same none =
+    ap (λ (l : List ℕ). code_of_parts limits l initial rows) same ∙ ap (λ (d : List (List ℤ)). code_of_parts limits table.arrays d rows) none
+
 -- rows that were emitted may be tightened
-pub loose_is_well_formed : (table : Table) (forms : List (Option StoredForm)) (limits : Limits) (arrays : List ℕ) (rows : List CodeRow) → AreLimits limits
-    → AreArrays table.arrays → arrays ≡ table.arrays → AreEmitted table forms limits rows → WellFormed (loose_code limits arrays rows)
-loose_is_well_formed table forms limits arrays rows fine sized same emitted =
-    subst (λ (l : List ℕ). WellFormed (loose_code limits l rows)) (sym same)
-    (record { limits = fine; arrays = sized; entry = emitted.some; rows = emitted.fit })
+pub loose_is_well_formed : (table : Table) (forms : List (Option StoredForm)) (limits : Limits) (arrays : List ℕ) (initial : List (List ℤ)) (rows : List CodeRow)
+    → AreLimits limits → AreArrays table.arrays → arrays ≡ table.arrays → initial ≡ replicate (length table.arrays) [] → AreEmitted table forms limits rows
+    → WellFormed (code_of_parts limits arrays initial rows)
+loose_is_well_formed table forms limits arrays initial rows fine sized same none emitted =
+    subst (λ (code : RowCode). WellFormed code) (sym (is_without_data limits table arrays initial rows same none)) (record {
+      limits = fine;
+      registers = inl refl;
+      arrays = sized;
+      initial = AreData-none table.arrays;
+      entry = emitted.some;
+      rows = emitted.fit;
+    })
 
 -- a code that was tightened, with these notes, is the object of a table in forms that were chosen
 pub made_object : (table : Table) (limits : Limits) (forms given : List (Option StoredForm)) (choices noted : List Choice) (arrays : List ℕ)
-    (rows : List CodeRow) (code : RowCode) (notes : List Note) → arrays ≡ table.arrays → notes ≡ notes_of table noted → noted ≡ choices
-    → AreEmitted table given limits rows → given ≡ forms → IsTightened (loose_code limits arrays rows) code
-    → IsObjectOf table forms choices limits (record { code = code; notes = notes })
-made_object table limits forms given choices noted arrays rows code notes same_arrays are same emitted same_forms tightened = record {
+    (initial : List (List ℤ)) (rows : List CodeRow) (code : RowCode) (notes : List Note) → arrays ≡ table.arrays → initial ≡ replicate (length table.arrays) []
+    → notes ≡ notes_of table noted → noted ≡ choices → AreEmitted table given limits rows → given ≡ forms
+    → IsTightened (code_of_parts limits arrays initial rows) code → IsObjectOf table forms choices limits (record { code = code; notes = notes })
+made_object table limits forms given choices noted arrays initial rows code notes same_arrays none are same emitted same_forms tightened = record {
   loose = rows;
   emitted = subst (λ (l : List (Option StoredForm)). AreEmitted table l limits rows) same_forms emitted;
-  tightened = subst (λ (l : List ℕ). IsTightened (loose_code limits l rows) code) same_arrays tightened;
+  tightened = subst (λ (before : RowCode). IsTightened before code) (is_without_data limits table arrays initial rows same_arrays none) tightened;
   notes = are ∙ ap (λ (l : List Choice). notes_of table l) same;
 }

@@ -11,10 +11,11 @@ use Rattle.pc_window.proofs.Paces.{answer_of_answer}
 use Rattle.pc_machine.specs.declared.tree.Leaf.{Leaf}
 use Rattle.pc_machine.specs.declared.tree.Leaf.TheVariants.{Goto}
 use Rattle.pc_machine.specs.MachineCode.{CodeRow}
-use Rattle.pc_machine.specs.MachineRun.{machine_run}
+use Rattle.pc_machine.specs.MachineRun.{Cycle, machine_step, machine_run}
 use Rattle.pc_emit.specs.Emitted.{Emission, RegionForm, Plain, ByAutomaton, form_leaf, BeginsAtFirstRow, IsEmitted}
 use Rattle.pc_emit.specs.PackedForm.{IsRegionForm}
 use Rattle.pc_emit.specs.Laws.{code_with}
+use Rattle.pc_emit.proofs.Emissions.{starts_at_zero}
 use Rattle.pc_emit.proofs.Leading.{leaf_run, leaf_grows}
 use Rattle.pc_compile.specs.ScheduleRun.{SchedulePlace, At_tree, At_state, begins_in, schedule_step, schedule_run, step_cost, cost_behind, cost_from, start_cost, schedule_cost}
 use Rattle.pc_compile.specs.Laws.{EmittedRowsKeepPace, TightenedCodesKeepPace}
@@ -88,9 +89,11 @@ pub emitted_rows_keep_pace : EmittedRowsKeepPace
 emitted_rows_keep_pace e keeps limits rows same emitted at_first forms input n =
     subst (λ (ops : ℕ). Answers (schedule_run e.table e.forms input n) (machine_run (code_with limits e rows) input (schedule_cost e.table e.forms ops input n))
     (schedule_run e.table e.forms input n).end) (sym same)
+    (subst (λ (c : Cycle). Answers (schedule_run e.table e.forms input n) (run_from (machine_step (code_with limits e rows)) (schedule_cost e.table e.forms e.ops input n) c)
+    (schedule_run e.table e.forms input n).end) (sym (starts_at_zero limits e rows input))
     (subst (λ (it : Option RegionForm). IsInTimeAfter e keeps limits rows emitted forms (start_cost it) n (begins_in e.table 0 it (start_state input)) (start_state input))
     (sym emitted.leads.has)
-    (first_in_time e keeps limits rows emitted forms at_first emitted.leads.form emitted.leads.has emitted.leads.is (start_state input) n))
+    (first_in_time e keeps limits rows emitted forms at_first emitted.leads.form emitted.leads.has emitted.leads.is (start_state input) n)))
 
 -- ---- tightening
 

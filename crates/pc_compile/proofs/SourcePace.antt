@@ -50,4 +50,4 @@ objects_in_cycles Passed program limits extent flow table choices object it inpu
     let few = steps_cost_few table it.table_keeps limits extent choices (region_forms it.forms) it.chosen limits.ops input (suc k) in
     answer_of_answer (source_run program input n) (machine_run object.code input cost) (machine_run object.code input (256 + 255 * k))
     (objects_keep_pace Passed program limits extent flow table choices object it input words n)
-    (run_from-answers (machine_step object.code) cost (256 + 255 * k) (machine_start input) (omega (arith, few)))
+    (run_from-answers (machine_step object.code) cost (256 + 255 * k) (machine_start object.code input) (omega (arith, few)))

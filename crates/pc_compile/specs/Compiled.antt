@@ -13,7 +13,7 @@ use Rattle.pc_pass.specs.Pass.{Keeps}
 use Rattle.pc_table.specs.Table.{Table}
 use Rattle.pc_table.specs.TableKeeps.{TableKeeps}
 use Rattle.pc_regions.specs.Cut.{IsCutOf}
-use Rattle.pc_machine.specs.MachineCode.{CodeRow, RowCode}
+use Rattle.pc_machine.specs.MachineCode.{CodeRow, code_without_data}
 use Rattle.pc_machine.specs.MachineRun.{machine_run}
 use Rattle.pc_tighten.specs.Compact.{Compact}
 use Rattle.pc_tighten.specs.Removals.{HasNoGotoAlone}
@@ -27,10 +27,6 @@ use Rattle.pc_compile.specs.Pace.{KeepsPaceOn}
 use Rattle.pc_compile.specs.Notes.{notes_of}
 use Rattle.pc_compile.specs.declared.error.CompileError.{CompileError}
 use Rattle.pc_compile.specs.declared.error.CompileError.TheVariants.{TooLarge, Memory}
-
--- the code of rows that are not tightened yet
-abbrev pub loose_code : Limits → (arrays : List ℕ) → List CodeRow → RowCode
-loose_code limits arrays rows = record { limits = limits; arrays = arrays; rows = rows }
 
 -- The object does what the program does, for every input of words, and may be written; it has the given limits and the
 -- program's arrays. The passes made the graph of the program's own graph, as `Passed` says, and it shows what that shows; the table
@@ -54,7 +50,7 @@ pub record IsCompiled (program : ResolvedProgram) (Passed : FlowGraph → FlowGr
   pub chosen : AreChosen table limits extent choices (region_forms forms)
   pub loose : List CodeRow
   pub emitted : AreEmitted table forms limits loose
-  pub tightened : IsTightened (loose_code limits table.arrays loose) object.code
+  pub tightened : IsTightened (code_without_data limits table.arrays loose) object.code
   pub reached : EachIsReachable object.code.rows
   pub compact : Compact object.code
   pub no_goto_alone : HasNoGotoAlone object.code.rows

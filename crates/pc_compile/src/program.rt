@@ -22,7 +22,7 @@ use pc_emit::emit;
 use pc_flow::Flow;
 use pc_live::live;
 use pc_lower::lower;
-use pc_machine::Code;
+use pc_machine::{Code, FEW_REGISTERS, no_data};
 use pc_object::Object;
 use pc_pass::{Pass, run_list};
 use pc_regions::regions;
@@ -110,13 +110,16 @@ fn object_of(
     ensures memory { IfErr result (λ error. error ≡ Memory) }
 {
     let arrays = LengthList::from_slice(alloc, table.arrays.as_slice())?;
+    let initial = no_data(alloc, table.arrays.len())?;
     let rows = emit(alloc, table, chosen.forms.as_slice(), limits)?;
     let notes = notes(alloc, table, chosen.choices.as_slice())?;
     let code = tighten(
         alloc,
         Code {
             limits,
+            registers: FEW_REGISTERS as u16,
             arrays,
+            initial,
             rows,
         },
     )?;

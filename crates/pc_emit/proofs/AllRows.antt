@@ -18,6 +18,7 @@ use Rattle.pc_copies.specs.declared.moves.Move.{Move}
 use Rattle.pc_machine.specs.declared.tree.Leaf.{Leaf}
 use Rattle.pc_machine.specs.declared.tree.Leaf.TheVariants.{Stop}
 use Rattle.pc_machine.specs.MachineCode.{CodeRow}
+use Rattle.pc_machine.specs.Registers.{few_registers}
 use Rattle.pc_machine.specs.WellFormed.{IsLeaf, IsRow}
 use Rattle.pc_machine.specs.Reachable.{IsReachable, Entry}
 use Rattle.pc_emit.specs.Registers.{register_of}
@@ -119,10 +120,10 @@ module _ (plan : Plan) (is : IsPlan plan) (rows : List CodeRow) (emitted : IsEmi
 
   -- a row that keeps the limits, if there is one
   abbrev Fits : ℕ → Type 0
-  Fits number = (row : CodeRow) → slice_get rows number ≡ Some row → IsRow plan.limits (length plan.table.now.arrays) (length rows) row
+  Fits number = (row : CodeRow) → slice_get rows number ≡ Some row → IsRow plan.limits few_registers (length plan.table.now.arrays) (length rows) row
 
-  row_fits : (number : ℕ) (made : CodeRow) → slice_get rows number ≡ Some made → IsRow plan.limits (length plan.table.now.arrays) (length rows) made → Fits number
-  row_fits number made there fits row also = subst (IsRow plan.limits (length plan.table.now.arrays) (length rows)) (one_row there also) fits
+  row_fits : (number : ℕ) (made : CodeRow) → slice_get rows number ≡ Some made → IsRow plan.limits few_registers (length plan.table.now.arrays) (length rows) made → Fits number
+  row_fits number made there fits row also = subst (IsRow plan.limits few_registers (length plan.table.now.arrays) (length rows)) (one_row there also) fits
 
   module _ (within : rows_end plan ≤ length rows) where
     region_leaf_fits : (region : ℕ) (leaf : Leaf) → LeadsToRegion (emission_in plan) region leaf → IsLeaf (length rows) leaf

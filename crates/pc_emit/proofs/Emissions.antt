@@ -1,13 +1,13 @@
 -- A code in which the rows of regions stand shows what the table shows.
 use Rattle.std.proofs.Common.{◌≡◌, ℕ, zero, suc, ◌<◌, List, [], ◌∷◌, Option, Some, refl, sym, ◌∙◌, ap, subst, inl, inr, arith}
-use Rattle.std.specs.Prelude.{true, nat_eq}
+use Rattle.std.specs.Prelude.{ℤ, true, nat_eq}
 use Rattle.std.specs.List.{AllByRecursion}
 use Rattle.pc_word.specs.declared.item.Limits.{Limits}
 use Rattle.pc_word.specs.State.{State, start_state}
 use Rattle.pc_word.specs.Row.{At_leaf}
-use Rattle.pc_word.specs.Run.{Seen, Answers, Agree, run_from, NeverFaults}
+use Rattle.pc_word.specs.Run.{Run, Seen, Answers, Agree, run_from, NeverFaults}
 use Rattle.pc_table.specs.Table.{TableTree, Next, region_tree}
-use Rattle.pc_table.specs.RegionRun.{region_step, region_run}
+use Rattle.pc_table.specs.RegionRun.{region_step, region_run, table_run}
 use Rattle.pc_table.specs.TableKeeps.{TableKeeps}
 use Rattle.pc_window.specs.Rebasing.{is_in}
 use Rattle.pc_window.specs.Unwinding.{or_zero}
@@ -17,9 +17,12 @@ use Rattle.pc_automaton.specs.Automaton.{AutomatonState}
 use Rattle.pc_automaton.specs.AutomatonRun.{automaton_run}
 use Rattle.pc_machine.specs.declared.tree.Leaf.{Leaf}
 use Rattle.pc_machine.specs.MachineCode.{CodeRow}
+use Rattle.pc_machine.specs.MachineRun.{Cycle, machine_step, machine_start}
+use Rattle.pc_machine.proofs.Data.{no_data-replicate}
+use Rattle.pc_machine.proofs.MachineRuns.{machine_start-no_data}
 use Rattle.pc_emit.specs.Emitted.{Emission, RegionForm, Plain, ByAutomaton, form_leaf, BeginsAt, at_first_row, by_leaf_alone, IsEmitted}
 use Rattle.pc_emit.specs.PackedForm.{IsPackedForm, IsRegionForm}
-use Rattle.pc_emit.specs.Laws.{EmittedRowsDoWhatTheirTableDoes}
+use Rattle.pc_emit.specs.Laws.{code_with, EmittedRowsDoWhatTheirTableDoes}
 use Rattle.pc_emit.proofs.Leading.{row_run, leaf_run, leaf_seen, row_seen, leaf_grows}
 use Rattle.pc_emit.proofs.PackedRuns.{code, ForthIn, BackAt, StandsAt, state_forth, state_back}
 use Rattle.pc_emit.proofs.PlainRuns.{roots, tree_forth, tree_back}
@@ -140,7 +143,16 @@ module _ (e : Emission) (keeps : TableKeeps e.table) (limits : Limits) (rows : L
       one_behind (suc n) = subst (λ (x : Seen). Answers x (leaf_run (code e keeps limits rows) leaf m (suc n)) x.end) (sym (one_more n))
           (leaf_grows (code e keeps limits rows) leaf m n (suc n) (omega arith))
 
+-- a code without data starts at its row 0, with 0 everywhere
+pub starts_at_zero : (limits : Limits) (e : Emission) (rows : List CodeRow) (input : List ℤ)
+    → ◌≡◌ {A = Cycle} (machine_start (code_with limits e rows) input) (record { row = 0; state = start_state input })
+starts_at_zero limits e rows input = machine_start-no_data (code_with limits e rows) input (no_data-replicate (length e.table.arrays))
+
 pub emitted_rows_do : EmittedRowsDoWhatTheirTableDoes
 emitted_rows_do e keeps limits rows emitted forms never input words =
-    begins_agree e keeps limits rows emitted forms emitted.first emitted.begins (start_state input)
-    (leaf_agrees e keeps limits rows emitted forms (start_state input) (never input words))
+    subst (λ (c : Cycle). Agree (run_code_from c) (table_run e.table input)) (sym (starts_at_zero limits e rows input))
+    (begins_agree e keeps limits rows emitted forms emitted.first emitted.begins (start_state input)
+    (leaf_agrees e keeps limits rows emitted forms (start_state input) (never input words)))
+  where
+    run_code_from : Cycle → Run
+    run_code_from c n = run_from (machine_step (code_with limits e rows)) n c

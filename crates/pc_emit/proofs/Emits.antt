@@ -19,6 +19,7 @@ use Rattle.pc_word.specs.declared.row_tree.RowTree.{RowTree}
 use Rattle.pc_machine.specs.declared.tree.Leaf.{Leaf}
 use Rattle.pc_machine.specs.declared.tree.Leaf.TheVariants as machine
 use Rattle.pc_machine.specs.MachineCode.{CodeRow, row_of, rows_of}
+use Rattle.pc_machine.specs.Registers.{few_registers}
 use Rattle.pc_machine.specs.WellFormed.{IsLeaf, IsRow}
 use Rattle.pc_machine.specs.Reachable.{IsReachable}
 use Rattle.pc_emit.specs.declared.form.RegionForm.{RegionForm as StoredForm}
@@ -361,9 +362,9 @@ module _ (plan : Plan) (is : IsPlan plan) (old new : Output) (rows : List CodeRo
   reached = by_part (λ number. IsReachable rows number) (all_reached plan is rows all_emitted)
       (λ at lt. (way at lt).reached (λ row low high. all_reached plan is rows all_emitted row (let many = so_far.count_is in omega (arith, high, many))))
 
-  fit : AllByRecursion (IsRow plan.limits (length plan.table.now.arrays) (length rows)) rows
-  fit = at_each (IsRow plan.limits (length plan.table.now.arrays) (length rows)) rows
-      (λ at row there. by_part (λ number. (row : CodeRow) → slice_get rows number ≡ Some row → IsRow plan.limits (length plan.table.now.arrays) (length rows) row)
+  fit : AllByRecursion (IsRow plan.limits few_registers (length plan.table.now.arrays) (length rows)) rows
+  fit = at_each (IsRow plan.limits few_registers (length plan.table.now.arrays) (length rows)) rows
+      (λ at row there. by_part (λ number. (row : CodeRow) → slice_get rows number ≡ Some row → IsRow plan.limits few_registers (length plan.table.now.arrays) (length rows) row)
       (all_fit plan is rows all_emitted within) (λ at lt. (way at lt).fits within) at (slice_get_within rows at row there) row there)
     where
       within : rows_end plan ≤ length rows

@@ -14,6 +14,7 @@ use Rattle.pc_copies.specs.Laws.{copy_row}
 use Rattle.pc_machine.specs.declared.tree.Leaf.{Leaf}
 use Rattle.pc_machine.specs.declared.tree.Leaf.TheVariants.{Goto}
 use Rattle.pc_machine.specs.MachineCode.{CodeRow, row_of, rows_of}
+use Rattle.pc_machine.specs.Registers.{few_registers}
 use Rattle.pc_machine.specs.WellFormed.{IsLeaf, IsRow}
 use Rattle.pc_machine.specs.Reachable.{Behind, HasLeafTo}
 use Rattle.pc_object.specs.ObjectText.{leaf_text, row_text}
@@ -89,7 +90,7 @@ module _ (plan : Plan) (old mid new : Output) (number : ℕ) (row : CodeRow) (co
   own_way final stays = record {
     fits = λ le other there.
         let same : row ≡ other = same_row (stands.stands final stays) there in
-        subst (IsRow plan.limits (length plan.table.now.arrays) (length final)) (sym is ∙ same)
+        subst (IsRow plan.limits few_registers (length plan.table.now.arrays) (length final)) (sym is ∙ same)
         (copies_fit plan.limits (length plan.table.now.arrays) (length final) copies next fits (through.within final (grows.stays final stays) le));
     reached = λ reached. reached number (Contains-push [] (Goto number));
   }

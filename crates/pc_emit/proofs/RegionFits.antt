@@ -13,17 +13,18 @@ use Rattle.pc_word.specs.Items.{dest_of, is_effect, is_memory}
 use Rattle.pc_word.specs.Row.{Then, Either, At_leaf}
 use Rattle.pc_table.specs.TableKeeps.{NamesVariable, ItemIsThere}
 use Rattle.pc_machine.specs.declared.tree.Leaf.{Leaf}
+use Rattle.pc_machine.specs.Registers.{few_registers}
 use Rattle.pc_machine.specs.WellFormed.{IsOperand, IsItem, IsLeaf, IsPath, IsRow}
 
 -- ---- rows of one item or test
 
 -- a variable is a register
-operand_fits : (operand : Operand) → NamesVariable operand → IsOperand operand
+operand_fits : (operand : Operand) → NamesVariable operand → IsOperand few_registers operand
 operand_fits (Name name) h = omega (arith, h)
 operand_fits (Lit value) h = tt
 
 -- an item of a table is one of the machine
-item_fits : (arrays : ℕ) (item : Item) → ItemIsThere arrays item → IsItem arrays item
+item_fits : (arrays : ℕ) (item : Item) → ItemIsThere arrays item → IsItem few_registers arrays item
 item_fits arrays (Bin op dest left right) h =
     (let w = h.writes in omega (arith, w), operand_fits left h.reads.0, operand_fits right h.reads.1.0)
 item_fits arrays (Copy dest from) h = (let w = h.writes in omega (arith, w), operand_fits from h.reads.0)
@@ -52,7 +53,7 @@ unfolding IsDistinct
 none_is_path = record { writes_once = tt; one_effect = omega arith }
 
 module _ (limits : Limits) (fine : AreLimits limits) (arrays rows : ℕ) where
-  pub item_row_fits : (item : Item) (leaf : Leaf) → ItemIsThere arrays item → IsLeaf rows leaf → IsRow limits arrays rows (Then item (At_leaf leaf))
+  pub item_row_fits : (item : Item) (leaf : Leaf) → ItemIsThere arrays item → IsLeaf rows leaf → IsRow limits few_registers arrays rows (Then item (At_leaf leaf))
   item_row_fits item leaf fits is = record {
     ops = let low = fine.ops.0 in omega (arith, low);
     tests = omega arith;
@@ -64,7 +65,7 @@ module _ (limits : Limits) (fine : AreLimits limits) (arrays rows : ℕ) where
   }
 
   pub test_row_fits : (on : Operand) (one other : Leaf) → NamesVariable on → IsLeaf rows one → IsLeaf rows other
-      → IsRow limits arrays rows (Either on (At_leaf one) (At_leaf other))
+      → IsRow limits few_registers arrays rows (Either on (At_leaf one) (At_leaf other))
   test_row_fits on one other fits is is_too = record {
     ops = omega arith;
     tests = let low = fine.tests.0 in omega (arith, low);
@@ -75,7 +76,7 @@ module _ (limits : Limits) (fine : AreLimits limits) (arrays rows : ℕ) where
     paths = (none_is_path, (none_is_path, tt));
   }
 
-  pub leaf_row_fits : (leaf : Leaf) → IsLeaf rows leaf → IsRow limits arrays rows (At_leaf leaf)
+  pub leaf_row_fits : (leaf : Leaf) → IsLeaf rows leaf → IsRow limits few_registers arrays rows (At_leaf leaf)
   leaf_row_fits leaf is = record {
     ops = omega arith;
     tests = omega arith;

@@ -16,6 +16,7 @@ use Rattle.pc_assign.specs.Pressure.{allowed}
 use Rattle.pc_assign.specs.Apart.{IsApart}
 use Rattle.pc_assign.specs.Stored.{registers_in}
 use Rattle.pc_machine.specs.MachineCode.{CodeRow}
+use Rattle.pc_machine.specs.Registers.{few_registers}
 use Rattle.pc_machine.specs.WellFormed.{IsRow}
 use Rattle.pc_machine.specs.Reachable.{IsReachable}
 use Rattle.pc_object.specs.ObjectText.{row_text}
@@ -57,7 +58,7 @@ pub record AreEmitted (table : Table) (forms : List (Option StoredForm)) (limits
   pub are : IsEmitted (emission_of table forms entries limits.ops) rows
   pub first_row : BeginsAtFirstRow (emission_of table forms entries limits.ops)
   pub some : 1 ≤ length rows
-  pub fit : AllByRecursion (IsRow limits (length table.arrays) (length rows)) rows
+  pub fit : AllByRecursion (IsRow limits few_registers (length table.arrays) (length rows)) rows
   pub reached : (row : ℕ) → row < length rows → IsReachable rows row
   pub short : length (flat_map row_text rows) ≤ regions_bytes (region_forms forms) 0 table.regions
 

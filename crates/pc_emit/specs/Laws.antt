@@ -5,14 +5,14 @@ use Rattle.pc_word.specs.Word.{IsWord}
 use Rattle.pc_word.specs.Run.{AgreeOnInputs, NeverFaults}
 use Rattle.pc_table.specs.RegionRun.{table_run}
 use Rattle.pc_table.specs.TableKeeps.{TableKeeps}
-use Rattle.pc_machine.specs.MachineCode.{CodeRow, RowCode}
+use Rattle.pc_machine.specs.MachineCode.{CodeRow, RowCode, code_without_data}
 use Rattle.pc_machine.specs.MachineRun.{machine_run}
 use Rattle.pc_emit.specs.Emitted.{Emission, RegionForm, IsEmitted}
 use Rattle.pc_emit.specs.PackedForm.{IsRegionForm}
 
--- the code with these rows
+-- the code with these rows, over the table's arrays
 abbrev pub code_with : Limits → Emission → List CodeRow → RowCode
-code_with limits e rows = record { limits = limits; arrays = e.table.arrays; rows = rows }
+code_with limits e rows = code_without_data limits e.table.arrays rows
 
 -- where each region that has a form has one that it may have, its rows stand in the code, and the table's run faults on no
 -- input of words, the code shows what the table shows, on every such input

@@ -1,5 +1,5 @@
 -- Rows and codes as plain data, without the pointers that hold a tree together in memory.
-use Rattle.std.specs.Prelude.{ℕ, ℤ, Bool, false, nat_eq, List, map, Option, Some, None}
+use Rattle.std.specs.Prelude.{ℕ, ℤ, Bool, false, nat_eq, List, [], length, map, replicate, Option, Some, None}
 use Rattle.pc_word.specs.declared.item.Limits.{Limits}
 use Rattle.pc_word.specs.declared.row_tree.RowTree.{RowTree}
 use Rattle.pc_word.specs.Row.{Row}
@@ -7,6 +7,7 @@ use Rattle.pc_word.specs.StoredRow.{row_in}
 use Rattle.pc_machine.specs.declared.tree.Leaf.{Leaf}
 use Rattle.pc_machine.specs.declared.tree.Leaf.TheVariants.{Goto, Stop, Trap}
 use Rattle.pc_machine.specs.declared.code.Code.{Code}
+use Rattle.pc_machine.specs.Registers.{few_registers}
 
 -- the row to which a leaf leads, if it is a goto
 abbrev pub target_of : Leaf → Option ℕ
@@ -32,6 +33,11 @@ pub record RowCode : Type 0 where
   pub arrays : List ℕ
   pub initial : List (List ℤ)
   pub rows : List CodeRow
+
+-- the code of rows that need no more than the fewer registers, over arrays that begin with 0 alone
+abbrev pub code_without_data : Limits → List ℕ → List CodeRow → RowCode
+code_without_data limits arrays rows =
+    record { limits = limits; registers = few_registers; arrays = arrays; initial = replicate (length arrays) []; rows = rows }
 
 -- the row that a tree in memory is
 abbrev pub row_of : RowTree Leaf → CodeRow

@@ -5,7 +5,7 @@ use Rattle.pc_word.specs.declared.item.End.{End}
 use Rattle.pc_word.specs.declared.item.End.TheVariants.{Fault}
 use Rattle.pc_word.specs.Run.{Run, Answers, Agree, NeverFaults}
 use Rattle.pc_word.proofs.Runs.{Agree-refl, Agree-trans, Answers-refl, Answers-trans}
-use Rattle.pc_machine.specs.MachineCode.{RowCode}
+use Rattle.pc_machine.specs.MachineCode.{CodeRow, RowCode}
 use Rattle.pc_machine.specs.MachineRun.{machine_run}
 use Rattle.pc_machine.specs.WellFormed.{WellFormed}
 use Rattle.pc_tighten.specs.Moves.{moved}

@@ -2,19 +2,18 @@
 use Rattle.std.specs.Prelude.{◌≡◌, List, Option}
 use Rattle.pc_word.specs.declared.item.Limits.{Limits}
 use Rattle.pc_table.specs.Table.{Table}
-use Rattle.pc_machine.specs.MachineCode.{CodeRow}
+use Rattle.pc_machine.specs.MachineCode.{CodeRow, code_without_data}
 use Rattle.pc_object.specs.ObjectText.{CodeWithNotes}
 use Rattle.pc_emit.specs.declared.form.RegionForm.{RegionForm}
 use Rattle.pc_emit.specs.Emitting.{AreEmitted}
 use Rattle.pc_tighten.specs.Tightened.{IsTightened}
 use Rattle.pc_compile.specs.declared.choice.Choice.{Choice}
 use Rattle.pc_compile.specs.Notes.{notes_of}
-use Rattle.pc_compile.specs.Compiled.{loose_code}
 
 -- The object is made of the rows of the table's regions in their forms, which were tightened, and of the notes of the choices.
 pub record IsObjectOf (table : Table) (forms : List (Option RegionForm)) (choices : List Choice) (limits : Limits) (object : CodeWithNotes)
     : Type 0 where
   pub loose : List CodeRow
   pub emitted : AreEmitted table forms limits loose
-  pub tightened : IsTightened (loose_code limits table.arrays loose) object.code
+  pub tightened : IsTightened (code_without_data limits table.arrays loose) object.code
   pub notes : object.notes ≡ notes_of table choices

@@ -4,6 +4,7 @@ use Rattle.pc_table.specs.Table.{TableTree}
 use Rattle.pc_machine.specs.declared.tree.Leaf.{Leaf}
 use Rattle.pc_machine.specs.declared.tree.Leaf.TheVariants.{Goto}
 use Rattle.pc_machine.specs.MachineCode.{CodeRow}
+use Rattle.pc_machine.specs.Registers.{few_registers}
 use Rattle.pc_machine.specs.WellFormed.{IsLeaf, IsRow}
 use Rattle.pc_machine.specs.Reachable.{IsReachable}
 use Rattle.pc_object.specs.ObjectText.{leaf_text}
@@ -32,7 +33,7 @@ RowsReached from to final = (number : ℕ) → from ≤ number → number < to �
 
 -- a row keeps the limits, and it is reached where this is
 pub record IsOnTheWay (plan : Plan) (Reached : List CodeRow → Type 0) (final : List CodeRow) (number : ℕ) : Type 0 where
-  pub fits : rows_end plan ≤ length final → (row : CodeRow) → slice_get final number ≡ Some row → IsRow plan.limits (length plan.table.now.arrays) (length final) row
+  pub fits : rows_end plan ≤ length final → (row : CodeRow) → slice_get final number ≡ Some row → IsRow plan.limits few_registers (length plan.table.now.arrays) (length final) row
   pub reached : Reached final → IsReachable final number
 
 -- ---- regions

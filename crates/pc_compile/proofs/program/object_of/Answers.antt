@@ -6,11 +6,11 @@ use Rattle.pc_compile.proofs.program.object_of.Goals as goal
 
 pub tighten-requires : goal.tighten-requires
 tighten-requires c =
-    loose_is_well_formed (table_of c.args.table.now) c.as_slice-2.result.now c.args.limits _ (rows_of c.in_ok-rows.rows) c.requires.limits c.requires.arrays
-    (c.in_ok-arrays.ensures ∙ c.as_slice.ensures) c.in_ok-rows.ensures
+    loose_is_well_formed (table_of c.args.table.now) c.as_slice-2.result.now c.args.limits _ _ (rows_of c.in_ok-rows.rows) c.requires.limits c.requires.arrays
+    (c.in_ok-arrays.ensures ∙ c.as_slice.ensures) c.in_ok-initial.ensures c.in_ok-rows.ensures
 
 pub returns-clause-object : goal.returns-clause-object
 returns-clause-object c =
     made_object (table_of c.args.table.now) c.args.limits c.args.chosen.now.forms c.as_slice-2.result.now c.args.chosen.now.choices c.as_slice-3.result.now
-    _ (rows_of c.in_ok-rows.rows) (code_of c.in_ok-code.code) _ (c.in_ok-arrays.ensures ∙ c.as_slice.ensures) c.in_ok-notes.ensures c.as_slice-3.ensures
+    _ _ (rows_of c.in_ok-rows.rows) (code_of c.in_ok-code.code) _ (c.in_ok-arrays.ensures ∙ c.as_slice.ensures) c.in_ok-initial.ensures c.in_ok-notes.ensures c.as_slice-3.ensures
     c.in_ok-rows.ensures c.as_slice-2.ensures c.in_ok-code.ensures
