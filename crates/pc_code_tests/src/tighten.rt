@@ -1,6 +1,6 @@
 //! Rows that are made compact.
 
-use pc_machine::{Code, Leaf, Tree, TreeList, well_formed};
+use pc_machine::{Code, FEW_REGISTERS, Leaf, Tree, TreeList, no_data, well_formed};
 use pc_tighten::{TightenError, tighten};
 use pc_word::{Item, LengthList, Limits, Operand, RowTree};
 use std::alloc::{AllocError, Global};
@@ -52,7 +52,9 @@ fn code(alloc: Global, rows: &[(&[Item], End)]) -> Result<Code, AllocError> {
             tests: 2,
             mem: 2,
         },
+        registers: FEW_REGISTERS as u16,
         arrays: LengthList::from_slice(alloc, &[8, 8])?,
+        initial: no_data(alloc, 2)?,
         rows: trees,
     })
 }

@@ -89,7 +89,10 @@ impl Path {
     fn writes(&self, register: u32) -> bool
         ensures { result ≡ (above_of self.now).written register }
     {
-        self.written.get(register as usize).copied().unwrap_or(false)
+        self.written
+            .get(register as usize)
+            .copied()
+            .unwrap_or(false)
     }
 }
 

@@ -1,6 +1,8 @@
 //! Codes that are run. What operators give was computed with C17, by gcc with wrapping arithmetic.
 
-use pc_machine::{Code, Leaf, Tree, TreeList, well_formed};
+use pc_machine::{
+    Code, DataList, FEW_REGISTERS, Leaf, MOST_REGISTERS, Tree, TreeList, no_data, well_formed,
+};
 use pc_outside::SureSink;
 use pc_vm::{Machine, Outcome, RunError};
 use pc_word::{
@@ -45,7 +47,7 @@ fn rows_of(alloc: Global, lists: &[&[Item]]) -> Result<TreeList, AllocError> {
     Ok(rows)
 }
 
-/// A code with arrays of 4 and 2 elements.
+/// A code with the fewer registers, and arrays of 4 and 2 elements without data.
 fn code_of(alloc: Global, rows: TreeList) -> Result<Code, AllocError> {
     Ok(Code {
         limits: Limits {
@@ -53,7 +55,9 @@ fn code_of(alloc: Global, rows: TreeList) -> Result<Code, AllocError> {
             tests: 4,
             mem: 4,
         },
+        registers: FEW_REGISTERS as u16,
         arrays: LengthList::from_slice(alloc, &[4, 2])?,
+        initial: no_data(alloc, 2)?,
         rows,
     })
 }
@@ -66,7 +70,17 @@ fn run_rows(
     budget: u64,
     room: usize,
 ) -> Result<Option<Shown>, Fail> {
-    let code = code_of(alloc, rows)?;
+    run_code(alloc, code_of(alloc, rows)?, inputs, budget, room)
+}
+
+/// Runs a code on an input, into a sink with so much room; `None` where it is not well formed.
+fn run_code(
+    alloc: Global,
+    code: Code,
+    inputs: &[i32],
+    budget: u64,
+    room: usize,
+) -> Result<Option<Shown>, Fail> {
     let inputs = WordList::from_slice(alloc, inputs)?;
     match well_formed(&code) {
         None => {
@@ -236,6 +250,41 @@ fn all_of_a_row_reads_before_it_writes(rt: HostRuntime) -> Result<(), Fail> {
     let alloc = rt.alloc();
     let text = b"2\n1\n0\n-2147483648\n5\n9\n0\n0\n";
     assert!(rt; shows(alloc, exchanges(alloc)?, &[], text, ENDED)?);
+    Ok(())
+}
+
+/// Rows that print the elements of the first array and the last of the second, through the last register.
+fn elements(alloc: Global) -> Result<TreeList, AllocError> {
+    let lists: [&[Item]; 10] = [
+        &[load(255, 0, 0)],
+        &[print(255), load(255, 0, 1)],
+        &[print(255), load(255, 0, 2)],
+        &[print(255), load(255, 0, 3)],
+        &[print(255), store(0, 1, 9)],
+        &[load(255, 0, 1)],
+        &[print(255), load(255, 1, 0)],
+        &[print(255), load(255, 1, 1)],
+        &[print(255), load(255, 1, 2)],
+        &[print(255)],
+    ];
+    rows_of(alloc, &lists)
+}
+
+#[test]
+fn arrays_begin_with_their_data(rt: HostRuntime) -> Result<(), Fail> {
+    let alloc = rt.alloc();
+    let mut code = code_of(alloc, elements(alloc)?)?;
+    assert!(rt; well_formed(&code).is_some());
+    code.registers = MOST_REGISTERS as u16;
+    let mut initial = DataList::new(alloc);
+    initial.push(WordList::from_slice(alloc, &[5, -6])?)?;
+    initial.push(WordList::from_slice(alloc, &[0, 7])?)?;
+    code.initial = initial;
+    let text = b"5\n-6\n0\n0\n9\n0\n7\n0\n";
+    match run_code(alloc, code, &[], 1000, 256)? {
+        Some(shown) => assert!(rt; shown.text.as_slice() == text && shown.answer == Ok(ENDED)),
+        None => assert!(rt; false),
+    }
     Ok(())
 }
 

@@ -209,6 +209,22 @@ static FLAWS: [(Flaw, &str); 18] = [
         "pvm: object: bad field at offset 20: Elements\n",
     ),
     (
+        Flaw::Registers,
+        "pvm: object: bad field at offset 20: Registers\n",
+    ),
+    (
+        Flaw::DataCount,
+        "pvm: object: bad field at offset 20: DataCount\n",
+    ),
+    (
+        Flaw::DataTail,
+        "pvm: object: bad field at offset 20: DataTail\n",
+    ),
+    (
+        Flaw::Version,
+        "pvm: object: bad field at offset 20: Version\n",
+    ),
+    (
         Flaw::RowCount,
         "pvm: object: bad field at offset 20: RowCount\n",
     ),
