@@ -191,7 +191,7 @@ static OBJECTS: [(ObjectFault, &str); 4] = [
 ];
 
 /// At offset 20.
-static FLAWS: [(Flaw, &str); 18] = [
+static FLAWS: [(Flaw, &str); 22] = [
     (
         Flaw::HeaderLimit,
         "pvm: object: bad field at offset 20: HeaderLimit\n",

@@ -1,16 +1,22 @@
 -- How many lines a graph has.
-use Rattle.std.proofs.Common.{◌≡◌, ℕ, suc, ◌+◌, List, [], ◌∷◌, ◌++◌, length, refl, ap, arith, codes}
+use Rattle.std.proofs.Common.{◌≡◌, ℕ, suc, ◌+◌, List, [], ◌∷◌, ◌++◌, length, refl, sym, ◌∙◌, ap, arith, codes}
 use Rattle.std.proofs.Common.{length-append}
 use Rattle.std.specs.List.{count_by, sum_by}
 use Rattle.std.proofs.lemmas.List.Sums.{sum_by-cons}
-use Rattle.pc_word.proofs.Lists.{count_both}
+use Rattle.std.specs.Prelude.{ℤ}
+use Rattle.pc_word.proofs.Lists.{count_both, count_more}
 use Rattle.pc_word.specs.Row.{Then, Either, At_leaf, leaves_of}
 use Rattle.pc_machine.specs.declared.tree.Leaf.TheVariants.{Goto, Stop, Trap}
 use Rattle.pc_machine.specs.MachineCode.{CodeRow}
 use Rattle.pc_object.specs.declared.object.Note.{Note}
 use Rattle.pc_object.specs.ObjectText.{CodeWithNotes}
-use Rattle.pc_view.specs.Graph.{row_edges, row_graph, note_nodes, graph_lines}
-use Rattle.pc_view.specs.Laws.{is_edge, graph_line_count}
+use Rattle.pc_view.specs.Graph.{data_nodes, row_edges, row_graph, note_nodes, graph_lines}
+use Rattle.pc_view.specs.Laws.{is_edge, has_words, graph_line_count}
+
+length-data_nodes : (array : ℕ) (initial : List (List ℤ)) → length (data_nodes array initial) ≡ count_by has_words initial
+length-data_nodes array [] = refl
+length-data_nodes array ([] ∷ initial) = length-data_nodes (suc array) initial
+length-data_nodes array ((word ∷ words) ∷ initial) = ap suc (length-data_nodes (suc array) initial) ∙ sym (count_more has_words (word ∷ words) initial)
 
 length-row_edges : (number : ℕ) (port : List ℕ) (row : CodeRow) → length (row_edges number port row) ≡ count_by is_edge (leaves_of row)
 length-row_edges number port (Then item rest) = length-row_edges number port rest
@@ -45,8 +51,10 @@ pub length-graph_lines : (object : CodeWithNotes) → length (graph_lines object
 length-graph_lines object =
     omega (
       arith,
+      length-append (data_nodes 0 object.code.initial) (row_graph 0 object.code.rows ++ (note_nodes 0 object.notes ++ codes "}" ∷ [])),
       length-append (row_graph 0 object.code.rows) (note_nodes 0 object.notes ++ codes "}" ∷ []),
       length-append (note_nodes 0 object.notes) (codes "}" ∷ []),
+      length-data_nodes 0 object.code.initial,
       length-row_graph 0 object.code.rows,
       length-note_nodes 0 object.notes,
     )

@@ -1,5 +1,5 @@
 -- An object as a graph in the language DOT: its rows are record nodes, and each leaf that leads to a row an edge.
-use Rattle.std.specs.Prelude.{ℕ, suc, List, [], ◌∷◌, ◌++◌, codes, slice_get, unwrap_or}
+use Rattle.std.specs.Prelude.{ℕ, suc, ℤ, List, [], ◌∷◌, ◌++◌, length, codes, slice_get, unwrap_or}
 use Rattle.std.specs.Fmt.{decimal}
 use Rattle.pc_word.specs.declared.item.OpCode.{OpCode}
 use Rattle.pc_word.specs.declared.item.OpCode.TheVariants.{Shl, Shr, Or, Less, LessEq}
@@ -54,6 +54,19 @@ abbrev pub row_graph : ℕ → List CodeRow → List (List ℕ)
 row_graph number [] = []
 row_graph number (row ∷ rest) = row_node number row ∷ (row_edges number (codes "p") row ++ row_graph (suc number) rest)
 
+-- ---- data
+
+-- the box of an array with data: with how many words it begins
+unfoldable pub data_node : ℕ → ℕ → List ℕ
+data_node array count =
+    codes "    data" ++ (decimal array ++ (codes " [shape=box, label=\"a" ++ (decimal array ++ (codes " begins with words: " ++ (decimal count ++ codes "\"];")))))
+
+-- the boxes of arrays, numbered from `array` on: one for each that has data
+abbrev pub data_nodes : ℕ → List (List ℤ) → List (List ℕ)
+data_nodes array [] = []
+data_nodes array ([] ∷ initial) = data_nodes (suc array) initial
+data_nodes array ((word ∷ words) ∷ initial) = data_node array (length (word ∷ words)) ∷ data_nodes (suc array) initial
+
 -- ---- notes
 
 -- the colour of a loop for each choice that its note may have, from 0 to 7: one for each form
@@ -88,7 +101,7 @@ abbrev pub graph_lines : CodeWithNotes → List (List ℕ)
 graph_lines object =
     codes "digraph rows {"
     ∷ (codes "    node [shape=record];"
-    ∷ (row_graph 0 object.code.rows ++ (note_nodes 0 object.notes ++ codes "}" ∷ [])))
+    ∷ (data_nodes 0 object.code.initial ++ (row_graph 0 object.code.rows ++ (note_nodes 0 object.notes ++ codes "}" ∷ []))))
 
 -- the text of the graph
 abbrev pub graph_text : CodeWithNotes → List ℕ

@@ -1,5 +1,5 @@
--- An object as a text to be read: its limits and arrays, its rows, and its notes.
-use Rattle.std.specs.Prelude.{ℕ, zero, suc, List, [], ◌∷◌, ◌++◌, length, map, codes}
+-- An object as a text to be read: its limits, arrays and their data, its rows, and its notes.
+use Rattle.std.specs.Prelude.{ℕ, suc, if◌then◌else◌, nat_eq, List, [], ◌∷◌, ◌++◌, length, map, codes}
 use Rattle.std.specs.List.{count_by, flat_map}
 use Rattle.std.specs.Fmt.{decimal}
 use Rattle.pc_word.specs.Line.{line}
@@ -7,17 +7,14 @@ use Rattle.pc_word.specs.Items.{is_memory}
 use Rattle.pc_word.specs.Row.{items_of, tests_of}
 use Rattle.pc_word.specs.declared.item.Limits.{Limits}
 use Rattle.pc_machine.specs.MachineCode.{CodeRow, RowCode}
+use Rattle.pc_machine.specs.Registers.{few_registers}
 use Rattle.pc_object.specs.ObjectText.{CodeWithNotes}
 use Rattle.pc_report.specs.Report.{note_words}
+use Rattle.pc_view.specs.DataLines.{separator, all_data_lines}
 use Rattle.pc_view.specs.Leading.{rows_leading_to}
 use Rattle.pc_view.specs.Tree.{tree_lines}
 
 -- ---- lists in a line
-
--- what stands in front of an element of a list by its number: a blank in front of the first, a comma and a blank in front of another
-abbrev pub separator : ℕ → List ℕ
-separator zero = codes " "
-separator (suc number) = codes ", "
 
 -- the arrays, numbered from `number` on, with their lengths
 abbrev pub arrays_from : ℕ → List ℕ → List ℕ
@@ -48,9 +45,13 @@ limit_words limits =
     codes "limits of a row: " ++ (decimal limits.ops ++ (codes " items, " ++ (decimal limits.tests ++ (codes " tests, "
     ++ (decimal limits.mem ++ codes " loads and stores")))))
 
--- the limits and the arrays
+-- how many registers there are, where these are not the fewer
+abbrev pub register_words : ℕ → List ℕ
+register_words registers = if nat_eq registers few_registers then [] else codes "; registers: " ++ decimal registers
+
+-- the limits, the arrays and the registers
 abbrev pub limits_line : RowCode → List ℕ
-limits_line code = limit_words code.limits ++ array_words code.arrays
+limits_line code = limit_words code.limits ++ (array_words code.arrays ++ register_words code.registers)
 
 -- the number of a row, and how many items, tests, and loads and stores it has of how many it may have
 unfoldable pub count_words : Limits → ℕ → CodeRow → List ℕ
@@ -75,7 +76,9 @@ rows_lines code number (row ∷ rest) = row_lines code number row ++ rows_lines 
 
 -- the lines of an object
 abbrev pub listing_lines : CodeWithNotes → List (List ℕ)
-listing_lines object = limits_line object.code ∷ (rows_lines object.code 0 object.code.rows ++ map note_words object.notes)
+listing_lines object =
+    limits_line object.code
+    ∷ (all_data_lines 0 object.code.initial ++ (rows_lines object.code 0 object.code.rows ++ map note_words object.notes))
 
 -- ---- the text
 

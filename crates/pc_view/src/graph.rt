@@ -6,27 +6,52 @@ ghost use Rattle.pc_object.specs.ObjectText.{object_of, IsObject, IsChoice};
 ghost use Rattle.pc_word.specs.Line.{line};
 ghost use Rattle.pc_word.specs.Row.{At_leaf};
 ghost use Rattle.pc_view.specs.Listing.{lines_text};
-ghost use Rattle.pc_view.specs.Graph.{row_fields, node_start, row_node, row_edges, row_graph, choice_colour, note_start, note_node, note_nodes, graph_text};
+ghost use Rattle.pc_view.specs.Graph.{data_node, data_nodes, row_fields, node_start, row_node, row_edges, row_graph, choice_colour, note_start, note_node, note_nodes, graph_text};
 
 use crate::words::{ItemWords, LeafWords, Medium, OperandWords};
 use pc_machine::{Leaf, Tree};
 use pc_object::{Note, Object};
 use pc_report::push_note_words;
-use pc_word::RowTree;
+use pc_word::{RowTree, WordList};
 use std::alloc::{AllocError, Global};
 
 /// An object as a graph in the language DOT: each row is a record node with its tree, each leaf that leads to a row
-/// an edge, and each note a box whose colour says the loop's form: green where it is pipelined, yellow where it is
+/// an edge, each array that begins with words a box that tells how many, and each note a box whose colour says the loop's form: green where it is pipelined, yellow where it is
 /// packed, red where it is plain.
 pub fn graph_text(alloc: Global, object: &Object) -> Result<Vec<u8>, AllocError>
     requires { IsObject (object_of object.now) }
     ensures { IfOk result (λ text. text.items ≡ graph_text (object_of object.now)) }
 {
     let mut text = format!(in alloc; "digraph rows {{\n    node [shape=record];\n")?;
+    push_data(&mut text, object.code.initial.as_slice())?;
     push_rows(alloc, &mut text, object.code.rows.as_slice())?;
     push_notes(&mut text, object.notes.as_slice())?;
     text.push_str("}\n")?;
     Ok(text.into_bytes())
+}
+
+/// Appends the boxes of the arrays that have data to a text.
+fn push_data(text: &mut String, initial: &[WordList]) -> Result<(), AllocError>
+    ensures { OnOk result (string_bytes text.new ≡ string_bytes text.old ++ lines_text (data_nodes 0 initial.now)) }
+{
+    for (array, words) in initial.iter().enumerate() {
+        if !words.is_empty() {
+            push_data_node(text, array, words.len())?;
+            text.push_str("\n")?;
+        }
+    }
+    Ok(())
+}
+
+/// Appends the box of an array with data to a text.
+#[tactic(auto, unfolding(crate::specs::Graph::data_node))]
+fn push_data_node(text: &mut String, array: usize, count: usize) -> Result<(), AllocError>
+    ensures { OnOk result (string_bytes text.new ≡ string_bytes text.old ++ data_node array count) }
+{
+    write!(
+        text,
+        "    data{array} [shape=box, label=\"a{array} begins with words: {count}\"];"
+    )
 }
 
 /// Appends the nodes and edges of rows to a text.

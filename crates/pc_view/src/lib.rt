@@ -2,6 +2,7 @@
 #![tactic(auto)]
 
 mod counts;
+mod data;
 mod graph;
 mod laws;
 mod leading;

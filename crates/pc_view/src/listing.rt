@@ -4,22 +4,24 @@ ghost use Rattle.std.specs.List.{AllByRecursion};
 ghost use Rattle.pc_machine.specs.MachineCode.{row_of, rows_of, code_of};
 ghost use Rattle.pc_object.specs.ObjectText.{object_of, IsObject, IsChoice};
 ghost use Rattle.pc_report.specs.Report.{note_words};
-ghost use Rattle.pc_view.specs.Listing.{separator, array_words, arrays_from, leading_words, row_numbers_from};
+ghost use Rattle.pc_view.specs.Listing.{array_words, arrays_from, register_words, leading_words, row_numbers_from};
 ghost use Rattle.pc_view.specs.Listing.{limit_words, limits_line, count_words, heading, row_lines, rows_lines, lines_text, listing_text};
 ghost use Rattle.pc_view.specs.models.Counted.{HasFew};
 ghost use Rattle.pc_view.specs.models.Rows.{CanList};
 ghost use Rattle.pc_view.specs.models.Lists.{AreLists};
 
 use crate::counts::count;
+use crate::data::{push_data, separator};
 use crate::leading::{RowNumbers, leading_rows};
 use crate::rows::push_tree;
-use pc_machine::{Code, Counts, Tree};
+use pc_machine::{Code, Counts, FEW_REGISTERS, Tree};
 use pc_object::{Note, Object};
 use pc_report::push_note_words;
 use pc_word::Limits;
 use std::alloc::{AllocError, Global};
 
-/// An object as a text to be read: a line for the limits and the arrays; each row with its number, what it has
+/// An object as a text to be read: a line for the limits, the arrays and the registers, where these are more than
+/// the fewer; the words with which each array begins, eight in a line; each row with its number, what it has
 /// of what it may have, the rows that lead to it, and its tree; a line for each note.
 pub fn listing_text(alloc: Global, object: &Object) -> Result<Vec<u8>, AllocError>
     requires { IsObject (object_of object.now) }
@@ -28,17 +30,29 @@ pub fn listing_text(alloc: Global, object: &Object) -> Result<Vec<u8>, AllocErro
     let mut text = String::new(alloc);
     push_limits(&mut text, &object.code)?;
     text.push_str("\n")?;
+    push_data(&mut text, object.code.initial.as_slice())?;
     push_rows(alloc, &mut text, &object.code)?;
     push_notes(&mut text, object.notes.as_slice())?;
     Ok(text.into_bytes())
 }
 
-/// Appends the limits and the arrays to a text.
+/// Appends the limits, the arrays and the registers to a text.
 fn push_limits(text: &mut String, code: &Code) -> Result<(), AllocError>
     ensures { OnOk result (string_bytes text.new ≡ string_bytes text.old ++ limits_line (code_of code.now)) }
 {
     push_limit_words(text, code.limits)?;
-    push_arrays(text, code.arrays.as_slice())
+    push_arrays(text, code.arrays.as_slice())?;
+    push_registers(text, code.registers)
+}
+
+/// Appends how many registers there are to a text, where these are not the fewer.
+fn push_registers(text: &mut String, registers: u16) -> Result<(), AllocError>
+    ensures { OnOk result (string_bytes text.new ≡ string_bytes text.old ++ register_words registers) }
+{
+    if registers as usize == FEW_REGISTERS {
+        return Ok(());
+    }
+    write!(text, "; registers: {registers}")
 }
 
 /// Appends the limits to a text.
@@ -75,13 +89,6 @@ fn push_each_array(text: &mut String, lengths: &[u32]) -> Result<(), AllocError>
         write!(text, "{front}a{number}[{length}]")?;
     }
     Ok(())
-}
-
-/// What stands in front of an element of a list, by its number.
-fn separator(number: usize) -> &'static str
-    ensures { result.now ≡ separator number }
-{
-    if number == 0 { " " } else { ", " }
 }
 
 /// Appends the rows that lead to a row to a text.

@@ -1,0 +1,75 @@
+//! The data of arrays in lines.
+ghost use Rattle.std.specs.Prelude.{◌≡◌, ◌++◌, OnOk, string_bytes};
+ghost use Rattle.pc_view.specs.DataLines.{separator, values_from, data_start, data_line, data_lines, all_data_lines};
+ghost use Rattle.pc_view.specs.Listing.{lines_text};
+
+use pc_word::WordList;
+use std::alloc::AllocError;
+
+/// How many values stand in a line.
+const VALUES: usize = 8;
+
+/// Appends the lines of the words with which each array begins to a text.
+pub(crate) fn push_data(text: &mut String, initial: &[WordList]) -> Result<(), AllocError>
+    ensures { OnOk result (string_bytes text.new ≡ string_bytes text.old ++ lines_text (all_data_lines 0 initial.now)) }
+{
+    for (array, words) in initial.iter().enumerate() {
+        push_data_lines(text, array, words.as_slice())?;
+    }
+    Ok(())
+}
+
+/// Appends the lines of the words with which an array begins to a text.
+fn push_data_lines(text: &mut String, array: usize, words: &[i32]) -> Result<(), AllocError>
+    ensures { OnOk result (string_bytes text.new ≡ string_bytes text.old ++ lines_text (data_lines array 0 words.now)) }
+{
+    let mut place = 0;
+    let mut rest = words;
+    while !rest.is_empty() {
+        let many = rest.len().min(VALUES);
+        push_data_line(text, array, place, &rest[..many])?;
+        text.push_str("\n")?;
+        place += many;
+        rest = &rest[many..];
+    }
+    Ok(())
+}
+
+/// Appends a line of values to a text.
+fn push_data_line(
+    text: &mut String,
+    array: usize,
+    place: usize,
+    values: &[i32],
+) -> Result<(), AllocError>
+    ensures { OnOk result (string_bytes text.new ≡ string_bytes text.old ++ data_line array place values.now) }
+{
+    push_data_start(text, array, place)?;
+    push_values(text, values)
+}
+
+/// Appends the beginning of a line to a text.
+#[tactic(auto, unfolding(crate::specs::DataLines::data_start))]
+fn push_data_start(text: &mut String, array: usize, place: usize) -> Result<(), AllocError>
+    ensures { OnOk result (string_bytes text.new ≡ string_bytes text.old ++ data_start array place) }
+{
+    write!(text, "    a{array}[{place}] =")
+}
+
+/// Appends values to a text, if there are any.
+fn push_values(text: &mut String, values: &[i32]) -> Result<(), AllocError>
+    ensures { OnOk result (string_bytes text.new ≡ string_bytes text.old ++ values_from 0 values.now) }
+{
+    for (place, value) in values.iter().enumerate() {
+        let front = separator(place);
+        write!(text, "{front}{value}")?;
+    }
+    Ok(())
+}
+
+/// What stands in front of an element of a list, by its number.
+pub(crate) fn separator(number: usize) -> &'static str
+    ensures { result.now ≡ separator number }
+{
+    if number == 0 { " " } else { ", " }
+}
