@@ -1,8 +1,8 @@
 -- Laws of checking one thing after another.
-use Rattle.std.proofs.Common.{◌≡◌, ℕ, zero, suc, false, length, drop, get_or, replicate, List, [], ◌∷◌, ◌++◌, Result, Ok, Err, refl, sym, ◌∙◌, ap}
+use Rattle.std.proofs.Common.{◌≡◌, ℕ, zero, suc, ◌-◌, Bool, false, length, drop, get_or, replicate, List, [], ◌∷◌, ◌++◌, Result, Ok, Err, refl, sym, ◌∙◌, ap, arith}
 use Rattle.std.proofs.lemmas.List.{length-map}
 use Rattle.std.proofs.Math.Seq.{drop-cons}
-use Rattle.std.specs.Prelude.{◌<◌, slice_index_or}
+use Rattle.std.specs.Prelude.{ℤ, pos, ◌<◌, ◌≤◌, slice_index_or}
 use Rattle.std.specs.List.{flat_map}
 use Rattle.pc_word.specs.declared.item.Item.{Item}
 use Rattle.pc_word.specs.declared.item.Operand.{Operand}
@@ -15,6 +15,10 @@ use Rattle.pc_machine.specs.declared.tree.Leaf.{Leaf}
 use Rattle.pc_machine.specs.MachineCode.{CodeRow, RowCode, row_of, rows_of}
 use Rattle.pc_word.specs.Row.{Then, Either}
 use Rattle.pc_word.specs.Items.{is_memory}
+use Rattle.pc_machine.specs.declared.code.Flaw.TheVariants.{DataTail}
+use Rattle.pc_machine.specs.Data.{ends_in_zero}
+use Rattle.pc_machine.proofs.Data.{ends_in_zero-last}
+use Rattle.pc_machine.specs.Flaws.{flaw_where, data_count_flaws, data_tail_flaws, data_flaws}
 use Rattle.pc_machine.specs.Flaws.{Above, nothing_above, no_counts, above_with, counts_with_item, counts_with_test, counts_after, item_flaws, test_flaws, row_flaws, header_flaws, bounds_of, flaws_of}
 use Rattle.pc_word.specs.Exact.{checked}
 
@@ -121,18 +125,31 @@ row-stops bounds counts above trees i tree found flaws flaw within is_tree is_fo
     ∙ ap (λ (fs : List Flaw). checked fs tt) (sym (left ∙ ap (λ (ts : List (RowTree Leaf)). whole (rows_of ts)) split))
 
 -- a header with no flaw
-pub header-goes_on : (limits : Limits) (lengths : List ℕ) (trees shown : List (RowTree Leaf)) (arrays rows : ℕ) (x : Unit {0})
-    → Ok x ≡ checked (header_flaws (record { limits = limits; arrays = lengths; rows = rows_of trees })) tt
+pub header-goes_on : (limits : Limits) (registers : ℕ) (lengths : List ℕ) (initial : List (List ℤ)) (trees shown : List (RowTree Leaf)) (arrays rows : ℕ) (x : Unit {0})
+    → Ok x ≡ checked (header_flaws (record { limits = limits; registers = registers; arrays = lengths; initial = initial; rows = rows_of trees })) tt
     → arrays ≡ length lengths → rows ≡ length trees → shown ≡ trees
-    → ◌≡◌ {A = Result (Unit {0}) Flaw} (checked (flat_map (row_flaws (record { limits = limits; arrays = arrays; rows = rows }) no_counts nothing_above) (rows_of shown)) tt)
-    (checked (flaws_of (record { limits = limits; arrays = lengths; rows = rows_of trees })) tt)
-header-goes_on limits lengths trees shown arrays rows x goes same_arrays same_rows same =
-    let code : RowCode = record { limits = limits; arrays = lengths; rows = rows_of trees } in
+    → ◌≡◌ {A = Result (Unit {0}) Flaw} (checked (flat_map (row_flaws (record { limits = limits; registers = registers; arrays = arrays; rows = rows }) no_counts nothing_above) (rows_of shown)) tt)
+    (checked (flaws_of (record { limits = limits; registers = registers; arrays = lengths; initial = initial; rows = rows_of trees })) tt)
+header-goes_on limits registers lengths initial trees shown arrays rows x goes same_arrays same_rows same =
+    let code : RowCode = record { limits = limits; registers = registers; arrays = lengths; initial = initial; rows = rows_of trees } in
     let count : rows ≡ length (rows_of trees) = same_rows ∙ sym (length-map trees row_of) in
-    ap (λ (n : ℕ). checked (flat_map (row_flaws (record { limits = limits; arrays = n; rows = rows }) no_counts nothing_above) (rows_of shown)) tt) same_arrays
-    ∙ ap (λ (n : ℕ). checked (flat_map (row_flaws (record { limits = limits; arrays = length lengths; rows = n }) no_counts nothing_above) (rows_of shown)) tt) count
+    let bounds : ℕ → ℕ → Bounds = λ n m. record { limits = limits; registers = registers; arrays = n; rows = m } in
+    ap (λ (n : ℕ). checked (flat_map (row_flaws (bounds n rows) no_counts nothing_above) (rows_of shown)) tt) same_arrays
+    ∙ ap (λ (n : ℕ). checked (flat_map (row_flaws (bounds (length lengths) n) no_counts nothing_above) (rows_of shown)) tt) count
     ∙ ap (λ (ts : List (RowTree Leaf)). checked (flat_map (row_flaws (bounds_of code) no_counts nothing_above) (rows_of ts)) tt) same
     ∙ sym (checked-goes_on (header_flaws code) (flat_map (row_flaws (bounds_of code) no_counts nothing_above) (rows_of trees)) tt x tt (sym goes))
+
+-- ---- the data of an array
+
+-- words whose count has no flaw, and of which the last one is checked
+pub data-goes_on : (elements : ℕ) (words : List ℤ) (x : Unit {0}) → Ok x ≡ checked (data_count_flaws elements (length words)) tt → 1 ≤ length words
+    → ◌≡◌ {A = Result (Unit {0}) Flaw} (checked (data_tail_flaws (slice_index_or words (length words - 1) (pos 0))) tt) (checked (data_flaws elements words) tt)
+data-goes_on elements words x goes some =
+    ap (λ (b : Bool). checked (flaw_where b DataTail) tt) (sym (ends_in_zero-last words (length words - 1) (count_of words some)))
+    ∙ sym (checked-goes_on (data_count_flaws elements (length words)) (flaw_where (ends_in_zero words) DataTail) tt x tt (sym goes))
+  where
+    count_of : (words : List ℤ) → 1 ≤ length words → length words ≡ suc (length words - 1)
+    count_of words some = omega arith
 
 -- ---- the path
 

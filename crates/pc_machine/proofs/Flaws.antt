@@ -1,6 +1,6 @@
 -- A code has no flaw exactly where it is well formed.
-use Rattle.std.proofs.Common.{◌≡◌, ℕ, ◌+◌, ◌<◌, ◌≤◌, zero-le, Bool, true, false, cond, not, ◌&&◌, ◌||◌, List, [], ◌∷◌, ◌++◌, length, Option, Some, None, refl, sym, ◌∙◌, ap, arith, length-append}
-use Rattle.std.specs.Prelude.{slice_get, nat_eq, nat_lt, nat_le, sum, ◌↔◌}
+use Rattle.std.proofs.Common.{◌≡◌, inl, inr, ℕ, suc, ◌+◌, ◌<◌, ◌≤◌, zero-le, Bool, true, false, cond, not, ◌&&◌, ◌||◌, List, [], ◌∷◌, ◌++◌, length, Option, Some, None, refl, sym, ◌∙◌, ap, arith, length-append}
+use Rattle.std.specs.Prelude.{ℤ, slice_get, nat_eq, nat_lt, nat_le, sum, ◌↔◌}
 use Rattle.std.specs.List.{AllByRecursion, IsDistinct, count_by, filter_map, cons_option, flat_map}
 use Rattle.std.proofs.lemmas.Bool.Decides.{nat_tests}
 use Rattle.std.proofs.lemmas.List.Sums.{sum_by-cons}
@@ -10,7 +10,7 @@ use Rattle.pc_word.specs.declared.item.Operand.{Operand}
 use Rattle.pc_word.specs.declared.item.Operand.TheVariants.{Name, Lit}
 use Rattle.pc_word.specs.declared.item.Limits.{Limits}
 use Rattle.pc_machine.specs.declared.code.Flaw.{Flaw}
-use Rattle.pc_machine.specs.declared.code.Flaw.TheVariants.{HeaderLimit, ArrayCount, ArrayLength, Elements, RowCount, Register, Array, Target}
+use Rattle.pc_machine.specs.declared.code.Flaw.TheVariants.{HeaderLimit, ArrayCount, Registers, ArrayLength, Elements, DataCount, DataTail, RowCount, Register, Array, Target}
 use Rattle.pc_machine.specs.declared.code.Flaw.TheVariants.{DestTwice, EffectTwice, TooManyOps, TooManyTests, TooManyMem}
 use Rattle.pc_machine.specs.declared.check.Bounds.{Bounds}
 use Rattle.pc_machine.specs.declared.check.Counts.{Counts}
@@ -20,15 +20,18 @@ use Rattle.pc_machine.specs.MachineCode.{CodeRow, RowCode}
 use Rattle.pc_word.specs.Row.{Then, Either, At_leaf, items_of, tests_of, leaves_of, paths_of}
 use Rattle.pc_word.specs.Items.{dest_of, is_memory, is_effect}
 use Rattle.pc_word.specs.Commit.{writes}
-use Rattle.pc_machine.specs.WellFormed.{IsOperand, IsItem, IsLeaf, IsPath, IsRow, WellFormed}
+use Rattle.pc_machine.specs.WellFormed.{IsOperand, IsItem, IsLeaf, IsPath, IsRow, IsData, AreData, WellFormed}
 use Rattle.pc_word.specs.Ranges.{IsBetween, AreLimits}
 use Rattle.pc_word.proofs.Lists.{all_front, all_back, all_both, all_of_map, map_of_all, all_imply, count_more, count_both}
-use Rattle.pc_machine.specs.Flaws.{flaw_where, is_between, limit_flaws, limits_flaws, array_count_flaws, length_flaws, lengths_flaws}
+use Rattle.pc_machine.specs.Flaws.{flaw_where, is_between, limit_flaws, limits_flaws, array_count_flaws, register_count_flaws, length_flaws, lengths_flaws}
+use Rattle.pc_machine.specs.Flaws.{data_count_flaws, data_flaws, each_data_flaws, initial_flaws}
 use Rattle.pc_machine.specs.Flaws.{row_count_flaws, Above, nothing_above, above_with, no_counts, one_where, counts_with_item, counts_with_test}
 use Rattle.pc_machine.specs.Flaws.{counts_after, item_tag_flaws, test_tag_flaws, register_flaws, dest_flaws, operand_flaws, array_flaws, field_flaws}
 use Rattle.pc_machine.specs.Flaws.{item_flaws, test_flaws, leaf_flaws, row_flaws, bounds_of, header_flaws, flaws_of}
 use Rattle.pc_word.proofs.Truth.{below_of, most_of, of_below, of_most, or_false, or_made_false}
-use Rattle.pc_word.specs.MachineLimits.{most_arrays, most_elements, most_length, most_mem, most_ops, most_tests, registers}
+use Rattle.pc_word.specs.MachineLimits.{most_arrays, most_elements, most_length, most_mem, most_ops, most_tests}
+use Rattle.pc_machine.specs.Registers.{few_registers, most_registers, IsRegisterCount}
+use Rattle.pc_machine.specs.Data.{ends_in_zero}
 
 -- ---- lists of flaws
 
@@ -74,19 +77,19 @@ of_between low high n (p, q) =
 
 -- ---- the fields of an item
 
-register_sound : (register : ℕ) → register_flaws register ≡ [] → register < registers
-register_sound register e = below_of registers register (where_none (nat_le registers register) Register e)
+register_sound : (registers register : ℕ) → register_flaws registers register ≡ [] → register < registers
+register_sound registers register e = below_of registers register (where_none (nat_le registers register) Register e)
 
-register_complete : (register : ℕ) → register < registers → register_flaws register ≡ []
-register_complete register h = none_where (nat_le registers register) Register (of_below registers register h)
+register_complete : (registers register : ℕ) → register < registers → register_flaws registers register ≡ []
+register_complete registers register h = none_where (nat_le registers register) Register (of_below registers register h)
 
-operand_sound : (operand : Operand) → operand_flaws operand ≡ [] → IsOperand operand
-operand_sound (Name register) e = register_sound register e
-operand_sound (Lit value) e = tt
+operand_sound : (registers : ℕ) (operand : Operand) → operand_flaws registers operand ≡ [] → IsOperand registers operand
+operand_sound registers (Name register) e = register_sound registers register e
+operand_sound registers (Lit value) e = tt
 
-operand_complete : (operand : Operand) → IsOperand operand → operand_flaws operand ≡ []
-operand_complete (Name register) h = register_complete register h
-operand_complete (Lit value) h = refl
+operand_complete : (registers : ℕ) (operand : Operand) → IsOperand registers operand → operand_flaws registers operand ≡ []
+operand_complete registers (Name register) h = register_complete registers register h
+operand_complete registers (Lit value) h = refl
 
 array_sound : (arrays array : ℕ) → array_flaws arrays array ≡ [] → array < arrays
 array_sound arrays array e = below_of arrays array (where_none (nat_le arrays array) Array e)
@@ -99,53 +102,67 @@ abbrev Fresh : (ℕ → Bool) → Option ℕ → Type 0
 Fresh written (Some register) = written register ≡ false
 Fresh written None = Unit {0}
 
-dest_sound : (above : Above) (dest : ℕ) → dest_flaws above dest ≡ [] → (dest < registers) × (above.written dest ≡ false)
-dest_sound above dest e = (
-  register_sound dest (none_front (register_flaws dest) (flaw_where (above.written dest) DestTwice) e),
-  where_none (above.written dest) DestTwice (none_back (register_flaws dest) (flaw_where (above.written dest) DestTwice) e),
+dest_sound : (registers : ℕ) (above : Above) (dest : ℕ) → dest_flaws registers above dest ≡ [] → (dest < registers) × (above.written dest ≡ false)
+dest_sound registers above dest e = (
+  register_sound registers dest (none_front (register_flaws registers dest) (flaw_where (above.written dest) DestTwice) e),
+  where_none (above.written dest) DestTwice (none_back (register_flaws registers dest) (flaw_where (above.written dest) DestTwice) e),
 )
 
-dest_complete : (above : Above) (dest : ℕ) → dest < registers → above.written dest ≡ false → dest_flaws above dest ≡ []
-dest_complete above dest h fresh =
-    none_both (register_flaws dest) (flaw_where (above.written dest) DestTwice) (register_complete dest h) (none_where (above.written dest) DestTwice fresh)
+dest_complete : (registers : ℕ) (above : Above) (dest : ℕ) → dest < registers → above.written dest ≡ false → dest_flaws registers above dest ≡ []
+dest_complete registers above dest h fresh =
+    none_both (register_flaws registers dest) (flaw_where (above.written dest) DestTwice) (register_complete registers dest h) (none_where (above.written dest) DestTwice fresh)
 
-field_sound : (arrays : ℕ) (above : Above) (item : Item) → field_flaws arrays above item ≡ [] → IsItem arrays item × Fresh above.written (dest_of item)
-field_sound arrays above (Bin op dest left right) e =
-    let d = dest_sound above dest (none_front (dest_flaws above dest) (operand_flaws left ++ operand_flaws right) e) in
-    let o = none_back (dest_flaws above dest) (operand_flaws left ++ operand_flaws right) e in
-    ((d.0, operand_sound left (none_front (operand_flaws left) (operand_flaws right) o), operand_sound right (none_back (operand_flaws left) (operand_flaws right) o)), d.1)
-field_sound arrays above (Copy dest from) e =
-    let d = dest_sound above dest (none_front (dest_flaws above dest) (operand_flaws from) e) in
-    ((d.0, operand_sound from (none_back (dest_flaws above dest) (operand_flaws from) e)), d.1)
-field_sound arrays above (Load dest array index) e =
-    let d = dest_sound above dest (none_front (dest_flaws above dest) (array_flaws arrays array ++ operand_flaws index) e) in
-    let o = none_back (dest_flaws above dest) (array_flaws arrays array ++ operand_flaws index) e in
-    ((d.0, array_sound arrays array (none_front (array_flaws arrays array) (operand_flaws index) o), operand_sound index (none_back (array_flaws arrays array) (operand_flaws index) o)), d.1)
-field_sound arrays above (Store array index value) e =
-    let o = none_back (array_flaws arrays array) (operand_flaws index ++ operand_flaws value) e in
-    let a = none_front (array_flaws arrays array) (operand_flaws index ++ operand_flaws value) e in
-    let i = none_front (operand_flaws index) (operand_flaws value) o in
-    let v = none_back (operand_flaws index) (operand_flaws value) o in
-    ((array_sound arrays array a, operand_sound index i, operand_sound value v), tt)
-field_sound arrays above (Print value) e = (operand_sound value e, tt)
-field_sound arrays above (Read dest) e = dest_sound above dest e
-field_sound arrays above (More dest) e = dest_sound above dest e
+-- two operands without a flaw
+operands_sound : (registers : ℕ) (left right : Operand) → operand_flaws registers left ++ operand_flaws registers right ≡ [] → IsOperand registers left × IsOperand registers right
+operands_sound registers left right e = (
+  operand_sound registers left (none_front (operand_flaws registers left) (operand_flaws registers right) e),
+  operand_sound registers right (none_back (operand_flaws registers left) (operand_flaws registers right) e),
+)
 
-field_complete : (arrays : ℕ) (above : Above) (item : Item) → IsItem arrays item → Fresh above.written (dest_of item) → field_flaws arrays above item ≡ []
-field_complete arrays above (Bin op dest left right) h fresh =
-    none_both (dest_flaws above dest) (operand_flaws left ++ operand_flaws right) (dest_complete above dest h.0 fresh)
-    (none_both (operand_flaws left) (operand_flaws right) (operand_complete left h.1) (operand_complete right h.2))
-field_complete arrays above (Copy dest from) h fresh =
-    none_both (dest_flaws above dest) (operand_flaws from) (dest_complete above dest h.0 fresh) (operand_complete from h.1)
-field_complete arrays above (Load dest array index) h fresh =
-    none_both (dest_flaws above dest) (array_flaws arrays array ++ operand_flaws index) (dest_complete above dest h.0 fresh)
-    (none_both (array_flaws arrays array) (operand_flaws index) (array_complete arrays array h.1) (operand_complete index h.2))
-field_complete arrays above (Store array index value) h fresh =
-    none_both (array_flaws arrays array) (operand_flaws index ++ operand_flaws value) (array_complete arrays array h.0)
-    (none_both (operand_flaws index) (operand_flaws value) (operand_complete index h.1) (operand_complete value h.2))
-field_complete arrays above (Print value) h fresh = operand_complete value h
-field_complete arrays above (Read dest) h fresh = dest_complete above dest h fresh
-field_complete arrays above (More dest) h fresh = dest_complete above dest h fresh
+operands_complete : (registers : ℕ) (left right : Operand) → IsOperand registers left → IsOperand registers right → operand_flaws registers left ++ operand_flaws registers right ≡ []
+operands_complete registers left right p q =
+    none_both (operand_flaws registers left) (operand_flaws registers right) (operand_complete registers left p) (operand_complete registers right q)
+
+field_sound : (bounds : Bounds) (above : Above) (item : Item) → field_flaws bounds above item ≡ [] → IsItem bounds.registers bounds.arrays item × Fresh above.written (dest_of item)
+field_sound bounds above (Bin op dest left right) e =
+    let rest : List Flaw = operand_flaws bounds.registers left ++ operand_flaws bounds.registers right in
+    let d = dest_sound bounds.registers above dest (none_front (dest_flaws bounds.registers above dest) rest e) in
+    let o = operands_sound bounds.registers left right (none_back (dest_flaws bounds.registers above dest) rest e) in
+    ((d.0, o.0, o.1), d.1)
+field_sound bounds above (Copy dest from) e =
+    let d = dest_sound bounds.registers above dest (none_front (dest_flaws bounds.registers above dest) (operand_flaws bounds.registers from) e) in
+    ((d.0, operand_sound bounds.registers from (none_back (dest_flaws bounds.registers above dest) (operand_flaws bounds.registers from) e)), d.1)
+field_sound bounds above (Load dest array index) e =
+    let rest : List Flaw = array_flaws bounds.arrays array ++ operand_flaws bounds.registers index in
+    let d = dest_sound bounds.registers above dest (none_front (dest_flaws bounds.registers above dest) rest e) in
+    let o = none_back (dest_flaws bounds.registers above dest) rest e in
+    let a = array_sound bounds.arrays array (none_front (array_flaws bounds.arrays array) (operand_flaws bounds.registers index) o) in
+    ((d.0, a, operand_sound bounds.registers index (none_back (array_flaws bounds.arrays array) (operand_flaws bounds.registers index) o)), d.1)
+field_sound bounds above (Store array index value) e =
+    let rest : List Flaw = operand_flaws bounds.registers index ++ operand_flaws bounds.registers value in
+    let o = operands_sound bounds.registers index value (none_back (array_flaws bounds.arrays array) rest e) in
+    ((array_sound bounds.arrays array (none_front (array_flaws bounds.arrays array) rest e), o.0, o.1), tt)
+field_sound bounds above (Print value) e = (operand_sound bounds.registers value e, tt)
+field_sound bounds above (Read dest) e = dest_sound bounds.registers above dest e
+field_sound bounds above (More dest) e = dest_sound bounds.registers above dest e
+
+field_complete : (bounds : Bounds) (above : Above) (item : Item) → IsItem bounds.registers bounds.arrays item → Fresh above.written (dest_of item) → field_flaws bounds above item ≡ []
+field_complete bounds above (Bin op dest left right) h fresh =
+    none_both (dest_flaws bounds.registers above dest) (operand_flaws bounds.registers left ++ operand_flaws bounds.registers right)
+    (dest_complete bounds.registers above dest h.0 fresh) (operands_complete bounds.registers left right h.1 h.2)
+field_complete bounds above (Copy dest from) h fresh =
+    none_both (dest_flaws bounds.registers above dest) (operand_flaws bounds.registers from)
+    (dest_complete bounds.registers above dest h.0 fresh) (operand_complete bounds.registers from h.1)
+field_complete bounds above (Load dest array index) h fresh =
+    none_both (dest_flaws bounds.registers above dest) (array_flaws bounds.arrays array ++ operand_flaws bounds.registers index)
+    (dest_complete bounds.registers above dest h.0 fresh)
+    (none_both (array_flaws bounds.arrays array) (operand_flaws bounds.registers index) (array_complete bounds.arrays array h.1) (operand_complete bounds.registers index h.2))
+field_complete bounds above (Store array index value) h fresh =
+    none_both (array_flaws bounds.arrays array) (operand_flaws bounds.registers index ++ operand_flaws bounds.registers value)
+    (array_complete bounds.arrays array h.0) (operands_complete bounds.registers index value h.1 h.2)
+field_complete bounds above (Print value) h fresh = operand_complete bounds.registers value h
+field_complete bounds above (Read dest) h fresh = dest_complete bounds.registers above dest h fresh
+field_complete bounds above (More dest) h fresh = dest_complete bounds.registers above dest h fresh
 
 -- ---- an item under a path
 
@@ -154,7 +171,7 @@ record Fits (bounds : Bounds) (counts : Counts) (above : Above) (item : Item) : 
   ops : counts.ops < bounds.limits.ops
   mem : one_where (is_memory item) counts.mem ≤ bounds.limits.mem
   effect : (is_effect item && above.effect) ≡ false
-  parts : IsItem bounds.arrays item
+  parts : IsItem bounds.registers bounds.arrays item
   fresh : Fresh above.written (dest_of item)
 
 -- one more load or store, if it is one
@@ -171,9 +188,9 @@ item_sound bounds counts above item few e =
     let full : Bool = nat_le bounds.limits.ops counts.ops in
     let memory : Bool = is_memory item && nat_le bounds.limits.mem counts.mem in
     let effect : Bool = is_effect item && above.effect in
-    let tag = none_front (item_tag_flaws bounds.limits counts above (is_memory item) (is_effect item)) (field_flaws bounds.arrays above item) e in
+    let tag = none_front (item_tag_flaws bounds.limits counts above (is_memory item) (is_effect item)) (field_flaws bounds above item) e in
     let behind = none_back (flaw_where (nat_le bounds.limits.ops counts.ops) TooManyOps) (flaw_where memory TooManyMem ++ flaw_where effect EffectTwice) tag in
-    let f = field_sound bounds.arrays above item (none_back (item_tag_flaws bounds.limits counts above (is_memory item) (is_effect item)) (field_flaws bounds.arrays above item) e) in
+    let f = field_sound bounds above item (none_back (item_tag_flaws bounds.limits counts above (is_memory item) (is_effect item)) (field_flaws bounds above item) e) in
     record {
       ops = below_of bounds.limits.ops counts.ops (where_none full TooManyOps (none_front (flaw_where full TooManyOps) (flaw_where memory TooManyMem ++ flaw_where effect EffectTwice) tag));
       mem = memory_sound (is_memory item) counts.mem bounds.limits.mem few (where_none memory TooManyMem (none_front (flaw_where memory TooManyMem) (flaw_where effect EffectTwice) behind));
@@ -186,13 +203,13 @@ item_complete : (bounds : Bounds) (counts : Counts) (above : Above) (item : Item
 item_complete bounds counts above item fits =
     let memory : Bool = is_memory item && nat_le bounds.limits.mem counts.mem in
     let effect : Bool = is_effect item && above.effect in
-    none_both (item_tag_flaws bounds.limits counts above (is_memory item) (is_effect item)) (field_flaws bounds.arrays above item)
+    none_both (item_tag_flaws bounds.limits counts above (is_memory item) (is_effect item)) (field_flaws bounds above item)
     (none_both (flaw_where (nat_le bounds.limits.ops counts.ops) TooManyOps) (flaw_where memory TooManyMem ++ flaw_where effect EffectTwice)
     (none_where (nat_le bounds.limits.ops counts.ops) TooManyOps (of_below bounds.limits.ops counts.ops fits.ops))
     (none_both (flaw_where memory TooManyMem) (flaw_where effect EffectTwice)
     (none_where memory TooManyMem (memory_complete (is_memory item) counts.mem bounds.limits.mem fits.mem))
     (none_where effect EffectTwice fits.effect)))
-    (field_complete bounds.arrays above item fits.parts fits.fresh)
+    (field_complete bounds above item fits.parts fits.fresh)
 
 -- ---- a path under what stands above it
 
@@ -309,8 +326,8 @@ record Keeps (bounds : Bounds) (counts : Counts) (above : Above) (row : CodeRow)
   ops : counts.ops + length (items_of row) ≤ bounds.limits.ops
   tests : counts.tests + length (tests_of row) ≤ bounds.limits.tests
   mem : counts.mem + count_by is_memory (items_of row) ≤ bounds.limits.mem
-  items : AllByRecursion (IsItem bounds.arrays) (items_of row)
-  operands : AllByRecursion IsOperand (tests_of row)
+  items : AllByRecursion (IsItem bounds.registers bounds.arrays) (items_of row)
+  operands : AllByRecursion (IsOperand bounds.registers) (tests_of row)
   leaves : AllByRecursion (IsLeaf bounds.rows) (leaves_of row)
   paths : AllByRecursion (IsBelow above) (paths_of row)
 
@@ -388,7 +405,7 @@ then_rest bounds counts above item rest keeps =
           (all_of_map (IsBelow above) (λ path. item ∷ path) (paths_of rest) keeps.paths);
     }
 
-either_keeps : (bounds : Bounds) (counts : Counts) (above : Above) (on : Operand) (on_yes on_no : CodeRow) → IsOperand on
+either_keeps : (bounds : Bounds) (counts : Counts) (above : Above) (on : Operand) (on_yes on_no : CodeRow) → IsOperand bounds.registers on
     → Keeps bounds (counts_with_test counts) above on_yes → Keeps bounds (counts_after on_yes (counts_with_test counts)) above on_no
     → Keeps bounds counts above (Either on on_yes on_no)
 either_keeps bounds counts above on on_yes on_no is_operand yes_keeps no_keeps =
@@ -399,8 +416,8 @@ either_keeps bounds counts above on on_yes on_no is_operand yes_keeps no_keeps =
       ops = omega (arith, no_keeps.ops, ops, length-append (items_of on_yes) (items_of on_no));
       tests = omega (arith, no_keeps.tests, tests, length-append (tests_of on_yes) (tests_of on_no));
       mem = omega (arith, no_keeps.mem, mem, count_both is_memory (items_of on_yes) (items_of on_no));
-      items = all_both (IsItem bounds.arrays) (items_of on_yes) (items_of on_no) yes_keeps.items no_keeps.items;
-      operands = (is_operand, all_both IsOperand (tests_of on_yes) (tests_of on_no) yes_keeps.operands no_keeps.operands);
+      items = all_both (IsItem bounds.registers bounds.arrays) (items_of on_yes) (items_of on_no) yes_keeps.items no_keeps.items;
+      operands = (is_operand, all_both (IsOperand bounds.registers) (tests_of on_yes) (tests_of on_no) yes_keeps.operands no_keeps.operands);
       leaves = all_both (IsLeaf bounds.rows) (leaves_of on_yes) (leaves_of on_no) yes_keeps.leaves no_keeps.leaves;
       paths = all_both (IsBelow above) (paths_of on_yes) (paths_of on_no) yes_keeps.paths no_keeps.paths;
     }
@@ -411,8 +428,8 @@ either_yes bounds counts above on on_yes on_no keeps = record {
   ops = omega (arith, keeps.ops, length-append (items_of on_yes) (items_of on_no));
   tests = omega (arith, keeps.tests, length-append (tests_of on_yes) (tests_of on_no));
   mem = omega (arith, keeps.mem, count_both is_memory (items_of on_yes) (items_of on_no));
-  items = all_front (IsItem bounds.arrays) (items_of on_yes) (items_of on_no) keeps.items;
-  operands = all_front IsOperand (tests_of on_yes) (tests_of on_no) keeps.operands.1;
+  items = all_front (IsItem bounds.registers bounds.arrays) (items_of on_yes) (items_of on_no) keeps.items;
+  operands = all_front (IsOperand bounds.registers) (tests_of on_yes) (tests_of on_no) keeps.operands.1;
   leaves = all_front (IsLeaf bounds.rows) (leaves_of on_yes) (leaves_of on_no) keeps.leaves;
   paths = all_front (IsBelow above) (paths_of on_yes) (paths_of on_no) keeps.paths;
 }
@@ -427,8 +444,8 @@ either_no bounds counts above on on_yes on_no keeps =
       ops = omega (arith, keeps.ops, ops, length-append (items_of on_yes) (items_of on_no));
       tests = omega (arith, keeps.tests, tests, length-append (tests_of on_yes) (tests_of on_no));
       mem = omega (arith, keeps.mem, mem, count_both is_memory (items_of on_yes) (items_of on_no));
-      items = all_back (IsItem bounds.arrays) (items_of on_yes) (items_of on_no) keeps.items;
-      operands = all_back IsOperand (tests_of on_yes) (tests_of on_no) keeps.operands.1;
+      items = all_back (IsItem bounds.registers bounds.arrays) (items_of on_yes) (items_of on_no) keeps.items;
+      operands = all_back (IsOperand bounds.registers) (tests_of on_yes) (tests_of on_no) keeps.operands.1;
       leaves = all_back (IsLeaf bounds.rows) (leaves_of on_yes) (leaves_of on_no) keeps.leaves;
       paths = all_back (IsBelow above) (paths_of on_yes) (paths_of on_no) keeps.paths;
     }
@@ -450,7 +467,7 @@ row_sound bounds counts above (Either on on_yes on_no) within e =
     let t = none_front test rest e in
     let r = none_back test rest e in
     let full : Bool = nat_le bounds.limits.tests counts.tests in
-    let room : counts.tests < bounds.limits.tests = below_of bounds.limits.tests counts.tests (where_none full TooManyTests (none_front (test_tag_flaws bounds.limits counts) (operand_flaws on) t)) in
+    let room : counts.tests < bounds.limits.tests = below_of bounds.limits.tests counts.tests (where_none full TooManyTests (none_front (test_tag_flaws bounds.limits counts) (operand_flaws bounds.registers on) t)) in
     let still : Within bounds.limits behind = record { ops = within.ops; tests = omega arith; mem = within.mem } in
     let yes_keeps = row_sound bounds behind above on_yes still (none_front (row_flaws bounds behind above on_yes) (row_flaws bounds between above on_no) r) in
     let later : Within bounds.limits between = record {
@@ -458,7 +475,7 @@ row_sound bounds counts above (Either on on_yes on_no) within e =
       tests = omega (arith, counts-tests on_yes behind, yes_keeps.tests);
       mem = omega (arith, counts-mem on_yes behind, yes_keeps.mem);
     } in
-    either_keeps bounds counts above on on_yes on_no (operand_sound on (none_back (test_tag_flaws bounds.limits counts) (operand_flaws on) t)) yes_keeps
+    either_keeps bounds counts above on on_yes on_no (operand_sound bounds.registers on (none_back (test_tag_flaws bounds.limits counts) (operand_flaws bounds.registers on) t)) yes_keeps
     (row_sound bounds between above on_no later (none_back (row_flaws bounds behind above on_yes) (row_flaws bounds between above on_no) r))
 row_sound bounds counts above (At_leaf leaf) within e = record {
   ops = omega (arith, within.ops);
@@ -481,9 +498,9 @@ row_complete bounds counts above (Either on on_yes on_no) keeps =
     let between : Counts = counts_after on_yes behind in
     let room : counts.tests < bounds.limits.tests = omega (arith, keeps.tests) in
     none_both (test_flaws bounds counts on) (row_flaws bounds behind above on_yes ++ row_flaws bounds between above on_no)
-    (none_both (test_tag_flaws bounds.limits counts) (operand_flaws on)
+    (none_both (test_tag_flaws bounds.limits counts) (operand_flaws bounds.registers on)
     (none_where (nat_le bounds.limits.tests counts.tests) TooManyTests (of_below bounds.limits.tests counts.tests room))
-    (operand_complete on keeps.operands.0))
+    (operand_complete bounds.registers on keeps.operands.0))
     (none_both (row_flaws bounds behind above on_yes) (row_flaws bounds between above on_no)
     (row_complete bounds behind above on_yes (either_yes bounds counts above on on_yes on_no keeps))
     (row_complete bounds between above on_no (either_no bounds counts above on on_yes on_no keeps)))
@@ -497,7 +514,7 @@ path_of_below path below = record { writes_once = below.writes_once; one_effect 
 below_of_path : (path : List Item) → IsPath path → IsBelow nothing_above path
 below_of_path path is = record { fresh = all_true (filter_map dest_of path); writes_once = is.writes_once; one_effect = is.one_effect }
 
-whole_sound : (bounds : Bounds) (row : CodeRow) → row_flaws bounds no_counts nothing_above row ≡ [] → IsRow bounds.limits bounds.arrays bounds.rows row
+whole_sound : (bounds : Bounds) (row : CodeRow) → row_flaws bounds no_counts nothing_above row ≡ [] → IsRow bounds.limits bounds.registers bounds.arrays bounds.rows row
 whole_sound bounds row e =
     let keeps = row_sound bounds no_counts nothing_above row (record { ops = zero-le; tests = zero-le; mem = zero-le }) e in
     record {
@@ -510,7 +527,7 @@ whole_sound bounds row e =
       paths = all_imply (IsBelow nothing_above) IsPath (paths_of row) path_of_below keeps.paths;
     }
 
-whole_complete : (bounds : Bounds) (row : CodeRow) → IsRow bounds.limits bounds.arrays bounds.rows row → row_flaws bounds no_counts nothing_above row ≡ []
+whole_complete : (bounds : Bounds) (row : CodeRow) → IsRow bounds.limits bounds.registers bounds.arrays bounds.rows row → row_flaws bounds no_counts nothing_above row ≡ []
 whole_complete bounds row is = row_complete bounds no_counts nothing_above row (record {
   ops = omega (arith, is.ops);
   tests = omega (arith, is.tests);
@@ -521,14 +538,14 @@ whole_complete bounds row is = row_complete bounds no_counts nothing_above row (
   paths = all_imply IsPath (IsBelow nothing_above) (paths_of row) below_of_path is.paths;
 })
 
-rows_sound : (bounds : Bounds) (rows : List CodeRow) → flat_map (row_flaws bounds no_counts nothing_above) rows ≡ [] → AllByRecursion (IsRow bounds.limits bounds.arrays bounds.rows) rows
+rows_sound : (bounds : Bounds) (rows : List CodeRow) → flat_map (row_flaws bounds no_counts nothing_above) rows ≡ [] → AllByRecursion (IsRow bounds.limits bounds.registers bounds.arrays bounds.rows) rows
 rows_sound bounds [] e = tt
 rows_sound bounds (row ∷ rows) e =
     let first : List Flaw = row_flaws bounds no_counts nothing_above row in
     let rest : List Flaw = flat_map (row_flaws bounds no_counts nothing_above) rows in
     (whole_sound bounds row (none_front first rest e), rows_sound bounds rows (none_back first rest e))
 
-rows_complete : (bounds : Bounds) (rows : List CodeRow) → AllByRecursion (IsRow bounds.limits bounds.arrays bounds.rows) rows → flat_map (row_flaws bounds no_counts nothing_above) rows ≡ []
+rows_complete : (bounds : Bounds) (rows : List CodeRow) → AllByRecursion (IsRow bounds.limits bounds.registers bounds.arrays bounds.rows) rows → flat_map (row_flaws bounds no_counts nothing_above) rows ≡ []
 rows_complete bounds [] h = refl
 rows_complete bounds (row ∷ rows) h =
     none_both (row_flaws bounds no_counts nothing_above row) (flat_map (row_flaws bounds no_counts nothing_above) rows)
@@ -587,6 +604,74 @@ lengths_complete before (elements ∷ lengths) h few =
     (none_where (nat_lt most_elements (before + elements)) Elements (of_most most_elements (before + elements) room)))
     (lengths_complete (before + elements) lengths h.1 rest)
 
+-- the number of registers is one of the two
+register_count_sound : (count : ℕ) → register_count_flaws count ≡ [] → IsRegisterCount count
+register_count_sound count e = either_of (nat_eq count few_registers) (nat_eq count most_registers) refl refl (where_none (not (nat_eq count few_registers || nat_eq count most_registers)) Registers e)
+  where
+    either_of : (p q : Bool) → nat_eq count few_registers ≡ p → nat_eq count most_registers ≡ q → not (p || q) ≡ false → IsRegisterCount count
+    either_of true q a b h = inl (grind (arith, nat_tests))
+    either_of false true a b h = inr (grind (arith, nat_tests))
+    either_of false false a b h = (cc)
+
+register_count_complete : (count : ℕ) → IsRegisterCount count → register_count_flaws count ≡ []
+register_count_complete count (inl few) = ap register_count_flaws few
+register_count_complete count (inr most) = ap register_count_flaws most
+
+-- ---- the data of arrays
+
+data_sound : (elements : ℕ) (words : List ℤ) → data_flaws elements words ≡ [] → IsData elements words
+data_sound elements words e = record {
+  fits = most_of elements (length words) (where_none (nat_lt elements (length words)) DataCount (none_front (data_count_flaws elements (length words)) (flaw_where (ends_in_zero words) DataTail) e));
+  tail = where_none (ends_in_zero words) DataTail (none_back (data_count_flaws elements (length words)) (flaw_where (ends_in_zero words) DataTail) e);
+}
+
+data_complete : (elements : ℕ) (words : List ℤ) → IsData elements words → data_flaws elements words ≡ []
+data_complete elements words is =
+    none_both (data_count_flaws elements (length words)) (flaw_where (ends_in_zero words) DataTail)
+    (none_where (nat_lt elements (length words)) DataCount (of_most elements (length words) is.fits))
+    (none_where (ends_in_zero words) DataTail is.tail)
+
+each_data_sound : (lengths : List ℕ) (initial : List (List ℤ)) → length initial ≡ length lengths → each_data_flaws lengths initial ≡ [] → AreData lengths initial
+each_data_sound [] [] same e = tt
+each_data_sound [] (words ∷ initial) same e = absurd (omega (arith, same))
+each_data_sound (elements ∷ lengths) [] same e = absurd (omega (arith, same))
+each_data_sound (elements ∷ lengths) (words ∷ initial) same e = (
+  data_sound elements words (none_front (data_flaws elements words) (each_data_flaws lengths initial) e),
+  each_data_sound lengths initial (omega (arith, same)) (none_back (data_flaws elements words) (each_data_flaws lengths initial) e),
+)
+
+each_data_complete : (lengths : List ℕ) (initial : List (List ℤ)) → AreData lengths initial → (length initial ≡ length lengths) × (each_data_flaws lengths initial ≡ [])
+each_data_complete [] [] are = (refl, refl)
+each_data_complete [] (words ∷ initial) are = absurd are
+each_data_complete (elements ∷ lengths) [] are = absurd are
+each_data_complete (elements ∷ lengths) (words ∷ initial) are =
+    let rest = each_data_complete lengths initial are.1 in
+    (ap suc rest.0, none_both (data_flaws elements words) (each_data_flaws lengths initial) (data_complete elements words are.0) rest.1)
+
+-- as many lists of words as arrays
+as_many_of : (lists arrays : ℕ) → not (nat_eq lists arrays) ≡ false → lists ≡ arrays
+as_many_of lists arrays e = same (nat_eq lists arrays) refl e
+  where
+    same : (p : Bool) → nat_eq lists arrays ≡ p → not p ≡ false → lists ≡ arrays
+    same true a h = grind (arith, nat_tests)
+    same false a h = (cc)
+
+of_as_many : (lists arrays : ℕ) → lists ≡ arrays → not (nat_eq lists arrays) ≡ false
+of_as_many lists arrays e = let same : nat_eq lists arrays ≡ true = grind (arith, nat_tests) in ap not same
+
+initial_sound : (lengths : List ℕ) (initial : List (List ℤ)) → initial_flaws lengths initial ≡ [] → AreData lengths initial
+initial_sound lengths initial e =
+    let apart : Bool = not (nat_eq (length initial) (length lengths)) in
+    each_data_sound lengths initial
+    (as_many_of (length initial) (length lengths) (where_none apart DataCount (none_front (flaw_where apart DataCount) (each_data_flaws lengths initial) e)))
+    (none_back (flaw_where apart DataCount) (each_data_flaws lengths initial) e)
+
+initial_complete : (lengths : List ℕ) (initial : List (List ℤ)) → AreData lengths initial → initial_flaws lengths initial ≡ []
+initial_complete lengths initial are =
+    let each = each_data_complete lengths initial are in
+    let apart : Bool = not (nat_eq (length initial) (length lengths)) in
+    none_both (flaw_where apart DataCount) (each_data_flaws lengths initial) (none_where apart DataCount (of_as_many (length initial) (length lengths) each.0)) each.1
+
 count_sound : (count : ℕ) → row_count_flaws count ≡ [] → 1 ≤ count
 count_sound count e = let apart : nat_eq count 0 ≡ false = where_none (nat_eq count 0) RowCount e in grind (arith, nat_tests)
 
@@ -601,36 +686,47 @@ well_formed_without_flaw code e =
     let rows : List Flaw = flat_map (row_flaws (bounds_of code) no_counts nothing_above) code.rows in
     let limits : List Flaw = limits_flaws code.limits in
     let count : List Flaw = array_count_flaws (length code.arrays) in
+    let registers : List Flaw = register_count_flaws code.registers in
     let lengths : List Flaw = lengths_flaws 0 code.arrays in
+    let initial : List Flaw = initial_flaws code.arrays code.initial in
     let row_count : List Flaw = row_count_flaws (length code.rows) in
     let header = none_front (header_flaws code) rows e in
-    let arrays = none_back limits (count ++ (lengths ++ row_count)) header in
-    let behind = none_back count (lengths ++ row_count) arrays in
-    let each = lengths_sound 0 code.arrays zero-le (none_front lengths row_count behind) in
+    let counted = none_back limits (count ++ (registers ++ (lengths ++ (initial ++ row_count)))) header in
+    let numbered = none_back count (registers ++ (lengths ++ (initial ++ row_count))) counted in
+    let measured = none_back registers (lengths ++ (initial ++ row_count)) numbered in
+    let filled = none_back lengths (initial ++ row_count) measured in
+    let each = lengths_sound 0 code.arrays zero-le (none_front lengths (initial ++ row_count) measured) in
+    let few : nat_lt most_arrays (length code.arrays) ≡ false = where_none (nat_lt most_arrays (length code.arrays)) ArrayCount (none_front count (registers ++ (lengths ++ (initial ++ row_count))) counted) in
     record {
-      limits = limits_sound code.limits (none_front limits (count ++ (lengths ++ row_count)) header);
-      arrays = record {
-        count = most_of most_arrays (length code.arrays) (where_none (nat_lt most_arrays (length code.arrays)) ArrayCount (none_front count (lengths ++ row_count) arrays));
-        each = each.0;
-        elements = omega (arith, each.1);
-      };
-      entry = count_sound (length code.rows) (none_back lengths row_count behind);
+      limits = limits_sound code.limits (none_front limits (count ++ (registers ++ (lengths ++ (initial ++ row_count)))) header);
+      registers = register_count_sound code.registers (none_front registers (lengths ++ (initial ++ row_count)) numbered);
+      arrays = record { count = most_of most_arrays (length code.arrays) few; each = each.0; elements = omega (arith, each.1) };
+      initial = initial_sound code.arrays code.initial (none_front initial row_count filled);
+      entry = count_sound (length code.rows) (none_back initial row_count filled);
       rows = rows_sound (bounds_of code) code.rows (none_back (header_flaws code) rows e);
     }
 
--- a well-formed code has no flaw
+-- a well-formed code has no flaw in its header
+header_complete : (code : RowCode) → WellFormed code → header_flaws code ≡ []
+header_complete code well =
+    let sum_few : 0 + sum code.arrays ≤ most_elements = omega (arith, well.arrays.elements) in
+    let count : List Flaw = array_count_flaws (length code.arrays) in
+    let registers : List Flaw = register_count_flaws code.registers in
+    let lengths : List Flaw = lengths_flaws 0 code.arrays in
+    let initial : List Flaw = initial_flaws code.arrays code.initial in
+    let row_count : List Flaw = row_count_flaws (length code.rows) in
+    none_both (limits_flaws code.limits) (count ++ (registers ++ (lengths ++ (initial ++ row_count)))) (limits_complete code.limits well.limits)
+    (none_both count (registers ++ (lengths ++ (initial ++ row_count)))
+    (none_where (nat_lt most_arrays (length code.arrays)) ArrayCount (of_most most_arrays (length code.arrays) well.arrays.count))
+    (none_both registers (lengths ++ (initial ++ row_count)) (register_count_complete code.registers well.registers)
+    (none_both lengths (initial ++ row_count) (lengths_complete 0 code.arrays well.arrays.each sum_few)
+    (none_both initial row_count (initial_complete code.arrays code.initial well.initial) (count_complete (length code.rows) well.entry)))))
+
+-- nor in its rows
 pub no_flaw_well_formed : (code : RowCode) → WellFormed code → flaws_of code ≡ []
 no_flaw_well_formed code well =
-    let sum_few : 0 + sum code.arrays ≤ most_elements = omega (arith, well.arrays.elements) in
     none_both (header_flaws code) (flat_map (row_flaws (bounds_of code) no_counts nothing_above) code.rows)
-    (none_both (limits_flaws code.limits) (array_count_flaws (length code.arrays) ++ (lengths_flaws 0 code.arrays ++ row_count_flaws (length code.rows)))
-    (limits_complete code.limits well.limits)
-    (none_both (array_count_flaws (length code.arrays)) (lengths_flaws 0 code.arrays ++ row_count_flaws (length code.rows))
-    (none_where (nat_lt most_arrays (length code.arrays)) ArrayCount (of_most most_arrays (length code.arrays) well.arrays.count))
-    (none_both (lengths_flaws 0 code.arrays) (row_count_flaws (length code.rows))
-    (lengths_complete 0 code.arrays well.arrays.each sum_few)
-    (count_complete (length code.rows) well.entry))))
-    (rows_complete (bounds_of code) code.rows well.rows)
+    (header_complete code well) (rows_complete (bounds_of code) code.rows well.rows)
 
 -- the law: no flaw stands in a code exactly where it is well formed
 pub no_flaw : (code : RowCode) → (flaws_of code ≡ []) ↔ WellFormed code

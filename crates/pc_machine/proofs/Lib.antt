@@ -1,4 +1,5 @@
 pub mod Checks
+pub mod Data
 pub mod Flaws
 pub mod MachineRuns
 pub mod Paths

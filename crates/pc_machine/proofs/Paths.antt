@@ -72,18 +72,18 @@ path-count names (At_leaf leaf) p = omega arith
 pub next_row_stands : (code : RowCode) → WellFormed code → (names : ℕ → ℤ) (i target : ℕ) (row : CodeRow) → slice_get code.rows i ≡ Some row
     → leaf_of names row ≡ Goto target → target < length code.rows
 next_row_stands code well names i target row at leads =
-    let is = all_at (IsRow code.limits (length code.arrays) (length code.rows)) code.rows i row well.rows at in
+    let is = all_at (IsRow code.limits code.registers (length code.arrays) (length code.rows)) code.rows i row well.rows at in
     subst (IsLeaf (length code.rows)) leads (leaf_taken names row (IsLeaf (length code.rows)) is.leaves)
 
 -- on the path that is taken no register is written twice, and at most one item is a print, read or more
 pub taken_is_path : (code : RowCode) → WellFormed code → (names : ℕ → ℤ) (i : ℕ) (row : CodeRow) → slice_get code.rows i ≡ Some row → IsPath (path_of names row)
 taken_is_path code well names i row at =
-    let is = all_at (IsRow code.limits (length code.arrays) (length code.rows)) code.rows i row well.rows at in
+    let is = all_at (IsRow code.limits code.registers (length code.arrays) (length code.rows)) code.rows i row well.rows at in
     path_taken names row IsPath is.paths
 
 -- and its registers and arrays are there
 pub taken_items_stand : (code : RowCode) → WellFormed code → (names : ℕ → ℤ) (i : ℕ) (row : CodeRow) → slice_get code.rows i ≡ Some row
-    → AllByRecursion (IsItem (length code.arrays)) (path_of names row)
+    → AllByRecursion (IsItem code.registers (length code.arrays)) (path_of names row)
 taken_items_stand code well names i row at =
-    let is = all_at (IsRow code.limits (length code.arrays) (length code.rows)) code.rows i row well.rows at in
-    items_taken names row (IsItem (length code.arrays)) is.items
+    let is = all_at (IsRow code.limits code.registers (length code.arrays) (length code.rows)) code.rows i row well.rows at in
+    items_taken names row (IsItem code.registers (length code.arrays)) is.items

@@ -11,13 +11,19 @@ use Rattle.pc_word.specs.declared.item.TrapKind.TheVariants.{EndOfInput}
 use Rattle.pc_word.specs.Run.{Seen}
 use Rattle.pc_word.specs.Word.{word_add, word_div}
 use Rattle.pc_machine.specs.declared.tree.Leaf.TheVariants.{Goto, Stop, Trap}
+use Rattle.pc_machine.specs.Registers.{few_registers}
 use Rattle.pc_machine.specs.MachineCode.{CodeRow, RowCode}
 use Rattle.pc_word.specs.Row.{Then, Either, At_leaf}
 use Rattle.pc_machine.specs.MachineRun.{machine_run}
 
--- the code of these rows, over arrays of these lengths
+-- the code of these rows, over arrays of these lengths, which begin with these words
+abbrev code_with_data : List ℕ → List (List ℤ) → List CodeRow → RowCode
+code_with_data arrays initial rows =
+    record { limits = record { ops = 8; tests = 3; mem = 2 }; registers = few_registers; arrays = arrays; initial = initial; rows = rows }
+
+-- the same without such words
 abbrev code_with : List ℕ → List CodeRow → RowCode
-code_with arrays rows = record { limits = record { ops = 8; tests = 3; mem = 2 }; arrays = arrays; rows = rows }
+code_with arrays rows = code_with_data arrays [] rows
 
 -- what was printed before the end
 abbrev ended : List ℤ → Seen
@@ -143,3 +149,13 @@ computes : (input : List ℤ) → machine_run (code_with [] (
     ≡ ended (negsuc 2147483647 ∷ pos 0 ∷ [])
 unfolding word_add word_div int_wrap
 computes input = refl
+
+-- an array begins with its data and goes on with 0, and so does one that has none
+begins_with_data : (input : List ℤ) → machine_run (code_with_data (4 ∷ 2 ∷ []) ((pos 0 ∷ pos 6 ∷ []) ∷ [] ∷ []) (
+    Then (Load 0 0 (Lit (pos 1))) (Then (Load 1 0 (Lit (pos 2))) (Then (Load 2 1 (Lit (pos 0))) (At_leaf (Goto 1))))
+    ∷ Then (Print (Name 0)) (At_leaf (Goto 2))
+    ∷ Then (Print (Name 1)) (At_leaf (Goto 3))
+    ∷ Then (Print (Name 2)) stop
+    ∷ [])) input 4
+    ≡ ended (pos 6 ∷ pos 0 ∷ pos 0 ∷ [])
+begins_with_data input = refl

@@ -1,10 +1,11 @@
 -- The data of arrays: with which words each array begins.
-use Rattle.std.specs.Prelude.{◌≡◌, ℕ, ◌≤◌, ℤ, pos, Bool, true, false, ◌==◌, List, [], ◌∷◌, length, slice_index_or}
+use Rattle.std.specs.Ordering.{int_eq}
+use Rattle.std.specs.Prelude.{ℕ, ℤ, pos, Bool, true, false, List, [], ◌∷◌, slice_index_or}
 
 -- whether the last of these words is 0
 abbrev pub ends_in_zero : List ℤ → Bool
 ends_in_zero [] = false
-ends_in_zero (word ∷ []) = word == pos 0
+ends_in_zero (word ∷ []) = int_eq word (pos 0)
 ends_in_zero (word ∷ next ∷ words) = ends_in_zero (next ∷ words)
 
 -- whether no array has data

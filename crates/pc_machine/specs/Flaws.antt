@@ -1,6 +1,7 @@
 -- The flaws of a code, in the order in which its text has the fields at which they stand: the header, and then each
 -- row in preorder, the yes side before the no side.
-use Rattle.std.specs.Prelude.{ℕ, suc, ℤ, ◌+◌, Bool, true, false, not, ◌&&◌, ◌||◌, nat_eq, nat_lt, nat_le, List, [], ◌∷◌, ◌++◌, length}
+use Rattle.std.specs.Ordering.{int_eq}
+use Rattle.std.specs.Prelude.{ℕ, suc, ℤ, pos, ◌+◌, Bool, true, false, not, ◌&&◌, ◌||◌, nat_eq, nat_lt, nat_le, List, [], ◌∷◌, ◌++◌, length}
 use Rattle.std.specs.List.{flat_map}
 use Rattle.pc_word.specs.declared.item.Item.{Item}
 use Rattle.pc_word.specs.declared.item.Item.TheVariants.{Bin, Copy, Load, Store, Print, Read, More}
@@ -63,6 +64,10 @@ lengths_flaws before (elements ∷ lengths) = length_flaws before elements ++ le
 -- at the count of the words with which an array of so many elements begins
 abbrev pub data_count_flaws : ℕ → ℕ → List Flaw
 data_count_flaws elements count = flaw_where (nat_lt elements count) DataCount
+
+-- at the last of these words
+abbrev pub data_tail_flaws : ℤ → List Flaw
+data_tail_flaws last = flaw_where (int_eq last (pos 0)) DataTail
 
 -- at that count, and at the last of these words
 abbrev pub data_flaws : ℕ → List ℤ → List Flaw

@@ -4,7 +4,7 @@ ghost use Rattle.pc_machine.specs.MachineCode.{row_of, code_of, rows_of};
 ghost use Rattle.pc_word.specs.Items.{dest_of, is_memory, is_effect};
 ghost use Rattle.pc_machine.specs.WellFormed.{WellFormed};
 ghost use Rattle.pc_machine.specs.Flaws.{limit_flaws, array_count_flaws, register_count_flaws, length_flaws, lengths_flaws, row_count_flaws, header_flaws, nothing_above};
-ghost use Rattle.pc_machine.specs.Flaws.{data_count_flaws, data_flaws, initial_flaws};
+ghost use Rattle.pc_machine.specs.Flaws.{data_count_flaws, data_tail_flaws, data_flaws, initial_flaws};
 ghost use Rattle.pc_machine.specs.Flaws.{above_with, no_counts, counts_with_item, counts_with_test, counts_after, item_tag_flaws, test_tag_flaws};
 ghost use Rattle.pc_machine.specs.Flaws.{register_flaws, dest_flaws, operand_flaws, array_flaws, target_flaws, field_flaws, item_flaws, test_flaws};
 ghost use Rattle.pc_machine.specs.Flaws.{leaf_flaws, row_flaws, flaws_of};
@@ -354,6 +354,16 @@ pub fn data_count(elements: usize, count: usize) -> Result<(), Flaw>
     Ok(())
 }
 
+/// Checks the last of the words with which an array begins, which is not 0; else `DataTail`.
+pub fn data_tail(last: i32) -> Result<(), Flaw>
+    ensures { result ≡ checked (data_tail_flaws last) tt }
+{
+    if last == 0 {
+        return Err(Flaw::DataTail);
+    }
+    Ok(())
+}
+
 /// Checks the number of rows, of which there is one; else `RowCount`.
 pub fn row_count(count: usize) -> Result<(), Flaw>
     ensures { result ≡ checked (row_count_flaws count) tt }
@@ -380,8 +390,8 @@ fn data(elements: u32, words: &[i32]) -> Result<(), Flaw>
 {
     data_count(elements as usize, words.len())?;
     match words {
-        [.., 0] => Err(Flaw::DataTail),
-        _ => Ok(()),
+        [] => Ok(()),
+        [.., last] => data_tail(*last),
     }
 }
 

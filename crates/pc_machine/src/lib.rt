@@ -9,8 +9,8 @@ mod laws;
 mod tree;
 
 pub use check::{
-    Bounds, Counts, Path, array_count, array_length, data_count, limit, register_count, row_count,
-    well_formed,
+    Bounds, Counts, Path, array_count, array_length, data_count, data_tail, limit, register_count,
+    row_count, well_formed,
 };
 pub use code::{Code, DataList, FEW_REGISTERS, Flaw, MOST_REGISTERS, TreeList};
 pub use laws::laws_of_codes;
