@@ -5,6 +5,7 @@
 
 mod check;
 mod code;
+mod initial;
 mod laws;
 mod tree;
 
@@ -13,6 +14,7 @@ pub use check::{
     row_count, well_formed,
 };
 pub use code::{Code, DataList, FEW_REGISTERS, Flaw, MOST_REGISTERS, TreeList};
+pub use initial::no_data;
 pub use laws::laws_of_codes;
 pub use pc_word::{End, MachineFault};
 pub use tree::{Leaf, Tree};

@@ -1,19 +1,17 @@
 //! The words with which arrays begin.
 ghost use Rattle.std.specs.Prelude.{◌≡◌, [], replicate, IfOk};
 
-use pc_word::{Seq, WordList};
+use crate::code::DataList;
+use pc_word::WordList;
 use std::alloc::{AllocError, Global};
-
-/// The words with which each array begins, by number.
-pub type DataList = Seq<WordList>;
 
 /// No words for any of so many arrays, which so begin with 0 alone.
 pub fn no_data(alloc: Global, arrays: usize) -> Result<DataList, AllocError>
-    ensures { IfOk result (λ initial. initial ≡ replicate arrays []) }
+    ensures { IfOk result (λ lists. lists ≡ replicate arrays []) }
 {
-    let mut initial = DataList::new(alloc);
+    let mut lists = DataList::new(alloc);
     for _ in 0..arrays {
-        initial.push(WordList::new(alloc))?;
+        lists.push(WordList::new(alloc))?;
     }
-    Ok(initial)
+    Ok(lists)
 }
