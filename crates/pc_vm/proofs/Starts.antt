@@ -1,5 +1,5 @@
 -- A new machine stands at the start of its code's run.
-use Rattle.std.proofs.Common.{◌≡◌, ℕ, zero, suc, ◌<◌, ◌≤◌, false, List, [], ◌∷◌, ◌++◌, length, map, take, drop, replicate, get_or, refl, sym, ap, ◌∙◌, arith}
+use Rattle.std.proofs.Common.{◌≡◌, ℕ, zero, suc, ◌+◌, ◌<◌, ◌≤◌, false, List, [], ◌∷◌, ◌++◌, length, map, take, drop, replicate, get_or, refl, sym, ap, ◌∙◌, arith}
 use Rattle.std.proofs.Common.{length-append}
 use Rattle.std.proofs.lemmas.List.{length-map, length-replicate, length-drop}
 use Rattle.std.specs.Prelude.{ℤ, pos}
@@ -16,31 +16,41 @@ use Rattle.pc_vm.specs.models.Sound.{IsSound}
 
 -- ---- lists of data
 
--- there are as many lists of words as arrays
-pub as_many_data : (lengths : List ℕ) (initial : List (List ℤ)) → AreData lengths initial → length initial ≡ length lengths
-as_many_data [] [] are = refl
-as_many_data (elements ∷ lengths) (words ∷ initial) are = ap (λ (n : ℕ). suc n) (as_many_data lengths initial are.1)
-as_many_data [] (words ∷ initial) are = absurd are
-as_many_data (elements ∷ lengths) [] are = absurd are
-
 -- the words of each array have room in it
-pub data_fits : (lengths : List ℕ) (initial : List (List ℤ)) (at elements : ℕ) (words : List ℤ) → AreData lengths initial → at < length lengths
-    → elements ≡ get_or lengths at elements → words ≡ get_or initial at words → length words ≤ elements
-data_fits (n ∷ lengths) (ws ∷ initial) zero elements words are lt is same = omega (arith, are.0.fits, is, ap (λ (l : List ℤ). length l) same)
-data_fits (n ∷ lengths) (ws ∷ initial) (suc at) elements words are lt is same = data_fits lengths initial at elements words are.1 (omega arith) is same
-data_fits [] initial at elements words are lt is same = absurd (omega arith)
-data_fits (n ∷ lengths) [] at elements words are lt is same = absurd are
+pub data_fits : (lengths : List ℕ) (initial : List (List ℤ)) (at : ℕ) → AreData lengths initial → length (get_or initial at []) ≤ get_or lengths at 0
+data_fits [] [] at are = omega arith
+data_fits (n ∷ lengths) (words ∷ initial) zero are = are.0.fits
+data_fits (n ∷ lengths) (words ∷ initial) (suc at) are = data_fits lengths initial at are.1
+data_fits [] (words ∷ initial) at are = absurd are
+data_fits (n ∷ lengths) [] at are = absurd are
 
 -- one array more
-pub arrays_with : (lengths : List ℕ) (initial : List (List ℤ)) (at elements : ℕ) (words : List ℤ) → AreData lengths initial → at < length lengths
-    → elements ≡ get_or lengths at elements → words ≡ get_or initial at words
-    → new_arrays (take (suc at) lengths) (take (suc at) initial) ≡ new_arrays (take at lengths) (take at initial) ++ new_array elements words ∷ []
-arrays_with (n ∷ lengths) (ws ∷ initial) zero elements words are lt is same =
-    ap (λ (m : ℕ). new_array m ws ∷ []) (sym is) ∙ ap (λ (l : List ℤ). new_array elements l ∷ []) (sym same)
-arrays_with (n ∷ lengths) (ws ∷ initial) (suc at) elements words are lt is same =
-    ap (λ (l : List (List ℤ)). new_array n ws ∷ l) (arrays_with lengths initial at elements words are.1 (omega arith) is same)
-arrays_with [] initial at elements words are lt is same = absurd (omega arith)
-arrays_with (n ∷ lengths) [] at elements words are lt is same = absurd are
+one_more : (lengths : List ℕ) (initial : List (List ℤ)) (at : ℕ) → AreData lengths initial → at < length lengths
+    → new_arrays (take at lengths) (take at initial) ++ new_array (get_or lengths at 0) (get_or initial at []) ∷ []
+    ≡ new_arrays (take (suc at) lengths) (take (suc at) initial)
+one_more (n ∷ lengths) (words ∷ initial) zero are lt = refl
+one_more (n ∷ lengths) (words ∷ initial) (suc at) are lt =
+    ap (λ (l : List (List ℤ)). new_array n words ∷ l) (one_more lengths initial at are.1 (omega (arith, lt)))
+one_more [] initial at are lt = absurd (omega (arith, lt))
+one_more (n ∷ lengths) [] at are lt = absurd are
+
+pub arrays_with : (lengths : List ℕ) (initial : List (List ℤ)) (at : ℕ) → AreData lengths initial → at < length lengths
+    → new_arrays (take at lengths) (take at initial) ++ new_array (get_or lengths at 0) (get_or initial at []) ∷ []
+    ≡ new_arrays (take (at + 1) lengths) (take (at + 1) initial)
+arrays_with lengths initial at are lt =
+    one_more lengths initial at are lt
+    ∙ ap (λ (many : ℕ). new_arrays (take many lengths) (take many initial)) (let e : suc at ≡ at + 1 = omega arith in e)
+
+-- all arrays
+pub arrays_all : (lengths : List ℕ) (initial : List (List ℤ)) (many : ℕ) → AreData lengths initial → length lengths ≤ many
+    → new_arrays (take many lengths) (take many initial) ≡ new_arrays lengths initial
+arrays_all [] [] zero are le = refl
+arrays_all [] [] (suc many) are le = refl
+arrays_all (n ∷ lengths) (words ∷ initial) zero are le = absurd (omega (arith, le))
+arrays_all (n ∷ lengths) (words ∷ initial) (suc many) are le =
+    ap (λ (l : List (List ℤ)). new_array n words ∷ l) (arrays_all lengths initial many are.1 (omega (arith, le)))
+arrays_all [] (words ∷ initial) many are le = absurd are
+arrays_all (n ∷ lengths) [] many are le = absurd are
 
 -- ---- elements
 

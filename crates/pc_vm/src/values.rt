@@ -1,5 +1,5 @@
 //! What a machine holds: its registers, its arrays, and the input that is left.
-ghost use Rattle.std.specs.Prelude.{◌≡◌, ◌<◌, ◌≤◌, pos, length, replicate, drop, slice_get, slice_set, slice_index, IfOk};
+ghost use Rattle.std.specs.Prelude.{◌≡◌, ◌<◌, ◌≤◌, ◌++◌, pos, length, replicate, drop, slice_get, slice_set, slice_index, slice_index_or, [], IfOk};
 ghost use Rattle.pc_word.specs.Items.{operand_value, place_in, element_at, next_input, some_left, value_of};
 ghost use Rattle.pc_machine.specs.WellFormed.{IsOperand, IsItem, AreData};
 ghost use Rattle.pc_vm.specs.Contents.{names_of, cells_of, state_of};
@@ -39,13 +39,13 @@ impl Values {
     pub(crate) fn new(
         alloc: Global,
         lengths: &[u32],
-        initial: &[WordList],
+        data: &[WordList],
         input: WordList,
     ) -> Result<Values, AllocError>
-        requires { AreData lengths.now initial.now }
-        ensures { IfOk result (λ values. values ≡ new_contents lengths.now initial.now input) }
+        requires { AreData lengths.now data.now }
+        ensures { IfOk result (λ values. values ≡ new_contents lengths.now data.now input) }
     {
-        let arrays = make_arrays(alloc, lengths, initial)?;
+        let arrays = make_arrays(alloc, lengths, data)?;
         Ok(Values {
             registers: [0; MOST_REGISTERS],
             arrays,
@@ -165,28 +165,53 @@ fn element(elements: &[i32], index: i32) -> i32
     }
 }
 
+/// A list of so many zeros.
+fn zeros(alloc: Global, elements: usize) -> Result<Vec<i32>, AllocError>
+    ensures { IfOk result (λ list. list.items ≡ replicate elements (pos 0)) }
+{
+    vec![in alloc; 0; elements]
+}
+
+/// Puts words in the place of the first elements.
+fn begin_with(elements: &mut [i32], words: &[i32])
+    requires { length words.now ≤ length elements.old }
+    ensures { elements.new ≡ words.now ++ drop (length words.now) elements.old }
+{
+    elements[..words.len()].copy_from_slice(words);
+}
+
 /// An array of so many elements that begins with these words and goes on with 0.
 fn make_array(alloc: Global, elements: usize, words: &[i32]) -> Result<WordList, AllocError>
     requires { length words.now ≤ elements }
     ensures { IfOk result (λ list. list ≡ new_array elements words.now) }
 {
-    let mut items = vec![in alloc; 0; elements]?;
-    items[..words.len()].copy_from_slice(words);
-    Ok(WordList::from_vec(items))
+    let mut array = zeros(alloc, elements)?;
+    begin_with(array.as_mut_slice(), words);
+    Ok(WordList::from_vec(array))
+}
+
+/// The words with which an array begins.
+fn words_of(data: &[WordList], array: usize) -> &[i32]
+    ensures { result.now ≡ slice_index_or data.now array [] }
+{
+    match data.get(array) {
+        Some(words) => words.as_slice(),
+        None => &[],
+    }
 }
 
 /// An array for each length, with its data.
 fn make_arrays(
     alloc: Global,
     lengths: &[u32],
-    initial: &[WordList],
+    data: &[WordList],
 ) -> Result<Vec<WordList>, AllocError>
-    requires { AreData lengths.now initial.now }
-    ensures { IfOk result (λ arrays. arrays.items ≡ new_arrays lengths.now initial.now) }
+    requires { AreData lengths.now data.now }
+    ensures { IfOk result (λ arrays. arrays.items ≡ new_arrays lengths.now data.now) }
 {
     let mut arrays = Vec::new(alloc);
     for place in 0..lengths.len() {
-        let words = initial[place].as_slice();
+        let words = words_of(data, place);
         arrays.push(make_array(alloc, lengths[place] as usize, words)?)?;
     }
     Ok(arrays)
