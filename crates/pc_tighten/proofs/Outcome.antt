@@ -1,5 +1,5 @@
 -- What moves, which end in a compact code, and removals after them give.
-use Rattle.std.proofs.Common.{◌≡◌, ℕ, List, sym, subst}
+use Rattle.std.proofs.Common.{◌≡◌, ℕ, List, sym, subst, refl}
 use Rattle.pc_word.specs.declared.item.Limits.{Limits}
 use Rattle.pc_word.specs.declared.row_tree.RowTree.{RowTree}
 use Rattle.pc_machine.specs.declared.tree.Leaf.{Leaf}

@@ -150,8 +150,8 @@ module _ (limits : Limits) (places : List (Option ℕ)) (old new : List Draft) (
   }
 
   may_move : (like : RowCode) → MayMove (code_with limits like (draft_rows old)) m t above xs can.free.0 rest
-  may_move arrays = record {
-    pair = is_pair arrays;
+  may_move like = record {
+    pair = is_pair like;
     free = each_alone (paths_to t above) (λ path. stays limits above path can.free.0 (xs ++ items_of rest) (tests_of rest) ≡ false) (paths-count t above ∙ once)
         (λ path alone.
         subst (λ (l : List Item). stays limits above path can.free.0 (xs ++ l) (tests_of rest) ≡ false) (sym (items_below (drop (i + 1) can.under.items.items) (row_of can.under.rest)))
@@ -186,7 +186,7 @@ module _ (limits : Limits) (places : List (Option ℕ)) (old new : List Draft) (
   move_raises = record {
     moves_up = λ like.
         subst (λ (rows : List CodeRow). ByMoves (code_with limits like (draft_rows old)) (code_with limits like rows)) (sym new_is)
-        (Move m t above xs can.free.0 rest (may_move arrays) No_move);
+        (Move m t above xs can.free.0 rest (may_move like) No_move);
     leaves =
         ap (map leaves_of) new_is
         ∙ map_set leaves_of (slice_set (draft_rows old) m (with_item t can.free.0 above)) t (below xs rest) (below xs (Then can.free.0 rest)) at_t_then

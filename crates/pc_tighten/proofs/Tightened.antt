@@ -62,7 +62,7 @@ moves_on No_move more = more
 moves_on (Move m t above xs x rest may steps) more = Move m t above xs x rest may (moves_on steps more)
 
 -- what the rows have no part in
-OfNoRow : {A : Type 0} → (RowCode → A) → Type 0
+abbrev pub OfNoRow : {A : Type 0} → (RowCode → A) → Type 0
 OfNoRow part = (code : RowCode) (rows : List CodeRow) → (let other : RowCode = record code { rows = rows } in part other) ≡ part code
 
 moves_keep : {A : Type 0} (part : RowCode → A) → OfNoRow part → {code after : RowCode} → ByMoves code after → part after ≡ part code
