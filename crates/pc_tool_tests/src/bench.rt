@@ -3,7 +3,7 @@ ghost use Rattle.std.specs.Prelude.{IfOk, IfSome};
 ghost use Rattle.pc_object.specs.ObjectText.{IsObject, object_of};
 
 use pc_compile::Compiled;
-use pc_outside::{CallList, MemoryShelf, MemorySink, MemorySource};
+use pc_outside::{CallList, MemoryShelf, MemorySink, MemorySource, SlowSink, SlowSource};
 use pc_pass::Pass;
 use pc_tool::{Who, tool};
 use std::alloc::{AllocError, Global};
@@ -169,6 +169,70 @@ pub(crate) fn answers_with(
         who,
         words.as_slice(),
         passes,
+        shelf,
+        &mut streams,
+        wanted,
+    ))
+}
+
+/// The streams of a program that move one byte a call.
+#[derive(Drop)]
+struct SlowStreams {
+    input: SlowSource,
+    out: SlowSink,
+    err: SlowSink,
+}
+
+/// Those of a program that has this input.
+fn slow_streams(alloc: Global, input: &[u8]) -> Result<SlowStreams, Fail> {
+    let input = SlowSource::new(Vec::from_slice(alloc, input)?);
+    let out = SlowSink::new(alloc, ROOM)?;
+    let err = SlowSink::new(alloc, ROOM)?;
+    Ok(SlowStreams { input, out, err })
+}
+
+/// Whether a program over these streams leaves what it is to.
+fn leaves_slowly(
+    alloc: Global,
+    who: Who,
+    words: &[String],
+    passes: &mut Vec<Box<dyn Pass>>,
+    shelf: &mut MemoryShelf,
+    streams: &mut SlowStreams,
+    wanted: Wanted,
+) -> bool {
+    let status = tool(
+        alloc,
+        who,
+        words,
+        passes,
+        shelf,
+        &mut streams.input,
+        &mut streams.out,
+        &mut streams.err,
+    );
+    status.code == wanted.code
+        && streams.out.taken() == wanted.out
+        && streams.err.taken() == wanted.err.as_bytes()
+}
+
+/// Whether a program leaves what it is to over streams that move one byte a call.
+pub(crate) fn answers_slowly(
+    alloc: Global,
+    who: Who,
+    line: &str,
+    shelf: &mut MemoryShelf,
+    input: &[u8],
+    wanted: Wanted,
+) -> Result<bool, Fail> {
+    let words = words_of(alloc, line)?;
+    let mut passes = Vec::new(alloc);
+    let mut streams = slow_streams(alloc, input)?;
+    Ok(leaves_slowly(
+        alloc,
+        who,
+        words.as_slice(),
+        &mut passes,
         shelf,
         &mut streams,
         wanted,
