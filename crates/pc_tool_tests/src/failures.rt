@@ -86,7 +86,7 @@ const RUNS: [Run; 7] = [
     Run {
         line: "a.c -o b.tv --rows 1 --report",
         text: EXCHANGE,
-        out: b"nodes 12\nrows 9\nloop 2: packed, rows 2 of 1\n",
+        out: b"nodes 14\nrows 4\nloop 2: packed, rows 2 of 1\n",
         parts: &[b""],
         ..COMPILER
     },
