@@ -1,5 +1,5 @@
 -- Loads of elements whose values are known: they were stored or loaded before, and some variable or constant still has them.
-use Rattle.std.specs.Prelude.{◌≡◌, ◌×◌, ◌⊎◌, ℕ, ◌<◌, List, [], Some, slice_get}
+use Rattle.std.specs.Prelude.{◌≡◌, ◌⊎◌, ℕ, ◌<◌, List, [], Some, slice_get}
 use Rattle.pc_word.specs.declared.item.Item.TheVariants.{Load}
 use Rattle.pc_word.specs.declared.item.Operand.{Operand}
 use Rattle.pc_flow.specs.declared.node.FlowNode.{FlowNode}

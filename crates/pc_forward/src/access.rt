@@ -1,5 +1,5 @@
 //! Accesses of elements, and what they tell of one.
-ghost use Rattle.std.specs.Prelude.{◌≡◌, ◌×◌, ◌↔◌, true, MatchOption};
+ghost use Rattle.std.specs.Prelude.{◌≡◌, ◌↔◌, true, MatchOption};
 ghost use Rattle.pc_linear.specs.Form.{Form};
 ghost use Rattle.pc_linear.specs.Equality.{AlwaysEqual};
 ghost use Rattle.pc_forward.specs.Forwardable.{Meets, Decides, HasElement};

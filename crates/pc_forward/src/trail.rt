@@ -161,6 +161,7 @@ impl Trail {
 }
 
 /// A form variable for each variable.
+#[tactic(auto, using(crate::proofs::OwnForms::own_next))]
 fn own_forms(alloc: Global) -> Result<Seq<LinForm>, AllocError>
     ensures { IfOk result (λ forms. forms ≡ own_forms 0 variables) }
 {

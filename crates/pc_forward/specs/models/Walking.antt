@@ -1,5 +1,5 @@
 -- The walk along all trails: which nodes are left, which are done, and which wait with what is known there.
-use Rattle.std.specs.Prelude.{◌≡◌, ◌≢◌, ◌×◌, ◌⊎◌, ℕ, ◌+◌, ◌*◌, ◌<◌, ◌≤◌, Bool, true, false, ◌&&◌, nat_eq, List, [], ◌∷◌, ◌++◌, length, Some, slice_get}
+use Rattle.std.specs.Prelude.{◌≡◌, ◌≢◌, ◌⊎◌, ℕ, ◌+◌, ◌*◌, ◌<◌, ◌≤◌, Bool, true, false, ◌&&◌, nat_eq, List, [], ◌∷◌, ◌++◌, length, Some, slice_get}
 use Rattle.std.specs.List.{count_by}
 use Rattle.pc_word.specs.declared.item.Item.TheVariants.{Copy, Load}
 use Rattle.pc_word.specs.declared.item.Operand.{Operand}
@@ -17,12 +17,13 @@ use Rattle.pc_forward.specs.declared.ways.Way.TheVariants.{Nothing, Only, Severa
 use Rattle.pc_forward.specs.Trail.{operand_form, IsOnlyWay, Along}
 use Rattle.pc_forward.specs.Forwardable.{HasElement, IsAtHand, IsForwardable}
 use Rattle.pc_forward.specs.Forwarded.{StandsFor}
-use Rattle.pc_forward.specs.models.Words.{TakesWords}
+use Rattle.pc_forward.specs.models.Words.{IsWordOperand, TakesWords}
 
 -- ---- one node
 
 -- an element's value is known, and this stands for it
 pub record IsKnownAs (trail : Trail) (array : ℕ) (index from : Operand) : Type 0 where
+  pub word : IsWordOperand index
   pub value : Form
   pub element : HasElement trail.accesses array (operand_form trail.forms index) value
   pub stands_for : StandsFor trail.forms value from

@@ -1,5 +1,5 @@
 -- Literals are words, and what nodes write.
-use Rattle.std.specs.Prelude.{◌×◌, ℕ, Option, None}
+use Rattle.std.specs.Prelude.{ℕ, Option, None}
 use Rattle.pc_word.specs.declared.item.Item.{Item}
 use Rattle.pc_word.specs.declared.item.Item.TheVariants.{Bin, Copy, Load, Store, Print, Read, More}
 use Rattle.pc_word.specs.declared.item.Operand.{Operand}
