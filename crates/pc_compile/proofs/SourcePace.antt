@@ -21,11 +21,11 @@ use Rattle.pc_compile.proofs.RegionPaces.{schedules_keep_pace}
 
 -- the source's own graph is at most one node after it, passes make no graph slower, and a cut keeps step with its graph
 pub regions_keep_pace : RegionsKeepPaceWithTheSource
-regions_keep_pace program first flow table lowered kept cut input n =
+regions_keep_pace program first flow table lowered kept cut input words n =
     let m = suc (length (trace_of program input n)) in
     let source = source_run program input n in
     subst (λ (seen : Seen). Answers source seen source.end) (sym (cut_shows flow table cut input m))
-    (Answers-trans source (flow_run first input m) (flow_run flow input m) source.end (flow_run first input m).end refl (lowered.paced input n) (kept.pace input m))
+    (Answers-trans source (flow_run first input m) (flow_run flow input m) source.end (flow_run first input m).end refl (lowered.paced input n) (kept.pace input words m))
 
 pub objects_keep_pace : (Passed : FlowGraph → FlowGraph → Type 0) → ObjectsKeepPaceWithTheSource Passed
 objects_keep_pace Passed program limits extent flow table choices object it input words n =
@@ -38,7 +38,7 @@ objects_keep_pace Passed program limits extent flow table choices object it inpu
     (AgreeOnInputs-trans (flow_run flow) (flow_run it.first) (source_run program) it.kept.agrees it.lowered.agree) in
     let never = never_faults program (table_run table) of_table input words in
     let shown = machine_run object.code input (schedule_cost table forms limits.ops input m) in
-    answer_of_answer source regions shown (regions_keep_pace program it.first flow table it.lowered it.kept it.cut input n)
+    answer_of_answer source regions shown (regions_keep_pace program it.first flow table it.lowered it.kept it.cut input words n)
     (answer_of_answer regions steps shown (schedules_keep_pace table it.table_keeps limits extent choices forms it.chosen input never m)
     (subst (λ (given : Limits). Answers steps (machine_run object.code input (schedule_cost table forms given.ops input m)) steps.end) it.limited (it.pace input words m)))
 

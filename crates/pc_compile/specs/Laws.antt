@@ -79,11 +79,11 @@ StepsCostFewCycles = (table : Table) → TableKeeps table → (limits : Limits) 
     → (ops : ℕ) (input : List ℤ) (n : ℕ) → schedule_cost table forms ops input n ≤ 1 + most_step_cost * n
 
 -- Where a graph is that of a program, passes keep it, and the table is the cut of what they made, as `IsCompiled` has it, the regions keep
--- pace with the source: on every input they show what the source shows with n iterations of loops after as many items and tests as the
+-- pace with the source: on every input of words they show what the source shows with n iterations of loops after as many items and tests as the
 -- source's evaluation has passed by then, and one unit more, that of the end.
 abbrev pub RegionsKeepPaceWithTheSource : Type 0
 RegionsKeepPaceWithTheSource = (program : ResolvedProgram) (first flow : FlowGraph) (table : Table) → IsLowered program first → Keeps first flow → IsCutOf flow table
-    → (input : List ℤ) (n : ℕ)
+    → (input : List ℤ) → All IsWord input → (n : ℕ)
     → Answers (source_run program input n) (table_run table input (suc (length (trace_of program input n)))) (source_run program input n).end
 
 -- The object of a program keeps pace with the source: what the source shows with n iterations of loops, on any input of words, its

@@ -4,6 +4,8 @@
 #[cfg(test)]
 mod flow;
 #[cfg(test)]
+mod forward;
+#[cfg(test)]
 mod graphs;
 #[cfg(test)]
 mod live;

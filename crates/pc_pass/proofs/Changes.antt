@@ -1,12 +1,12 @@
 -- A graph that is made of another one node by node shows what that one shows, and is no slower.
 use Rattle.std.proofs.Common.{◌≡◌, ◌⊎◌, inl, inr, ℕ, zero, suc, ◌<◌, Bool, true, false, List}
 use Rattle.std.proofs.Common.{[], ◌∷◌, length, Option, Some, None, refl, sym, ◌∙◌, ap, subst, append-nil, arith}
-use Rattle.std.specs.Prelude.{ℤ, if◌then◌else◌, slice_get, slice_index}
+use Rattle.std.specs.Prelude.{ℤ, All, if◌then◌else◌, slice_get, slice_index}
 use Rattle.pc_word.specs.declared.item.Item.{Item}
 use Rattle.pc_word.specs.declared.item.MachineFault.{MachineFault}
 use Rattle.pc_word.specs.declared.item.End.{End}
 use Rattle.pc_word.specs.declared.item.End.TheVariants.{Fault}
-use Rattle.pc_word.specs.Word.{holds}
+use Rattle.pc_word.specs.Word.{IsWord, holds}
 use Rattle.pc_word.specs.Run.{Answers, AgreeOnInputs, Step, Goes, Stops, after_printing, seen_of, run_from, reach, reached_of}
 use Rattle.pc_word.specs.State.{State}
 use Rattle.pc_word.specs.Items.{operand_value, operands_of, dest_of}
@@ -225,11 +225,11 @@ module _ (change : Change) where
     moves here there c = moves_along here.node there.node here.state there.state c.leads.way c.leads.stays c.reached c.known c.alike
 
     -- the graphs begin where they correspond
-    start_corresponds : (input : List ℤ) → Corresponds change (flow_start change.old.entry input) (flow_start change.new.entry input)
-    start_corresponds input = record {
+    start_corresponds : (input : List ℤ) → All IsWord input → Corresponds change (flow_start change.old.entry input) (flow_start change.new.entry input)
+    start_corresponds input words = record {
       leads = is.begins;
       reached = Entry;
-      known = is.known_first input;
+      known = is.known_first input words;
       alike = record { same_cells = refl; same_input = refl; same_names = λ x m. refl };
     }
 
@@ -264,7 +264,7 @@ module _ (change : Change) where
         let new_start = flow_start change.new.entry input in
         Agree-sym (λ n. run_from (flow_step change.old) n start) (λ n. run_from (flow_step change.new) n new_start)
         (Agree-simulated_in_time (flow_step change.old) (flow_step change.new) (Corresponds change) rank_of
-        (λ here there c. meet_in_time here there (moves here there c)) start new_start (start_corresponds input))
+        (λ here there c. meet_in_time here there (moves here there c)) start new_start (start_corresponds input words))
 
     -- ---- pace
 
@@ -301,6 +301,6 @@ module _ (change : Change) where
       | inr skipped ↦ skip_paced n here there skipped (paced_from n skipped.next there skipped.corresponds)
     ]
 
-    -- THE LAW OF PACE: such a graph is no slower, on any input
-    pub change_paces : (input : List ℤ) (n : ℕ) → Answers (flow_run change.old input n) (flow_run change.new input n) (flow_run change.old input n).end
-    change_paces input n = paced_from n (flow_start change.old.entry input) (flow_start change.new.entry input) (start_corresponds input)
+    -- THE LAW OF PACE: such a graph is no slower, on any input of words
+    pub change_paces : (input : List ℤ) → All IsWord input → (n : ℕ) → Answers (flow_run change.old input n) (flow_run change.new input n) (flow_run change.old input n).end
+    change_paces input words n = paced_from n (flow_start change.old.entry input) (flow_start change.new.entry input) (start_corresponds input words)

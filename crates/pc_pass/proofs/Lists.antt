@@ -14,7 +14,7 @@ use Rattle.pc_word.specs.Count.{Rose}
 pub keeps_refl : (flow : FlowGraph) → Keeps flow flow
 keeps_refl flow = record {
   agrees = AgreeOnInputs-refl (flow_run flow);
-  pace = λ input n. Answers-refl (flow_run flow input n);
+  pace = λ input words n. Answers-refl (flow_run flow input n);
   as_many = refl;
   same_loops = refl;
   same_inside = refl;
@@ -25,8 +25,8 @@ keeps_refl flow = record {
 pub keeps_trans : (old mid new : FlowGraph) → Keeps old mid → Keeps mid new → Keeps old new
 keeps_trans old mid new p q = record {
   agrees = AgreeOnInputs-trans (flow_run new) (flow_run mid) (flow_run old) q.agrees p.agrees;
-  pace = λ input n. Answers-trans (flow_run old input n) (flow_run mid input n) (flow_run new input n) (flow_run old input n).end (flow_run mid input n).end refl
-      (p.pace input n) (q.pace input n);
+  pace = λ input words n. Answers-trans (flow_run old input n) (flow_run mid input n) (flow_run new input n) (flow_run old input n).end (flow_run mid input n).end refl
+      (p.pace input words n) (q.pace input words n);
   as_many = q.as_many ∙ p.as_many;
   same_loops = q.same_loops ∙ p.same_loops;
   same_inside = q.same_inside ∙ p.same_inside;

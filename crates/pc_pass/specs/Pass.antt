@@ -1,16 +1,17 @@
 -- What passes keep, what they do one after another, and their counts.
-use Rattle.std.specs.Prelude.{◌≡◌, ℕ, ◌+◌, ◌<◌, ◌≤◌, ℤ, List, [], ◌∷◌, length, slice_index, take, drop}
+use Rattle.std.specs.Prelude.{◌≡◌, ℕ, ◌+◌, ◌<◌, ◌≤◌, ℤ, List, [], ◌∷◌, All, length, slice_index, take, drop}
 use Rattle.pc_word.specs.Count.{Rose}
 use Rattle.pc_word.specs.Run.{Answers, AgreeOnInputs}
+use Rattle.pc_word.specs.Word.{IsWord}
 use Rattle.pc_flow.specs.FlowGraph.{FlowGraph}
 use Rattle.pc_flow.specs.FlowRun.{flow_run}
 
--- The new graph shows what the old one shows, on every input of words and in both directions, and is no slower: on every input,
+-- The new graph shows what the old one shows, on every input of words and in both directions, and is no slower: on each such input,
 -- after as many nodes, it has shown at least what the old one has. It has as many nodes, the same loops, each node in the same
 -- one, and the same arrays.
 pub record Keeps (old new : FlowGraph) : Type 0 where
   pub agrees : AgreeOnInputs (flow_run new) (flow_run old)
-  pub pace : (input : List ℤ) (n : ℕ) → Answers (flow_run old input n) (flow_run new input n) (flow_run old input n).end
+  pub pace : (input : List ℤ) → All IsWord input → (n : ℕ) → Answers (flow_run old input n) (flow_run new input n) (flow_run old input n).end
   pub as_many : length new.nodes ≡ length old.nodes
   pub same_loops : new.loops ≡ old.loops
   pub same_inside : new.inside ≡ old.inside

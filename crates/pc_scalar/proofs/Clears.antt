@@ -346,7 +346,7 @@ module _ (flow : FlowGraph) (plan : Plan) (is : IsClearing flow plan) where
     is_flow = is_flow;
     same_arrays = refl;
     begins = rw is.entry (leads flow.entry is_flow.begins);
-    known_first = λ input. tt;
+    known_first = λ input words. tt;
     skips = skips;
     becomes = λ at node reached there none. record {
       other = led is.ends node;

@@ -249,7 +249,7 @@ module _ (flow : FlowGraph) (plan : Plan) (is : IsFolding flow plan) where
     is_flow = is.taken_sides.is_flow;
     same_arrays = refl;
     begins = rw is.entry (leads flow.entry is.taken_sides.is_flow.begins);
-    known_first = λ input. tt;
+    known_first = λ input words. tt;
     skips = skips;
     becomes = λ at node reached there stays. record {
       other = led is.ends (folded node);

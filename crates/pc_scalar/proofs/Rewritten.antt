@@ -126,7 +126,7 @@ module _ (flow : FlowGraph) (rule : Rule) (plan : Plan) (is : IsRewriting flow r
     is_flow = is.is_flow;
     same_arrays = refl;
     begins = subst (LeadsPast no_skip flow.entry) (sym is.entry) (leads_there flow.entry);
-    known_first = λ input. known_entry (start_state input) flow.entry refl;
+    known_first = λ input words. known_entry (start_state input) flow.entry refl;
     skips = λ at next reached h. absurd h;
     becomes = λ at node reached there none.
         let w = is.written at reached in

@@ -25,4 +25,8 @@ pub use copies::Copies;
 pub use dead::Dead;
 pub use fold::Fold;
 pub use laws::law_of_the_scalar_passes;
+pub use plan::{Plan, install};
+pub use reach::reached;
+pub use rewriting::nodes_of;
+pub use tally::Tally;
 pub use values::Values;

@@ -46,7 +46,7 @@ pub(crate) fn plan_of(alloc: Global, flow: &Flow, rule: Rule) -> Result<Plan, Al
 }
 
 /// The nodes of a graph, copied.
-fn nodes_of(alloc: Global, flow: &Flow) -> Result<FlowNodeList, AllocError>
+pub fn nodes_of(alloc: Global, flow: &Flow) -> Result<FlowNodeList, AllocError>
     ensures { IfOk result (λ nodes. nodes ≡ flow.now.nodes) }
 {
     let mut nodes = FlowNodeList::new(alloc);

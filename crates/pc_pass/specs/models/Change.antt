@@ -1,11 +1,12 @@
 -- A graph that is made of another one node by node. No public clause cites this; it is how passes are proved to keep what a
 -- graph shows.
-use Rattle.std.specs.Prelude.{◌≡◌, ℕ, ◌<◌, ℤ, true, false, List, [], Option, Some, slice_get, slice_index}
+use Rattle.std.specs.Prelude.{◌≡◌, ℕ, ◌<◌, ℤ, true, false, List, [], All, Option, Some, slice_get, slice_index}
 use Rattle.std.specs.List.{list_any}
 use Rattle.pc_word.specs.declared.item.Item.{Item}
 use Rattle.pc_word.specs.declared.item.Operand.{Operand}
 use Rattle.pc_word.specs.declared.item.TrapKind.{TrapKind}
 use Rattle.pc_word.specs.Run.{Goes}
+use Rattle.pc_word.specs.Word.{IsWord}
 use Rattle.pc_word.specs.State.{State, start_state}
 use Rattle.pc_word.specs.Items.{operand_value, operands_of, dest_of, reads_name}
 use Rattle.pc_word.specs.Commit.{writes}
@@ -118,7 +119,7 @@ pub record IsChange (change : Change) : Type 0 where
   pub is_flow : IsFlow change.old
   pub same_arrays : change.new.arrays ≡ change.old.arrays
   pub begins : LeadsPast change.Skips change.old.entry change.new.entry
-  pub known_first : (input : List ℤ) → change.Knows change.old.entry (start_state input)
+  pub known_first : (input : List ℤ) → All IsWord input → change.Knows change.old.entry (start_state input)
   pub skips : (at next : ℕ) → IsReachableNode change.old at → change.Skips at next → IsSkipped change at next
   pub becomes : (at : ℕ) (node : FlowNode) → IsReachableNode change.old at → slice_get change.old.nodes at ≡ Some node
       → ((next : ℕ) → change.Skips at next → ⊥) → BecomesAt change at node

@@ -1,0 +1,4 @@
+pub mod Below
+pub mod Elements
+pub mod Noting
+pub mod OwnForms

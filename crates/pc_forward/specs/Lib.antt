@@ -1,0 +1,4 @@
+pub mod models
+pub mod Forwardable
+pub mod Forwarded
+pub mod Trail
