@@ -307,8 +307,8 @@ module _ (flow : FlowGraph) (plan : Plan) (is : IsClearing flow plan) where
         same_value = λ s known. refl;
         reads = λ x h. let small = read_small on x fits.0 h in (small, reads_in flow is.sets is.are_needed at x (Test on on_yes on_no turn) there small kept h);
       })
-      (record { leads = leads on_yes sides.0; passes = λ x m. passes at on_yes (Test on on_yes on_no turn) there (inl refl) x refl m; knows = λ s h. tt })
-      (record { leads = leads on_no sides.1; passes = λ x m. passes at on_no (Test on on_yes on_no turn) there (inr refl) x refl m; knows = λ s h. tt })
+      (record { leads = leads on_yes sides.0; passes = λ x m. passes at on_yes (Test on on_yes on_no turn) there (inl refl) x refl m; knows = λ s h side. tt })
+      (record { leads = leads on_no sides.1; passes = λ x m. passes at on_no (Test on on_yes on_no turn) there (inr refl) x refl m; knows = λ s h side. tt })
   node_becomes at Stop there fits kept = Stops_too
   node_becomes at (Trap kind line) there fits kept = Traps_too
 

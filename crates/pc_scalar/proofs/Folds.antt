@@ -219,8 +219,8 @@ module _ (flow : FlowGraph) (plan : Plan) (is : IsFolding flow plan) where
   node_becomes at (Test on on_yes on_no turn) fits =
       let sides = sides_there flow at on_yes on_no turn fits.1 in
       Tests (record { same_value = λ s known. refl; reads = λ x h. tt })
-      (record { leads = leads on_yes sides.0; passes = λ x h. tt; knows = λ s h. tt })
-      (record { leads = leads on_no sides.1; passes = λ x h. tt; knows = λ s h. tt })
+      (record { leads = leads on_yes sides.0; passes = λ x h. tt; knows = λ s h side. tt })
+      (record { leads = leads on_no sides.1; passes = λ x h. tt; knows = λ s h side. tt })
   node_becomes at Stop fits = Stops_too
   node_becomes at (Trap kind line) fits = Traps_too
 
