@@ -23,6 +23,10 @@ mod valuing;
 
 pub use copies::Copies;
 pub use dead::Dead;
+pub use ends::{chain_ends, led};
 pub use fold::Fold;
 pub use laws::law_of_the_scalar_passes;
+pub use plan::{Plan, install};
+pub use reach::reached;
+pub use tally::Tally;
 pub use values::Values;

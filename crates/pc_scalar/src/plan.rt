@@ -7,14 +7,14 @@ use pc_flow::{Flow, FlowNodeList};
 /// The nodes that a graph gets, each in the place of the one with its number, the node where it
 /// begins then, and how many nodes that changes or skips.
 #[derive(Debug, Drop)]
-pub(crate) struct Plan {
+pub struct Plan {
     pub nodes: FlowNodeList,
     pub entry: u32,
     pub changed: u32,
 }
 
 /// Lets a graph be as planned.
-pub(crate) fn install(flow: &mut Flow, plan: &Plan)
+pub fn install(flow: &mut Flow, plan: &Plan)
     requires { Fits flow.old plan.now }
     ensures { flow.new ≡ planned plan.now flow.old }
 {

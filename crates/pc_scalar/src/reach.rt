@@ -9,7 +9,7 @@ use pc_word::Seq;
 use std::alloc::{AllocError, Global};
 
 /// Which nodes of a graph can be reached, by their numbers.
-pub(crate) fn reached(alloc: Global, flow: &Flow) -> Result<Seq<bool>, AllocError>
+pub fn reached(alloc: Global, flow: &Flow) -> Result<Seq<bool>, AllocError>
     ensures { IfOk result (λ flags. AreReached flow.now flags) }
 {
     let mut flags = no_flags(alloc, flow.count())?;

@@ -5,14 +5,14 @@ ghost use Rattle.pc_scalar.specs.Tally.{counted};
 
 /// How many nodes a pass has changed or skipped, and how often it came to its end. Both stand still at the type's end.
 #[derive(Clone, Copy, Debug, PartialEq, Eq)]
-pub(crate) struct Tally {
+pub struct Tally {
     pub changes: u64,
     pub runs: u64,
 }
 
 impl Tally {
     /// Nothing was counted yet.
-    pub(crate) fn new() -> Tally
+    pub fn new() -> Tally
         ensures { result ≡ record { changes = 0; runs = 0 } }
     {
         Tally {
@@ -22,7 +22,7 @@ impl Tally {
     }
 
     /// Counts a run that changed so many nodes.
-    pub(crate) fn add(&mut self, nodes: u32)
+    pub fn add(&mut self, nodes: u32)
         ensures changes { self.new.changes ≡ counted self.old.changes nodes }
         ensures runs { self.new.runs ≡ one_more self.old.runs }
         ensures no_change_lost { self.old.changes ≤ self.new.changes }
