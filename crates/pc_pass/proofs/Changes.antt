@@ -3,6 +3,7 @@ use Rattle.std.proofs.Common.{◌≡◌, ◌⊎◌, inl, inr, ℕ, zero, suc, �
 use Rattle.std.proofs.Common.{[], ◌∷◌, length, Option, Some, None, refl, sym, ◌∙◌, ap, subst, append-nil, arith}
 use Rattle.std.specs.Prelude.{ℤ, All, if◌then◌else◌, slice_get, slice_index}
 use Rattle.pc_word.specs.declared.item.Item.{Item}
+use Rattle.pc_word.specs.declared.item.Operand.{Operand}
 use Rattle.pc_word.specs.declared.item.MachineFault.{MachineFault}
 use Rattle.pc_word.specs.declared.item.End.{End}
 use Rattle.pc_word.specs.declared.item.End.TheVariants.{Fault}
@@ -145,20 +146,21 @@ module _ (change : Change) where
   -- ---- tests
 
   -- the side that is taken
-  side_corresponds : (b : Bool) (at to_yes to_no onward_yes onward_no : ℕ) (s t : State)
-      → SideBecomes change at to_yes onward_yes → SideBecomes change at to_no onward_no
-      → IsReachableNode change.old to_yes → IsReachableNode change.old to_no → change.Knows at s → AlikeIn (change.Matters at) s t
+  side_corresponds : (b : Bool) (at : ℕ) (on : Operand) (to_yes to_no onward_yes onward_no : ℕ) (s t : State)
+      → SideBecomes change at on true to_yes onward_yes → SideBecomes change at on false to_no onward_no
+      → IsReachableNode change.old to_yes → IsReachableNode change.old to_no → change.Knows at s → holds (operand_value s.names on) ≡ b
+      → AlikeIn (change.Matters at) s t
       → Corresponds change (record { node = if b then to_yes else to_no; state = s }) (record { node = if b then onward_yes else onward_no; state = t })
-  side_corresponds true at to_yes to_no onward_yes onward_no s t yes_side no_side first second known alike = record {
+  side_corresponds true at on to_yes to_no onward_yes onward_no s t yes_side no_side first second known taken alike = record {
     leads = yes_side.leads;
     reached = first;
-    known = yes_side.knows s known;
+    known = yes_side.knows s known taken;
     alike = record { same_cells = alike.same_cells; same_input = alike.same_input; same_names = λ x m. alike.same_names x (yes_side.passes x m) };
   }
-  side_corresponds false at to_yes to_no onward_yes onward_no s t yes_side no_side first second known alike = record {
+  side_corresponds false at on to_yes to_no onward_yes onward_no s t yes_side no_side first second known taken alike = record {
     leads = no_side.leads;
     reached = second;
-    known = no_side.knows s known;
+    known = no_side.knows s known taken;
     alike = record { same_cells = alike.same_cells; same_input = alike.same_input; same_names = λ x m. alike.same_names x (no_side.passes x m) };
   }
 
@@ -176,8 +178,8 @@ module _ (change : Change) where
         refl,
         subst (λ (z : ℤ). Corresponds change (record { node = if holds (operand_value s.names on) then to_yes else to_no; state = s })
             (record { node = if holds z then onward_yes else onward_no; state = t })) (sym value)
-            (side_corresponds (holds (operand_value s.names on)) at to_yes to_no onward_yes onward_no s t yes_side no_side
-            (Behind reached there (inl refl)) (Behind reached there (inr refl)) known alike),
+            (side_corresponds (holds (operand_value s.names on)) at on to_yes to_no onward_yes onward_no s t yes_side no_side
+            (Behind reached there (inl refl)) (Behind reached there (inr refl)) known refl alike),
       )
   nodes_correspond at _ _ s t there Stops_too reached known alike = (refl, refl)
   nodes_correspond at _ _ s t there Traps_too reached known alike = (refl, refl)

@@ -38,7 +38,7 @@ use Rattle.pc_scalar.specs.models.Ends.{Jump, FallsAlong, AreEnds, led}
 use Rattle.pc_scalar.specs.models.Needed.{IsNeeded, Read_always, Read_for, Read_behind, is_unwanted, is_needless, node_only_writes, node_needless}
 use Rattle.pc_scalar.specs.models.Needed.{kept_reads, AreNeeded, cleared, AreCleared, IsClearing}
 use Rattle.pc_scalar.proofs.Chains.{one_end, stays_end, edge_led}
-use Rattle.pc_scalar.proofs.Skipping.{sides_there, KeepsEdges, IsSkipping, new_there, new_made_of, new_as_many, skipping_fits, end_leads, reachable_stays, skipping_keeps_tests}
+use Rattle.pc_scalar.proofs.Skipping.{sides_there, KeepsEdges, IsSkipping, mapped_made, new_there, new_made_of, new_as_many, skipping_fits, end_leads, reachable_stays, skipping_keeps_tests}
 use Rattle.pc_scalar.proofs.Skipped.{Tells, skipping_counts}
 use Rattle.pc_scalar.proofs.Needs.{only_fits, kept_counted}
 
@@ -230,15 +230,15 @@ entry_end flow sets table ends entry end needed cleared are is e =
 -- ---- the cleared graph
 
 -- the nodes stay as they are, but for their edges
-same_keeps : (flow : FlowGraph) → KeepsEdges flow (λ node. node)
-same_keeps flow = record { fits = λ at node h. h; turn = λ node. refl; edge = λ node to h. h; edge_from = λ node to h. h }
+same_keeps : (flow : FlowGraph) → KeepsEdges flow (λ at node. node)
+same_keeps flow = record { fits = λ at node h. h; turn = λ at node. refl; edge = λ at node to h. h; edge_from = λ at node to h. h }
 
-is_skipping : (flow : FlowGraph) (plan : Plan) (is : IsClearing flow plan) → IsSkipping flow plan is.table is.ends (λ node. node)
+is_skipping : (flow : FlowGraph) (plan : Plan) (is : IsClearing flow plan) → IsSkipping flow plan is.table is.ends (λ at node. node)
 is_skipping flow plan is = record {
   is_flow = is.are_needed.is_flow;
   falls = cleared_falls flow is.sets is.table is.are_needed is.are_cleared;
   are_ends = is.are_ends;
-  nodes = is.nodes;
+  nodes = mapped_made flow is.ends (λ node. node) plan.nodes is.nodes;
   entry = is.entry;
   keeps = same_keeps flow;
 }
@@ -261,7 +261,7 @@ module _ (flow : FlowGraph) (plan : Plan) (is : IsClearing flow plan) where
 
   -- the plan fits
   pub clearing_fits : Fits flow plan
-  clearing_fits = skipping_fits flow plan is.table is.ends (λ node. node) (is_skipping flow plan is)
+  clearing_fits = skipping_fits flow plan is.table is.ends (λ at node. node) (is_skipping flow plan is)
 
   is_flow : IsFlow flow
   is_flow = is.are_needed.is_flow
@@ -273,7 +273,7 @@ module _ (flow : FlowGraph) (plan : Plan) (is : IsClearing flow plan) where
   stays_kept at node there stays = kept_node flow is.sets at node (is_flow.nodes_fit at node there) (sym (is.are_cleared.each at node there) ∙ stays)
 
   leads : (to : ℕ) → IsTarget flow to → LeadsPast (Jump is.table) to (slice_index is.ends to)
-  leads = end_leads flow plan is.table is.ends (λ node. node) (is_skipping flow plan is)
+  leads = end_leads flow plan is.table is.ends (λ at node. node) (is_skipping flow plan is)
 
   -- ---- it shows what the graph shows
 
@@ -307,8 +307,8 @@ module _ (flow : FlowGraph) (plan : Plan) (is : IsClearing flow plan) where
         same_value = λ s known. refl;
         reads = λ x h. let small = read_small on x fits.0 h in (small, reads_in flow is.sets is.are_needed at x (Test on on_yes on_no turn) there small kept h);
       })
-      (record { leads = leads on_yes sides.0; passes = λ x m. passes at on_yes (Test on on_yes on_no turn) there (inl refl) x refl m; knows = λ s h. tt })
-      (record { leads = leads on_no sides.1; passes = λ x m. passes at on_no (Test on on_yes on_no turn) there (inr refl) x refl m; knows = λ s h. tt })
+      (record { leads = leads on_yes sides.0; passes = λ x m. passes at on_yes (Test on on_yes on_no turn) there (inl refl) x refl m; knows = λ s h side. tt })
+      (record { leads = leads on_no sides.1; passes = λ x m. passes at on_no (Test on on_yes on_no turn) there (inr refl) x refl m; knows = λ s h side. tt })
   node_becomes at Stop there fits kept = Stops_too
   node_becomes at (Trap kind line) there fits kept = Traps_too
 
@@ -350,7 +350,7 @@ module _ (flow : FlowGraph) (plan : Plan) (is : IsClearing flow plan) where
     skips = skips;
     becomes = λ at node reached there none. record {
       other = led is.ends node;
-      there = new_there flow plan is.table is.ends (λ n. n) (is_skipping flow plan is) at node there;
+      there = new_there flow plan is.table is.ends (λ at n. n) (is_skipping flow plan is) at node there;
       becomes = node_becomes at node there (is_flow.nodes_fit at node there) (stays_kept at node there (no_jump at none));
     };
   }
@@ -359,7 +359,7 @@ module _ (flow : FlowGraph) (plan : Plan) (is : IsClearing flow plan) where
   clearing_keeps = record {
     agrees = change_agrees change is_change;
     pace = change_paces change is_change;
-    as_many = new_as_many flow plan is.table is.ends (λ node. node) (is_skipping flow plan is);
+    as_many = new_as_many flow plan is.table is.ends (λ at node. node) (is_skipping flow plan is);
     same_loops = refl;
     same_inside = refl;
     same_arrays = refl;
@@ -386,7 +386,7 @@ module _ (flow : FlowGraph) (plan : Plan) (is : IsClearing flow plan) where
   read_live : (x at : ℕ) (node : FlowNode) → slice_get flow.nodes at ≡ Some node → node_needless is.sets node ≡ false → node_reads node x ≡ true
       → IsLive new x (slice_index is.ends at)
   read_live x at node there kept reads =
-      let stands = new_there flow plan is.table is.ends (λ n. n) (is_skipping flow plan is) at node there in
+      let stands = new_there flow plan is.table is.ends (λ at n. n) (is_skipping flow plan is) at node there in
       subst (IsLive new x) (sym (end_is at (slice_get_within flow.nodes at node there) (place_stays at node there kept)))
       (Read_here stands (led_reads is.ends node x ∙ reads))
 
@@ -394,7 +394,7 @@ module _ (flow : FlowGraph) (plan : Plan) (is : IsClearing flow plan) where
       → IsLive new x (slice_index is.ends next) → IsLive new x (slice_index is.ends at)
   pass_live x at next node there edge passed later = elim (cases_eq (slice_index is.table at) at) [
     | inl same ↦
-        let stands = new_there flow plan is.table is.ends (λ n. n) (is_skipping flow plan is) at node there in
+        let stands = new_there flow plan is.table is.ends (λ at n. n) (is_skipping flow plan is) at node there in
         subst (IsLive new x) (sym (end_is at (slice_get_within flow.nodes at node there) same))
         (Read_later stands (led_writes is.ends node x ∙ passed) (edge_led is.ends node next edge) later)
     | inr other ↦
@@ -436,13 +436,13 @@ module _ (flow : FlowGraph) (plan : Plan) (is : IsClearing flow plan) where
   pub clearing_clears : WritesAreLive new
   clearing_clears = record {
     live = λ at to dest item reached there only.
-        let before = new_made_of flow plan is.table is.ends (λ n. n) (is_skipping flow plan is) at (Op item to) there in
-        kept_live at to dest item before.0 before.1 before.2 (reachable_stays flow plan is.table is.ends (λ n. n) (is_skipping flow plan is) at reached) only;
+        let before = new_made_of flow plan is.table is.ends (λ at n. n) (is_skipping flow plan is) at (Op item to) there in
+        kept_live at to dest item before.0 before.1 before.2 (reachable_stays flow plan is.table is.ends (λ at n. n) (is_skipping flow plan is) at reached) only;
   }
 
   -- no test is skipped
   pub clearing_keeps_tests : KeepsLoopTests flow new
-  clearing_keeps_tests = skipping_keeps_tests flow plan is.table is.ends (λ node. node) (is_skipping flow plan is)
+  clearing_keeps_tests = skipping_keeps_tests flow plan is.table is.ends (λ at node. node) (is_skipping flow plan is)
       (λ to turn test. place_stays to test.node test.there (loop_kept is.sets turn test.node test.tests))
 
   -- ---- what is counted
@@ -451,14 +451,14 @@ module _ (flow : FlowGraph) (plan : Plan) (is : IsClearing flow plan) where
   clearing_works : (at : ℕ) (node : FlowNode) → slice_get flow.nodes at ≡ Some node → node_needless is.sets node ≡ true → slice_index is.table at ≢ at
   clearing_works at node there e stays = true≢false (sym e ∙ stays_kept at node there stays)
 
-  clearing_tells : Tells flow is.table (λ node. node) (node_needless is.sets)
+  clearing_tells : Tells flow is.table (λ at node. node) (λ at. node_needless is.sets)
   clearing_tells = record {
     worked = λ at node there e. inr (clearing_works at node there e);
     left = λ at node there e. (refl, place_stays at node there e);
   }
 
   pub clearing_counts : AreMany (IsWorkedOn flow new) (length flow.nodes) plan.changed
-  clearing_counts = skipping_counts flow plan is.table is.ends (λ node. node) (is_skipping flow plan is) (node_needless is.sets) clearing_tells is.changed
+  clearing_counts = skipping_counts flow plan is.table is.ends (λ at node. node) (is_skipping flow plan is) (λ at. node_needless is.sets) clearing_tells is.changed
 
 pub ruleset place_laws = (behind_has_set, writes_fit)
 

@@ -26,7 +26,7 @@ use Rattle.pc_scalar.specs.LoopTests.{KeepsLoopTests}
 use Rattle.pc_scalar.specs.models.Plan.{Fits, planned}
 use Rattle.pc_scalar.specs.models.Ends.{Jump, FallsAlong, NodeThere, led}
 use Rattle.pc_scalar.specs.models.Folding.{folded_item, folded, taken, AreTaken, IsFolding}
-use Rattle.pc_scalar.proofs.Skipping.{sides_there, fits_there, KeepsEdges, IsSkipping, new_there, new_made_of, new_as_many, skipping_fits, end_leads, reachable_stays, skipping_keeps_tests}
+use Rattle.pc_scalar.proofs.Skipping.{sides_there, fits_there, KeepsEdges, IsSkipping, mapped_made, new_there, new_made_of, new_as_many, skipping_fits, end_leads, reachable_stays, skipping_keeps_tests}
 use Rattle.pc_scalar.proofs.Skipped.{Tells, skipping_counts}
 
 -- ---- folded items
@@ -176,16 +176,16 @@ module _ (flow : FlowGraph) (table : List ℕ) (are : AreTaken flow table) where
 -- ---- the folded graph
 
 -- folded nodes have the edges that they had
-folded_keeps : (flow : FlowGraph) → KeepsEdges flow folded
-folded_keeps flow = record { fits = folded_fits flow; turn = folded_turn; edge = folded_edge; edge_from = folded_edge_from }
+folded_keeps : (flow : FlowGraph) → KeepsEdges flow (λ at. folded)
+folded_keeps flow = record { fits = folded_fits flow; turn = λ at. folded_turn; edge = λ at. folded_edge; edge_from = λ at. folded_edge_from }
 
 -- folding skips the tests of literals
-is_skipping : (flow : FlowGraph) (plan : Plan) (is : IsFolding flow plan) → IsSkipping flow plan is.table is.ends folded
+is_skipping : (flow : FlowGraph) (plan : Plan) (is : IsFolding flow plan) → IsSkipping flow plan is.table is.ends (λ at. folded)
 is_skipping flow plan is = record {
   is_flow = is.taken_sides.is_flow;
   falls = taken_falls flow is.table is.taken_sides;
   are_ends = is.are_ends;
-  nodes = is.nodes;
+  nodes = mapped_made flow is.ends folded plan.nodes is.nodes;
   entry = is.entry;
   keeps = folded_keeps flow;
 }
@@ -196,7 +196,7 @@ module _ (flow : FlowGraph) (plan : Plan) (is : IsFolding flow plan) where
 
   -- the plan fits
   pub folding_fits : Fits flow plan
-  folding_fits = skipping_fits flow plan is.table is.ends folded (is_skipping flow plan is)
+  folding_fits = skipping_fits flow plan is.table is.ends (λ at. folded) (is_skipping flow plan is)
 
   -- ---- it shows what the graph shows
 
@@ -205,7 +205,7 @@ module _ (flow : FlowGraph) (plan : Plan) (is : IsFolding flow plan) where
   change = record { old = flow; new = new; Skips = Jump is.table; Knows = λ at s. Unit {0}; Matters = λ at x. Unit {0} }
 
   leads : (to : ℕ) → IsTarget flow to → LeadsPast (Jump is.table) to (slice_index is.ends to)
-  leads = end_leads flow plan is.table is.ends folded (is_skipping flow plan is)
+  leads = end_leads flow plan is.table is.ends (λ at. folded) (is_skipping flow plan is)
 
   node_becomes : (at : ℕ) (node : FlowNode) → NodeFits flow at node → Becomes change at node (led is.ends (folded node))
   node_becomes at (Op item to) fits = Does (record {
@@ -219,8 +219,8 @@ module _ (flow : FlowGraph) (plan : Plan) (is : IsFolding flow plan) where
   node_becomes at (Test on on_yes on_no turn) fits =
       let sides = sides_there flow at on_yes on_no turn fits.1 in
       Tests (record { same_value = λ s known. refl; reads = λ x h. tt })
-      (record { leads = leads on_yes sides.0; passes = λ x h. tt; knows = λ s h. tt })
-      (record { leads = leads on_no sides.1; passes = λ x h. tt; knows = λ s h. tt })
+      (record { leads = leads on_yes sides.0; passes = λ x h. tt; knows = λ s h side. tt })
+      (record { leads = leads on_no sides.1; passes = λ x h. tt; knows = λ s h side. tt })
   node_becomes at Stop fits = Stops_too
   node_becomes at (Trap kind line) fits = Traps_too
 
@@ -253,7 +253,7 @@ module _ (flow : FlowGraph) (plan : Plan) (is : IsFolding flow plan) where
     skips = skips;
     becomes = λ at node reached there stays. record {
       other = led is.ends (folded node);
-      there = new_there flow plan is.table is.ends folded (is_skipping flow plan is) at node there;
+      there = new_there flow plan is.table is.ends (λ at. folded) (is_skipping flow plan is) at node there;
       becomes = node_becomes at node (is.taken_sides.is_flow.nodes_fit at node there);
     };
   }
@@ -262,7 +262,7 @@ module _ (flow : FlowGraph) (plan : Plan) (is : IsFolding flow plan) where
   folding_keeps = record {
     agrees = change_agrees change is_change;
     pace = change_paces change is_change;
-    as_many = new_as_many flow plan is.table is.ends folded (is_skipping flow plan is);
+    as_many = new_as_many flow plan is.table is.ends (λ at. folded) (is_skipping flow plan is);
     same_loops = refl;
     same_inside = refl;
     same_arrays = refl;
@@ -296,17 +296,17 @@ module _ (flow : FlowGraph) (plan : Plan) (is : IsFolding flow plan) where
   pub folding_folds : IsFolded new
   folding_folds = record {
     computes_none = λ at to dest op left right reached there.
-        let before = new_made_of flow plan is.table is.ends folded (is_skipping flow plan is) at (Op (Bin op dest (Lit left) (Lit right)) to) there in
+        let before = new_made_of flow plan is.table is.ends (λ at. folded) (is_skipping flow plan is) at (Op (Bin op dest (Lit left) (Lit right)) to) there in
         no_constant before.0 op dest to left right before.2;
     tests_none = λ at on_yes on_no value reached there.
-        let before = new_made_of flow plan is.table is.ends folded (is_skipping flow plan is) at (Test (Lit value) on_yes on_no None) there in
-        no_literal_test at on_yes on_no value before.0 before.1 (reachable_stays flow plan is.table is.ends folded (is_skipping flow plan is) at reached) before.2;
+        let before = new_made_of flow plan is.table is.ends (λ at. folded) (is_skipping flow plan is) at (Test (Lit value) on_yes on_no None) there in
+        no_literal_test at on_yes on_no value before.0 before.1 (reachable_stays flow plan is.table is.ends (λ at. folded) (is_skipping flow plan is) at reached) before.2;
   }
 
   -- ---- and keeps the tests of loops
 
   pub folding_keeps_tests : KeepsLoopTests flow new
-  folding_keeps_tests = skipping_keeps_tests flow plan is.table is.ends folded (is_skipping flow plan is)
+  folding_keeps_tests = skipping_keeps_tests flow plan is.table is.ends (λ at. folded) (is_skipping flow plan is)
       (λ to turn test. is.taken_sides.each to test.node test.there ∙ taken_of_loop to turn test.node test.tests)
 
   -- ---- what is counted
@@ -352,14 +352,14 @@ module _ (flow : FlowGraph) (plan : Plan) (is : IsFolding flow plan) where
   unfolded Stop at e = (refl, refl)
   unfolded (Trap kind line) at e = (refl, refl)
 
-  folding_tells : Tells flow is.table folded is_foldable
+  folding_tells : Tells flow is.table (λ at. folded) (λ at. is_foldable)
   folding_tells = record {
     worked = folding_works;
     left = λ at node there e. let it = unfolded node at e in (it.0, is.taken_sides.each at node there ∙ it.1);
   }
 
   pub folding_counts : AreMany (IsWorkedOn flow new) (length flow.nodes) plan.changed
-  folding_counts = skipping_counts flow plan is.table is.ends folded (is_skipping flow plan is) is_foldable folding_tells is.changed
+  folding_counts = skipping_counts flow plan is.table is.ends (λ at. folded) (is_skipping flow plan is) (λ at. is_foldable) folding_tells is.changed
 
 pub ruleset plan_laws = (taken_falls)
 

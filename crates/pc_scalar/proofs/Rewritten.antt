@@ -112,8 +112,8 @@ module _ (flow : FlowGraph) (rule : Rule) (plan : Plan) (is : IsRewriting flow r
   })
   node_becomes at known (Test on on_yes on_no turn) reached there known_at =
       Tests (record { same_value = λ s knows. rewritten_value known s (knows known known_at) rule on; reads = λ x h. tt })
-      (record { leads = leads_there on_yes; passes = λ x m. tt; knows = λ s knows. knows_side at on_yes (Test on on_yes on_no turn) s reached there (inl refl) (λ item next e. cc) })
-      (record { leads = leads_there on_no; passes = λ x m. tt; knows = λ s knows. knows_side at on_no (Test on on_yes on_no turn) s reached there (inr refl) (λ item next e. cc) })
+      (record { leads = leads_there on_yes; passes = λ x m. tt; knows = λ s knows side. knows_side at on_yes (Test on on_yes on_no turn) s reached there (inl refl) (λ item next e. cc) })
+      (record { leads = leads_there on_no; passes = λ x m. tt; knows = λ s knows side. knows_side at on_no (Test on on_yes on_no turn) s reached there (inr refl) (λ item next e. cc) })
   node_becomes at known Stop reached there known_at = Stops_too
   node_becomes at known (Trap kind line) reached there known_at = Traps_too
 

@@ -24,13 +24,13 @@ led_without ends Stop = refl
 led_without ends (Trap kind line) = refl
 
 -- a test tells the nodes that are changed or skipped
-pub record Tells (flow : FlowGraph) (table : List ℕ) (made : FlowNode → FlowNode) (test : FlowNode → Bool) : Type 0 where
-  pub worked : (at : ℕ) (node : FlowNode) → slice_get flow.nodes at ≡ Some node → test node ≡ true
-      → (without_edges (made node) ≢ without_edges node) ⊎ (slice_index table at ≢ at)
-  pub left : (at : ℕ) (node : FlowNode) → slice_get flow.nodes at ≡ Some node → test node ≡ false
-      → (without_edges (made node) ≡ without_edges node) × (slice_index table at ≡ at)
+pub record Tells (flow : FlowGraph) (table : List ℕ) (made : ℕ → FlowNode → FlowNode) (test : ℕ → FlowNode → Bool) : Type 0 where
+  pub worked : (at : ℕ) (node : FlowNode) → slice_get flow.nodes at ≡ Some node → test at node ≡ true
+      → (without_edges (made at node) ≢ without_edges node) ⊎ (slice_index table at ≢ at)
+  pub left : (at : ℕ) (node : FlowNode) → slice_get flow.nodes at ≡ Some node → test at node ≡ false
+      → (without_edges (made at node) ≡ without_edges node) × (slice_index table at ≡ at)
 
-module _ (flow : FlowGraph) (plan : Plan) (table ends : List ℕ) (made : FlowNode → FlowNode) (is : IsSkipping flow plan table ends made) where
+module _ (flow : FlowGraph) (plan : Plan) (table ends : List ℕ) (made : ℕ → FlowNode → FlowNode) (is : IsSkipping flow plan table ends made) where
   abbrev new : FlowGraph
   new = planned plan flow
 
@@ -38,9 +38,9 @@ module _ (flow : FlowGraph) (plan : Plan) (table ends : List ℕ) (made : FlowNo
   edge_stays : (from at : ℕ) → IsEdge new from at → slice_index table at ≡ at
   edge_stays from at leads =
       let before = new_made_of flow plan table ends made is from leads.node leads.there in
-      let led_edge : HasEdge (led ends (made before.0)) at = subst (λ (n : FlowNode). HasEdge n at) (sym before.2) leads.edge in
-      let next = edge_led_from ends (made before.0) at led_edge in
-      let target = edge_target flow from next.0 before.0 (is.is_flow.nodes_fit from before.0 before.1) (is.keeps.edge_from before.0 next.0 next.1) in
+      let led_edge : HasEdge (led ends (made from before.0)) at = subst (λ (n : FlowNode). HasEdge n at) (sym before.2) leads.edge in
+      let next = edge_led_from ends (made from before.0) at led_edge in
+      let target = edge_target flow from next.0 before.0 (is.is_flow.nodes_fit from before.0 before.1) (is.keeps.edge_from from before.0 next.0 next.1) in
       subst (λ (n : ℕ). slice_index table n ≡ n) next.2 (end_stays flow plan table ends made is next.0 target)
 
   -- so does the node where it begins
@@ -64,35 +64,35 @@ module _ (flow : FlowGraph) (plan : Plan) (table ends : List ℕ) (made : FlowNo
       let target = edge_target flow from at node (is.is_flow.nodes_fit from node there) edge in
       let end = stays_end table at (slice_index ends at) stays (end_leads flow plan table ends made is at target).way in
       led_past from reached (record {
-        node = led ends (made node);
+        node = led ends (made from node);
         there = new_there flow plan table ends made is from node there;
-        edge = subst (HasEdge (led ends (made node))) end (edge_led ends (made node) at (is.keeps.edge node at edge));
+        edge = subst (HasEdge (led ends (made from node))) end (edge_led ends (made from node) at (is.keeps.edge from node at edge));
       })
 
-  module _ (test : FlowNode → Bool) (tells : Tells flow table made test) where
+  module _ (test : ℕ → FlowNode → Bool) (tells : Tells flow table made test) where
     worked_on : (at : ℕ) → IsReachedAnd test flow at → IsWorkedOn flow new at
     worked_on at h = elim (tells.worked at h.node h.there h.passes) [
       | inl other ↦ inl (record {
         reached = h.reached;
         before = h.node;
-        after = led ends (made h.node);
+        after = led ends (made at h.node);
         was = h.there;
         stands = new_there flow plan table ends made is at h.node h.there;
-        other = λ e. other (sym (led_without ends (made h.node)) ∙ e);
+        other = λ e. other (sym (led_without ends (made at h.node)) ∙ e);
       })
       | inr other ↦ inr (is_skipped at h.reached other)
     ]
 
     -- a node that the test refuses is neither
-    left_alone : (at : ℕ) (node : FlowNode) → slice_get flow.nodes at ≡ Some node → test node ≡ false → IsWorkedOn flow new at → ⊥
+    left_alone : (at : ℕ) (node : FlowNode) → slice_get flow.nodes at ≡ Some node → test at node ≡ false → IsWorkedOn flow new at → ⊥
     left_alone at node there e (inl h) =
         let left = tells.left at node there e in
         let was = h.was in
         let stands = h.stands in
         let made_there = new_there flow plan table ends made is at node there in
         let before : node ≡ h.before = (cc) in
-        let after : led ends (made node) ≡ h.after = (cc) in
-        h.other (sym (ap without_edges after) ∙ led_without ends (made node) ∙ left.0 ∙ ap without_edges before)
+        let after : led ends (made at node) ≡ h.after = (cc) in
+        h.other (sym (ap without_edges after) ∙ led_without ends (made at node) ∙ left.0 ∙ ap without_edges before)
     left_alone at node there e (inr h) = not_skipped at h.reached (tells.left at node there e).1 h.not_entry h.led_past
 
     was_there : (at : ℕ) → IsWorkedOn flow new at → (node : FlowNode) × (slice_get flow.nodes at ≡ Some node) × IsReachableNode flow at
@@ -101,12 +101,12 @@ module _ (flow : FlowGraph) (plan : Plan) (table ends : List ℕ) (made : FlowNo
         let found = node_there flow.nodes at (reachable_there flow at is.is_flow h.reached) in
         (found.0, found.1, h.reached)
 
-    passes : (at : ℕ) (node : FlowNode) (b : Bool) → test node ≡ b → slice_get flow.nodes at ≡ Some node → IsReachableNode flow at → IsWorkedOn flow new at → IsReachedAnd test flow at
+    passes : (at : ℕ) (node : FlowNode) (b : Bool) → test at node ≡ b → slice_get flow.nodes at ≡ Some node → IsReachableNode flow at → IsWorkedOn flow new at → IsReachedAnd test flow at
     passes at node true e there reached h = record { reached = reached; node = node; there = there; passes = e }
     passes at node false e there reached h = absurd (left_alone at node there e h)
 
     passed : (at : ℕ) → IsWorkedOn flow new at → IsReachedAnd test flow at
-    passed at h = let was = was_there at h in passes at was.0 (test was.0) refl was.1 was.2 h
+    passed at h = let was = was_there at h in passes at was.0 (test at was.0) refl was.1 was.2 h
 
     -- as many nodes were changed or skipped as can be reached and pass the test
     pub skipping_counts : AreMany (IsReachedAnd test flow) (length flow.nodes) plan.changed → AreMany (IsWorkedOn flow new) (length flow.nodes) plan.changed

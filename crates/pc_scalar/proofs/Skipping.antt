@@ -8,12 +8,11 @@ use Rattle.pc_flow.specs.declared.node.FlowNode.TheVariants.{Op, Test, Stop, Tra
 use Rattle.pc_flow.specs.FlowGraph.{FlowGraph, IsTarget, HasEdge, TestFits, NodeFits, IsFlow, KeepsTurn, tested_loop}
 use Rattle.pc_flow.specs.Reachable.{IsReachableNode, Entry, Behind}
 use Rattle.pc_pass.specs.models.Change.{LeadsPast}
-use Rattle.pc_pass.proofs.Changes.{edge_target}
+use Rattle.pc_pass.proofs.Changes.{edge_target, node_there}
 use Rattle.pc_scalar.specs.declared.plan.Plan.{Plan}
 use Rattle.pc_scalar.specs.LoopTests.{IsLoopTest, KeepsLoopTests}
 use Rattle.pc_scalar.specs.models.Plan.{Fits, planned}
 use Rattle.pc_scalar.specs.models.Ends.{Jump, FallsAlong, AreEnds, NodeThere, led}
-use Rattle.pc_scalar.proofs.Tables.{mapped_from}
 use Rattle.pc_scalar.proofs.Chains.{stays_end, end_falls, end_leads_past, led_fits, led_turn, edge_led, edge_led_from, keeps_turn}
 use Rattle.pc_word.proofs.Places.{map_at}
 
@@ -33,38 +32,55 @@ fits_there flow at count (Test on on_yes on_no turn) e fits =
 fits_there flow at count Stop e fits = tt
 fits_there flow at count (Trap kind line) e fits = tt
 
--- nodes that others are made of, with the same edges
-pub record KeepsEdges (flow : FlowGraph) (made : FlowNode → FlowNode) : Type 0 where
-  pub fits : (at : ℕ) (node : FlowNode) → NodeFits flow at node → NodeFits flow at (made node)
-  pub turn : (node : FlowNode) → tested_loop (made node) ≡ tested_loop node
-  pub edge : (node : FlowNode) (to : ℕ) → HasEdge node to → HasEdge (made node) to
-  pub edge_from : (node : FlowNode) (to : ℕ) → HasEdge (made node) to → HasEdge node to
+-- nodes that are made of others and their numbers, with the same edges
+pub record KeepsEdges (flow : FlowGraph) (made : ℕ → FlowNode → FlowNode) : Type 0 where
+  pub fits : (at : ℕ) (node : FlowNode) → NodeFits flow at node → NodeFits flow at (made at node)
+  pub turn : (at : ℕ) (node : FlowNode) → tested_loop (made at node) ≡ tested_loop node
+  pub edge : (at : ℕ) (node : FlowNode) (to : ℕ) → HasEdge node to → HasEdge (made at node) to
+  pub edge_from : (at : ℕ) (node : FlowNode) (to : ℕ) → HasEdge (made at node) to → HasEdge node to
+
+-- as many nodes as a graph has, made of those, with edges to the ends
+pub record AreMade (flow : FlowGraph) (ends : List ℕ) (made : ℕ → FlowNode → FlowNode) (nodes : List FlowNode) : Type 0 where
+  pub as_many : length nodes ≡ length flow.nodes
+  pub each : (at : ℕ) (node : FlowNode) → slice_get flow.nodes at ≡ Some node → slice_get nodes at ≡ Some (led ends (made at node))
+
+-- so are the images of the nodes
+pub mapped_made : (flow : FlowGraph) (ends : List ℕ) (made : FlowNode → FlowNode) (nodes : List FlowNode)
+    → nodes ≡ map (λ node. led ends (made node)) flow.nodes → AreMade flow ends (λ at. made) nodes
+mapped_made flow ends made nodes e = record {
+  as_many = ap length e ∙ length-map flow.nodes (λ n. led ends (made n));
+  each = λ at node there. rw e (map_at (λ n. led ends (made n)) flow.nodes at node there);
+}
 
 -- a plan by which nodes are made of others, and edges lead to the ends of the chains of a table
-pub record IsSkipping (flow : FlowGraph) (plan : Plan) (table ends : List ℕ) (made : FlowNode → FlowNode) : Type 0 where
+pub record IsSkipping (flow : FlowGraph) (plan : Plan) (table ends : List ℕ) (made : ℕ → FlowNode → FlowNode) : Type 0 where
   pub is_flow : IsFlow flow
   pub falls : FallsAlong flow table
   pub are_ends : AreEnds table ends
-  pub nodes : plan.nodes ≡ map (λ node. led ends (made node)) flow.nodes
+  pub nodes : AreMade flow ends made plan.nodes
   pub entry : plan.entry ≡ slice_index ends flow.entry
   pub keeps : KeepsEdges flow made
 
-module _ (flow : FlowGraph) (plan : Plan) (table ends : List ℕ) (made : FlowNode → FlowNode) (is : IsSkipping flow plan table ends made) where
+module _ (flow : FlowGraph) (plan : Plan) (table ends : List ℕ) (made : ℕ → FlowNode → FlowNode) (is : IsSkipping flow plan table ends made) where
   abbrev new : FlowGraph
   new = planned plan flow
 
   -- what stands in the new graph
-  pub new_there : (at : ℕ) (node : FlowNode) → slice_get flow.nodes at ≡ Some node → slice_get new.nodes at ≡ Some (led ends (made node))
-  new_there at node there = rw is.nodes (map_at (λ n. led ends (made n)) flow.nodes at node there)
+  pub new_there : (at : ℕ) (node : FlowNode) → slice_get flow.nodes at ≡ Some node → slice_get new.nodes at ≡ Some (led ends (made at node))
+  new_there at node there = is.nodes.each at node there
 
   -- and what it was made of
   pub new_made_of : (at : ℕ) (node : FlowNode) → slice_get new.nodes at ≡ Some node
-      → (before : FlowNode) × (slice_get flow.nodes at ≡ Some before) × (led ends (made before) ≡ node)
-  new_made_of at node there = mapped_from (λ n. led ends (made n)) flow.nodes at node (rw is.nodes at there)
+      → (before : FlowNode) × (slice_get flow.nodes at ≡ Some before) × (led ends (made at before) ≡ node)
+  new_made_of at node there =
+      let long = is.nodes.as_many in
+      let found = node_there flow.nodes at (let within = slice_get_within new.nodes at node there in omega (arith, within, long)) in
+      let made_there = is.nodes.each at found.0 found.1 in
+      (found.0, found.1, let same : led ends (made at found.0) ≡ node = (cc) in same)
 
   -- there are as many nodes
   pub new_as_many : length new.nodes ≡ length flow.nodes
-  new_as_many = ap length is.nodes ∙ length-map flow.nodes (λ n. led ends (made n))
+  new_as_many = is.nodes.as_many
 
   -- the plan fits
   pub skipping_fits : Fits flow plan
@@ -73,10 +89,10 @@ module _ (flow : FlowGraph) (plan : Plan) (table ends : List ℕ) (made : FlowNo
       as_many = new_as_many;
       each = λ at old other there stands.
           let made_there = new_there at old there in
-          let same : led ends (made old) ≡ other = (cc) in
-          let fits = led_fits flow table ends is.falls is.are_ends at (made old) (is.keeps.fits at old (is.is_flow.nodes_fit at old there)) in (
+          let same : led ends (made at old) ≡ other = (cc) in
+          let fits = led_fits flow table ends is.falls is.are_ends at (made at old) (is.keeps.fits at old (is.is_flow.nodes_fit at old there)) in (
             subst (NodeFits flow at) same fits,
-            subst (KeepsTurn old) same (keeps_turn old (led ends (made old)) (led_turn ends (made old) ∙ is.keeps.turn old)),
+            subst (KeepsTurn old) same (keeps_turn old (led ends (made at old)) (led_turn ends (made at old) ∙ is.keeps.turn at old)),
           );
     };
     entry = rw is.entry ((end_falls flow table ends is.falls is.are_ends flow.entry is.is_flow.begins).0);
@@ -95,9 +111,9 @@ module _ (flow : FlowGraph) (plan : Plan) (table ends : List ℕ) (made : FlowNo
   reachable_stays _ Entry = rw is.entry (end_stays flow.entry is.is_flow.begins)
   reachable_stays _ (Behind {from = from} {to = at} {node = node} reached there edge) =
       let before = new_made_of from node there in
-      let led_edge : HasEdge (led ends (made before.0)) at = subst (λ (n : FlowNode). HasEdge n at) (sym before.2) edge in
-      let next = edge_led_from ends (made before.0) at led_edge in
-      let target = edge_target flow from next.0 before.0 (is.is_flow.nodes_fit from before.0 before.1) (is.keeps.edge_from before.0 next.0 next.1) in
+      let led_edge : HasEdge (led ends (made from before.0)) at = subst (λ (n : FlowNode). HasEdge n at) (sym before.2) edge in
+      let next = edge_led_from ends (made from before.0) at led_edge in
+      let target = edge_target flow from next.0 before.0 (is.is_flow.nodes_fit from before.0 before.1) (is.keeps.edge_from from before.0 next.0 next.1) in
       subst (λ (n : ℕ). slice_index table n ≡ n) next.2 (end_stays next.0 target)
 
   -- where no test of a loop is skipped, all are kept
@@ -109,14 +125,15 @@ module _ (flow : FlowGraph) (plan : Plan) (table ends : List ℕ) (made : FlowNo
     pub skipping_keeps_tests : KeepsLoopTests flow new
     skipping_keeps_tests = record {
       stay = λ at turn test. record {
-        node = led ends (made test.node);
+        node = led ends (made at test.node);
         there = new_there at test.node test.there;
-        tests = led_turn ends (made test.node) ∙ is.keeps.turn test.node ∙ test.tests;
+        tests = led_turn ends (made at test.node) ∙ is.keeps.turn at test.node ∙ test.tests;
       };
       led = λ from to turn test edge. record {
-        node = led ends (made edge.node);
+        node = led ends (made from edge.node);
         there = new_there from edge.node edge.there;
-        edge = subst (HasEdge (led ends (made edge.node))) (loop_test_ends to turn test) (edge_led ends (made edge.node) to (is.keeps.edge edge.node to edge.edge));
+        edge = subst (HasEdge (led ends (made from edge.node))) (loop_test_ends to turn test)
+            (edge_led ends (made from edge.node) to (is.keeps.edge from edge.node to edge.edge));
       };
       begins = λ turn test. is.entry ∙ loop_test_ends flow.entry turn test;
     }

@@ -47,15 +47,15 @@ leaves IsLeft old new before now many left tests are rose =
 
 -- ---- nodes that can be reached and pass a test
 
-pub does_pass : (test : FlowNode → Bool) (flow : FlowGraph) (flags : List Bool) (at : ℕ) (node : FlowNode) → AreReached flow flags → slice_get flags at ≡ Some true
-    → slice_get flow.nodes at ≡ Some node → test node ≡ true → IsReachedAnd test flow at
+pub does_pass : (test : ℕ → FlowNode → Bool) (flow : FlowGraph) (flags : List Bool) (at : ℕ) (node : FlowNode) → AreReached flow flags → slice_get flags at ≡ Some true
+    → slice_get flow.nodes at ≡ Some node → test at node ≡ true → IsReachedAnd test flow at
 does_pass test flow flags at node are flag there e = record { reached = are.only at flag; node = node; there = there; passes = e }
 
-pub does_not_pass : (test : FlowNode → Bool) (flow : FlowGraph) (at : ℕ) (node : FlowNode) → slice_get flow.nodes at ≡ Some node → test node ≡ false
+pub does_not_pass : (test : ℕ → FlowNode → Bool) (flow : FlowGraph) (at : ℕ) (node : FlowNode) → slice_get flow.nodes at ≡ Some node → test at node ≡ false
     → IsReachedAnd test flow at → ⊥
-does_not_pass test flow at node there e h = let same : node ≡ h.node = (let a = h.there in cc) in let both = sym (ap test same) ∙ e in let is = h.passes in cc
+does_not_pass test flow at node there e h = let same : node ≡ h.node = (let a = h.there in cc) in let both = sym (ap (test at) same) ∙ e in let is = h.passes in cc
 
-pub is_not_reached : (test : FlowNode → Bool) (flow : FlowGraph) (flags : List Bool) (at : ℕ) → AreReached flow flags → slice_get flags at ≡ Some false
+pub is_not_reached : (test : ℕ → FlowNode → Bool) (flow : FlowGraph) (flags : List Bool) (at : ℕ) → AreReached flow flags → slice_get flags at ≡ Some false
     → IsReachedAnd test flow at → ⊥
 is_not_reached test flow flags at are flag h = let is = are.all at h.reached in cc
 

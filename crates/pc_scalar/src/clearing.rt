@@ -53,7 +53,7 @@ fn plan_of(alloc: Global, flow: &Flow) -> Result<Plan, AllocError>
 /// How many nodes are skipped, of those that can be reached.
 fn skipped(alloc: Global, flow: &Flow, sets: &[VariableSet]) -> Result<u32, AllocError>
     requires { AreNeeded flow.now sets.now }
-    ensures { IfOk result (λ count. AreMany (IsReachedAnd (node_needless sets.now) flow.now) (length flow.now.nodes) count) }
+    ensures { IfOk result (λ count. AreMany (IsReachedAnd (λ at. node_needless sets.now) flow.now) (length flow.now.nodes) count) }
 {
     let flags = reached(alloc, flow)?;
     Ok(count_skipped(flow, sets, flags.as_slice()))
@@ -63,7 +63,7 @@ fn skipped(alloc: Global, flow: &Flow, sets: &[VariableSet]) -> Result<u32, Allo
 fn count_skipped(flow: &Flow, sets: &[VariableSet], flags: &[bool]) -> u32
     requires needed { AreNeeded flow.now sets.now }
     requires reached { AreReached flow.now flags.now }
-    ensures { AreMany (IsReachedAnd (node_needless sets.now) flow.now) (length flow.now.nodes) result }
+    ensures { AreMany (IsReachedAnd (λ at. node_needless sets.now) flow.now) (length flow.now.nodes) result }
 {
     let mut count = 0;
     for at in 0..flow.count() {
@@ -80,8 +80,8 @@ fn is_skipped(flow: &Flow, sets: &[VariableSet], flags: &[bool], at: u32) -> boo
     requires needed { AreNeeded flow.now sets.now }
     requires reached { AreReached flow.now flags.now }
     requires there { at < length flow.now.nodes }
-    ensures counted { result ≡ true → IsReachedAnd (node_needless sets.now) flow.now at }
-    ensures left { result ≡ false → IsReachedAnd (node_needless sets.now) flow.now at → ⊥ }
+    ensures counted { result ≡ true → IsReachedAnd (λ at. node_needless sets.now) flow.now at }
+    ensures left { result ≡ false → IsReachedAnd (λ at. node_needless sets.now) flow.now at → ⊥ }
 {
     if !flags[at as usize] {
         return false;

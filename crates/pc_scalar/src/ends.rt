@@ -8,7 +8,7 @@ use std::alloc::{AllocError, Global};
 /// The end of each node's chain in a table that says which node takes its place, itself where it stays.
 ///
 /// Chains are shortened on the way, so all of them together take little more than one step a node.
-pub(crate) fn chain_ends(
+pub fn chain_ends(
     alloc: Global,
     flow: &Flow,
     table: &mut [u32],
@@ -31,7 +31,7 @@ pub(crate) fn chain_ends(
 }
 
 /// A node whose edges lead to the ends.
-pub(crate) fn led(ends: &[u32], node: FlowNode) -> FlowNode
+pub fn led(ends: &[u32], node: FlowNode) -> FlowNode
     requires { NodeThere (length ends.now) node }
     ensures { result ≡ led ends.now node }
 {

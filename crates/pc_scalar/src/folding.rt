@@ -50,7 +50,7 @@ fn plan_of(alloc: Global, flow: &Flow) -> Result<Plan, AllocError>
 /// How many nodes folding changes or skips, of those that can be reached.
 fn foldable(flow: &Flow, flags: &[bool]) -> u32
     requires { AreReached flow.now flags.now }
-    ensures { AreMany (IsReachedAnd is_foldable flow.now) (length flow.now.nodes) result }
+    ensures { AreMany (IsReachedAnd (λ at. is_foldable) flow.now) (length flow.now.nodes) result }
 {
     let mut count = 0;
     for at in 0..flow.count() {
@@ -66,8 +66,8 @@ fn foldable(flow: &Flow, flags: &[bool]) -> u32
 fn is_folded(flow: &Flow, flags: &[bool], at: u32) -> bool
     requires reached { AreReached flow.now flags.now }
     requires there { at < length flow.now.nodes }
-    ensures counted { result ≡ true → IsReachedAnd is_foldable flow.now at }
-    ensures left { result ≡ false → IsReachedAnd is_foldable flow.now at → ⊥ }
+    ensures counted { result ≡ true → IsReachedAnd (λ at. is_foldable) flow.now at }
+    ensures left { result ≡ false → IsReachedAnd (λ at. is_foldable) flow.now at → ⊥ }
 {
     if !flags[at as usize] {
         return false;

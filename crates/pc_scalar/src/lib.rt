@@ -23,6 +23,7 @@ mod valuing;
 
 pub use copies::Copies;
 pub use dead::Dead;
+pub use ends::{chain_ends, led};
 pub use fold::Fold;
 pub use laws::law_of_the_scalar_passes;
 pub use plan::{Plan, install};

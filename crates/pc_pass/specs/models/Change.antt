@@ -1,12 +1,12 @@
 -- A graph that is made of another one node by node. No public clause cites this; it is how passes are proved to keep what a
 -- graph shows.
-use Rattle.std.specs.Prelude.{◌≡◌, ℕ, ◌<◌, ℤ, true, false, List, [], All, Option, Some, slice_get, slice_index}
+use Rattle.std.specs.Prelude.{◌≡◌, ℕ, ◌<◌, ℤ, Bool, true, false, List, [], All, Option, Some, slice_get, slice_index}
 use Rattle.std.specs.List.{list_any}
 use Rattle.pc_word.specs.declared.item.Item.{Item}
 use Rattle.pc_word.specs.declared.item.Operand.{Operand}
 use Rattle.pc_word.specs.declared.item.TrapKind.{TrapKind}
+use Rattle.pc_word.specs.Word.{IsWord, holds}
 use Rattle.pc_word.specs.Run.{Goes}
-use Rattle.pc_word.specs.Word.{IsWord}
 use Rattle.pc_word.specs.State.{State, start_state}
 use Rattle.pc_word.specs.Items.{operand_value, operands_of, dest_of, reads_name}
 use Rattle.pc_word.specs.Commit.{writes}
@@ -66,11 +66,11 @@ pub record ItemBecomes (change : Change) (at : ℕ) (item other : Item) (to onwa
   pub knows : (s after : State) (printed : List ℤ) → change.Knows at s → item_step change.old.arrays item to s ≡ Commits printed after to
       → change.Knows to after
 
--- one side of a test: where it leads to, and what matters and is known there
-pub record SideBecomes (change : Change) (at to onward : ℕ) : Type 0 where
+-- one side of a test of an operand, that where the operand holds or the other: where it leads to, and what matters and is known there
+pub record SideBecomes (change : Change) (at : ℕ) (on : Operand) (side : Bool) (to onward : ℕ) : Type 0 where
   pub leads : LeadsPast change.Skips to onward
   pub passes : (x : ℕ) → change.Matters to x → change.Matters at x
-  pub knows : (s : State) → change.Knows at s → change.Knows to s
+  pub knows : (s : State) → change.Knows at s → holds (operand_value s.names on) ≡ side → change.Knows to s
 
 -- an operand that is tested in the place of another
 pub record OperandBecomes (change : Change) (at : ℕ) (on other : Operand) : Type 0 where
@@ -82,8 +82,8 @@ pub data Becomes (change : Change) (at : ℕ) : FlowNode → FlowNode → Type 0
   Does : {item other : Item} {to onward : ℕ} → ItemBecomes change at item other to onward → Becomes change at (Op item to) (Op other onward)
   Tests : {on other : Operand} {to_yes to_no onward_yes onward_no : ℕ} {turn again : Option ℕ} →
       OperandBecomes change at on other →
-      SideBecomes change at to_yes onward_yes →
-      SideBecomes change at to_no onward_no →
+      SideBecomes change at on true to_yes onward_yes →
+      SideBecomes change at on false to_no onward_no →
       Becomes change at (Test on to_yes to_no turn) (Test other onward_yes onward_no again)
   Stops_too : Becomes change at Stop Stop
   Traps_too : {kind : TrapKind} {line : ℕ} → Becomes change at (Trap kind line) (Trap kind line)

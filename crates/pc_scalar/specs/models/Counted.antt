@@ -9,12 +9,12 @@ use Rattle.pc_flow.specs.FlowGraph.{FlowGraph}
 use Rattle.pc_flow.specs.Reachable.{IsReachableNode}
 use Rattle.pc_scalar.specs.models.Known.{same_operand}
 
--- a node that can be reached passes a test
-pub record IsReachedAnd (test : FlowNode → Bool) (flow : FlowGraph) (at : ℕ) : Type 0 where
+-- a node that can be reached passes a test, which is given its number too
+pub record IsReachedAnd (test : ℕ → FlowNode → Bool) (flow : FlowGraph) (at : ℕ) : Type 0 where
   pub reached : IsReachableNode flow at
   pub node : FlowNode
   pub there : slice_get flow.nodes at ≡ Some node
-  pub passes : test node ≡ true
+  pub passes : test at node ≡ true
 
 -- nodes differ at a place
 pub record Differ (old new : List FlowNode) (at : ℕ) : Type 0 where

@@ -43,4 +43,4 @@ pub record IsFolding (flow : FlowGraph) (plan : Plan) : Type 0 where
   pub are_ends : AreEnds table ends
   pub nodes : plan.nodes ≡ map (λ node. led ends (folded node)) flow.nodes
   pub entry : plan.entry ≡ slice_index ends flow.entry
-  pub changed : AreMany (IsReachedAnd is_foldable flow) (length flow.nodes) plan.changed
+  pub changed : AreMany (IsReachedAnd (λ at. is_foldable) flow) (length flow.nodes) plan.changed

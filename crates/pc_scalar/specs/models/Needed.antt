@@ -94,4 +94,4 @@ pub record IsClearing (flow : FlowGraph) (plan : Plan) : Type 0 where
   pub are_ends : AreEnds table ends
   pub nodes : plan.nodes ≡ map (λ node. led ends node) flow.nodes
   pub entry : plan.entry ≡ slice_index ends flow.entry
-  pub changed : AreMany (IsReachedAnd (node_needless sets) flow) (length flow.nodes) plan.changed
+  pub changed : AreMany (IsReachedAnd (λ at. node_needless sets) flow) (length flow.nodes) plan.changed

@@ -25,5 +25,5 @@ returns c =
       are_ends = are;
       nodes = search rules;
       entry = entry_end flow sets table ends c.entry.result c.index-entry.result.now c.in_ok-sets.ensures cleared are c.entry.ensures c.index-entry.ensures;
-      changed = subst (λ (s : List VariableSet). AreMany (IsReachedAnd (node_needless s) flow) (length flow.nodes) c.in_ok-changed.changed) c.as_slice-3.ensures.value c.in_ok-changed.ensures;
+      changed = subst (λ (s : List VariableSet). AreMany (IsReachedAnd (λ at. node_needless s) flow) (length flow.nodes) c.in_ok-changed.changed) c.as_slice-3.ensures.value c.in_ok-changed.ensures;
     }

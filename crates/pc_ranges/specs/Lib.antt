@@ -1,0 +1,5 @@
+pub mod models
+pub mod Bounds
+pub mod Interval
+pub mod Over
+pub mod Ranged

@@ -1,0 +1,90 @@
+//! What operators give of intervals.
+ghost use Rattle.std.specs.Prelude.{◌≡◌, ◌+ℤ◌, ◌-ℤ◌, ◌&&◌, ◌||◌, if◌then◌else◌};
+ghost use Rattle.pc_ranges.specs.Interval.{all_words, is_bounded};
+ghost use Rattle.pc_ranges.specs.Over.{span, truth, is_less, is_at_most, sum, difference, over};
+
+use crate::interval::Interval;
+use pc_word::OpCode;
+
+/// The interval of what an operator gives of the numbers of two intervals.
+pub(crate) fn over(op: OpCode, a: Interval, b: Interval) -> Interval
+    ensures { result ≡ over op a b }
+{
+    match op {
+        OpCode::Add => sum(a, b),
+        OpCode::Sub => difference(a, b),
+        OpCode::Less => truth(a.is_less(b), b.is_at_most(a)),
+        OpCode::LessEq => truth(a.is_at_most(b), b.is_less(a)),
+        OpCode::Equal => truth(is_same(a, b), is_apart(a, b)),
+        OpCode::Unequal => truth(is_apart(a, b), is_same(a, b)),
+        OpCode::Below => truth(
+            a.is_from_zero() && a.is_less(b),
+            b.is_from_zero() && b.is_at_most(a),
+        ),
+        OpCode::Mul
+        | OpCode::Div
+        | OpCode::Rem
+        | OpCode::Shl
+        | OpCode::Shr
+        | OpCode::And
+        | OpCode::Or
+        | OpCode::Xor => Interval::ALL,
+    }
+}
+
+/// Whether two intervals have the same single number.
+fn is_same(a: Interval, b: Interval) -> bool
+    ensures { result ≡ (is_at_most a b && is_at_most b a) }
+{
+    a.is_at_most(b) && b.is_at_most(a)
+}
+
+/// Whether no number lies in both.
+fn is_apart(a: Interval, b: Interval) -> bool
+    ensures { result ≡ (is_less a b || is_less b a) }
+{
+    a.is_less(b) || b.is_less(a)
+}
+
+/// The interval of a comparison that surely holds, or never does.
+fn truth(surely: bool, never: bool) -> Interval
+    ensures { result ≡ truth surely never }
+{
+    if surely {
+        Interval::exactly(1)
+    } else if never {
+        Interval::exactly(0)
+    } else {
+        Interval { low: 0, high: 1 }
+    }
+}
+
+/// The interval of sums.
+fn sum(a: Interval, b: Interval) -> Interval
+    ensures { result ≡ sum a b }
+{
+    if a.is_bounded() && b.is_bounded() {
+        span(a.low.checked_add(b.low), a.high.checked_add(b.high))
+    } else {
+        Interval::ALL
+    }
+}
+
+/// The interval of differences.
+fn difference(a: Interval, b: Interval) -> Interval
+    ensures { result ≡ difference a b }
+{
+    if a.is_bounded() && b.is_bounded() {
+        span(a.low.checked_sub(b.high), a.high.checked_sub(b.low))
+    } else {
+        Interval::ALL
+    }
+}
+
+/// The interval between two words; all words where an end is none.
+fn span(low: Option<i32>, high: Option<i32>) -> Interval {
+    match (low, high) {
+        (Some(low), Some(high)) => Interval { low, high },
+        _ => Interval::ALL,
+    }
+}
