@@ -28,7 +28,8 @@ use Rattle.pc_machine.specs.MachineCode.{CodeRow, RowCode, code_without_data}
 use Rattle.pc_machine.specs.MachineRun.{machine_run}
 use Rattle.pc_machine.specs.Registers.{few_registers}
 use Rattle.pc_machine.specs.WellFormed.{AreArrays, WellFormed}
-use Rattle.pc_machine.proofs.Data.{AreData-none}
+use Rattle.pc_machine.specs.Data.{has_no_data}
+use Rattle.pc_machine.proofs.Data.{no_data-replicate, AreData-none}
 use Rattle.pc_word.specs.Ranges.{IsBetween, AreLimits}
 use Rattle.pc_object.specs.declared.object.Note.{Note}
 use Rattle.pc_object.specs.ObjectText.{CodeWithNotes, IsChoice}
@@ -105,6 +106,10 @@ pub never_faults : (program : ResolvedProgram) (runs : List ℤ → Run) → Agr
 never_faults program runs agree input words =
     NeverFaults-follows (runs input) (source_run program input) (agree input words).forth (λ n fault. source_run-faultless program input n fault)
 
+-- it has no data
+without_data : (table : Table) (initial : List (List ℤ)) → initial ≡ replicate (length table.arrays) [] → has_no_data initial ≡ true
+without_data table initial none = ap has_no_data none ∙ no_data-replicate (length table.arrays)
+
 -- the object that is made of the cut of a graph, which passes made of the program's, in the forms that were chosen, is the
 -- program's
 pub is_compiled : (program : ResolvedProgram) (Passed : FlowGraph → FlowGraph → Type 0) (limits : Limits) (extent : Extent) (first flow : FlowGraph) (table : Table)
@@ -141,7 +146,8 @@ is_compiled program Passed limits extent first flow table forms choices object f
         code = tightened.form;
         choices = subst (AllByRecursion IsChoice) (sym made.notes) (known_notes table choices);
         few_notes = omega (arith, as_many, few, loops);
-        few_bytes = object_is_short table (region_forms forms) choices object tightened.arrays made.notes (omega (arith, short, counted)) may.short;
+        few_bytes = object_is_short table (region_forms forms) choices object tightened.registers (without_data table object.code.initial tightened.initial)
+            tightened.arrays made.notes (omega (arith, short, counted)) may.short;
       };
       limited = tightened.limits;
       arrays = tightened.arrays ∙ same_arrays;

@@ -21,11 +21,15 @@ use Rattle.pc_compile.specs.declared.choice.Form.TheVariants as form
 use Rattle.pc_compile.specs.declared.choice.Cause.{Cause}
 use Rattle.pc_compile.specs.declared.choice.Cause.TheVariants.{Rows, Live, Bytes}
 use Rattle.pc_compile.specs.declared.choice.Choice.{Choice}
-use Rattle.pc_machine.specs.MachineCode.{CodeRow}
+use Rattle.pc_machine.specs.Data.{has_no_data}
+use Rattle.pc_machine.specs.MachineCode.{CodeRow, RowCode}
+use Rattle.pc_machine.specs.Registers.{few_registers}
 use Rattle.pc_word.specs.Row.{Then, Either, At_leaf}
 use Rattle.pc_object.specs.declared.object.Note.{Note}
 use Rattle.pc_object.specs.ObjectText.{CodeWithNotes, u16_text, u32_text, operand_text, item_text, leaf_text, row_text, note_text, notes_text}
-use Rattle.pc_object.specs.ObjectText.{header_text, object_text, IsChoice}
+use Rattle.pc_object.specs.declared.version.Version.{Version}
+use Rattle.pc_object.specs.declared.version.Version.TheVariants.{Ptv1, Ptv2}
+use Rattle.pc_object.specs.ObjectText.{version_for, version_of, header_text_in, header_text, object_text, IsChoice}
 use Rattle.pc_tighten.specs.Sizes.{Room, row_room, rows_room}
 use Rattle.pc_compile.specs.Notes.{caused_note, packed_note, plain_notes, form_notes, choice_notes, choice_heading, loop_notes, notes_from, notes_of}
 use Rattle.pc_compile.proofs.Counts.{all_units}
@@ -193,12 +197,19 @@ pub no_longer : (rows before : List CodeRow) → rows_room text_room rows ≤ ro
     → length (flat_map row_text rows) ≤ length (flat_map row_text before)
 no_longer rows before less = let one = rows_length rows in let other = rows_length before in omega (arith, one, other, less)
 
+-- a code of the fewer registers without data is written as PTV1
+in_ptv1 : (code : RowCode) → code.registers ≡ few_registers → has_no_data code.initial ≡ true → version_of code ≡ Ptv1
+in_ptv1 code few none =
+    ap (λ (registers : ℕ). version_for registers code.initial) few
+    ∙ ap (λ (b : Bool). if b then Ptv1 else Ptv2) none
+
 -- an object whose rows are no longer than was counted for them
 pub object_is_short : (table : Table) (forms : ℕ → Option RegionForm) (choices : List Choice) (object : CodeWithNotes)
+    → object.code.registers ≡ few_registers → has_no_data object.code.initial ≡ true
     → object.code.arrays ≡ table.arrays → object.notes ≡ notes_of table choices
     → length (flat_map row_text object.code.rows) ≤ regions_bytes forms 0 table.regions → object_bytes table forms ≤ most_object
     → length (object_text object) ≤ most_object
-object_is_short table forms choices object same noted short counted =
+object_is_short table forms choices object registers none same noted short counted =
     let code = object.code in
     let rows = code.rows in
     let notes = object.notes in
@@ -209,6 +220,7 @@ object_is_short table forms choices object same noted short counted =
     let of_notes = length-append (u16_text (length notes)) (flat_map note_text notes) in
     let told = all_notes_length notes in
     let few = few_notes table choices in
+    let version = ap (λ (v : Version). length (header_text_in v code)) (in_ptv1 code registers none) in
     let all = length-append (header_text code) (flat_map row_text rows ++ notes_text notes) in
     let behind = length-append (flat_map row_text rows) (notes_text notes) in
-    omega (arith, short, counted, as_many, as_noted, header, arrays, of_notes, told, few, all, behind)
+    omega (arith, short, counted, as_many, as_noted, header, arrays, of_notes, told, few, version, all, behind)
