@@ -39,13 +39,13 @@ impl Values {
     pub(crate) fn new(
         alloc: Global,
         lengths: &[u32],
-        data: &[WordList],
+        lists: &[WordList],
         input: WordList,
     ) -> Result<Values, AllocError>
-        requires { AreData lengths.now data.now }
-        ensures { IfOk result (λ values. values ≡ new_contents lengths.now data.now input) }
+        requires { AreData lengths.now lists.now }
+        ensures { IfOk result (λ values. values ≡ new_contents lengths.now lists.now input) }
     {
-        let arrays = make_arrays(alloc, lengths, data)?;
+        let arrays = make_arrays(alloc, lengths, lists)?;
         Ok(Values {
             registers: [0; MOST_REGISTERS],
             arrays,
@@ -191,10 +191,10 @@ fn make_array(alloc: Global, elements: usize, words: &[i32]) -> Result<WordList,
 }
 
 /// The words with which an array begins.
-fn words_of(data: &[WordList], array: usize) -> &[i32]
-    ensures { result.now ≡ slice_index_or data.now array [] }
+fn words_of(lists: &[WordList], array: usize) -> &[i32]
+    ensures { result.now ≡ slice_index_or lists.now array [] }
 {
-    match data.get(array) {
+    match lists.get(array) {
         Some(words) => words.as_slice(),
         None => &[],
     }
@@ -204,14 +204,14 @@ fn words_of(data: &[WordList], array: usize) -> &[i32]
 fn make_arrays(
     alloc: Global,
     lengths: &[u32],
-    data: &[WordList],
+    lists: &[WordList],
 ) -> Result<Vec<WordList>, AllocError>
-    requires { AreData lengths.now data.now }
-    ensures { IfOk result (λ arrays. arrays.items ≡ new_arrays lengths.now data.now) }
+    requires { AreData lengths.now lists.now }
+    ensures { IfOk result (λ arrays. arrays.items ≡ new_arrays lengths.now lists.now) }
 {
     let mut arrays = Vec::new(alloc);
     for place in 0..lengths.len() {
-        let words = words_of(data, place);
+        let words = words_of(lists, place);
         arrays.push(make_array(alloc, lengths[place] as usize, words)?)?;
     }
     Ok(arrays)

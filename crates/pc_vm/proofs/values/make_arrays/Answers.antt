@@ -7,14 +7,14 @@ use Rattle.pc_vm.proofs.values.make_arrays.Goals as goal
 pub make_array-requires : goal.make_array-requires
 make_array-requires c =
     subst (λ (words : List ℤ). length words ≤ get_or c.args.lengths.now c.loop-place.place 0) (sym c.words_of-words.ensures)
-    (data_fits c.args.lengths.now c.args.data.now c.loop-place.place c.requires)
+    (data_fits c.args.lengths.now c.args.lists.now c.loop-place.place c.requires)
 
 pub loop-place-preserved : goal.loop-place-preserved
 loop-place-preserved c =
     c.in_ok-push.ensures.items
     ∙ ap (λ (arrays : List (List ℤ)). arrays ++ c.in_ok-make_array.field-0 ∷ []) c.loop-place.invariant
-    ∙ ap (λ (array : List ℤ). new_arrays (take c.loop-place.place c.args.lengths.now) (take c.loop-place.place c.args.data.now) ++ array ∷ []) (c.in_ok-make_array.ensures ∙ ap (λ (words : List ℤ). new_array (get_or c.args.lengths.now c.loop-place.place 0) words) c.words_of-words.ensures)
-    ∙ arrays_with c.args.lengths.now c.args.data.now c.loop-place.place c.requires c.loop-place-test.true
+    ∙ ap (λ (array : List ℤ). new_arrays (take c.loop-place.place c.args.lengths.now) (take c.loop-place.place c.args.lists.now) ++ array ∷ []) (c.in_ok-make_array.ensures ∙ ap (λ (words : List ℤ). new_array (get_or c.args.lengths.now c.loop-place.place 0) words) c.words_of-words.ensures)
+    ∙ arrays_with c.args.lengths.now c.args.lists.now c.loop-place.place c.requires c.loop-place-test.true
 
 pub returns : goal.returns
-returns c = c.loop-place.invariant ∙ arrays_all c.args.lengths.now c.args.data.now c.loop-place.place c.requires (omega (arith, c.loop-place-test.false))
+returns c = c.loop-place.invariant ∙ arrays_all c.args.lengths.now c.args.lists.now c.loop-place.place c.requires (omega (arith, c.loop-place-test.false))

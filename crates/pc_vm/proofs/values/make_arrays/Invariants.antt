@@ -4,4 +4,4 @@ use Rattle.pc_vm.proofs.values.make_arrays.Given as goal
 
 -- the arrays of the lengths so far
 abbrev pub invariant-loop-place : goal.invariant-loop-place
-invariant-loop-place l = l.arrays.items ≡ new_arrays (take l.place l.lengths) (take l.place l.data)
+invariant-loop-place l = l.arrays.items ≡ new_arrays (take l.place l.lengths) (take l.place l.lists)
