@@ -179,6 +179,30 @@ r15 = r127|r16 = a1[r0]|a0[3] = r2|print(-2147483648)|<p> goto row 1}\"];\n\
 \x20   note7 [shape=box, style=filled, fillcolor=lightsalmon, label=\"loop 9: plain, bytes 107 of 97\"];\n\
 }\n";
 
+/// Arrays that begin with words, and one of the further registers.
+const DATA: [u8; 76] = [
+    0x50, 0x54, 0x56, 0x32, 0x08, 0x03, 0x02, 0x02, 0x01, 0x00, 0x00, 0x00, 0x00, 0x0C, 0x00, 0x00,
+    0x00, 0x01, 0x00, 0x00, 0x00, 0x09, 0x00, 0x00, 0x00, 0x05, 0xFF, 0xFF, 0xFF, 0xFA, 0x00, 0x00,
+    0x00, 0x00, 0x00, 0x00, 0x00, 0x07, 0x00, 0x00, 0x00, 0x01, 0x00, 0x00, 0x00, 0x02, 0x00, 0x00,
+    0x00, 0x03, 0x00, 0x00, 0x00, 0x04, 0x00, 0x00, 0x00, 0x09, 0x00, 0x00, 0x00, 0x00, 0x00, 0x00,
+    0x00, 0x01, 0x21, 0xC8, 0x01, 0x00, 0x00, 0x00, 0x05, 0x02, 0x00, 0x00,
+];
+
+const DATA_LISTING: &str = "\
+limits of a row: 8 items, 3 tests, 2 loads and stores; arrays: a0[12], a1[1]; registers: 256\n\
+\x20   a0[0] = 5, -6, 0, 7, 1, 2, 3, 4\n\
+\x20   a0[8] = 9\n\
+row 0: 1 of 8 items, 0 of 3 tests, 0 of 2 loads and stores; from rows: none\n\
+\x20   r200 = 5\n\
+\x20   stop\n";
+
+const DATA_GRAPH: &str = "\
+digraph rows {\n\
+\x20   node [shape=record];\n\
+\x20   data0 [shape=box, label=\"words of a0: 9\"];\n\
+\x20   0 [label=\"{row 0|r200 = 5|<p> stop}\"];\n\
+}\n";
+
 /// Whether an object has these texts.
 fn shows(alloc: Global, bytes: &[u8], listing: &str, graph: &str) -> Result<bool, Fail> {
     if bytes.len() > MOST_OBJECT {
@@ -191,11 +215,12 @@ fn shows(alloc: Global, bytes: &[u8], listing: &str, graph: &str) -> Result<bool
 }
 
 /// Objects, each with its listing and its graph.
-static OBJECTS: [(&[u8], &str, &str); 4] = [
+static OBJECTS: [(&[u8], &str, &str); 5] = [
     (&SEVEN, SEVEN_LISTING, SEVEN_GRAPH),
     (&SUM, SUM_LISTING, SUM_GRAPH),
     (&TREE, TREE_LISTING, TREE_GRAPH),
     (&KINDS, KINDS_LISTING, KINDS_GRAPH),
+    (&DATA, DATA_LISTING, DATA_GRAPH),
 ];
 
 #[test]

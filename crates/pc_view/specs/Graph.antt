@@ -59,7 +59,7 @@ row_graph number (row ∷ rest) = row_node number row ∷ (row_edges number (cod
 -- the box of an array with data: with how many words it begins
 unfoldable pub data_node : ℕ → ℕ → List ℕ
 data_node array count =
-    codes "    data" ++ (decimal array ++ (codes " [shape=box, label=\"a" ++ (decimal array ++ (codes " begins with words: " ++ (decimal count ++ codes "\"];")))))
+    codes "    data" ++ (decimal array ++ (codes " [shape=box, label=\"words of a" ++ (decimal array ++ (codes ": " ++ (decimal count ++ codes "\"];")))))
 
 -- the boxes of arrays, numbered from `array` on: one for each that has data
 abbrev pub data_nodes : ℕ → List (List ℤ) → List (List ℕ)

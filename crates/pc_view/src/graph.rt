@@ -50,7 +50,7 @@ fn push_data_node(text: &mut String, array: usize, count: usize) -> Result<(), A
 {
     write!(
         text,
-        "    data{array} [shape=box, label=\"a{array} begins with words: {count}\"];"
+        "    data{array} [shape=box, label=\"words of a{array}: {count}\"];"
     )
 }
 
