@@ -656,7 +656,7 @@ as_many_of lists arrays e = same (nat_eq lists arrays) refl e
     same true a h = grind (arith, nat_tests)
     same false a h = (cc)
 
-of_as_many : (lists arrays : ℕ) → lists ≡ arrays → not (nat_eq lists arrays) ≡ false
+pub of_as_many : (lists arrays : ℕ) → lists ≡ arrays → not (nat_eq lists arrays) ≡ false
 of_as_many lists arrays e = let same : nat_eq lists arrays ≡ true = grind (arith, nat_tests) in ap not same
 
 initial_sound : (lengths : List ℕ) (initial : List (List ℤ)) → initial_flaws lengths initial ≡ [] → AreData lengths initial
@@ -666,11 +666,14 @@ initial_sound lengths initial e =
     (as_many_of (length initial) (length lengths) (where_none apart DataCount (none_front (flaw_where apart DataCount) (each_data_flaws lengths initial) e)))
     (none_back (flaw_where apart DataCount) (each_data_flaws lengths initial) e)
 
-initial_complete : (lengths : List ℕ) (initial : List (List ℤ)) → AreData lengths initial → initial_flaws lengths initial ≡ []
-initial_complete lengths initial are =
-    let each = each_data_complete lengths initial are in
+-- as many lists as arrays, of which none has a flaw
+pub no_initial_flaws : (lengths : List ℕ) (initial : List (List ℤ)) → length initial ≡ length lengths → each_data_flaws lengths initial ≡ [] → initial_flaws lengths initial ≡ []
+no_initial_flaws lengths initial same none =
     let apart : Bool = not (nat_eq (length initial) (length lengths)) in
-    none_both (flaw_where apart DataCount) (each_data_flaws lengths initial) (none_where apart DataCount (of_as_many (length initial) (length lengths) each.0)) each.1
+    none_both (flaw_where apart DataCount) (each_data_flaws lengths initial) (none_where apart DataCount (of_as_many (length initial) (length lengths) same)) none
+
+pub initial_complete : (lengths : List ℕ) (initial : List (List ℤ)) → AreData lengths initial → initial_flaws lengths initial ≡ []
+initial_complete lengths initial are = let each = each_data_complete lengths initial are in no_initial_flaws lengths initial each.0 each.1
 
 count_sound : (count : ℕ) → row_count_flaws count ≡ [] → 1 ≤ count
 count_sound count e = let apart : nat_eq count 0 ≡ false = where_none (nat_eq count 0) RowCount e in grind (arith, nat_tests)

@@ -30,17 +30,17 @@ module _ (bounds : Bounds) (depth : ℕ) (first second : ReadsPart) (well : Read
       → step_at bounds first counts above kind bytes ≡ step_at bounds second counts above kind bytes
   unfolding step_at
   step_same counts above kind bytes fits few =
-      bind_same (fields_at bounds.arrays above kind bytes) (λ item. first counts (above_with item.0 above) item.1 >>= λ next. Ok (Then item.0 next.0, next.1, next.2))
+      bind_same (fields_at bounds above kind bytes) (λ item. first counts (above_with item.0 above) item.1 >>= λ next. Ok (Then item.0 next.0, next.1, next.2))
       (λ item. second counts (above_with item.0 above) item.1 >>= λ next. Ok (Then item.0 next.0, next.1, next.2))
-      (λ item e. rw (alike counts (above_with item.0 above) item.1 (fields_take bounds.arrays above kind bytes item fits e).takes.rest_fits few) refl)
+      (λ item e. rw (alike counts (above_with item.0 above) item.1 (fields_take bounds above kind bytes item fits e).takes.rest_fits few) refl)
 
-  test_same : (counts : Counts) (above : Above) (bytes : List ℕ) → IsBytes bytes → room bounds counts < depth → test_at first counts above bytes ≡ test_at second counts above bytes
+  test_same : (counts : Counts) (above : Above) (bytes : List ℕ) → IsBytes bytes → room bounds counts < depth → test_at bounds first counts above bytes ≡ test_at bounds second counts above bytes
   unfolding test_at
   test_same counts above bytes fits few =
-      bind_same (operand_at bytes) (λ on. first counts above on.1 >>= λ on_yes. first on_yes.1 above on_yes.2 >>= λ on_no. Ok (Either on.0 on_yes.0 on_no.0, on_no.1, on_no.2))
+      bind_same (operand_at bounds.registers bytes) (λ on. first counts above on.1 >>= λ on_yes. first on_yes.1 above on_yes.2 >>= λ on_no. Ok (Either on.0 on_yes.0 on_no.0, on_no.1, on_no.2))
       (λ on. second counts above on.1 >>= λ on_yes. second on_yes.1 above on_yes.2 >>= λ on_no. Ok (Either on.0 on_yes.0 on_no.0, on_no.1, on_no.2))
       (λ on e.
-      let on_fits = (operand_takes bytes on.0 on.1 fits e).0.rest_fits in
+      let on_fits = (operand_takes bounds.registers bytes on.0 on.1 fits e).0.rest_fits in
       bind_same (first counts above on.1) (λ on_yes. first on_yes.1 above on_yes.2 >>= λ on_no. Ok (Either on.0 on_yes.0 on_no.0, on_no.1, on_no.2))
       (λ on_yes. second on_yes.1 above on_yes.2 >>= λ on_no. Ok (Either on.0 on_yes.0 on_no.0, on_no.1, on_no.2))
       (λ on_yes f.
@@ -57,7 +57,7 @@ module _ (bounds : Bounds) (depth : ℕ) (first second : ReadsPart) (well : Read
   behind_same counts above bytes tags.Stop rest fits few = refl
   behind_same counts above bytes tags.Trap rest fits few = refl
   behind_same counts above bytes tags.Test rest fits few =
-      bind_same (at_field bytes (counted_test bounds.limits counts)) (λ more. test_at first more above rest) (λ more. test_at second more above rest) (λ more e.
+      bind_same (at_field bytes (counted_test bounds.limits counts)) (λ more. test_at bounds first more above rest) (λ more. test_at bounds second more above rest) (λ more e.
       let k = checked_ok bytes (test_tag_flaws bounds.limits counts) (counts_with_test counts) more e in
       let some : counts.tests < bounds.limits.tests = leb-false _ _ (where_nil (leb bounds.limits.tests counts.tests) flaws.TooManyTests k.0) in
       let fewer : room bounds more < depth = subst (λ (c : Counts). room bounds c < depth) k.1 (omega (arith, some)) in

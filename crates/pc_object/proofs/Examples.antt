@@ -1,9 +1,10 @@
 -- The texts of a few objects, byte by byte.
-use Rattle.std.proofs.Common.{arith, ◌≡◌, ℕ, List, [], ◌∷◌, refl, pos, negsuc}
-use Rattle.pc_word.specs.declared.item.Item.TheVariants.{Store, Print, Read}
+use Rattle.std.proofs.Common.{arith, ◌≡◌, ℕ, ℤ, List, [], ◌∷◌, length, replicate, refl, inl, pos, negsuc}
+use Rattle.pc_word.specs.declared.item.Item.TheVariants.{Copy, Load, Store, Print, Read}
 use Rattle.pc_word.specs.declared.item.Operand.TheVariants.{Name, Lit}
 use Rattle.pc_word.specs.declared.item.TrapKind.TheVariants.{EndOfInput}
 use Rattle.pc_machine.specs.declared.tree.Leaf.TheVariants.{Goto, Stop, Trap}
+use Rattle.pc_machine.specs.Registers.{few_registers, most_registers}
 use Rattle.pc_machine.specs.MachineCode.{CodeRow}
 use Rattle.pc_word.specs.Row.{Then, Either, At_leaf}
 use Rattle.std.specs.List.{IsDistinct}
@@ -12,7 +13,7 @@ use Rattle.pc_object.specs.ObjectText.{CodeWithNotes, IsObject, object_text}
 
 -- rows for 8 items, 3 tests and 2 loads and stores, with no note
 plain : List ℕ → List CodeRow → CodeWithNotes
-plain arrays rows = record { code = record { limits = record { ops = 8; tests = 3; mem = 2 }; arrays = arrays; rows = rows }; notes = [] }
+plain arrays rows = record { code = record { limits = record { ops = 8; tests = 3; mem = 2 }; registers = few_registers; arrays = arrays; initial = replicate (length arrays) []; rows = rows }; notes = [] }
 
 -- it prints 7 and stops
 prints_seven : object_text (plain [] (Then (Print (Lit (pos 7))) (At_leaf Stop) ∷ [])) ≡
@@ -48,14 +49,39 @@ noted : object_text (record { code = (plain [] (At_leaf Stop ∷ [])).code; note
 unfolding plain
 noted = refl
 
+-- 256 registers, of which register 200 takes the word 5
+wide : object_text (record { code = record { limits = record { ops = 8; tests = 3; mem = 2 }; registers = most_registers; arrays = []; initial = []; rows = Then (Copy 200 (Lit (pos 5))) (At_leaf Stop) ∷ [] }; notes = [] }) ≡
+    0x50 ∷ 0x54 ∷ 0x56 ∷ 0x32 ∷ 0x08 ∷ 0x03 ∷ 0x02 ∷ 0x00 ∷ 0x01 ∷ 0x00 ∷ 0x00 ∷ 0x00 ∷ 0x00 ∷ 0x01
+    ∷ 0x21 ∷ 0xC8 ∷ 0x01 ∷ 0x00 ∷ 0x00 ∷ 0x00 ∷ 0x05 ∷ 0x02 ∷ 0x00 ∷ 0x00 ∷ []
+wide = refl
+
+-- an array of two elements that begins with 5, which is printed
+filled : object_text (record {
+  code = record {
+    limits = record { ops = 8; tests = 3; mem = 2 };
+    registers = few_registers;
+    arrays = 2 ∷ [];
+    initial = (pos 5 ∷ []) ∷ [];
+    rows = Then (Load 0 0 (Lit (pos 0))) (At_leaf (Goto 1)) ∷ Then (Print (Name 0)) (At_leaf Stop) ∷ [];
+  };
+  notes = [];
+}) ≡
+    0x50 ∷ 0x54 ∷ 0x56 ∷ 0x32 ∷ 0x08 ∷ 0x03 ∷ 0x02 ∷ 0x01 ∷ 0x00 ∷ 0x80 ∷ 0x00 ∷ 0x00 ∷ 0x00 ∷ 0x02
+    ∷ 0x00 ∷ 0x00 ∷ 0x00 ∷ 0x01 ∷ 0x00 ∷ 0x00 ∷ 0x00 ∷ 0x05 ∷ 0x00 ∷ 0x00 ∷ 0x00 ∷ 0x02
+    ∷ 0x22 ∷ 0x00 ∷ 0x00 ∷ 0x01 ∷ 0x00 ∷ 0x00 ∷ 0x00 ∷ 0x00 ∷ 0x01 ∷ 0x00 ∷ 0x00 ∷ 0x00 ∷ 0x01
+    ∷ 0x24 ∷ 0x00 ∷ 0x00 ∷ 0x02 ∷ 0x00 ∷ 0x00 ∷ []
+filled = refl
+
 -- and it may be written
-pub prints_seven_is_object : (arrays : List ℕ) (rows : List CodeRow) (notes : List Note) → arrays ≡ [] → rows ≡ Then (Print (Lit (pos 7))) (At_leaf Stop) ∷ [] → notes ≡ []
-    → IsObject (record { code = record { limits = record { ops = 8; tests = 3; mem = 2 }; arrays = arrays; rows = rows }; notes = notes })
+pub prints_seven_is_object : (arrays : List ℕ) (initial : List (List ℤ)) (rows : List CodeRow) (notes : List Note) → arrays ≡ [] → initial ≡ [] → rows ≡ Then (Print (Lit (pos 7))) (At_leaf Stop) ∷ [] → notes ≡ []
+    → IsObject (record { code = record { limits = record { ops = 8; tests = 3; mem = 2 }; registers = few_registers; arrays = arrays; initial = initial; rows = rows }; notes = notes })
 unfolding IsDistinct
-prints_seven_is_object arrays rows notes no_arrays one_row no_notes = rw (no_arrays, one_row, no_notes) (record {
+prints_seven_is_object arrays initial rows notes no_arrays no_data one_row no_notes = rw (no_arrays, no_data, one_row, no_notes) (record {
   code = record {
     limits = record { ops = (omega arith, omega arith); tests = (omega arith, omega arith); mem = (omega arith, omega arith) };
+    registers = inl refl;
     arrays = record { count = omega arith; each = tt; elements = omega arith };
+    initial = tt;
     entry = omega arith;
     rows = (
       record {

@@ -135,7 +135,7 @@ number_again w limit wide n rest lt =
     let long : ltb (length (to_be_bytes w n ++ rest)) (byte_len w) ≡ false = le-ltb _ _ (omega (arith, length-append (to_be_bytes w n) rest)) in
     rw (long, take_at (to_be_bytes w n) rest (byte_len w) len, drop_at (to_be_bytes w n) rest (byte_len w) len, wide.again n lt) refl
 
-word_takes : (bytes : List ℕ) (z : ℤ) (rest : List ℕ) → IsBytes bytes → word_at bytes ≡ Ok (z, rest) → Takes bytes (word_text z) rest × FitsSigned w32 z
+pub word_takes : (bytes : List ℕ) (z : ℤ) (rest : List ℕ) → IsBytes bytes → word_at bytes ≡ Ok (z, rest) → Takes bytes (word_text z) rest × FitsSigned w32 z
 unfolding word_at
 word_takes bytes z rest fits e =
     let b = bind_ok (number_at w32 bytes) (λ n. Ok (cast_signed w32 n.0, n.1)) (z, rest) e in
@@ -145,7 +145,7 @@ word_takes bytes z rest fits e =
     let text : Takes bytes (word_text (cast_signed w32 b.0.0)) b.0.1 = subst (λ (n : ℕ). Takes bytes (to_be_bytes w32 n) b.0.1) (sym (of_z-to_z w32 b.0.0 t.1)) t.0 in
     subst (λ (y : ℤ × List ℕ). Takes bytes (word_text y.0) y.1 × FitsSigned w32 y.0) (ok_is made (z, rest) b.2) (text, sfits_to_z f)
 
-word_again : (z : ℤ) (rest : List ℕ) → FitsSigned w32 z → word_at (word_text z ++ rest) ≡ Ok (z, rest)
+pub word_again : (z : ℤ) (rest : List ℕ) → FitsSigned w32 z → word_at (word_text z ++ rest) ≡ Ok (z, rest)
 unfolding word_at
 word_again z rest fits =
     let f : Fits w32 (cast_unsigned w32 z) = Fits-of_z fits in
@@ -239,21 +239,23 @@ tag_again (tags.Item kinds.More) rest = refl
 
 -- ---- registers, arrays, operands
 
-register_takes : (bytes : List ℕ) (n : ℕ) (rest : List ℕ) → IsBytes bytes → register_at bytes ≡ Ok (n, rest) → Takes bytes (n ∷ []) rest × (register_flaws n ≡ []) × (n < 256)
+register_takes : (registers : ℕ) (bytes : List ℕ) (n : ℕ) (rest : List ℕ) → IsBytes bytes → register_at registers bytes ≡ Ok (n, rest)
+    → Takes bytes (n ∷ []) rest × (register_flaws registers n ≡ []) × (n < 256)
 unfolding register_at
-register_takes bytes n rest fits e = checked_byte_takes register_flaws bytes n rest fits e
+register_takes registers bytes n rest fits e = checked_byte_takes (register_flaws registers) bytes n rest fits e
 
-register_again : (n : ℕ) (rest : List ℕ) → register_flaws n ≡ [] → register_at (n ∷ rest) ≡ Ok (n, rest)
+register_again : (registers n : ℕ) (rest : List ℕ) → register_flaws registers n ≡ [] → register_at registers (n ∷ rest) ≡ Ok (n, rest)
 unfolding register_at
-register_again n rest none = checked_byte_again register_flaws n rest none
+register_again registers n rest none = checked_byte_again (register_flaws registers) n rest none
 
-pub dest_takes : (above : Above) (bytes : List ℕ) (n : ℕ) (rest : List ℕ) → IsBytes bytes → dest_at above bytes ≡ Ok (n, rest) → Takes bytes (n ∷ []) rest × (dest_flaws above n ≡ []) × (n < 256)
+pub dest_takes : (registers : ℕ) (above : Above) (bytes : List ℕ) (n : ℕ) (rest : List ℕ) → IsBytes bytes → dest_at registers above bytes ≡ Ok (n, rest)
+    → Takes bytes (n ∷ []) rest × (dest_flaws registers above n ≡ []) × (n < 256)
 unfolding dest_at
-dest_takes above bytes n rest fits e = checked_byte_takes (dest_flaws above) bytes n rest fits e
+dest_takes registers above bytes n rest fits e = checked_byte_takes (dest_flaws registers above) bytes n rest fits e
 
-pub dest_again : (above : Above) (n : ℕ) (rest : List ℕ) → dest_flaws above n ≡ [] → dest_at above (n ∷ rest) ≡ Ok (n, rest)
+pub dest_again : (registers : ℕ) (above : Above) (n : ℕ) (rest : List ℕ) → dest_flaws registers above n ≡ [] → dest_at registers above (n ∷ rest) ≡ Ok (n, rest)
 unfolding dest_at
-dest_again above n rest none = checked_byte_again (dest_flaws above) n rest none
+dest_again registers above n rest none = checked_byte_again (dest_flaws registers above) n rest none
 
 pub array_takes : (arrays : ℕ) (bytes : List ℕ) (n : ℕ) (rest : List ℕ) → IsBytes bytes → array_at arrays bytes ≡ Ok (n, rest) → Takes bytes (n ∷ []) rest × (array_flaws arrays n ≡ []) × (n < 256)
 unfolding array_at
@@ -264,26 +266,26 @@ unfolding array_at
 array_again arrays n rest none = checked_byte_again (array_flaws arrays) n rest none
 
 -- what a read operand is
-abbrev pub IsRead : List ℕ → Operand → List ℕ → Type 0
-IsRead bytes operand rest = Takes bytes (operand_text operand) rest × (operand_flaws operand ≡ []) × OperandFits operand
+abbrev pub IsRead : ℕ → List ℕ → Operand → List ℕ → Type 0
+IsRead registers bytes operand rest = Takes bytes (operand_text operand) rest × (operand_flaws registers operand ≡ []) × OperandFits operand
 
 Takes-after : (b : ℕ) (bytes text rest : List ℕ) → Takes bytes text rest → Takes (b ∷ bytes) (b ∷ text) rest
 Takes-after b bytes text rest t = record { parts = ap (λ (w : List ℕ). b ∷ w) t.parts; rest_fits = t.rest_fits }
 
-pub operand_takes : (bytes : List ℕ) (operand : Operand) (rest : List ℕ) → IsBytes bytes → operand_at bytes ≡ Ok (operand, rest) → IsRead bytes operand rest
+pub operand_takes : (registers : ℕ) (bytes : List ℕ) (operand : Operand) (rest : List ℕ) → IsBytes bytes → operand_at registers bytes ≡ Ok (operand, rest) → IsRead registers bytes operand rest
 unfolding operand_at
-operand_takes [] operand rest fits e = absurd cc
-operand_takes (zero ∷ bytes) operand rest fits e =
-    let b = bind_ok (register_at bytes) (λ n. Ok (Name n.0, n.1)) (operand, rest) e in
-    let t = register_takes bytes b.0.0 b.0.1 (IsBytes-rest 0 bytes fits) b.1 in
-    subst (λ (y : Operand × List ℕ). IsRead (0 ∷ bytes) y.0 y.1) (ok_is (Name b.0.0, b.0.1) (operand, rest) b.2) (Takes-after 0 bytes (b.0.0 ∷ []) b.0.1 t.0, t.1, tt)
-operand_takes (suc zero ∷ bytes) operand rest fits e =
+operand_takes registers [] operand rest fits e = absurd cc
+operand_takes registers (zero ∷ bytes) operand rest fits e =
+    let b = bind_ok (register_at registers bytes) (λ n. Ok (Name n.0, n.1)) (operand, rest) e in
+    let t = register_takes registers bytes b.0.0 b.0.1 (IsBytes-rest 0 bytes fits) b.1 in
+    subst (λ (y : Operand × List ℕ). IsRead registers (0 ∷ bytes) y.0 y.1) (ok_is (Name b.0.0, b.0.1) (operand, rest) b.2) (Takes-after 0 bytes (b.0.0 ∷ []) b.0.1 t.0, t.1, tt)
+operand_takes registers (suc zero ∷ bytes) operand rest fits e =
     let b = bind_ok (word_at bytes) (λ n. Ok (Lit n.0, n.1)) (operand, rest) e in
     let t = word_takes bytes b.0.0 b.0.1 (IsBytes-rest 1 bytes fits) b.1 in
-    subst (λ (y : Operand × List ℕ). IsRead (1 ∷ bytes) y.0 y.1) (ok_is (Lit b.0.0, b.0.1) (operand, rest) b.2) (Takes-after 1 bytes (word_text b.0.0) b.0.1 t.0, refl, t.1)
-operand_takes (suc (suc b) ∷ bytes) operand rest fits e = absurd cc
+    subst (λ (y : Operand × List ℕ). IsRead registers (1 ∷ bytes) y.0 y.1) (ok_is (Lit b.0.0, b.0.1) (operand, rest) b.2) (Takes-after 1 bytes (word_text b.0.0) b.0.1 t.0, refl, t.1)
+operand_takes registers (suc (suc b) ∷ bytes) operand rest fits e = absurd cc
 
-pub operand_again : (operand : Operand) (rest : List ℕ) → operand_flaws operand ≡ [] → OperandFits operand → operand_at (operand_text operand ++ rest) ≡ Ok (operand, rest)
+pub operand_again : (registers : ℕ) (operand : Operand) (rest : List ℕ) → operand_flaws registers operand ≡ [] → OperandFits operand → operand_at registers (operand_text operand ++ rest) ≡ Ok (operand, rest)
 unfolding operand_at
-operand_again (Name n) rest none fits = rw (register_again n rest none) refl
-operand_again (Lit z) rest none fits = rw (word_again z rest fits) refl
+operand_again registers (Name n) rest none fits = rw (register_again registers n rest none) refl
+operand_again registers (Lit z) rest none fits = rw (word_again z rest fits) refl

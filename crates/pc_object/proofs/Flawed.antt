@@ -35,123 +35,77 @@ use Rattle.pc_object.specs.Numbers.{OperandFits, ItemNumbersFit, LeafFits, RowNu
 use Rattle.pc_object.specs.Reading.{◌>>=◌, ◌>>◌, at_field, unflawed, number_at, limit_at, limits_at, lengths_at, array_count_at, row_count_at}
 use Rattle.pc_object.specs.Reading.{register_at, dest_at, array_at, operator_at, operand_at, fields_at, goto_at, PartOfRow, ReadsPart, tag_byte}
 use Rattle.pc_object.specs.Reading.{is_memory_kind, is_effect_kind, step_at, test_at, counted_item, counted_test, behind_tag, row_at, deepest}
-use Rattle.pc_object.specs.Reading.{rows_at, notes_at, end_at, Header, header_at, header_bounds, object_at, told_of, object_reading}
+use Rattle.pc_object.specs.Reading.{rows_at, notes_at, end_at, header_at, header_bounds, code_with, object_at, told_of, object_reading}
 use Rattle.pc_object.proofs.FieldLaws.{wide32, number_again, operator_again, operand_again}
+use Rattle.pc_object.proofs.Tells.{Refuses, Tells, Stops, tells_then, tells_last, tells_next, stops_then, stops_here, field_tells, passes_tells}
+use Rattle.pc_object.proofs.HeaderTells.{HasStorageText, shape_of, header_tells}
 use Rattle.pc_object.proofs.RowLaws.{nil_parts, where_nil, room, counts_grow, kind_of, fields_text, item_text_is, memory_is, effect_is, at_tag, leaf_again}
-
--- ---- what is told
-
--- a reading refuses a field for this flaw
-abbrev Refuses : {A : Type 0} → Flaw → Result A Refusal → Type 0
-Refuses flaw read = (left : ℕ) × (read ≡ Err (Flawed left flaw))
-
--- a reading gives this value where there is no flaw, and else refuses for the first
-abbrev Tells : {A : Type 0} → List Flaw → A → Result A Refusal → Type 0
-Tells [] x read = read ≡ Ok x
-Tells (flaw ∷ flaws) x read = Refuses flaw read
-
--- the same, where nothing is said of the value
-abbrev Stops : {A : Type 0} → List Flaw → Result A Refusal → Type 0
-Stops [] read = Unit {0}
-Stops (flaw ∷ flaws) read = Refuses flaw read
-
--- one reading after another: flaws after flaws
-tells_then : {A B : Type 0} (fs gs : List Flaw) (x : A) (y : B) (m : Result A Refusal) (k : A → Result B Refusal) → Tells fs x m → (fs ≡ [] → Tells gs y (k x)) → Tells (fs ++ gs) y (m >>= k)
-tells_then [] gs x y m k h g = subst (λ (r : Result _ Refusal). Tells gs y (r >>= k)) (sym h) (g refl)
-tells_then (f ∷ fs) gs x y m k h g = (h.0, ap (λ (r : Result _ Refusal). r >>= k) h.1)
-
--- a last one that only puts values together
-tells_last : {A B : Type 0} (fs : List Flaw) (x : A) (y : B) (m : Result A Refusal) (k : A → Result B Refusal) → Tells fs x m → k x ≡ Ok y → Tells fs y (m >>= k)
-tells_last [] x y m k h g = ap (λ (r : Result _ Refusal). r >>= k) h ∙ g
-tells_last (f ∷ fs) x y m k h g = (h.0, ap (λ (r : Result _ Refusal). r >>= k) h.1)
-
--- a first one that cannot be flawed
-tells_next : {A B : Type 0} (gs : List Flaw) (x : A) (y : B) (m : Result A Refusal) (k : A → Result B Refusal) → m ≡ Ok x → Tells gs y (k x) → Tells gs y (m >>= k)
-tells_next gs x y m k h g = subst (λ (r : Result _ Refusal). Tells gs y (r >>= k)) (sym h) g
-
-stops_then : {A B : Type 0} (fs gs : List Flaw) (x : A) (m : Result A Refusal) (k : A → Result B Refusal) → Tells fs x m → (fs ≡ [] → Stops gs (k x)) → Stops (fs ++ gs) (m >>= k)
-stops_then [] gs x m k h g = subst (λ (r : Result _ Refusal). Stops gs (r >>= k)) (sym h) (g refl)
-stops_then (f ∷ fs) gs x m k h g = (h.0, ap (λ (r : Result _ Refusal). r >>= k) h.1)
-
-stops_here : {A B : Type 0} (fs : List Flaw) (x : A) (m : Result A Refusal) (k : A → Result B Refusal) → Tells fs x m → Stops fs (m >>= k)
-stops_here [] x m k h = tt
-stops_here (f ∷ fs) x m k h = (h.0, ap (λ (r : Result _ Refusal). r >>= k) h.1)
 
 -- ---- fields
 
--- a check of a field
-field_tells : {A : Type 0} (bytes : List ℕ) (fs : List Flaw) (x : A) → Tells fs x (at_field bytes (checked fs x))
-field_tells bytes [] x = refl
-field_tells bytes (f ∷ fs) x = (length bytes, refl)
-
--- a value that is checked
-passes_tells : {A : Type 0} (bytes : List ℕ) (fs : List Flaw) (x : A) → Tells fs x (unflawed bytes fs >> Ok x)
-passes_tells bytes [] x = refl
-passes_tells bytes (f ∷ fs) x = (length bytes, refl)
-
-dest_tells : (above : Above) (dest : ℕ) (rest : List ℕ) → Tells (dest_flaws above dest) (dest, rest) (dest_at above (dest ∷ rest))
+dest_tells : (registers : ℕ) (above : Above) (dest : ℕ) (rest : List ℕ) → Tells (dest_flaws registers above dest) (dest, rest) (dest_at registers above (dest ∷ rest))
 unfolding dest_at
-dest_tells above dest rest = passes_tells (dest ∷ rest) (dest_flaws above dest) (dest, rest)
+dest_tells registers above dest rest = passes_tells (dest ∷ rest) (dest_flaws registers above dest) (dest, rest)
 
 array_tells : (arrays array : ℕ) (rest : List ℕ) → Tells (array_flaws arrays array) (array, rest) (array_at arrays (array ∷ rest))
 unfolding array_at
 array_tells arrays array rest = passes_tells (array ∷ rest) (array_flaws arrays array) (array, rest)
 
-register_tells : (register : ℕ) (rest : List ℕ) → Tells (register_flaws register) (register, rest) (register_at (register ∷ rest))
+register_tells : (registers register : ℕ) (rest : List ℕ) → Tells (register_flaws registers register) (register, rest) (register_at registers (register ∷ rest))
 unfolding register_at
-register_tells register rest = passes_tells (register ∷ rest) (register_flaws register) (register, rest)
+register_tells registers register rest = passes_tells (register ∷ rest) (register_flaws registers register) (register, rest)
 
-operand_tells : (operand : Operand) (rest : List ℕ) → OperandFits operand → Tells (operand_flaws operand) (operand, rest) (operand_at (operand_text operand ++ rest))
+operand_tells : (registers : ℕ) (operand : Operand) (rest : List ℕ) → OperandFits operand → Tells (operand_flaws registers operand) (operand, rest) (operand_at registers (operand_text operand ++ rest))
 unfolding operand_at
-operand_tells (Name register) rest fits =
-    tells_last (register_flaws register) (register, rest) (Name register, rest) (register_at (register ∷ rest)) (λ r. Ok (Name r.0, r.1)) (register_tells register rest) refl
-operand_tells (Lit value) rest fits = operand_again (Lit value) rest refl fits
+operand_tells registers (Name register) rest fits =
+    tells_last (register_flaws registers register) (register, rest) (Name register, rest) (register_at registers (register ∷ rest)) (λ r. Ok (Name r.0, r.1)) (register_tells registers register rest) refl
+operand_tells registers (Lit value) rest fits = operand_again registers (Lit value) rest refl fits
 
 -- the fields of an item after its tag
-fields_tell : (arrays : ℕ) (above : Above) (item : Item) (rest : List ℕ) → ItemNumbersFit item
-    → Tells (field_flaws arrays above item) (item, rest) (fields_at arrays above (kind_of item) (fields_text item ++ rest))
+fields_tell : (bounds : Bounds) (above : Above) (item : Item) (rest : List ℕ) → ItemNumbersFit item
+    → Tells (field_flaws bounds above item) (item, rest) (fields_at bounds above (kind_of item) (fields_text item ++ rest))
 unfolding fields_at
-fields_tell arrays above (items.Bin op dest left right) rest fits =
+fields_tell bounds above (items.Bin op dest left right) rest fits =
     let behind_left : List ℕ = operand_text right ++ rest in
     let behind_dest : List ℕ = operand_text left ++ behind_left in
     let item : Item = items.Bin op dest left right in
-    subst (λ (t : List ℕ). Tells (field_flaws arrays above item) (item, rest) (fields_at arrays above kinds.Bin (operator_byte op ∷ dest ∷ t)))
+    subst (λ (t : List ℕ). Tells (field_flaws bounds above item) (item, rest) (fields_at bounds above kinds.Bin (operator_byte op ∷ dest ∷ t)))
     (sym (append_assoc (operand_text left) (operand_text right) rest))
-    (tells_next (field_flaws arrays above item) (op, dest ∷ behind_dest) (item, rest) (operator_at (operator_byte op ∷ dest ∷ behind_dest))
-    (λ o. dest_at above o.1 >>= λ d. operand_at d.1 >>= λ l. operand_at l.1 >>= λ r. Ok (items.Bin o.0 d.0 l.0 r.0, r.1)) (operator_again op (dest ∷ behind_dest))
-    (tells_then (dest_flaws above dest) (operand_flaws left ++ operand_flaws right) (dest, behind_dest) (item, rest) (dest_at above (dest ∷ behind_dest))
-    (λ d. operand_at d.1 >>= λ l. operand_at l.1 >>= λ r. Ok (items.Bin op d.0 l.0 r.0, r.1)) (dest_tells above dest behind_dest) (λ none.
-    tells_then (operand_flaws left) (operand_flaws right) (left, behind_left) (item, rest) (operand_at behind_dest)
-    (λ l. operand_at l.1 >>= λ r. Ok (items.Bin op dest l.0 r.0, r.1)) (operand_tells left behind_left fits.0) (λ none.
-    tells_last (operand_flaws right) (right, rest) (item, rest) (operand_at behind_left) (λ r. Ok (items.Bin op dest left r.0, r.1)) (operand_tells right rest fits.1) refl))))
-fields_tell arrays above (items.Copy dest from) rest fits =
-    tells_then (dest_flaws above dest) (operand_flaws from) (dest, operand_text from ++ rest) (items.Copy dest from, rest) (dest_at above (dest ∷ (operand_text from ++ rest)))
-    (λ d. operand_at d.1 >>= λ f. Ok (items.Copy d.0 f.0, f.1)) (dest_tells above dest (operand_text from ++ rest)) (λ none.
-    tells_last (operand_flaws from) (from, rest) (items.Copy dest from, rest) (operand_at (operand_text from ++ rest)) (λ f. Ok (items.Copy dest f.0, f.1)) (operand_tells from rest fits) refl)
-fields_tell arrays above (items.Load dest array index) rest fits =
+    (tells_next (field_flaws bounds above item) (op, dest ∷ behind_dest) (item, rest) (operator_at (operator_byte op ∷ dest ∷ behind_dest))
+    (λ o. dest_at bounds.registers above o.1 >>= λ d. operand_at bounds.registers d.1 >>= λ l. operand_at bounds.registers l.1 >>= λ r. Ok (items.Bin o.0 d.0 l.0 r.0, r.1)) (operator_again op (dest ∷ behind_dest))
+    (tells_then (dest_flaws bounds.registers above dest) (operand_flaws bounds.registers left ++ operand_flaws bounds.registers right) (dest, behind_dest) (item, rest) (dest_at bounds.registers above (dest ∷ behind_dest))
+    (λ d. operand_at bounds.registers d.1 >>= λ l. operand_at bounds.registers l.1 >>= λ r. Ok (items.Bin op d.0 l.0 r.0, r.1)) (dest_tells bounds.registers above dest behind_dest) (λ none.
+    tells_then (operand_flaws bounds.registers left) (operand_flaws bounds.registers right) (left, behind_left) (item, rest) (operand_at bounds.registers behind_dest)
+    (λ l. operand_at bounds.registers l.1 >>= λ r. Ok (items.Bin op dest l.0 r.0, r.1)) (operand_tells bounds.registers left behind_left fits.0) (λ none.
+    tells_last (operand_flaws bounds.registers right) (right, rest) (item, rest) (operand_at bounds.registers behind_left) (λ r. Ok (items.Bin op dest left r.0, r.1)) (operand_tells bounds.registers right rest fits.1) refl))))
+fields_tell bounds above (items.Copy dest from) rest fits =
+    tells_then (dest_flaws bounds.registers above dest) (operand_flaws bounds.registers from) (dest, operand_text from ++ rest) (items.Copy dest from, rest) (dest_at bounds.registers above (dest ∷ (operand_text from ++ rest)))
+    (λ d. operand_at bounds.registers d.1 >>= λ f. Ok (items.Copy d.0 f.0, f.1)) (dest_tells bounds.registers above dest (operand_text from ++ rest)) (λ none.
+    tells_last (operand_flaws bounds.registers from) (from, rest) (items.Copy dest from, rest) (operand_at bounds.registers (operand_text from ++ rest)) (λ f. Ok (items.Copy dest f.0, f.1)) (operand_tells bounds.registers from rest fits) refl)
+fields_tell bounds above (items.Load dest array index) rest fits =
     let tail : List ℕ = operand_text index ++ rest in
     let item : Item = items.Load dest array index in
-    tells_then (dest_flaws above dest) (array_flaws arrays array ++ operand_flaws index) (dest, array ∷ tail) (item, rest) (dest_at above (dest ∷ array ∷ tail))
-    (λ d. array_at arrays d.1 >>= λ a. operand_at a.1 >>= λ i. Ok (items.Load d.0 a.0 i.0, i.1)) (dest_tells above dest (array ∷ tail)) (λ none.
-    tells_then (array_flaws arrays array) (operand_flaws index) (array, tail) (item, rest) (array_at arrays (array ∷ tail))
-    (λ a. operand_at a.1 >>= λ i. Ok (items.Load dest a.0 i.0, i.1)) (array_tells arrays array tail) (λ none.
-    tells_last (operand_flaws index) (index, rest) (item, rest) (operand_at tail) (λ i. Ok (items.Load dest array i.0, i.1)) (operand_tells index rest fits) refl))
-fields_tell arrays above (items.Store array index value) rest fits =
+    tells_then (dest_flaws bounds.registers above dest) (array_flaws bounds.arrays array ++ operand_flaws bounds.registers index) (dest, array ∷ tail) (item, rest) (dest_at bounds.registers above (dest ∷ array ∷ tail))
+    (λ d. array_at bounds.arrays d.1 >>= λ a. operand_at bounds.registers a.1 >>= λ i. Ok (items.Load d.0 a.0 i.0, i.1)) (dest_tells bounds.registers above dest (array ∷ tail)) (λ none.
+    tells_then (array_flaws bounds.arrays array) (operand_flaws bounds.registers index) (array, tail) (item, rest) (array_at bounds.arrays (array ∷ tail))
+    (λ a. operand_at bounds.registers a.1 >>= λ i. Ok (items.Load dest a.0 i.0, i.1)) (array_tells bounds.arrays array tail) (λ none.
+    tells_last (operand_flaws bounds.registers index) (index, rest) (item, rest) (operand_at bounds.registers tail) (λ i. Ok (items.Load dest array i.0, i.1)) (operand_tells bounds.registers index rest fits) refl))
+fields_tell bounds above (items.Store array index value) rest fits =
     let behind_index : List ℕ = operand_text value ++ rest in
     let behind_array : List ℕ = operand_text index ++ behind_index in
     let item : Item = items.Store array index value in
-    subst (λ (t : List ℕ). Tells (field_flaws arrays above item) (item, rest) (fields_at arrays above kinds.Store (array ∷ t))) (sym (append_assoc (operand_text index) (operand_text value) rest))
-    (tells_then (array_flaws arrays array) (operand_flaws index ++ operand_flaws value) (array, behind_array) (item, rest) (array_at arrays (array ∷ behind_array))
-    (λ a. operand_at a.1 >>= λ i. operand_at i.1 >>= λ v. Ok (items.Store a.0 i.0 v.0, v.1)) (array_tells arrays array behind_array) (λ none.
-    tells_then (operand_flaws index) (operand_flaws value) (index, behind_index) (item, rest) (operand_at behind_array)
-    (λ i. operand_at i.1 >>= λ v. Ok (items.Store array i.0 v.0, v.1)) (operand_tells index behind_index fits.0) (λ none.
-    tells_last (operand_flaws value) (value, rest) (item, rest) (operand_at behind_index) (λ v. Ok (items.Store array index v.0, v.1)) (operand_tells value rest fits.1) refl)))
-fields_tell arrays above (items.Print value) rest fits =
-    tells_last (operand_flaws value) (value, rest) (items.Print value, rest) (operand_at (operand_text value ++ rest)) (λ v. Ok (items.Print v.0, v.1)) (operand_tells value rest fits) refl
-fields_tell arrays above (items.Read dest) rest fits =
-    tells_last (dest_flaws above dest) (dest, rest) (items.Read dest, rest) (dest_at above (dest ∷ rest)) (λ d. Ok (items.Read d.0, d.1)) (dest_tells above dest rest) refl
-fields_tell arrays above (items.More dest) rest fits =
-    tells_last (dest_flaws above dest) (dest, rest) (items.More dest, rest) (dest_at above (dest ∷ rest)) (λ d. Ok (items.More d.0, d.1)) (dest_tells above dest rest) refl
+    subst (λ (t : List ℕ). Tells (field_flaws bounds above item) (item, rest) (fields_at bounds above kinds.Store (array ∷ t))) (sym (append_assoc (operand_text index) (operand_text value) rest))
+    (tells_then (array_flaws bounds.arrays array) (operand_flaws bounds.registers index ++ operand_flaws bounds.registers value) (array, behind_array) (item, rest) (array_at bounds.arrays (array ∷ behind_array))
+    (λ a. operand_at bounds.registers a.1 >>= λ i. operand_at bounds.registers i.1 >>= λ v. Ok (items.Store a.0 i.0 v.0, v.1)) (array_tells bounds.arrays array behind_array) (λ none.
+    tells_then (operand_flaws bounds.registers index) (operand_flaws bounds.registers value) (index, behind_index) (item, rest) (operand_at bounds.registers behind_array)
+    (λ i. operand_at bounds.registers i.1 >>= λ v. Ok (items.Store array i.0 v.0, v.1)) (operand_tells bounds.registers index behind_index fits.0) (λ none.
+    tells_last (operand_flaws bounds.registers value) (value, rest) (item, rest) (operand_at bounds.registers behind_index) (λ v. Ok (items.Store array index v.0, v.1)) (operand_tells bounds.registers value rest fits.1) refl)))
+fields_tell bounds above (items.Print value) rest fits =
+    tells_last (operand_flaws bounds.registers value) (value, rest) (items.Print value, rest) (operand_at bounds.registers (operand_text value ++ rest)) (λ v. Ok (items.Print v.0, v.1)) (operand_tells bounds.registers value rest fits) refl
+fields_tell bounds above (items.Read dest) rest fits =
+    tells_last (dest_flaws bounds.registers above dest) (dest, rest) (items.Read dest, rest) (dest_at bounds.registers above (dest ∷ rest)) (λ d. Ok (items.Read d.0, d.1)) (dest_tells bounds.registers above dest rest) refl
+fields_tell bounds above (items.More dest) rest fits =
+    tells_last (dest_flaws bounds.registers above dest) (dest, rest) (items.More dest, rest) (dest_at bounds.registers above (dest ∷ rest)) (λ d. Ok (items.More d.0, d.1)) (dest_tells bounds.registers above dest rest) refl
 
 -- ---- rows
 
@@ -182,7 +136,7 @@ item_tells : (bounds : Bounds) (below : ReadsPart) (counts : Counts) (above : Ab
 unfolding behind_tag step_at
 item_tells bounds below counts above item bytes tail gs next after rest fits deeper =
     let tag : List Flaw = item_tag_flaws bounds.limits counts above (is_memory item) (is_effect item) in
-    let fields : List Flaw = field_flaws bounds.arrays above item in
+    let fields : List Flaw = field_flaws bounds above item in
     let behind : Counts = counts_with_item (is_memory item) counts in
     let read : Bool → Bool → Result PartOfRow Refusal = λ memory effect. at_field bytes (counted_item bounds.limits counts above memory effect) >>= λ more. step_at bounds below more above
     (kind_of item) (fields_text item ++ tail) in
@@ -191,8 +145,8 @@ item_tells bounds below counts above item bytes tail gs next after rest fits dee
     (subst (λ (effect : Bool). Tells (tag ++ (fields ++ gs)) (Then item next, after, rest) (read (is_memory item) effect)) (sym (effect_is item))
     (tells_then tag (fields ++ gs) behind (Then item next, after, rest) (at_field bytes (counted_item bounds.limits counts above (is_memory item) (is_effect item)))
     (λ more. step_at bounds below more above (kind_of item) (fields_text item ++ tail)) (field_tells bytes tag behind) (λ none.
-    tells_then fields gs (item, tail) (Then item next, after, rest) (fields_at bounds.arrays above (kind_of item) (fields_text item ++ tail))
-    (λ i. below behind (above_with i.0 above) i.1 >>= λ n. Ok (Then i.0 n.0, n.1, n.2)) (fields_tell bounds.arrays above item tail fits) (λ none2.
+    tells_then fields gs (item, tail) (Then item next, after, rest) (fields_at bounds above (kind_of item) (fields_text item ++ tail))
+    (λ i. below behind (above_with i.0 above) i.1 >>= λ n. Ok (Then i.0 n.0, n.1, n.2)) (fields_tell bounds above item tail fits) (λ none2.
     tells_last gs (next, after, rest) (Then item next, after, rest) (below behind (above_with item above) tail) (λ n. Ok (Then item n.0, n.1, n.2)) (deeper none) refl)))))
 
 -- what stands after the tag of a test, where both sides tell theirs
@@ -207,12 +161,12 @@ test_tells bounds below counts above on bytes behind_on behind_yes fs gs on_yes 
     let tag : List Flaw = test_tag_flaws bounds.limits counts in
     let behind : Counts = counts_with_test counts in
     let row : PartOfRow = (Either on on_yes on_no, after, rest) in
-    let read : Result PartOfRow Refusal = at_field bytes (counted_test bounds.limits counts) >>= λ more. test_at below more above (operand_text on ++ behind_on) in
-    subst (λ (hs : List Flaw). Tells hs row read) (sym (append_assoc tag (operand_flaws on) (fs ++ gs)))
-    (tells_then tag (operand_flaws on ++ (fs ++ gs)) behind row (at_field bytes (counted_test bounds.limits counts)) (λ more. test_at below more above (operand_text on ++ behind_on))
+    let read : Result PartOfRow Refusal = at_field bytes (counted_test bounds.limits counts) >>= λ more. test_at bounds below more above (operand_text on ++ behind_on) in
+    subst (λ (hs : List Flaw). Tells hs row read) (sym (append_assoc tag (operand_flaws bounds.registers on) (fs ++ gs)))
+    (tells_then tag (operand_flaws bounds.registers on ++ (fs ++ gs)) behind row (at_field bytes (counted_test bounds.limits counts)) (λ more. test_at bounds below more above (operand_text on ++ behind_on))
     (field_tells bytes tag behind) (λ none.
-    tells_then (operand_flaws on) (fs ++ gs) (on, behind_on) row (operand_at (operand_text on ++ behind_on))
-    (λ o. below behind above o.1 >>= λ y. below y.1 above y.2 >>= λ n. Ok (Either o.0 y.0 n.0, n.1, n.2)) (operand_tells on behind_on fits) (λ none2.
+    tells_then (operand_flaws bounds.registers on) (fs ++ gs) (on, behind_on) row (operand_at bounds.registers (operand_text on ++ behind_on))
+    (λ o. below behind above o.1 >>= λ y. below y.1 above y.2 >>= λ n. Ok (Either o.0 y.0 n.0, n.1, n.2)) (operand_tells bounds.registers on behind_on fits) (λ none2.
     tells_then fs gs (on_yes, between, behind_yes) row (below behind above behind_on) (λ y. below y.1 above y.2 >>= λ n. Ok (Either on y.0 n.0, n.1, n.2)) (yes_tells none) (λ none3.
     tells_last gs (on_no, after, rest) row (below between above behind_yes) (λ n. Ok (Either on on_yes n.0, n.1, n.2)) (no_tells none) refl))))
 
@@ -268,79 +222,11 @@ rows_tell bounds (row ∷ rows) rest few deep fits targets =
     (λ r. rows_at bounds (length rows) r.2 >>= λ rs. Ok (r.0 ∷ rs.0, rs.1)) (row_tells bounds row deepest no_counts nothing_above tail few fits.0 targets.0 deep) (λ none.
     tells_last others (rows, rest) (row ∷ rows, rest) (rows_at bounds (length rows) tail) (λ rs. Ok (row ∷ rs.0, rs.1)) (rows_tell bounds rows rest few deep fits.1 targets.1) refl))
 
--- ---- the header
-
-limit_tells : (most limit : ℕ) (rest : List ℕ) → Tells (limit_flaws most limit) (limit, rest) (limit_at most (limit ∷ rest))
-unfolding limit_at
-limit_tells most limit rest = passes_tells (limit ∷ rest) (limit_flaws most limit) (limit, rest)
-
-limits_tell : (limits : Limits) (rest : List ℕ) → Tells (limits_flaws limits) (limits, rest) (limits_at (limits.ops ∷ limits.tests ∷ limits.mem ∷ rest))
-unfolding limits_at
-limits_tell limits rest =
-    tells_then (limit_flaws most_ops limits.ops) (limit_flaws most_tests limits.tests ++ limit_flaws most_mem limits.mem) (limits.ops, limits.tests ∷ limits.mem ∷ rest) (limits, rest)
-    (limit_at most_ops (limits.ops ∷ limits.tests ∷ limits.mem ∷ rest))
-    (λ ops. limit_at most_tests ops.1 >>= λ tests. limit_at most_mem tests.1 >>= λ mem. Ok (record { ops = ops.0; tests = tests.0; mem = mem.0 }, mem.1))
-    (limit_tells most_ops limits.ops (limits.tests ∷ limits.mem ∷ rest)) (λ none.
-    tells_then (limit_flaws most_tests limits.tests) (limit_flaws most_mem limits.mem) (limits.tests, limits.mem ∷ rest) (limits, rest) (limit_at most_tests (limits.tests ∷ limits.mem ∷ rest))
-    (λ tests. limit_at most_mem tests.1 >>= λ mem. Ok (record { ops = limits.ops; tests = tests.0; mem = mem.0 }, mem.1)) (limit_tells most_tests limits.tests (limits.mem ∷ rest)) (λ none2.
-    tells_last (limit_flaws most_mem limits.mem) (limits.mem, rest) (limits, rest) (limit_at most_mem (limits.mem ∷ rest))
-    (λ mem. Ok (record { ops = limits.ops; tests = limits.tests; mem = mem.0 }, mem.1)) (limit_tells most_mem limits.mem rest) refl))
-
-array_count_tells : (count : ℕ) (rest : List ℕ) → Tells (array_count_flaws count) (count, rest) (array_count_at (count ∷ rest))
-unfolding array_count_at
-array_count_tells count rest = passes_tells (count ∷ rest) (array_count_flaws count) (count, rest)
-
-lengths_tell : (lengths : List ℕ) (before : ℕ) (rest : List ℕ) → AllByRecursion (λ n. n < 2 ^ 32) lengths
-    → Tells (lengths_flaws before lengths) (lengths, rest) (lengths_at (length lengths) before (flat_map u32_text lengths ++ rest))
-unfolding lengths_at
-lengths_tell [] before rest fits = refl
-lengths_tell (n ∷ lengths) before rest fits =
-    let tail : List ℕ = flat_map u32_text lengths ++ rest in
-    let bytes : List ℕ = u32_text n ++ tail in
-    let fs : List Flaw = lengths_flaws before (n ∷ lengths) in
-    subst (λ (t : List ℕ). Tells fs (n ∷ lengths, rest) (lengths_at (suc (length lengths)) before t)) (sym (append_assoc (u32_text n) (flat_map u32_text lengths) rest))
-    (tells_next fs (n, tail) (n ∷ lengths, rest) (number_at w32 bytes)
-    (λ e. at_field bytes (checked (length_flaws before e.0) (before + e.0)) >>= λ total. lengths_at (length lengths) total e.1 >>= λ others. Ok (e.0 ∷ others.0, others.1))
-    (number_again w32 (2 ^ 32) wide32 n tail fits.0)
-    (tells_then (length_flaws before n) (lengths_flaws (before + n) lengths) (before + n) (n ∷ lengths, rest) (at_field bytes (checked (length_flaws before n) (before + n)))
-    (λ total. lengths_at (length lengths) total tail >>= λ others. Ok (n ∷ others.0, others.1)) (field_tells bytes (length_flaws before n) (before + n)) (λ none.
-    tells_last (lengths_flaws (before + n) lengths) (lengths, rest) (n ∷ lengths, rest) (lengths_at (length lengths) (before + n) tail) (λ others. Ok (n ∷ others.0, others.1))
-    (lengths_tell lengths (before + n) rest fits.1) refl)))
-
-row_count_tells : (count : ℕ) (rest : List ℕ) → count < 2 ^ 32 → Tells (row_count_flaws count) (count, rest) (row_count_at (u32_text count ++ rest))
-unfolding row_count_at
-row_count_tells count rest few =
-    let bytes : List ℕ = u32_text count ++ rest in
-    tells_next (row_count_flaws count) (count, rest) (count, rest) (number_at w32 bytes) (λ n. unflawed bytes (row_count_flaws n.0) >> Ok n) (number_again w32 (2 ^ 32) wide32 count rest few)
-    (passes_tells bytes (row_count_flaws count) (count, rest))
-
--- the header of a code
-abbrev shape_of : RowCode → Header
-shape_of code = record { limits = code.limits; arrays = code.arrays; rows = length code.rows }
-
-header_tells : (code : RowCode) (rest : List ℕ) → HasCounts code → Tells (header_flaws code) (shape_of code, rest) (header_at (header_text code ++ rest))
-unfolding header_at
-header_tells code rest counts =
-    let rows : List ℕ = u32_text (length code.rows) ++ rest in
-    let arrays : List ℕ = flat_map u32_text code.arrays ++ rows in
-    let count : List ℕ = length code.arrays ∷ arrays in
-    let got : Header × List ℕ = (shape_of code, rest) in
-    subst (λ (t : List ℕ). Tells (header_flaws code) got (header_at (0x50 ∷ 0x54 ∷ 0x56 ∷ 0x31 ∷ code.limits.ops ∷ code.limits.tests ∷ code.limits.mem ∷ length code.arrays ∷ t)))
-    (sym (append_assoc (flat_map u32_text code.arrays) (u32_text (length code.rows)) rest))
-    (tells_then (limits_flaws code.limits) (array_count_flaws (length code.arrays) ++ (lengths_flaws 0 code.arrays ++ row_count_flaws (length code.rows))) (code.limits, count) got
-    (limits_at (code.limits.ops ∷ code.limits.tests ∷ code.limits.mem ∷ count))
-    (λ limits. array_count_at limits.1 >>= λ count. lengths_at count.0 0 count.1 >>= λ arrays. row_count_at arrays.1 >>= λ rows. Ok
-    (record { limits = limits.0; arrays = arrays.0; rows = rows.0 }, rows.1))
-    (limits_tell code.limits count) (λ none.
-    tells_then (array_count_flaws (length code.arrays)) (lengths_flaws 0 code.arrays ++ row_count_flaws (length code.rows)) (length code.arrays, arrays) got (array_count_at count)
-    (λ count. lengths_at count.0 0 count.1 >>= λ arrays. row_count_at arrays.1 >>= λ rows. Ok (record { limits = code.limits; arrays = arrays.0; rows = rows.0 }, rows.1))
-    (array_count_tells (length code.arrays) arrays) (λ none2.
-    tells_then (lengths_flaws 0 code.arrays) (row_count_flaws (length code.rows)) (code.arrays, rows) got (lengths_at (length code.arrays) 0 arrays)
-    (λ arrays. row_count_at arrays.1 >>= λ rows. Ok (record { limits = code.limits; arrays = arrays.0; rows = rows.0 }, rows.1)) (lengths_tell code.arrays 0 rows counts.lengths) (λ none3.
-    tells_last (row_count_flaws (length code.rows)) (length code.rows, rest) got (row_count_at rows)
-    (λ rows. Ok (record { limits = code.limits; arrays = code.arrays; rows = rows.0 }, rows.1)) (row_count_tells (length code.rows) rest counts.few_rows) refl))))
-
 -- ---- the whole
+
+has_storage_text : (object : CodeWithNotes) → HasWords object → HasCounts object.code → HasStorageText object.code.registers object.code.arrays object.code.initial
+has_storage_text object words counts =
+    record { few_registers = counts.registers; lengths = counts.lengths; lists = counts.lists; counts = counts.counts; words = words.initial }
 
 -- the text of a code with flaws is refused for the first
 object_stops : (object : CodeWithNotes) → HasWords object → HasCounts object.code → Stops (flaws_of object.code) (object_at (object_text object))
@@ -352,14 +238,13 @@ object_stops object words counts =
     let in_rows : List Flaw = flat_map (row_flaws (bounds_of code) no_counts nothing_above) code.rows in
     stops_then (header_flaws code) in_rows (shape_of code, rows) (header_at (header_text code ++ rows))
     (λ header. rows_at (header_bounds header.0) header.0.rows header.1 >>= λ rows. number_at w16 rows.1 >>= λ count. notes_at count.0 count.1 >>= λ notes. end_at notes.1
-    >> Ok (record { code = record { limits = header.0.limits; arrays = header.0.arrays; rows = rows.0 }; notes = notes.0 }))
-    (header_tells code rows counts) (λ none.
-    let limits = limits_sound code.limits (nil_parts (limits_flaws code.limits)
-    (array_count_flaws (length code.arrays) ++ (lengths_flaws 0 code.arrays ++ row_count_flaws (length code.rows))) none).0 in
+    >> Ok (record { code = code_with header.0 rows.0; notes = notes.0 }))
+    (header_tells code rows (has_storage_text object words counts) counts.few_rows) (λ none.
+    let limits = limits_sound code.limits ((nil_parts (limits_flaws code.limits) _ none).0) in
     let deep : room (bounds_of code) no_counts < deepest = omega (arith, limits.ops.1, limits.tests.1) in
     stops_here in_rows (code.rows, notes) (rows_at (bounds_of code) (length code.rows) rows)
     (λ rows. number_at w16 rows.1 >>= λ count. notes_at count.0 count.1 >>= λ notes. end_at notes.1 >> Ok
-    (record { code = record { limits = code.limits; arrays = code.arrays; rows = rows.0 }; notes = notes.0 }))
+    (record { code = code_with (shape_of code) rows.0; notes = notes.0 }))
     (rows_tell (bounds_of code) code.rows notes (omega (arith, counts.few_rows)) deep words.rows counts.targets))
 
 -- the flaw that stands first is the one that is told

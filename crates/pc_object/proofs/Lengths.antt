@@ -1,6 +1,7 @@
 -- Texts have as many bytes as is said of them.
-use Rattle.std.proofs.Common.{◌≡◌, ℕ, ◌+◌, ◌*◌, List, [], ◌∷◌, ◌++◌, length, refl, arith}
-use Rattle.std.specs.List.{flat_map}
+use Rattle.std.proofs.Common.{◌≡◌, ℕ, ℤ, ◌+◌, ◌*◌, List, [], ◌∷◌, ◌++◌, length, refl, arith}
+use Rattle.std.specs.List.{flat_map, sum_by}
+use Rattle.std.proofs.lemmas.List.Sums.{sum_by-cons}
 use Rattle.std.proofs.lemmas.List.{length-append}
 use Rattle.pc_word.specs.declared.item.Item.{Item}
 use Rattle.pc_word.specs.declared.item.Item.TheVariants.{Bin, Copy, Load, Store, Print, Read, More}
@@ -8,9 +9,11 @@ use Rattle.pc_word.specs.declared.item.Operand.{Operand}
 use Rattle.pc_word.specs.declared.item.Operand.TheVariants.{Name, Lit}
 use Rattle.pc_word.specs.Row.{Either}
 use Rattle.pc_machine.specs.MachineCode.{CodeRow, RowCode}
+use Rattle.pc_object.specs.declared.version.Version.{Version}
+use Rattle.pc_object.specs.declared.version.Version.TheVariants.{Ptv1, Ptv2}
 use Rattle.pc_object.specs.declared.object.Note.{Note}
-use Rattle.pc_object.specs.ObjectText.{u32_text, operand_text, item_text, row_text, header_text, note_text, notes_text}
-use Rattle.pc_object.specs.Sizes.{operand_bytes, item_bytes, test_bytes, header_bytes, length_bytes, count_bytes, note_bytes}
+use Rattle.pc_object.specs.ObjectText.{u16_text, u32_text, word_text, data_text, version_of, header_text_in, operand_text, item_text, row_text, header_text, note_text, notes_text}
+use Rattle.pc_object.specs.Sizes.{operand_bytes, item_bytes, test_bytes, header_bytes, length_bytes, data_bytes, initial_bytes, count_bytes, note_bytes}
 use Rattle.pc_object.specs.Laws.{SizesAreLengths}
 
 -- ---- parts of a row
@@ -51,11 +54,43 @@ lengths_length (n ∷ lengths) =
     let rest = lengths_length lengths in
     omega (arith, both, rest)
 
-header_length : (code : RowCode) → length (header_text code) ≡ header_bytes + length_bytes * length code.arrays
-header_length code =
-    let both = length-append (flat_map u32_text code.arrays) (u32_text (length code.rows)) in
-    let arrays = lengths_length code.arrays in
-    omega (arith, both, arrays)
+words_length : (words : List ℤ) → length (flat_map word_text words) ≡ 4 * length words
+words_length [] = refl
+words_length (word ∷ words) =
+    let both = length-append (word_text word) (flat_map word_text words) in
+    let rest = words_length words in
+    omega (arith, both, rest)
+
+data_length : (words : List ℤ) → length (data_text words) ≡ data_bytes words
+data_length words =
+    let both = length-append (u32_text (length words)) (flat_map word_text words) in
+    let each = words_length words in
+    omega (arith, both, each)
+
+initial_length : (initial : List (List ℤ)) → length (flat_map data_text initial) ≡ sum_by data_bytes initial
+initial_length [] = refl
+initial_length (words ∷ initial) =
+    let both = length-append (data_text words) (flat_map data_text initial) in
+    let one = data_length words in
+    let rest = initial_length initial in
+    let sum = sum_by-cons data_bytes words initial in
+    omega (arith, both, one, rest, sum)
+
+header_length : (code : RowCode) → length (header_text code) ≡ header_bytes (version_of code) + length_bytes * length code.arrays + initial_bytes (version_of code) code.initial
+header_length code = in_version (version_of code)
+  where
+    in_version : (version : Version) → length (header_text_in version code) ≡ header_bytes version + length_bytes * length code.arrays + initial_bytes version code.initial
+    in_version Ptv1 =
+        let both = length-append (flat_map u32_text code.arrays) (u32_text (length code.rows)) in
+        let arrays = lengths_length code.arrays in
+        omega (arith, both, arrays)
+    in_version Ptv2 =
+        let all = length-append (u16_text code.registers ++ (flat_map u32_text code.arrays ++ flat_map data_text code.initial)) (u32_text (length code.rows)) in
+        let front = length-append (u16_text code.registers) (flat_map u32_text code.arrays ++ flat_map data_text code.initial) in
+        let both = length-append (flat_map u32_text code.arrays) (flat_map data_text code.initial) in
+        let arrays = lengths_length code.arrays in
+        let initial = initial_length code.initial in
+        omega (arith, all, front, both, arrays, initial)
 
 each_note : (notes : List Note) → length (flat_map note_text notes) ≡ note_bytes * length notes
 each_note [] = refl

@@ -1,5 +1,8 @@
 pub mod DepthLaws
 pub mod FieldLaws
+pub mod HeaderLaws
+pub mod Tells
+pub mod HeaderTells
 pub mod Loop
 pub mod ObjectLaws
 pub mod ReadingLaws

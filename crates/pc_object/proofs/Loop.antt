@@ -1,5 +1,6 @@
 -- Reading so many things one after the other, as a loop does.
-use Rattle.std.proofs.Common.{Bool, true, false, not, ltb, length, drop, drop-cons, ◌≡◌, ℕ, suc, ◌+◌, ◌-◌, ◌<◌, ◌≤◌, List, [], ◌∷◌, ◌++◌, Result, Ok, Err, refl, sym, ap, ◌∙◌, append_assoc, arith}
+use Rattle.std.proofs.Common.{ℤ, get_or, zero, Bool, true, false, not, ltb, length, drop, drop-cons, ◌≡◌, ℕ, suc, ◌+◌, ◌-◌, ◌<◌, ◌≤◌, List, [], ◌∷◌, ◌++◌, Result, Ok, Err, refl, sym, ap, ◌∙◌, append_assoc, arith}
+use Rattle.std.proofs.Math.ListN.{drop_of_length-le}
 use Rattle.std.proofs.lemmas.List.{append-nil}
 use Rattle.std.proofs.lemmas.Bool.{ltb-false}
 use Rattle.pc_machine.specs.declared.code.Flaw.{Flaw}
@@ -16,7 +17,9 @@ use Rattle.pc_object.specs.declared.refusal.Halt.{Halt}
 use Rattle.pc_object.specs.declared.refusal.Halt.TheVariants as halts
 use Rattle.pc_word.specs.Exact.{IsRefusal}
 use Rattle.pc_object.specs.models.HaltCause.{halt_cause}
-use Rattle.pc_object.specs.Reading.{◌>>=◌, at_field, magic_at, number_at, lengths_at, row_at, rows_at, note_at, notes_at, deepest}
+use Rattle.pc_object.specs.Reading.{◌>>=◌, at_field, magic_at, number_at, lengths_at, data_word_at, words_at, data_at, each_data_at, row_at, rows_at, note_at, notes_at, deepest}
+use Rattle.std.specs.Prelude.{nat_eq}
+use Rattle.std.proofs.lemmas.Bool.Decides.{nat_tests}
 use Rattle.std.specs.Int.{w32}
 use Rattle.pc_word.specs.MachineLimits.{most_elements, most_length}
 
@@ -27,6 +30,10 @@ with_front front read = read >>= λ x. Ok (front ++ x.0, x.1)
 regroup : {X : Type 0} (front : List X) (n : X) (read : Result (List X × List ℕ) Refusal) → with_front front (read >>= λ x. Ok (n ∷ x.0, x.1)) ≡ with_front (front ++ n ∷ []) read
 regroup front n (Ok x) = ap (λ (ns : List _). Ok (ns, x.1)) (simp append_assoc)
 regroup front n (Err f) = refl
+
+-- whether a place is the last of so many
+is_last : (count i : ℕ) → i < count → nat_eq (count - (i + 1)) 0 ≡ nat_eq (i + 1) count
+is_last count i lt = grind (arith, nat_tests)
 
 -- ---- lengths
 
@@ -67,6 +74,65 @@ unfolding lengths_at
 lengths_done front count i before bytes all le so_far =
     let k : count - i ≡ 0 = omega arith in
     let one : with_front front (lengths_at (count - i) before bytes) ≡ Ok (front, bytes) = rw k (ap (λ (ns : List ℕ). Ok (ns, bytes)) (append-nil front)) in
+    sym so_far ∙ one
+
+-- ---- the words of an array
+
+pub words_go_on : (front : List ℤ) (count i : ℕ) (bytes : List ℕ) (word : ℤ) (after : List ℕ) (all : Result (List ℤ × List ℕ) Refusal) → i < count
+    → data_word_at (nat_eq (i + 1) count) bytes ≡ Ok (word, after)
+    → with_front front (words_at (count - i) bytes) ≡ all → with_front (front ++ word ∷ []) (words_at (count - (i + 1)) after) ≡ all
+unfolding words_at
+words_go_on front count i bytes word after all lt h so_far =
+    let k : count - i ≡ suc (count - (i + 1)) = omega arith in
+    let last : nat_eq (count - (i + 1)) 0 ≡ nat_eq (i + 1) count = is_last count i lt in
+    let one : with_front front (words_at (count - i) bytes) ≡ with_front (front ++ word ∷ []) (words_at (count - (i + 1)) after) =
+    rw (k, last, h) (regroup front word (words_at (count - (i + 1)) after)) in
+    sym one ∙ so_far
+
+pub words_end : (halt : Halt) (front : List ℤ) (count i : ℕ) (bytes : List ℕ) (all : Result (List ℤ × List ℕ) Refusal) → i < count
+    → IsRefusal (halt_cause halt) (data_word_at (nat_eq (i + 1) count) bytes)
+    → with_front front (words_at (count - i) bytes) ≡ all → IsRefusal (halt_cause halt) all
+unfolding words_at
+words_end halts.Memory front count i bytes all lt h so_far = tt
+words_end (halts.Refused f) front count i bytes all lt h so_far =
+    let k : count - i ≡ suc (count - (i + 1)) = omega arith in
+    let last : nat_eq (count - (i + 1)) 0 ≡ nat_eq (i + 1) count = is_last count i lt in
+    let one : with_front front (words_at (count - i) bytes) ≡ Err f = rw (k, last, h) refl in
+    sym so_far ∙ one
+
+pub words_done : (front : List ℤ) (count i : ℕ) (bytes : List ℕ) (all : Result (List ℤ × List ℕ) Refusal) → count ≤ i → with_front front (words_at (count - i) bytes) ≡ all
+    → all ≡ Ok (front, bytes)
+unfolding words_at
+words_done front count i bytes all le so_far =
+    let k : count - i ≡ 0 = omega arith in
+    let one : with_front front (words_at (count - i) bytes) ≡ Ok (front, bytes) = rw k (ap (λ (ns : List ℤ). Ok (ns, bytes)) (append-nil front)) in
+    sym so_far ∙ one
+
+-- ---- the data of each array
+
+pub each_data_goes_on : (front : List (List ℤ)) (lengths : List ℕ) (i : ℕ) (bytes : List ℕ) (words : List ℤ) (after : List ℕ) (all : Result (List (List ℤ) × List ℕ) Refusal) → i < length lengths
+    → data_at (get_or lengths i 0) bytes ≡ Ok (words, after)
+    → with_front front (each_data_at (drop i lengths) bytes) ≡ all → with_front (front ++ words ∷ []) (each_data_at (drop (suc i) lengths) after) ≡ all
+unfolding each_data_at
+each_data_goes_on front lengths i bytes words after all lt h so_far =
+    let one : with_front front (each_data_at (drop i lengths) bytes) ≡ with_front (front ++ words ∷ []) (each_data_at (drop (suc i) lengths) after) =
+    rw (drop-cons lengths i 0 lt, h) (regroup front words (each_data_at (drop (suc i) lengths) after)) in
+    sym one ∙ so_far
+
+pub each_data_ends : (halt : Halt) (front : List (List ℤ)) (lengths : List ℕ) (i : ℕ) (bytes : List ℕ) (all : Result (List (List ℤ) × List ℕ) Refusal) → i < length lengths
+    → IsRefusal (halt_cause halt) (data_at (get_or lengths i 0) bytes)
+    → with_front front (each_data_at (drop i lengths) bytes) ≡ all → IsRefusal (halt_cause halt) all
+unfolding each_data_at
+each_data_ends halts.Memory front lengths i bytes all lt h so_far = tt
+each_data_ends (halts.Refused f) front lengths i bytes all lt h so_far =
+    let one : with_front front (each_data_at (drop i lengths) bytes) ≡ Err f = rw (drop-cons lengths i 0 lt, h) refl in
+    sym so_far ∙ one
+
+pub each_data_done : (front : List (List ℤ)) (lengths : List ℕ) (i : ℕ) (bytes : List ℕ) (all : Result (List (List ℤ) × List ℕ) Refusal) → length lengths ≤ i
+    → with_front front (each_data_at (drop i lengths) bytes) ≡ all → all ≡ Ok (front, bytes)
+unfolding each_data_at
+each_data_done front lengths i bytes all le so_far =
+    let one : with_front front (each_data_at (drop i lengths) bytes) ≡ Ok (front, bytes) = rw (drop_of_length-le lengths le) (ap (λ (ns : List (List ℤ)). Ok (ns, bytes)) (append-nil front)) in
     sym so_far ∙ one
 
 -- ---- rows

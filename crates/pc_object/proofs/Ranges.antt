@@ -1,9 +1,13 @@
 -- What a well-formed object has: registers, arrays and targets that are there, and few rows.
-use Rattle.std.proofs.Common.{◌≡◌, ℕ, ◌^◌, ◌<◌, ◌≤◌, List, [], ◌∷◌, ◌++◌, length, All, refl, arith, length-append}
+use Rattle.std.proofs.Common.{◌≡◌, inl, inr, ℤ, ℕ, ◌^◌, ◌<◌, ◌≤◌, List, [], ◌∷◌, ◌++◌, length, All, refl, arith, length-append}
+use Rattle.std.specs.Prelude.{FitsSigned}
+use Rattle.std.specs.Int.{w32}
 use Rattle.std.specs.List.{flat_map, AllByRecursion}
 use Rattle.std.proofs.lemmas.List.Elements.{All-from_recursion, recursion_from_All}
 use Rattle.pc_word.specs.declared.item.Item.{Item}
 use Rattle.pc_word.specs.declared.item.Item.TheVariants.{Bin, Copy, Load, Store, Print, Read, More}
+use Rattle.pc_word.specs.declared.item.Operand.{Operand}
+use Rattle.pc_word.specs.declared.item.Operand.TheVariants.{Name, Lit}
 use Rattle.pc_word.specs.declared.item.Limits.{Limits}
 use Rattle.pc_word.specs.declared.row_tree.RowTree.{RowTree}
 use Rattle.pc_machine.specs.declared.tree.Leaf.{Leaf}
@@ -14,50 +18,71 @@ use Rattle.pc_machine.specs.WellFormed.{IsOperand, IsItem, IsLeaf, IsRow}
 use Rattle.pc_object.specs.declared.object.Object.{Object}
 use Rattle.pc_object.specs.ObjectText.{CodeWithNotes, row_text, item_text, header_text, notes_text, object_of, IsObject}
 use Rattle.pc_object.specs.models.InRange.{IsInRange}
-use Rattle.pc_object.specs.Numbers.{RowNumbersFit, NoteFits, HasWords}
+use Rattle.pc_object.specs.Numbers.{RowNumbersFit, NoteFits, WordsFit, HasWords}
 use Rattle.pc_word.proofs.Lists.{all_front, all_back}
-use Rattle.pc_word.specs.MachineLimits.{most_arrays}
+use Rattle.pc_word.specs.MachineLimits.{most_arrays, most_length}
+use Rattle.pc_machine.specs.Registers.{most_registers, IsRegisterCount}
+use Rattle.pc_machine.specs.WellFormed.{AreData}
+use Rattle.pc_word.specs.Ranges.{IsBetween}
 
 -- ---- registers, arrays and targets
 
--- what is there of few arrays is there of more
-pub item_of_more : (few many : ℕ) (item : Item) → few ≤ many → IsItem few item → IsItem many item
-item_of_more few many (Bin op dest left right) le h = h
-item_of_more few many (Copy dest from) le h = h
-item_of_more few many (Load dest array index) le h = (h.0, omega arith, h.2)
-item_of_more few many (Store array index value) le h = (omega arith, h.1, h.2)
-item_of_more few many (Print value) le h = h
-item_of_more few many (Read dest) le h = h
-item_of_more few many (More dest) le h = h
+-- what is there of few is there of more
+operand_of_more : (few many : ℕ) (operand : Operand) → few ≤ many → IsOperand few operand → IsOperand many operand
+operand_of_more few many (Name register) le h = omega arith
+operand_of_more few many (Lit value) le h = tt
+
+pub item_of_more : (registers arrays more many : ℕ) (item : Item) → registers ≤ more → arrays ≤ many → IsItem registers arrays item → IsItem more many item
+item_of_more registers arrays more many (Bin op dest left right) le le2 h = (omega arith, operand_of_more registers more left le h.1, operand_of_more registers more right le h.2)
+item_of_more registers arrays more many (Copy dest from) le le2 h = (omega arith, operand_of_more registers more from le h.1)
+item_of_more registers arrays more many (Load dest array index) le le2 h = (omega arith, omega arith, operand_of_more registers more index le h.2)
+item_of_more registers arrays more many (Store array index value) le le2 h = (omega arith, operand_of_more registers more index le h.1, operand_of_more registers more value le h.2)
+item_of_more registers arrays more many (Print value) le le2 h = operand_of_more registers more value le h
+item_of_more registers arrays more many (Read dest) le le2 h = omega arith
+item_of_more registers arrays more many (More dest) le le2 h = omega arith
 
 leaf_of_more : (few many : ℕ) (leaf : Leaf) → few ≤ many → IsLeaf few leaf → IsLeaf many leaf
 leaf_of_more few many (Goto row) le h = omega arith
 leaf_of_more few many Stop le h = tt
 leaf_of_more few many (Trap kind line) le h = tt
 
-pub range_of_more : (arrays rows some many : ℕ) (row : CodeRow) → arrays ≤ some → rows ≤ many → IsInRange arrays rows row → IsInRange some many row
-range_of_more arrays rows some many (Then item rest) le le2 h = (item_of_more arrays some item le h.0, range_of_more arrays rows some many rest le le2 h.1)
-range_of_more arrays rows some many (Either on on_yes on_no) le le2 h = (h.0, range_of_more arrays rows some many on_yes le le2 h.1, range_of_more arrays rows some many on_no le le2 h.2)
-range_of_more arrays rows some many (At_leaf leaf) le le2 h = leaf_of_more rows many leaf le2 h
+pub range_of_more : (registers arrays rows more some many : ℕ) (row : CodeRow) → registers ≤ more → arrays ≤ some → rows ≤ many → IsInRange registers arrays rows row
+    → IsInRange more some many row
+range_of_more registers arrays rows more some many (Then item rest) le le2 le3 h =
+    (item_of_more registers arrays more some item le le2 h.0, range_of_more registers arrays rows more some many rest le le2 le3 h.1)
+range_of_more registers arrays rows more some many (Either on on_yes on_no) le le2 le3 h = (
+  operand_of_more registers more on le h.0,
+  range_of_more registers arrays rows more some many on_yes le le2 le3 h.1,
+  range_of_more registers arrays rows more some many on_no le le2 le3 h.2,
+)
+range_of_more registers arrays rows more some many (At_leaf leaf) le le2 le3 h = leaf_of_more rows many leaf le3 h
 
 -- the lists of a row say the same of its tree
-pub range_from_lists : (arrays rows : ℕ) (row : CodeRow) → AllByRecursion (IsItem arrays) (items_of row) → AllByRecursion IsOperand (tests_of row)
-    → AllByRecursion (IsLeaf rows) (leaves_of row) → IsInRange arrays rows row
-range_from_lists arrays rows (Then item rest) items tests leaves = (items.0, range_from_lists arrays rows rest items.1 tests leaves)
-range_from_lists arrays rows (Either on on_yes on_no) items tests leaves = (
+pub range_from_lists : (registers arrays rows : ℕ) (row : CodeRow) → AllByRecursion (IsItem registers arrays) (items_of row) → AllByRecursion (IsOperand registers) (tests_of row)
+    → AllByRecursion (IsLeaf rows) (leaves_of row) → IsInRange registers arrays rows row
+range_from_lists registers arrays rows (Then item rest) items tests leaves = (items.0, range_from_lists registers arrays rows rest items.1 tests leaves)
+range_from_lists registers arrays rows (Either on on_yes on_no) items tests leaves = (
   tests.0,
-  range_from_lists arrays rows on_yes (all_front (IsItem arrays) (items_of on_yes) (items_of on_no) items)
-      (all_front IsOperand (tests_of on_yes) (tests_of on_no) tests.1) (all_front (IsLeaf rows) (leaves_of on_yes) (leaves_of on_no) leaves),
-  range_from_lists arrays rows on_no (all_back (IsItem arrays) (items_of on_yes) (items_of on_no) items)
-      (all_back IsOperand (tests_of on_yes) (tests_of on_no) tests.1) (all_back (IsLeaf rows) (leaves_of on_yes) (leaves_of on_no) leaves),
+  range_from_lists registers arrays rows on_yes (all_front (IsItem registers arrays) (items_of on_yes) (items_of on_no) items)
+      (all_front (IsOperand registers) (tests_of on_yes) (tests_of on_no) tests.1) (all_front (IsLeaf rows) (leaves_of on_yes) (leaves_of on_no) leaves),
+  range_from_lists registers arrays rows on_no (all_back (IsItem registers arrays) (items_of on_yes) (items_of on_no) items)
+      (all_back (IsOperand registers) (tests_of on_yes) (tests_of on_no) tests.1) (all_back (IsLeaf rows) (leaves_of on_yes) (leaves_of on_no) leaves),
 )
-range_from_lists arrays rows (At_leaf leaf) items tests leaves = leaves.0
+range_from_lists registers arrays rows (At_leaf leaf) items tests leaves = leaves.0
 
-ranges_of : (limits : Limits) (arrays rows : ℕ) (trees : List (RowTree Leaf)) → arrays ≤ most_arrays → rows ≤ 2 ^ 32 → AllByRecursion (IsRow limits arrays rows) (rows_of trees)
-    → AllByRecursion (λ tree. IsInRange most_arrays (2 ^ 32) (row_of tree)) trees
-ranges_of limits arrays rows [] le le2 h = tt
-ranges_of limits arrays rows (tree ∷ trees) le le2 h =
-    (range_of_more arrays rows most_arrays (2 ^ 32) (row_of tree) le le2 (range_from_lists arrays rows (row_of tree) h.0.items h.0.operands h.0.leaves), ranges_of limits arrays rows trees le le2 h.1)
+ranges_of : (limits : Limits) (registers arrays rows : ℕ) (trees : List (RowTree Leaf)) → registers ≤ most_registers → arrays ≤ most_arrays → rows ≤ 2 ^ 32
+    → AllByRecursion (IsRow limits registers arrays rows) (rows_of trees)
+    → AllByRecursion (λ tree. IsInRange most_registers most_arrays (2 ^ 32) (row_of tree)) trees
+ranges_of limits registers arrays rows [] le le2 le3 h = tt
+ranges_of limits registers arrays rows (tree ∷ trees) le le2 le3 h = (
+  range_of_more registers arrays rows most_registers most_arrays (2 ^ 32) (row_of tree) le le2 le3 (range_from_lists registers arrays rows (row_of tree) h.0.items h.0.operands h.0.leaves),
+  ranges_of limits registers arrays rows trees le le2 le3 h.1,
+)
+
+-- a code's registers are at most the most
+pub registers_below : (registers : ℕ) → IsRegisterCount registers → registers ≤ most_registers
+registers_below registers (inl few) = omega (arith, few)
+registers_below registers (inr most) = omega (arith, most)
 
 -- ---- how many rows
 
@@ -101,11 +126,37 @@ rows_below object h =
 pub few_rows : (object : Object) → IsObject (object_of object) → length object.code.rows < 2 ^ 32
 few_rows object h = omega (arith, rows_below (object_of object) h, length-rows_of object.code.rows)
 
-pub all_in_range : (object : Object) → IsObject (object_of object) → All (λ tree. IsInRange most_arrays (2 ^ 32) (row_of tree)) object.code.rows
+pub all_in_range : (object : Object) → IsObject (object_of object) → All (λ tree. IsInRange most_registers most_arrays (2 ^ 32) (row_of tree)) object.code.rows
 all_in_range object h =
-    All-from_recursion (λ tree. IsInRange most_arrays (2 ^ 32) (row_of tree)) object.code.rows
-    (ranges_of object.code.limits (length object.code.arrays) (length (rows_of object.code.rows)) object.code.rows h.code.arrays.count
+    All-from_recursion (λ tree. IsInRange most_registers most_arrays (2 ^ 32) (row_of tree)) object.code.rows
+    (ranges_of object.code.limits object.code.registers (length object.code.arrays) (length (rows_of object.code.rows)) object.code.rows
+    (registers_below object.code.registers h.code.registers) h.code.arrays.count
     (omega (arith, few_rows object h, length-rows_of object.code.rows)) h.code.rows)
+
+-- ---- the data of arrays
+
+-- a length that may be has four bytes
+pub lengths_below : (lengths : List ℕ) → AllByRecursion (IsBetween 1 most_length) lengths → AllByRecursion (λ n. n < 2 ^ 32) lengths
+lengths_below [] each = tt
+lengths_below (n ∷ lengths) each = (omega (arith, each.0.1), lengths_below lengths each.1)
+
+-- each array has its list of words
+pub as_many_lists : (lengths : List ℕ) (initial : List (List ℤ)) → AreData lengths initial → length initial ≡ length lengths
+as_many_lists [] [] are = refl
+as_many_lists [] (words ∷ initial) are = absurd are
+as_many_lists (elements ∷ lengths) [] are = absurd are
+as_many_lists (elements ∷ lengths) (words ∷ initial) are = let rest = as_many_lists lengths initial are.1 in omega (arith, rest)
+
+pub few_words_of : (lengths : List ℕ) (initial : List (List ℤ)) → AllByRecursion (IsBetween 1 most_length) lengths → AreData lengths initial → AllByRecursion (λ words. length words < 2 ^ 32) initial
+few_words_of [] [] each are = tt
+few_words_of [] (words ∷ initial) each are = absurd are
+few_words_of (elements ∷ lengths) [] each are = absurd are
+few_words_of (elements ∷ lengths) (words ∷ initial) each are = (omega (arith, are.0.fits, each.0.1), few_words_of lengths initial each.1 are.1)
+
+-- no array begins with too many words
+pub few_words : (object : Object) → IsObject (object_of object) → All (λ words. length words < 2 ^ 32) object.code.initial
+few_words object h =
+    All-from_recursion (λ words. length words < 2 ^ 32) object.code.initial (few_words_of object.code.arrays object.code.initial h.code.arrays.each h.code.initial)
 
 -- ---- words
 
@@ -113,8 +164,14 @@ rows_fit : (trees : List (RowTree Leaf)) → AllByRecursion (λ tree. RowNumbers
 rows_fit [] h = tt
 rows_fit (tree ∷ trees) h = (h.0, rows_fit trees h.1)
 
-pub has_words : (object : Object) → All (λ tree. RowNumbersFit (row_of tree)) object.code.rows → All NoteFits object.notes → HasWords (object_of object)
-has_words object rows notes = record {
+lists_fit : (initial : List (List ℤ)) → AllByRecursion (All (FitsSigned w32)) initial → AllByRecursion WordsFit initial
+lists_fit [] h = tt
+lists_fit (words ∷ initial) h = (recursion_from_All (FitsSigned w32) words h.0, lists_fit initial h.1)
+
+pub has_words : (object : Object) → All (All (FitsSigned w32)) object.code.initial → All (λ tree. RowNumbersFit (row_of tree)) object.code.rows → All NoteFits object.notes
+    → HasWords (object_of object)
+has_words object initial rows notes = record {
+  initial = lists_fit object.code.initial (recursion_from_All (All (FitsSigned w32)) object.code.initial initial);
   rows = rows_fit object.code.rows (recursion_from_All (λ tree. RowNumbersFit (row_of tree)) object.code.rows rows);
   notes = recursion_from_All NoteFits object.notes notes;
 }

@@ -88,127 +88,127 @@ effect_is (items.Read dest) = refl
 effect_is (items.More dest) = refl
 
 -- what the fields of a read item are
-pub record AreFields (arrays : ℕ) (above : Above) (kind : ItemKind) (bytes : List ℕ) (item : Item) (rest : List ℕ) : Type 0 where
+pub record AreFields (bounds : Bounds) (above : Above) (kind : ItemKind) (bytes : List ℕ) (item : Item) (rest : List ℕ) : Type 0 where
   pub kind_is : kind ≡ kind_of item
   pub takes : Takes bytes (fields_text item) rest
-  pub sound : field_flaws arrays above item ≡ []
+  pub sound : field_flaws bounds above item ≡ []
   pub fits : ItemNumbersFit item
 
-abbrev pub Fields : ℕ → Above → ItemKind → List ℕ → (Item × List ℕ) → Type 0
-Fields arrays above kind bytes read = AreFields arrays above kind bytes read.0 read.1
+abbrev pub Fields : Bounds → Above → ItemKind → List ℕ → (Item × List ℕ) → Type 0
+Fields bounds above kind bytes read = AreFields bounds above kind bytes read.0 read.1
 
-pub fields_take : (arrays : ℕ) (above : Above) (kind : ItemKind) (bytes : List ℕ) (read : Item × List ℕ) → IsBytes bytes → fields_at arrays above kind bytes ≡ Ok read
-    → Fields arrays above kind bytes read
+pub fields_take : (bounds : Bounds) (above : Above) (kind : ItemKind) (bytes : List ℕ) (read : Item × List ℕ) → IsBytes bytes → fields_at bounds above kind bytes ≡ Ok read
+    → Fields bounds above kind bytes read
 unfolding fields_at
-fields_take arrays above kinds.Bin bytes read fits e =
-    let a = bind_ok (operator_at bytes) (λ op. dest_at above op.1 >>= λ dest. operand_at dest.1 >>= λ left. operand_at left.1 >>= λ right. Ok (items.Bin op.0 dest.0 left.0 right.0, right.1)) read e in
-    let b = bind_ok (dest_at above a.0.1) (λ dest. operand_at dest.1 >>= λ left. operand_at left.1 >>= λ right. Ok (items.Bin a.0.0 dest.0 left.0 right.0, right.1)) read a.2 in
-    let c = bind_ok (operand_at b.0.1) (λ left. operand_at left.1 >>= λ right. Ok (items.Bin a.0.0 b.0.0 left.0 right.0, right.1)) read b.2 in
-    let d = bind_ok (operand_at c.0.1) (λ right. Ok (items.Bin a.0.0 b.0.0 c.0.0 right.0, right.1)) read c.2 in
+fields_take bounds above kinds.Bin bytes read fits e =
+    let a = bind_ok (operator_at bytes) (λ op. dest_at bounds.registers above op.1 >>= λ dest. operand_at bounds.registers dest.1 >>= λ left. operand_at bounds.registers left.1 >>= λ right. Ok (items.Bin op.0 dest.0 left.0 right.0, right.1)) read e in
+    let b = bind_ok (dest_at bounds.registers above a.0.1) (λ dest. operand_at bounds.registers dest.1 >>= λ left. operand_at bounds.registers left.1 >>= λ right. Ok (items.Bin a.0.0 dest.0 left.0 right.0, right.1)) read a.2 in
+    let c = bind_ok (operand_at bounds.registers b.0.1) (λ left. operand_at bounds.registers left.1 >>= λ right. Ok (items.Bin a.0.0 b.0.0 left.0 right.0, right.1)) read b.2 in
+    let d = bind_ok (operand_at bounds.registers c.0.1) (λ right. Ok (items.Bin a.0.0 b.0.0 c.0.0 right.0, right.1)) read c.2 in
     let ta = operator_takes bytes a.0.0 a.0.1 fits a.1 in
-    let tb = dest_takes above a.0.1 b.0.0 b.0.1 ta.rest_fits b.1 in
-    let tc = operand_takes b.0.1 c.0.0 c.0.1 tb.0.rest_fits c.1 in
-    let td = operand_takes c.0.1 d.0.0 d.0.1 tc.0.rest_fits d.1 in
+    let tb = dest_takes bounds.registers above a.0.1 b.0.0 b.0.1 ta.rest_fits b.1 in
+    let tc = operand_takes bounds.registers b.0.1 c.0.0 c.0.1 tb.0.rest_fits c.1 in
+    let td = operand_takes bounds.registers c.0.1 d.0.0 d.0.1 tc.0.rest_fits d.1 in
     let tcd = Takes-then b.0.1 (operand_text c.0.0) c.0.1 (operand_text d.0.0) d.0.1 tc.0 td.0 in
     let tbd = Takes-then a.0.1 (b.0.0 ∷ []) b.0.1 (operand_text c.0.0 ++ operand_text d.0.0) d.0.1 tb.0 tcd in
     let tad = Takes-then bytes (operator_byte a.0.0 ∷ []) a.0.1 (b.0.0 ∷ (operand_text c.0.0 ++ operand_text d.0.0)) d.0.1 ta tbd in
     let made : Item × List ℕ = (items.Bin a.0.0 b.0.0 c.0.0 d.0.0, d.0.1) in
-    subst (Fields arrays above kinds.Bin bytes) (ok_is made read d.2) (record {
+    subst (Fields bounds above kinds.Bin bytes) (ok_is made read d.2) (record {
       kind_is = refl;
       takes = tad;
-      sound = nil_joined (dest_flaws above b.0.0) (operand_flaws c.0.0 ++ operand_flaws d.0.0) tb.1 (nil_joined (operand_flaws c.0.0) (operand_flaws d.0.0) tc.1 td.1);
+      sound = nil_joined (dest_flaws bounds.registers above b.0.0) (operand_flaws bounds.registers c.0.0 ++ operand_flaws bounds.registers d.0.0) tb.1 (nil_joined (operand_flaws bounds.registers c.0.0) (operand_flaws bounds.registers d.0.0) tc.1 td.1);
       fits = (tc.2, td.2);
     })
-fields_take arrays above kinds.Copy bytes read fits e =
-    let a = bind_ok (dest_at above bytes) (λ dest. operand_at dest.1 >>= λ from. Ok (items.Copy dest.0 from.0, from.1)) read e in
-    let b = bind_ok (operand_at a.0.1) (λ from. Ok (items.Copy a.0.0 from.0, from.1)) read a.2 in
-    let ta = dest_takes above bytes a.0.0 a.0.1 fits a.1 in
-    let tb = operand_takes a.0.1 b.0.0 b.0.1 ta.0.rest_fits b.1 in
+fields_take bounds above kinds.Copy bytes read fits e =
+    let a = bind_ok (dest_at bounds.registers above bytes) (λ dest. operand_at bounds.registers dest.1 >>= λ from. Ok (items.Copy dest.0 from.0, from.1)) read e in
+    let b = bind_ok (operand_at bounds.registers a.0.1) (λ from. Ok (items.Copy a.0.0 from.0, from.1)) read a.2 in
+    let ta = dest_takes bounds.registers above bytes a.0.0 a.0.1 fits a.1 in
+    let tb = operand_takes bounds.registers a.0.1 b.0.0 b.0.1 ta.0.rest_fits b.1 in
     let made : Item × List ℕ = (items.Copy a.0.0 b.0.0, b.0.1) in
-    subst (Fields arrays above kinds.Copy bytes) (ok_is made read b.2) (record {
+    subst (Fields bounds above kinds.Copy bytes) (ok_is made read b.2) (record {
       kind_is = refl;
       takes = Takes-then bytes (a.0.0 ∷ []) a.0.1 (operand_text b.0.0) b.0.1 ta.0 tb.0;
-      sound = nil_joined (dest_flaws above a.0.0) (operand_flaws b.0.0) ta.1 tb.1;
+      sound = nil_joined (dest_flaws bounds.registers above a.0.0) (operand_flaws bounds.registers b.0.0) ta.1 tb.1;
       fits = tb.2;
     })
-fields_take arrays above kinds.Load bytes read fits e =
-    let a = bind_ok (dest_at above bytes) (λ dest. array_at arrays dest.1 >>= λ array. operand_at array.1 >>= λ index. Ok (items.Load dest.0 array.0 index.0, index.1)) read e in
-    let b = bind_ok (array_at arrays a.0.1) (λ array. operand_at array.1 >>= λ index. Ok (items.Load a.0.0 array.0 index.0, index.1)) read a.2 in
-    let c = bind_ok (operand_at b.0.1) (λ index. Ok (items.Load a.0.0 b.0.0 index.0, index.1)) read b.2 in
-    let ta = dest_takes above bytes a.0.0 a.0.1 fits a.1 in
-    let tb = array_takes arrays a.0.1 b.0.0 b.0.1 ta.0.rest_fits b.1 in
-    let tc = operand_takes b.0.1 c.0.0 c.0.1 tb.0.rest_fits c.1 in
+fields_take bounds above kinds.Load bytes read fits e =
+    let a = bind_ok (dest_at bounds.registers above bytes) (λ dest. array_at bounds.arrays dest.1 >>= λ array. operand_at bounds.registers array.1 >>= λ index. Ok (items.Load dest.0 array.0 index.0, index.1)) read e in
+    let b = bind_ok (array_at bounds.arrays a.0.1) (λ array. operand_at bounds.registers array.1 >>= λ index. Ok (items.Load a.0.0 array.0 index.0, index.1)) read a.2 in
+    let c = bind_ok (operand_at bounds.registers b.0.1) (λ index. Ok (items.Load a.0.0 b.0.0 index.0, index.1)) read b.2 in
+    let ta = dest_takes bounds.registers above bytes a.0.0 a.0.1 fits a.1 in
+    let tb = array_takes bounds.arrays a.0.1 b.0.0 b.0.1 ta.0.rest_fits b.1 in
+    let tc = operand_takes bounds.registers b.0.1 c.0.0 c.0.1 tb.0.rest_fits c.1 in
     let tbc = Takes-then a.0.1 (b.0.0 ∷ []) b.0.1 (operand_text c.0.0) c.0.1 tb.0 tc.0 in
     let made : Item × List ℕ = (items.Load a.0.0 b.0.0 c.0.0, c.0.1) in
-    subst (Fields arrays above kinds.Load bytes) (ok_is made read c.2) (record {
+    subst (Fields bounds above kinds.Load bytes) (ok_is made read c.2) (record {
       kind_is = refl;
       takes = Takes-then bytes (a.0.0 ∷ []) a.0.1 (b.0.0 ∷ operand_text c.0.0) c.0.1 ta.0 tbc;
-      sound = nil_joined (dest_flaws above a.0.0) (array_flaws arrays b.0.0 ++ operand_flaws c.0.0) ta.1 (nil_joined (array_flaws arrays b.0.0) (operand_flaws c.0.0) tb.1 tc.1);
+      sound = nil_joined (dest_flaws bounds.registers above a.0.0) (array_flaws bounds.arrays b.0.0 ++ operand_flaws bounds.registers c.0.0) ta.1 (nil_joined (array_flaws bounds.arrays b.0.0) (operand_flaws bounds.registers c.0.0) tb.1 tc.1);
       fits = tc.2;
     })
-fields_take arrays above kinds.Store bytes read fits e =
-    let a = bind_ok (array_at arrays bytes) (λ array. operand_at array.1 >>= λ index. operand_at index.1 >>= λ value. Ok (items.Store array.0 index.0 value.0, value.1)) read e in
-    let b = bind_ok (operand_at a.0.1) (λ index. operand_at index.1 >>= λ value. Ok (items.Store a.0.0 index.0 value.0, value.1)) read a.2 in
-    let c = bind_ok (operand_at b.0.1) (λ value. Ok (items.Store a.0.0 b.0.0 value.0, value.1)) read b.2 in
-    let ta = array_takes arrays bytes a.0.0 a.0.1 fits a.1 in
-    let tb = operand_takes a.0.1 b.0.0 b.0.1 ta.0.rest_fits b.1 in
-    let tc = operand_takes b.0.1 c.0.0 c.0.1 tb.0.rest_fits c.1 in
+fields_take bounds above kinds.Store bytes read fits e =
+    let a = bind_ok (array_at bounds.arrays bytes) (λ array. operand_at bounds.registers array.1 >>= λ index. operand_at bounds.registers index.1 >>= λ value. Ok (items.Store array.0 index.0 value.0, value.1)) read e in
+    let b = bind_ok (operand_at bounds.registers a.0.1) (λ index. operand_at bounds.registers index.1 >>= λ value. Ok (items.Store a.0.0 index.0 value.0, value.1)) read a.2 in
+    let c = bind_ok (operand_at bounds.registers b.0.1) (λ value. Ok (items.Store a.0.0 b.0.0 value.0, value.1)) read b.2 in
+    let ta = array_takes bounds.arrays bytes a.0.0 a.0.1 fits a.1 in
+    let tb = operand_takes bounds.registers a.0.1 b.0.0 b.0.1 ta.0.rest_fits b.1 in
+    let tc = operand_takes bounds.registers b.0.1 c.0.0 c.0.1 tb.0.rest_fits c.1 in
     let tbc = Takes-then a.0.1 (operand_text b.0.0) b.0.1 (operand_text c.0.0) c.0.1 tb.0 tc.0 in
     let made : Item × List ℕ = (items.Store a.0.0 b.0.0 c.0.0, c.0.1) in
-    subst (Fields arrays above kinds.Store bytes) (ok_is made read c.2) (record {
+    subst (Fields bounds above kinds.Store bytes) (ok_is made read c.2) (record {
       kind_is = refl;
       takes = Takes-then bytes (a.0.0 ∷ []) a.0.1 (operand_text b.0.0 ++ operand_text c.0.0) c.0.1 ta.0 tbc;
-      sound = nil_joined (array_flaws arrays a.0.0) (operand_flaws b.0.0 ++ operand_flaws c.0.0) ta.1 (nil_joined (operand_flaws b.0.0) (operand_flaws c.0.0) tb.1 tc.1);
+      sound = nil_joined (array_flaws bounds.arrays a.0.0) (operand_flaws bounds.registers b.0.0 ++ operand_flaws bounds.registers c.0.0) ta.1 (nil_joined (operand_flaws bounds.registers b.0.0) (operand_flaws bounds.registers c.0.0) tb.1 tc.1);
       fits = (tb.2, tc.2);
     })
-fields_take arrays above kinds.Print bytes read fits e =
-    let a = bind_ok (operand_at bytes) (λ value. Ok (items.Print value.0, value.1)) read e in
-    let ta = operand_takes bytes a.0.0 a.0.1 fits a.1 in
+fields_take bounds above kinds.Print bytes read fits e =
+    let a = bind_ok (operand_at bounds.registers bytes) (λ value. Ok (items.Print value.0, value.1)) read e in
+    let ta = operand_takes bounds.registers bytes a.0.0 a.0.1 fits a.1 in
     let made : Item × List ℕ = (items.Print a.0.0, a.0.1) in
-    subst (Fields arrays above kinds.Print bytes) (ok_is made read a.2) (record { kind_is = refl; takes = ta.0; sound = ta.1; fits = ta.2 })
-fields_take arrays above kinds.Read bytes read fits e =
-    let a = bind_ok (dest_at above bytes) (λ dest. Ok (items.Read dest.0, dest.1)) read e in
-    let ta = dest_takes above bytes a.0.0 a.0.1 fits a.1 in
+    subst (Fields bounds above kinds.Print bytes) (ok_is made read a.2) (record { kind_is = refl; takes = ta.0; sound = ta.1; fits = ta.2 })
+fields_take bounds above kinds.Read bytes read fits e =
+    let a = bind_ok (dest_at bounds.registers above bytes) (λ dest. Ok (items.Read dest.0, dest.1)) read e in
+    let ta = dest_takes bounds.registers above bytes a.0.0 a.0.1 fits a.1 in
     let made : Item × List ℕ = (items.Read a.0.0, a.0.1) in
-    subst (Fields arrays above kinds.Read bytes) (ok_is made read a.2) (record { kind_is = refl; takes = ta.0; sound = ta.1; fits = tt })
-fields_take arrays above kinds.More bytes read fits e =
-    let a = bind_ok (dest_at above bytes) (λ dest. Ok (items.More dest.0, dest.1)) read e in
-    let ta = dest_takes above bytes a.0.0 a.0.1 fits a.1 in
+    subst (Fields bounds above kinds.Read bytes) (ok_is made read a.2) (record { kind_is = refl; takes = ta.0; sound = ta.1; fits = tt })
+fields_take bounds above kinds.More bytes read fits e =
+    let a = bind_ok (dest_at bounds.registers above bytes) (λ dest. Ok (items.More dest.0, dest.1)) read e in
+    let ta = dest_takes bounds.registers above bytes a.0.0 a.0.1 fits a.1 in
     let made : Item × List ℕ = (items.More a.0.0, a.0.1) in
-    subst (Fields arrays above kinds.More bytes) (ok_is made read a.2) (record { kind_is = refl; takes = ta.0; sound = ta.1; fits = tt })
+    subst (Fields bounds above kinds.More bytes) (ok_is made read a.2) (record { kind_is = refl; takes = ta.0; sound = ta.1; fits = tt })
 
-fields_again : (arrays : ℕ) (above : Above) (item : Item) (rest : List ℕ) → field_flaws arrays above item ≡ [] → ItemNumbersFit item
-    → fields_at arrays above (kind_of item) (fields_text item ++ rest) ≡ Ok (item, rest)
+fields_again : (bounds : Bounds) (above : Above) (item : Item) (rest : List ℕ) → field_flaws bounds above item ≡ [] → ItemNumbersFit item
+    → fields_at bounds above (kind_of item) (fields_text item ++ rest) ≡ Ok (item, rest)
 unfolding fields_at
-fields_again arrays above (items.Bin op dest left right) rest none fits =
-    let p = nil_parts (dest_flaws above dest) (operand_flaws left ++ operand_flaws right) none in
-    let q = nil_parts (operand_flaws left) (operand_flaws right) p.1 in
+fields_again bounds above (items.Bin op dest left right) rest none fits =
+    let p = nil_parts (dest_flaws bounds.registers above dest) (operand_flaws bounds.registers left ++ operand_flaws bounds.registers right) none in
+    let q = nil_parts (operand_flaws bounds.registers left) (operand_flaws bounds.registers right) p.1 in
     rw (
       append_assoc (operand_text left) (operand_text right) rest,
       operator_again op (dest ∷ (operand_text left ++ (operand_text right ++ rest))),
-      dest_again above dest (operand_text left ++ (operand_text right ++ rest)) p.0,
-      operand_again left (operand_text right ++ rest) q.0 fits.0,
-      operand_again right rest q.1 fits.1,
+      dest_again bounds.registers above dest (operand_text left ++ (operand_text right ++ rest)) p.0,
+      operand_again bounds.registers left (operand_text right ++ rest) q.0 fits.0,
+      operand_again bounds.registers right rest q.1 fits.1,
     ) refl
-fields_again arrays above (items.Copy dest from) rest none fits =
-    let p = nil_parts (dest_flaws above dest) (operand_flaws from) none in
-    rw (dest_again above dest (operand_text from ++ rest) p.0, operand_again from rest p.1 fits) refl
-fields_again arrays above (items.Load dest array index) rest none fits =
-    let p = nil_parts (dest_flaws above dest) (array_flaws arrays array ++ operand_flaws index) none in
-    let q = nil_parts (array_flaws arrays array) (operand_flaws index) p.1 in
-    rw (dest_again above dest (array ∷ (operand_text index ++ rest)) p.0, array_again arrays array (operand_text index ++ rest) q.0, operand_again index rest q.1 fits) refl
-fields_again arrays above (items.Store array index value) rest none fits =
-    let p = nil_parts (array_flaws arrays array) (operand_flaws index ++ operand_flaws value) none in
-    let q = nil_parts (operand_flaws index) (operand_flaws value) p.1 in
+fields_again bounds above (items.Copy dest from) rest none fits =
+    let p = nil_parts (dest_flaws bounds.registers above dest) (operand_flaws bounds.registers from) none in
+    rw (dest_again bounds.registers above dest (operand_text from ++ rest) p.0, operand_again bounds.registers from rest p.1 fits) refl
+fields_again bounds above (items.Load dest array index) rest none fits =
+    let p = nil_parts (dest_flaws bounds.registers above dest) (array_flaws bounds.arrays array ++ operand_flaws bounds.registers index) none in
+    let q = nil_parts (array_flaws bounds.arrays array) (operand_flaws bounds.registers index) p.1 in
+    rw (dest_again bounds.registers above dest (array ∷ (operand_text index ++ rest)) p.0, array_again bounds.arrays array (operand_text index ++ rest) q.0, operand_again bounds.registers index rest q.1 fits) refl
+fields_again bounds above (items.Store array index value) rest none fits =
+    let p = nil_parts (array_flaws bounds.arrays array) (operand_flaws bounds.registers index ++ operand_flaws bounds.registers value) none in
+    let q = nil_parts (operand_flaws bounds.registers index) (operand_flaws bounds.registers value) p.1 in
     rw (
       append_assoc (operand_text index) (operand_text value) rest,
-      array_again arrays array (operand_text index ++ (operand_text value ++ rest)) p.0,
-      operand_again index (operand_text value ++ rest) q.0 fits.0,
-      operand_again value rest q.1 fits.1,
+      array_again bounds.arrays array (operand_text index ++ (operand_text value ++ rest)) p.0,
+      operand_again bounds.registers index (operand_text value ++ rest) q.0 fits.0,
+      operand_again bounds.registers value rest q.1 fits.1,
     ) refl
-fields_again arrays above (items.Print value) rest none fits = rw (operand_again value rest none fits) refl
-fields_again arrays above (items.Read dest) rest none fits = rw (dest_again above dest rest none) refl
-fields_again arrays above (items.More dest) rest none fits = rw (dest_again above dest rest none) refl
+fields_again bounds above (items.Print value) rest none fits = rw (operand_again bounds.registers value rest none fits) refl
+fields_again bounds above (items.Read dest) rest none fits = rw (dest_again bounds.registers above dest rest none) refl
+fields_again bounds above (items.More dest) rest none fits = rw (dest_again bounds.registers above dest rest none) refl
 
 -- ---- parts of rows
 
@@ -232,10 +232,10 @@ step_takes : (bounds : Bounds) (below : ReadsPart) → ReadsWell bounds below �
     → step_at bounds below more above kind rest ≡ Ok read → Part bounds counts above bytes read
 unfolding step_at
 step_takes bounds below well counts more above bytes kind rest read tag counted e =
-    let a = bind_ok (fields_at bounds.arrays above kind rest) (λ item. below more (above_with item.0 above) item.1 >>= λ next. Ok (Then item.0 next.0, next.1, next.2)) read e in
+    let a = bind_ok (fields_at bounds above kind rest) (λ item. below more (above_with item.0 above) item.1 >>= λ next. Ok (Then item.0 next.0, next.1, next.2)) read e in
     let b = bind_ok (below more (above_with a.0.0 above) a.0.1) (λ next. Ok (Then a.0.0 next.0, next.1, next.2)) read a.2 in
     let item = a.0.0 in
-    let f = fields_take bounds.arrays above kind rest a.0 tag.rest_fits a.1 in
+    let f = fields_take bounds above kind rest a.0 tag.rest_fits a.1 in
     let n = well more (above_with item above) a.0.1 b.0 f.takes.rest_fits b.1 in
     let k = checked_ok bytes (item_tag_flaws bounds.limits counts above (is_memory_kind kind) (is_effect_kind kind)) (counts_with_item (is_memory_kind kind) counts) more counted in
     let m : is_memory item ≡ is_memory_kind kind = sym (ap is_memory_kind f.kind_is ∙ memory_is item) in
@@ -252,7 +252,7 @@ step_takes bounds below well counts more above bytes kind rest read tag counted 
     subst (Part bounds counts above bytes) (ok_is made read b.2) (record {
       takes = Takes-then bytes (item_text item) a.0.1 (row_text b.0.0) b.0.2 item_takes n.takes;
       sound = nil_joined (item_flaws bounds counts above item) (row_flaws bounds (counts_with_item (is_memory item) counts) (above_with item above) b.0.0)
-          (nil_joined (item_tag_flaws bounds.limits counts above (is_memory item) (is_effect item)) (field_flaws bounds.arrays above item) tag_sound f.sound) below_sound;
+          (nil_joined (item_tag_flaws bounds.limits counts above (is_memory item) (is_effect item)) (field_flaws bounds above item) tag_sound f.sound) below_sound;
       fits = (f.fits, n.fits);
       counted = n.counted ∙ ap (counts_after b.0.0) more_is;
     })
@@ -260,13 +260,13 @@ step_takes bounds below well counts more above bytes kind rest read tag counted 
 -- after the tag of a test
 test_takes : (bounds : Bounds) (below : ReadsPart) → ReadsWell bounds below → (counts more : Counts) (above : Above) (bytes rest : List ℕ) (read : PartOfRow)
     → Takes bytes (tag_byte tags.Test ∷ []) rest → at_field bytes (counted_test bounds.limits counts) ≡ Ok more
-    → test_at below more above rest ≡ Ok read → Part bounds counts above bytes read
+    → test_at bounds below more above rest ≡ Ok read → Part bounds counts above bytes read
 unfolding test_at
 test_takes bounds below well counts more above bytes rest read tag counted e =
-    let a = bind_ok (operand_at rest) (λ on. below more above on.1 >>= λ on_yes. below on_yes.1 above on_yes.2 >>= λ on_no. Ok (Either on.0 on_yes.0 on_no.0, on_no.1, on_no.2)) read e in
+    let a = bind_ok (operand_at bounds.registers rest) (λ on. below more above on.1 >>= λ on_yes. below on_yes.1 above on_yes.2 >>= λ on_no. Ok (Either on.0 on_yes.0 on_no.0, on_no.1, on_no.2)) read e in
     let b = bind_ok (below more above a.0.1) (λ on_yes. below on_yes.1 above on_yes.2 >>= λ on_no. Ok (Either a.0.0 on_yes.0 on_no.0, on_no.1, on_no.2)) read a.2 in
     let c = bind_ok (below b.0.1 above b.0.2) (λ on_no. Ok (Either a.0.0 b.0.0 on_no.0, on_no.1, on_no.2)) read b.2 in
-    let o = operand_takes rest a.0.0 a.0.1 tag.rest_fits a.1 in
+    let o = operand_takes bounds.registers rest a.0.0 a.0.1 tag.rest_fits a.1 in
     let y = well more above a.0.1 b.0 o.0.rest_fits b.1 in
     let n = well b.0.1 above b.0.2 c.0 y.takes.rest_fits c.1 in
     let k = checked_ok bytes (test_tag_flaws bounds.limits counts) (counts_with_test counts) more counted in
@@ -279,7 +279,7 @@ test_takes bounds below well counts more above bytes rest read tag counted e =
     subst (Part bounds counts above bytes) (ok_is made read c.2) (record {
       takes = Takes-then bytes (0x10 ∷ []) rest (operand_text a.0.0 ++ (row_text b.0.0 ++ row_text c.0.0)) c.0.2 tag behind;
       sound = nil_joined (test_flaws bounds counts a.0.0) (row_flaws bounds (counts_with_test counts) above b.0.0 ++ row_flaws bounds (counts_after b.0.0 (counts_with_test counts)) above c.0.0)
-          (nil_joined (test_tag_flaws bounds.limits counts) (operand_flaws a.0.0) k.0 o.1)
+          (nil_joined (test_tag_flaws bounds.limits counts) (operand_flaws bounds.registers a.0.0) k.0 o.1)
           (nil_joined (row_flaws bounds (counts_with_test counts) above b.0.0) (row_flaws bounds (counts_after b.0.0 (counts_with_test counts)) above c.0.0) yes_sound no_sound);
       fits = (o.2, y.fits, n.fits);
       counted = n.counted ∙ ap (counts_after c.0.0) between;
@@ -325,7 +325,7 @@ behind_takes bounds below well counts above bytes tags.Stop rest read tag e =
     subst (Part bounds counts above bytes) (ok_is (At_leaf Stop, counts, rest) read e) (leaf_part bounds counts above bytes Stop rest tag refl tt)
 behind_takes bounds below well counts above bytes tags.Trap rest read tag e = trap_row_takes bounds counts above bytes rest read tag e
 behind_takes bounds below well counts above bytes tags.Test rest read tag e =
-    let a = bind_ok (at_field bytes (counted_test bounds.limits counts)) (λ more. test_at below more above rest) read e in
+    let a = bind_ok (at_field bytes (counted_test bounds.limits counts)) (λ more. test_at bounds below more above rest) read e in
     test_takes bounds below well counts a.0 above bytes rest read tag a.1 a.2
 behind_takes bounds below well counts above bytes (tags.Item kind) rest read tag e =
     let a = bind_ok (at_field bytes (counted_item bounds.limits counts above (is_memory_kind kind) (is_effect_kind kind))) (λ more. step_at bounds below more above kind rest) read e in
@@ -369,22 +369,22 @@ unfolding behind_tag
 at_item bounds below counts above bytes kind rest none = rw none refl
 
 at_step : (bounds : Bounds) (below : ReadsPart) (counts : Counts) (above : Above) (kind : ItemKind) (bytes : List ℕ) (item : Item) (rest : List ℕ) (next : CodeRow) (after : Counts) (end : List ℕ)
-    → fields_at bounds.arrays above kind bytes ≡ Ok (item, rest) → below counts (above_with item above) rest ≡ Ok (next, after, end)
+    → fields_at bounds above kind bytes ≡ Ok (item, rest) → below counts (above_with item above) rest ≡ Ok (next, after, end)
     → step_at bounds below counts above kind bytes ≡ Ok (Then item next, after, end)
 unfolding step_at
 at_step bounds below counts above kind bytes item rest next after end h k = rw (h, k) refl
 
 at_test : (bounds : Bounds) (below : ReadsPart) (counts : Counts) (above : Above) (bytes rest : List ℕ) → test_tag_flaws bounds.limits counts ≡ []
-    → behind_tag bounds below counts above bytes tags.Test rest ≡ test_at below (counts_with_test counts) above rest
+    → behind_tag bounds below counts above bytes tags.Test rest ≡ test_at bounds below (counts_with_test counts) above rest
 unfolding behind_tag
 at_test bounds below counts above bytes rest none = rw none refl
 
-at_sides : (below : ReadsPart) (counts : Counts) (above : Above) (bytes : List ℕ) (on : Operand) (rest : List ℕ) (on_yes : CodeRow) (between : Counts) (more : List ℕ) (on_no : CodeRow)
+at_sides : (bounds : Bounds) (below : ReadsPart) (counts : Counts) (above : Above) (bytes : List ℕ) (on : Operand) (rest : List ℕ) (on_yes : CodeRow) (between : Counts) (more : List ℕ) (on_no : CodeRow)
     (after : Counts) (end : List ℕ)
-    → operand_at bytes ≡ Ok (on, rest) → below counts above rest ≡ Ok (on_yes, between, more) → below between above more ≡ Ok (on_no, after, end)
-    → test_at below counts above bytes ≡ Ok (Either on on_yes on_no, after, end)
+    → operand_at bounds.registers bytes ≡ Ok (on, rest) → below counts above rest ≡ Ok (on_yes, between, more) → below between above more ≡ Ok (on_no, after, end)
+    → test_at bounds below counts above bytes ≡ Ok (Either on on_yes on_no, after, end)
 unfolding test_at
-at_sides below counts above bytes on rest on_yes between more on_no after end h k l = rw (h, k, l) refl
+at_sides bounds below counts above bytes on rest on_yes between more on_no after end h k l = rw (h, k, l) refl
 
 pub leaf_again : (bounds : Bounds) (depth : ℕ) (counts : Counts) (above : Above) (leaf : Leaf) (rest : List ℕ) → bounds.rows ≤ 2 ^ 32 → leaf_flaws bounds leaf ≡ [] → LeafFits leaf
     → row_at bounds (suc depth) counts above (leaf_text leaf ++ rest) ≡ Ok (At_leaf leaf, counts, rest)
@@ -403,7 +403,7 @@ pub row_again : (bounds : Bounds) (row : CodeRow) (depth : ℕ) (counts : Counts
 row_again bounds row zero counts above rest few none fits deep = absurd (omega arith)
 row_again bounds (Then item next) (suc depth) counts above rest few none fits deep =
     let p = nil_parts (item_flaws bounds counts above item) (row_flaws bounds (counts_with_item (is_memory item) counts) (above_with item above) next) none in
-    let q = nil_parts (item_tag_flaws bounds.limits counts above (is_memory item) (is_effect item)) (field_flaws bounds.arrays above item) p.0 in
+    let q = nil_parts (item_tag_flaws bounds.limits counts above (is_memory item) (is_effect item)) (field_flaws bounds above item) p.0 in
     let o = nil_parts (flaw_where (leb bounds.limits.ops counts.ops) flaws.TooManyOps)
     (flaw_where (is_memory item && leb bounds.limits.mem counts.mem) flaws.TooManyMem ++ flaw_where (is_effect item && above.effect) flaws.EffectTwice) q.0 in
     let some : counts.ops < bounds.limits.ops = leb-false _ _ (where_nil (leb bounds.limits.ops counts.ops) flaws.TooManyOps o.0) in
@@ -420,12 +420,12 @@ row_again bounds (Then item next) (suc depth) counts above rest few none fits de
     ∙ ap (λ (t : Bool). step_at bounds (row_at bounds depth) (counts_with_item t counts) above (kind_of item) (fields_text item ++ tail)) (memory_is item)
     ∙ at_step bounds (row_at bounds depth) (counts_with_item (is_memory item) counts) above (kind_of item) (fields_text item ++ tail) item tail next
     (counts_after next (counts_with_item (is_memory item) counts)) rest
-    (fields_again bounds.arrays above item tail q.1 fits.0) below
+    (fields_again bounds above item tail q.1 fits.0) below
 row_again bounds (Either on on_yes on_no) (suc depth) counts above rest few none fits deep =
     let counted = counts_with_test counts in
     let between = counts_after on_yes counted in
     let p = nil_parts (test_flaws bounds counts on) (row_flaws bounds counted above on_yes ++ row_flaws bounds between above on_no) none in
-    let q = nil_parts (test_tag_flaws bounds.limits counts) (operand_flaws on) p.0 in
+    let q = nil_parts (test_tag_flaws bounds.limits counts) (operand_flaws bounds.registers on) p.0 in
     let r = nil_parts (row_flaws bounds counted above on_yes) (row_flaws bounds between above on_no) p.1 in
     let some : counts.tests < bounds.limits.tests = leb-false _ _ (where_nil (leb bounds.limits.tests counts.tests) flaws.TooManyTests q.0) in
     let grown = counts_grow on_yes counted in
@@ -438,6 +438,6 @@ row_again bounds (Either on on_yes on_no) (suc depth) counts above rest few none
     ap (row_at bounds (suc depth) counts above) regrouped
     ∙ at_tag bounds depth counts above tags.Test (operand_text on ++ (row_text on_yes ++ tail))
     ∙ at_test bounds (row_at bounds depth) counts above (0x10 ∷ (operand_text on ++ (row_text on_yes ++ tail))) (operand_text on ++ (row_text on_yes ++ tail)) q.0
-    ∙ at_sides (row_at bounds depth) counted above (operand_text on ++ (row_text on_yes ++ tail)) on (row_text on_yes ++ tail) on_yes between tail on_no (counts_after on_no between) rest
-    (operand_again on (row_text on_yes ++ tail) q.1 fits.0) first second
+    ∙ at_sides bounds (row_at bounds depth) counted above (operand_text on ++ (row_text on_yes ++ tail)) on (row_text on_yes ++ tail) on_yes between tail on_no (counts_after on_no between) rest
+    (operand_again bounds.registers on (row_text on_yes ++ tail) q.1 fits.0) first second
 row_again bounds (At_leaf leaf) (suc depth) counts above rest few none fits deep = leaf_again bounds depth counts above leaf rest few none fits

@@ -3,7 +3,7 @@
 use Rattle.std.proofs.Common.{◌≡◌, ℕ, zero, suc, ◌+◌, ◌<◌, ◌≤◌, Bool, true, false, List, [], ◌∷◌, ◌++◌, length, get_or, take, drop, drop-cons}
 use Rattle.std.proofs.Common.{Option, Some, None, Result, Ok, Err, refl, sym, ap, ◌∙◌, subst, arith, length-append}
 use Rattle.std.proofs.lemmas.List.{append-nil, take-append-le, drop-append-le, take-append-drop, length-take}
-use Rattle.std.specs.Prelude.{nat_lt, if◌then◌else◌, ◌==◌}
+use Rattle.std.specs.Prelude.{ℤ, nat_eq, nat_lt, if◌then◌else◌, ◌==◌}
 use Rattle.std.specs.Int.{Width, w16, w32, byte_len, from_be_bytes, cast_signed}
 use Rattle.pc_word.specs.declared.item.Item.TheVariants as items
 use Rattle.pc_word.specs.declared.item.Operand.TheVariants.{Name, Lit}
@@ -17,8 +17,11 @@ use Rattle.pc_machine.specs.declared.check.Bounds.{Bounds}
 use Rattle.pc_machine.specs.declared.check.Counts.{Counts}
 use Rattle.pc_machine.specs.declared.tree.Leaf.TheVariants.{Goto, Trap}
 use Rattle.pc_machine.specs.MachineCode.{CodeRow}
+use Rattle.pc_machine.specs.Flaws.{register_count_flaws, data_count_flaws, data_tail_flaws}
 use Rattle.pc_machine.specs.Flaws.{limit_flaws, array_count_flaws, length_flaws, row_count_flaws, Above, above_with, nothing_above, no_counts}
 use Rattle.pc_machine.specs.Flaws.{register_flaws, dest_flaws, array_flaws, target_flaws, flaw_where}
+use Rattle.pc_object.specs.declared.version.Version.{Version}
+use Rattle.pc_object.specs.declared.version.Version.TheVariants.{Ptv1, Ptv2}
 use Rattle.pc_object.specs.declared.object.Note.{Note}
 use Rattle.pc_object.specs.declared.refusal.Refusal.{Refusal}
 use Rattle.pc_object.specs.declared.refusal.Refusal.TheVariants.{NotMagic, Short, Flawed, Longer}
@@ -33,6 +36,8 @@ use Rattle.pc_object.specs.Reading.{◌>>=◌, ◌>>◌, at_field, unflawed, kno
 use Rattle.pc_object.specs.Reading.{array_count_at, row_count_at, operator_of_byte, trap_of, operator_at, trap_at, register_at, dest_at, array_at}
 use Rattle.pc_object.specs.Reading.{operand_at, tag_of, tag_at, is_memory_kind, is_effect_kind, fields_at, goto_at, trap_fields_at, PartOfRow}
 use Rattle.pc_object.specs.Reading.{ReadsPart, step_at, test_at, counted_item, counted_test, behind_tag, row_at, deepest, rows_at, choice_at}
+use Rattle.pc_object.specs.Reading.{digit_at, version_at, register_count_at, data_word_at, words_at, data_at, each_data_at, initial_at, version_flaws}
+use Rattle.pc_object.specs.Reading.{Storage, storage_at, code_with}
 use Rattle.pc_object.specs.Reading.{note_at, notes_at, end_at, Header, header_at, header_bounds, object_at, told_of, object_reading}
 use Rattle.pc_object.proofs.ObjectLaws.{object_again}
 
@@ -147,6 +152,23 @@ magic_extends [] bytes q = refl
 magic_extends (first ∷ magic) [] q = tt
 magic_extends (first ∷ magic) (byte ∷ bytes) q = magic_choice_extends (byte == first) (magic_at magic bytes) (magic_at magic (bytes ++ q)) q (magic_extends magic bytes q)
 
+digit_extends : (bytes q : List ℕ) → Extends (Gives (with_more q)) (digit_at bytes) (digit_at (bytes ++ q))
+digit_extends [] q = tt
+digit_extends (byte ∷ bytes) q = by_digit (byte == 0x31) (byte == 0x32)
+  where
+    by_digit : (one two : Bool)
+        → Extends {A = Version × List ℕ} (Gives (with_more q)) (if one then Ok (Ptv1, bytes) else if two then Ok (Ptv2, bytes) else Err NotMagic)
+        (if one then Ok (Ptv1, bytes ++ q) else if two then Ok (Ptv2, bytes ++ q) else Err NotMagic)
+    by_digit true two = refl
+    by_digit false true = refl
+    by_digit false false = tt
+
+version_extends : (bytes q : List ℕ) → Extends (Gives (with_more q)) (version_at bytes) (version_at (bytes ++ q))
+unfolding version_at
+version_extends bytes q =
+    let ptv : List ℕ = 0x50 ∷ 0x54 ∷ 0x56 ∷ [] in
+    both_extend (λ rest. rest ++ q) (Gives (with_more q)) (magic_at ptv bytes) (magic_at ptv (bytes ++ q)) digit_at digit_at (magic_extends ptv bytes q) (λ rest. digit_extends rest q)
+
 limit_extends : (most : ℕ) (bytes q : List ℕ) → Extends (Gives (with_more q)) (limit_at most bytes) (limit_at most (bytes ++ q))
 unfolding limit_at
 limit_extends most bytes q = checked_byte_extends (limit_flaws most) bytes q
@@ -184,36 +206,107 @@ array_count_extends : (bytes q : List ℕ) → Extends (Gives (with_more q)) (ar
 unfolding array_count_at
 array_count_extends bytes q = checked_byte_extends array_count_flaws bytes q
 
+-- a number that is checked
+checked_number_extends : (w : Width) (told : ℕ → List Flaw) (bytes q : List ℕ)
+    → Extends (Gives (with_more q)) (number_at w bytes >>= λ x. unflawed bytes (told x.0) >> Ok x) (number_at w (bytes ++ q) >>= λ x. unflawed (bytes ++ q) (told x.0) >> Ok x)
+checked_number_extends w told bytes q =
+    both_extend (with_more q) (Gives (with_more q)) (number_at w bytes) (number_at w (bytes ++ q))
+    (λ x. unflawed bytes (told x.0) >> Ok x) (λ x. unflawed (bytes ++ q) (told x.0) >> Ok x) (number_extends w bytes q)
+    (λ x. both_extend same (Gives (with_more q)) (unflawed bytes (told x.0)) (unflawed (bytes ++ q) (told x.0)) (λ u. Ok x) (λ u. Ok (with_more q x))
+    (field_extends bytes (bytes ++ q) (checked {X = Unit {0}} (told x.0) tt)) (λ u. refl))
+
+register_count_extends : (version : Version) (bytes q : List ℕ) → Extends (Gives (with_more q)) (register_count_at version bytes) (register_count_at version (bytes ++ q))
+unfolding register_count_at
+register_count_extends Ptv1 bytes q = refl
+register_count_extends Ptv2 bytes q = checked_number_extends w16 register_count_flaws bytes q
+
+data_word_extends : (is_last : Bool) (bytes q : List ℕ) → Extends (Gives (with_more q)) (data_word_at is_last bytes) (data_word_at is_last (bytes ++ q))
+unfolding data_word_at
+data_word_extends is_last bytes q =
+    let told : ℤ → List Flaw = λ word. if is_last then data_tail_flaws word else [] in
+    both_extend (with_more q) (Gives (with_more q)) (word_at bytes) (word_at (bytes ++ q))
+    (λ x. unflawed bytes (told x.0) >> Ok x) (λ x. unflawed (bytes ++ q) (told x.0) >> Ok x) (word_extends bytes q)
+    (λ x. both_extend same (Gives (with_more q)) (unflawed bytes (told x.0)) (unflawed (bytes ++ q) (told x.0)) (λ u. Ok x) (λ u. Ok (with_more q x))
+    (field_extends bytes (bytes ++ q) (checked {X = Unit {0}} (told x.0) tt)) (λ u. refl))
+
+words_extend : (count : ℕ) (bytes q : List ℕ) → Extends (Gives (with_more q)) (words_at count bytes) (words_at count (bytes ++ q))
+unfolding words_at
+words_extend zero bytes q = refl
+words_extend (suc after) bytes q =
+    then_extends q (Gives (with_more q)) (data_word_at (nat_eq after 0) bytes) (data_word_at (nat_eq after 0) (bytes ++ q))
+    (λ word. words_at after word.1 >>= λ others. Ok (word.0 ∷ others.0, others.1)) (data_word_extends (nat_eq after 0) bytes q) (λ word.
+    then_extends q (Gives (with_more q)) (words_at after word.1) (words_at after (word.1 ++ q)) (λ others. Ok (word.0 ∷ others.0, others.1)) (words_extend after word.1 q) (λ others. refl))
+
+data_extends : (elements : ℕ) (bytes q : List ℕ) → Extends (Gives (with_more q)) (data_at elements bytes) (data_at elements (bytes ++ q))
+unfolding data_at
+data_extends elements bytes q =
+    both_extend (with_more q) (Gives (with_more q)) (number_at w32 bytes) (number_at w32 (bytes ++ q))
+    (λ count. unflawed bytes (data_count_flaws elements count.0) >> words_at count.0 count.1)
+    (λ count. unflawed (bytes ++ q) (data_count_flaws elements count.0) >> words_at count.0 count.1) (number_extends w32 bytes q) (λ count.
+    both_extend same (Gives (with_more q)) (unflawed bytes (data_count_flaws elements count.0)) (unflawed (bytes ++ q) (data_count_flaws elements count.0))
+    (λ u. words_at count.0 count.1) (λ u. words_at count.0 (count.1 ++ q))
+    (field_extends bytes (bytes ++ q) (checked {X = Unit {0}} (data_count_flaws elements count.0) tt)) (λ u. words_extend count.0 count.1 q))
+
+each_data_extends : (lengths bytes q : List ℕ) → Extends (Gives (with_more q)) (each_data_at lengths bytes) (each_data_at lengths (bytes ++ q))
+unfolding each_data_at
+each_data_extends [] bytes q = refl
+each_data_extends (elements ∷ lengths) bytes q =
+    then_extends q (Gives (with_more q)) (data_at elements bytes) (data_at elements (bytes ++ q))
+    (λ words. each_data_at lengths words.1 >>= λ others. Ok (words.0 ∷ others.0, others.1)) (data_extends elements bytes q) (λ words.
+    then_extends q (Gives (with_more q)) (each_data_at lengths words.1) (each_data_at lengths (words.1 ++ q)) (λ others. Ok (words.0 ∷ others.0, others.1)) (each_data_extends lengths words.1 q)
+    (λ others. refl))
+
+initial_extends : (version : Version) (lengths bytes q : List ℕ) → Extends (Gives (with_more q)) (initial_at version lengths bytes) (initial_at version lengths (bytes ++ q))
+initial_extends Ptv1 lengths bytes q = refl
+initial_extends Ptv2 lengths bytes q = each_data_extends lengths bytes q
+
+storage_extends : (version : Version) (count : ℕ) (bytes q : List ℕ) → Extends (Gives (with_more q)) (storage_at version count bytes) (storage_at version count (bytes ++ q))
+unfolding storage_at
+storage_extends version count bytes q =
+    both_extend (with_more q) (Gives (with_more q)) (register_count_at version bytes) (register_count_at version (bytes ++ q))
+    (behind bytes) (behind (bytes ++ q)) (register_count_extends version bytes q) (λ registers.
+    both_extend (with_more q) (Gives (with_more q)) (lengths_at count 0 registers.1) (lengths_at count 0 (registers.1 ++ q))
+    (behind_lengths bytes registers.0) (behind_lengths (bytes ++ q) registers.0) (lengths_extend count 0 registers.1 q) (λ arrays.
+    both_extend (with_more q) (Gives (with_more q)) (initial_at version arrays.0 arrays.1) (initial_at version arrays.0 (arrays.1 ++ q))
+    (behind_data bytes registers.0 arrays.0) (behind_data (bytes ++ q) registers.0 arrays.0) (initial_extends version arrays.0 arrays.1 q) (λ initial.
+    both_extend same (Gives (with_more q)) (unflawed bytes (version_flaws version registers.0 initial.0)) (unflawed (bytes ++ q) (version_flaws version registers.0 initial.0))
+    (λ u. Ok (record { registers = registers.0; arrays = arrays.0; initial = initial.0 }, initial.1))
+    (λ u. Ok (record { registers = registers.0; arrays = arrays.0; initial = initial.0 }, initial.1 ++ q))
+    (field_extends bytes (bytes ++ q) (checked {X = Unit {0}} (version_flaws version registers.0 initial.0) tt)) (λ u. refl))))
+  where
+    behind_data : List ℕ → ℕ → List ℕ → List (List ℤ) × List ℕ → Result (Storage × List ℕ) Refusal
+    behind_data start registers arrays initial =
+        unflawed start (version_flaws version registers initial.0) >> Ok (record { registers = registers; arrays = arrays; initial = initial.0 }, initial.1)
+
+    behind_lengths : List ℕ → ℕ → List ℕ × List ℕ → Result (Storage × List ℕ) Refusal
+    behind_lengths start registers arrays = initial_at version arrays.0 arrays.1 >>= behind_data start registers arrays.0
+
+    behind : List ℕ → ℕ × List ℕ → Result (Storage × List ℕ) Refusal
+    behind start registers = lengths_at count 0 registers.1 >>= behind_lengths start registers.0
+
 row_count_extends : (bytes q : List ℕ) → Extends (Gives (with_more q)) (row_count_at bytes) (row_count_at (bytes ++ q))
 unfolding row_count_at
-row_count_extends bytes q =
-    both_extend (with_more q) (Gives (with_more q)) (number_at w32 bytes) (number_at w32 (bytes ++ q))
-    (λ x. unflawed bytes (row_count_flaws x.0) >> Ok x) (λ x. unflawed (bytes ++ q) (row_count_flaws x.0) >> Ok x) (number_extends w32 bytes q)
-    (λ x. both_extend same (Gives (with_more q)) (unflawed bytes (row_count_flaws x.0)) (unflawed (bytes ++ q) (row_count_flaws x.0)) (λ u. Ok x) (λ u. Ok (with_more q x))
-    (field_extends bytes (bytes ++ q) (checked {X = Unit {0}} (row_count_flaws x.0) tt)) (λ u. refl))
+row_count_extends bytes q = checked_number_extends w32 row_count_flaws bytes q
 
 header_extends : (bytes q : List ℕ) → Extends (Gives (with_more q)) (header_at bytes) (header_at (bytes ++ q))
 unfolding header_at
 header_extends bytes q =
-    both_extend (λ rest. rest ++ q) (Gives (with_more q)) (magic_at (0x50 ∷ 0x54 ∷ 0x56 ∷ 0x31 ∷ []) bytes) (magic_at (0x50 ∷ 0x54 ∷ 0x56 ∷ 0x31 ∷ []) (bytes ++ q))
-    behind_magic behind_magic (magic_extends (0x50 ∷ 0x54 ∷ 0x56 ∷ 0x31 ∷ []) bytes q) (λ start.
-    then_extends q (Gives (with_more q)) (limits_at start) (limits_at (start ++ q))
-    (λ limits. array_count_at limits.1 >>= λ count. lengths_at count.0 0 count.1 >>= λ arrays. row_count_at arrays.1 >>= λ rows. Ok
-    (record { limits = limits.0; arrays = arrays.0; rows = rows.0 }, rows.1))
-    (limits_extend start q) (λ limits.
+    then_extends q (Gives (with_more q)) (version_at bytes) (version_at (bytes ++ q))
+    (λ version. limits_at version.1 >>= λ limits. array_count_at limits.1 >>= λ count. storage_at version.0 count.0 count.1 >>= λ storage. row_count_at storage.1 >>= λ rows.
+    Ok (record { limits = limits.0; storage = storage.0; rows = rows.0 }, rows.1))
+    (version_extends bytes q) (λ version.
+    then_extends q (Gives (with_more q)) (limits_at version.1) (limits_at (version.1 ++ q))
+    (λ limits. array_count_at limits.1 >>= λ count. storage_at version.0 count.0 count.1 >>= λ storage. row_count_at storage.1 >>= λ rows.
+    Ok (record { limits = limits.0; storage = storage.0; rows = rows.0 }, rows.1))
+    (limits_extend version.1 q) (λ limits.
     then_extends q (Gives (with_more q)) (array_count_at limits.1) (array_count_at (limits.1 ++ q))
-    (λ count. lengths_at count.0 0 count.1 >>= λ arrays. row_count_at arrays.1 >>= λ rows. Ok (record { limits = limits.0; arrays = arrays.0; rows = rows.0 }, rows.1))
+    (λ count. storage_at version.0 count.0 count.1 >>= λ storage. row_count_at storage.1 >>= λ rows. Ok (record { limits = limits.0; storage = storage.0; rows = rows.0 }, rows.1))
     (array_count_extends limits.1 q) (λ count.
-    then_extends q (Gives (with_more q)) (lengths_at count.0 0 count.1) (lengths_at count.0 0 (count.1 ++ q))
-    (λ arrays. row_count_at arrays.1 >>= λ rows. Ok (record { limits = limits.0; arrays = arrays.0; rows = rows.0 }, rows.1))
-    (lengths_extend count.0 0 count.1 q) (λ arrays.
-    then_extends q (Gives (with_more q)) (row_count_at arrays.1) (row_count_at (arrays.1 ++ q))
-    (λ rows. Ok (record { limits = limits.0; arrays = arrays.0; rows = rows.0 }, rows.1)) (row_count_extends arrays.1 q) (λ rows. refl)))))
-  where
-    behind_magic : List ℕ → Result (Header × List ℕ) Refusal
-    behind_magic start =
-        limits_at start >>= λ limits. array_count_at limits.1 >>= λ count. lengths_at count.0 0 count.1 >>= λ arrays. row_count_at arrays.1 >>= λ rows.
-        Ok (record { limits = limits.0; arrays = arrays.0; rows = rows.0 }, rows.1)
+    then_extends q (Gives (with_more q)) (storage_at version.0 count.0 count.1) (storage_at version.0 count.0 (count.1 ++ q))
+    (λ storage. row_count_at storage.1 >>= λ rows. Ok (record { limits = limits.0; storage = storage.0; rows = rows.0 }, rows.1))
+    (storage_extends version.0 count.0 count.1 q) (λ storage.
+    then_extends q (Gives (with_more q)) (row_count_at storage.1) (row_count_at (storage.1 ++ q))
+    (λ rows. Ok (record { limits = limits.0; storage = storage.0; rows = rows.0 }, rows.1)) (row_count_extends storage.1 q) (λ rows. refl)))))
 
 -- ---- the fields of a row
 
@@ -229,60 +322,60 @@ tag_extends : (bytes q : List ℕ) → Extends (Gives (with_more q)) (tag_at byt
 unfolding tag_at
 tag_extends bytes q = table_extends tag_of flaws.Tag bytes q
 
-register_extends : (bytes q : List ℕ) → Extends (Gives (with_more q)) (register_at bytes) (register_at (bytes ++ q))
+register_extends : (registers : ℕ) (bytes q : List ℕ) → Extends (Gives (with_more q)) (register_at registers bytes) (register_at registers (bytes ++ q))
 unfolding register_at
-register_extends bytes q = checked_byte_extends register_flaws bytes q
+register_extends registers bytes q = checked_byte_extends (register_flaws registers) bytes q
 
-dest_extends : (above : Above) (bytes q : List ℕ) → Extends (Gives (with_more q)) (dest_at above bytes) (dest_at above (bytes ++ q))
+dest_extends : (registers : ℕ) (above : Above) (bytes q : List ℕ) → Extends (Gives (with_more q)) (dest_at registers above bytes) (dest_at registers above (bytes ++ q))
 unfolding dest_at
-dest_extends above bytes q = checked_byte_extends (dest_flaws above) bytes q
+dest_extends registers above bytes q = checked_byte_extends (dest_flaws registers above) bytes q
 
 array_extends : (arrays : ℕ) (bytes q : List ℕ) → Extends (Gives (with_more q)) (array_at arrays bytes) (array_at arrays (bytes ++ q))
 unfolding array_at
 array_extends arrays bytes q = checked_byte_extends (array_flaws arrays) bytes q
 
-operand_extends : (bytes q : List ℕ) → Extends (Gives (with_more q)) (operand_at bytes) (operand_at (bytes ++ q))
+operand_extends : (registers : ℕ) (bytes q : List ℕ) → Extends (Gives (with_more q)) (operand_at registers bytes) (operand_at registers (bytes ++ q))
 unfolding operand_at
-operand_extends [] q = tt
-operand_extends (zero ∷ rest) q =
-    then_extends q (Gives (with_more q)) (register_at rest) (register_at (rest ++ q)) (λ register. Ok (Name register.0, register.1)) (register_extends rest q) (λ register. refl)
-operand_extends (suc zero ∷ rest) q =
+operand_extends registers [] q = tt
+operand_extends registers (zero ∷ rest) q =
+    then_extends q (Gives (with_more q)) (register_at registers rest) (register_at registers (rest ++ q)) (λ register. Ok (Name register.0, register.1)) (register_extends registers rest q) (λ register. refl)
+operand_extends registers (suc zero ∷ rest) q =
     then_extends q (Gives (with_more q)) (word_at rest) (word_at (rest ++ q)) (λ word. Ok (Lit word.0, word.1)) (word_extends rest q) (λ word. refl)
-operand_extends (suc (suc tag) ∷ rest) q = tt
+operand_extends registers (suc (suc tag) ∷ rest) q = tt
 
-fields_extend : (arrays : ℕ) (above : Above) (kind : ItemKind) (bytes q : List ℕ) → Extends (Gives (with_more q)) (fields_at arrays above kind bytes) (fields_at arrays above kind (bytes ++ q))
+fields_extend : (bounds : Bounds) (above : Above) (kind : ItemKind) (bytes q : List ℕ) → Extends (Gives (with_more q)) (fields_at bounds above kind bytes) (fields_at bounds above kind (bytes ++ q))
 unfolding fields_at
-fields_extend arrays above kinds.Bin bytes q =
+fields_extend bounds above kinds.Bin bytes q =
     then_extends q (Gives (with_more q)) (operator_at bytes) (operator_at (bytes ++ q))
-    (λ op. dest_at above op.1 >>= λ dest. operand_at dest.1 >>= λ left. operand_at left.1 >>= λ right. Ok (items.Bin op.0 dest.0 left.0 right.0, right.1)) (operator_extends bytes q) (λ op.
-    then_extends q (Gives (with_more q)) (dest_at above op.1) (dest_at above (op.1 ++ q))
-    (λ dest. operand_at dest.1 >>= λ left. operand_at left.1 >>= λ right. Ok (items.Bin op.0 dest.0 left.0 right.0, right.1)) (dest_extends above op.1 q) (λ dest.
-    then_extends q (Gives (with_more q)) (operand_at dest.1) (operand_at (dest.1 ++ q))
-    (λ left. operand_at left.1 >>= λ right. Ok (items.Bin op.0 dest.0 left.0 right.0, right.1)) (operand_extends dest.1 q) (λ left.
-    then_extends q (Gives (with_more q)) (operand_at left.1) (operand_at (left.1 ++ q))
-    (λ right. Ok (items.Bin op.0 dest.0 left.0 right.0, right.1)) (operand_extends left.1 q) (λ right. refl))))
-fields_extend arrays above kinds.Copy bytes q =
-    then_extends q (Gives (with_more q)) (dest_at above bytes) (dest_at above (bytes ++ q))
-    (λ dest. operand_at dest.1 >>= λ from. Ok (items.Copy dest.0 from.0, from.1)) (dest_extends above bytes q) (λ dest.
-    then_extends q (Gives (with_more q)) (operand_at dest.1) (operand_at (dest.1 ++ q)) (λ from. Ok (items.Copy dest.0 from.0, from.1)) (operand_extends dest.1 q) (λ from. refl))
-fields_extend arrays above kinds.Load bytes q =
-    then_extends q (Gives (with_more q)) (dest_at above bytes) (dest_at above (bytes ++ q))
-    (λ dest. array_at arrays dest.1 >>= λ array. operand_at array.1 >>= λ index. Ok (items.Load dest.0 array.0 index.0, index.1)) (dest_extends above bytes q) (λ dest.
-    then_extends q (Gives (with_more q)) (array_at arrays dest.1) (array_at arrays (dest.1 ++ q))
-    (λ array. operand_at array.1 >>= λ index. Ok (items.Load dest.0 array.0 index.0, index.1)) (array_extends arrays dest.1 q) (λ array.
-    then_extends q (Gives (with_more q)) (operand_at array.1) (operand_at (array.1 ++ q)) (λ index. Ok (items.Load dest.0 array.0 index.0, index.1)) (operand_extends array.1 q) (λ index. refl)))
-fields_extend arrays above kinds.Store bytes q =
-    then_extends q (Gives (with_more q)) (array_at arrays bytes) (array_at arrays (bytes ++ q))
-    (λ array. operand_at array.1 >>= λ index. operand_at index.1 >>= λ value. Ok (items.Store array.0 index.0 value.0, value.1)) (array_extends arrays bytes q) (λ array.
-    then_extends q (Gives (with_more q)) (operand_at array.1) (operand_at (array.1 ++ q))
-    (λ index. operand_at index.1 >>= λ value. Ok (items.Store array.0 index.0 value.0, value.1)) (operand_extends array.1 q) (λ index.
-    then_extends q (Gives (with_more q)) (operand_at index.1) (operand_at (index.1 ++ q)) (λ value. Ok (items.Store array.0 index.0 value.0, value.1)) (operand_extends index.1 q) (λ value. refl)))
-fields_extend arrays above kinds.Print bytes q =
-    then_extends q (Gives (with_more q)) (operand_at bytes) (operand_at (bytes ++ q)) (λ value. Ok (items.Print value.0, value.1)) (operand_extends bytes q) (λ value. refl)
-fields_extend arrays above kinds.Read bytes q =
-    then_extends q (Gives (with_more q)) (dest_at above bytes) (dest_at above (bytes ++ q)) (λ dest. Ok (items.Read dest.0, dest.1)) (dest_extends above bytes q) (λ dest. refl)
-fields_extend arrays above kinds.More bytes q =
-    then_extends q (Gives (with_more q)) (dest_at above bytes) (dest_at above (bytes ++ q)) (λ dest. Ok (items.More dest.0, dest.1)) (dest_extends above bytes q) (λ dest. refl)
+    (λ op. dest_at bounds.registers above op.1 >>= λ dest. operand_at bounds.registers dest.1 >>= λ left. operand_at bounds.registers left.1 >>= λ right. Ok (items.Bin op.0 dest.0 left.0 right.0, right.1)) (operator_extends bytes q) (λ op.
+    then_extends q (Gives (with_more q)) (dest_at bounds.registers above op.1) (dest_at bounds.registers above (op.1 ++ q))
+    (λ dest. operand_at bounds.registers dest.1 >>= λ left. operand_at bounds.registers left.1 >>= λ right. Ok (items.Bin op.0 dest.0 left.0 right.0, right.1)) (dest_extends bounds.registers above op.1 q) (λ dest.
+    then_extends q (Gives (with_more q)) (operand_at bounds.registers dest.1) (operand_at bounds.registers (dest.1 ++ q))
+    (λ left. operand_at bounds.registers left.1 >>= λ right. Ok (items.Bin op.0 dest.0 left.0 right.0, right.1)) (operand_extends bounds.registers dest.1 q) (λ left.
+    then_extends q (Gives (with_more q)) (operand_at bounds.registers left.1) (operand_at bounds.registers (left.1 ++ q))
+    (λ right. Ok (items.Bin op.0 dest.0 left.0 right.0, right.1)) (operand_extends bounds.registers left.1 q) (λ right. refl))))
+fields_extend bounds above kinds.Copy bytes q =
+    then_extends q (Gives (with_more q)) (dest_at bounds.registers above bytes) (dest_at bounds.registers above (bytes ++ q))
+    (λ dest. operand_at bounds.registers dest.1 >>= λ from. Ok (items.Copy dest.0 from.0, from.1)) (dest_extends bounds.registers above bytes q) (λ dest.
+    then_extends q (Gives (with_more q)) (operand_at bounds.registers dest.1) (operand_at bounds.registers (dest.1 ++ q)) (λ from. Ok (items.Copy dest.0 from.0, from.1)) (operand_extends bounds.registers dest.1 q) (λ from. refl))
+fields_extend bounds above kinds.Load bytes q =
+    then_extends q (Gives (with_more q)) (dest_at bounds.registers above bytes) (dest_at bounds.registers above (bytes ++ q))
+    (λ dest. array_at bounds.arrays dest.1 >>= λ array. operand_at bounds.registers array.1 >>= λ index. Ok (items.Load dest.0 array.0 index.0, index.1)) (dest_extends bounds.registers above bytes q) (λ dest.
+    then_extends q (Gives (with_more q)) (array_at bounds.arrays dest.1) (array_at bounds.arrays (dest.1 ++ q))
+    (λ array. operand_at bounds.registers array.1 >>= λ index. Ok (items.Load dest.0 array.0 index.0, index.1)) (array_extends bounds.arrays dest.1 q) (λ array.
+    then_extends q (Gives (with_more q)) (operand_at bounds.registers array.1) (operand_at bounds.registers (array.1 ++ q)) (λ index. Ok (items.Load dest.0 array.0 index.0, index.1)) (operand_extends bounds.registers array.1 q) (λ index. refl)))
+fields_extend bounds above kinds.Store bytes q =
+    then_extends q (Gives (with_more q)) (array_at bounds.arrays bytes) (array_at bounds.arrays (bytes ++ q))
+    (λ array. operand_at bounds.registers array.1 >>= λ index. operand_at bounds.registers index.1 >>= λ value. Ok (items.Store array.0 index.0 value.0, value.1)) (array_extends bounds.arrays bytes q) (λ array.
+    then_extends q (Gives (with_more q)) (operand_at bounds.registers array.1) (operand_at bounds.registers (array.1 ++ q))
+    (λ index. operand_at bounds.registers index.1 >>= λ value. Ok (items.Store array.0 index.0 value.0, value.1)) (operand_extends bounds.registers array.1 q) (λ index.
+    then_extends q (Gives (with_more q)) (operand_at bounds.registers index.1) (operand_at bounds.registers (index.1 ++ q)) (λ value. Ok (items.Store array.0 index.0 value.0, value.1)) (operand_extends bounds.registers index.1 q) (λ value. refl)))
+fields_extend bounds above kinds.Print bytes q =
+    then_extends q (Gives (with_more q)) (operand_at bounds.registers bytes) (operand_at bounds.registers (bytes ++ q)) (λ value. Ok (items.Print value.0, value.1)) (operand_extends bounds.registers bytes q) (λ value. refl)
+fields_extend bounds above kinds.Read bytes q =
+    then_extends q (Gives (with_more q)) (dest_at bounds.registers above bytes) (dest_at bounds.registers above (bytes ++ q)) (λ dest. Ok (items.Read dest.0, dest.1)) (dest_extends bounds.registers above bytes q) (λ dest. refl)
+fields_extend bounds above kinds.More bytes q =
+    then_extends q (Gives (with_more q)) (dest_at bounds.registers above bytes) (dest_at bounds.registers above (bytes ++ q)) (λ dest. Ok (items.More dest.0, dest.1)) (dest_extends bounds.registers above bytes q) (λ dest. refl)
 
 goto_extends : (rows : ℕ) (bytes q : List ℕ) → Extends (Gives (with_more q)) (goto_at rows bytes) (goto_at rows (bytes ++ q))
 unfolding goto_at
@@ -311,16 +404,16 @@ module _ (bounds : Bounds) (below : ReadsPart) (extends : PartExtends below) whe
       → Extends (Gives (part_more q)) (step_at bounds below counts above kind bytes) (step_at bounds below counts above kind (bytes ++ q))
   unfolding step_at
   step_extends counts above kind bytes q =
-      then_extends q (Gives (part_more q)) (fields_at bounds.arrays above kind bytes) (fields_at bounds.arrays above kind (bytes ++ q))
-      (λ item. below counts (above_with item.0 above) item.1 >>= λ next. Ok (Then item.0 next.0, next.1, next.2)) (fields_extend bounds.arrays above kind bytes q) (λ item.
+      then_extends q (Gives (part_more q)) (fields_at bounds above kind bytes) (fields_at bounds above kind (bytes ++ q))
+      (λ item. below counts (above_with item.0 above) item.1 >>= λ next. Ok (Then item.0 next.0, next.1, next.2)) (fields_extend bounds above kind bytes q) (λ item.
       both_extend (part_more q) (Gives (part_more q)) (below counts (above_with item.0 above) item.1) (below counts (above_with item.0 above) (item.1 ++ q))
       (λ next. Ok (Then item.0 next.0, next.1, next.2)) (λ next. Ok (Then item.0 next.0, next.1, next.2)) (extends counts (above_with item.0 above) item.1 q) (λ next. refl))
 
-  test_extends : (counts : Counts) (above : Above) (bytes q : List ℕ) → Extends (Gives (part_more q)) (test_at below counts above bytes) (test_at below counts above (bytes ++ q))
+  test_extends : (counts : Counts) (above : Above) (bytes q : List ℕ) → Extends (Gives (part_more q)) (test_at bounds below counts above bytes) (test_at bounds below counts above (bytes ++ q))
   unfolding test_at
   test_extends counts above bytes q =
-      then_extends q (Gives (part_more q)) (operand_at bytes) (operand_at (bytes ++ q))
-      (λ on. below counts above on.1 >>= λ on_yes. below on_yes.1 above on_yes.2 >>= λ on_no. Ok (Either on.0 on_yes.0 on_no.0, on_no.1, on_no.2)) (operand_extends bytes q) (λ on.
+      then_extends q (Gives (part_more q)) (operand_at bounds.registers bytes) (operand_at bounds.registers (bytes ++ q))
+      (λ on. below counts above on.1 >>= λ on_yes. below on_yes.1 above on_yes.2 >>= λ on_no. Ok (Either on.0 on_yes.0 on_no.0, on_no.1, on_no.2)) (operand_extends bounds.registers bytes q) (λ on.
       both_extend (part_more q) (Gives (part_more q)) (below counts above on.1) (below counts above (on.1 ++ q))
       (λ on_yes. below on_yes.1 above on_yes.2 >>= λ on_no. Ok (Either on.0 on_yes.0 on_no.0, on_no.1, on_no.2))
       (λ on_yes. below on_yes.1 above on_yes.2 >>= λ on_no. Ok (Either on.0 on_yes.0 on_no.0, on_no.1, on_no.2)) (extends counts above on.1 q) (λ on_yes.
@@ -337,7 +430,7 @@ module _ (bounds : Bounds) (below : ReadsPart) (extends : PartExtends below) whe
       then_extends q (Gives (part_more q)) (trap_fields_at rest) (trap_fields_at (rest ++ q)) (λ leaf. Ok (leaf.0, counts, leaf.1)) (trap_fields_extend rest q) (λ leaf. refl)
   behind_extends counts above bytes longer tags.Test rest q =
       both_extend same (Gives (part_more q)) (at_field bytes (counted_test bounds.limits counts)) (at_field longer (counted_test bounds.limits counts))
-      (λ more. test_at below more above rest) (λ more. test_at below more above (rest ++ q)) (field_extends bytes longer (counted_test bounds.limits counts)) (λ more. test_extends more above rest q)
+      (λ more. test_at bounds below more above rest) (λ more. test_at bounds below more above (rest ++ q)) (field_extends bytes longer (counted_test bounds.limits counts)) (λ more. test_extends more above rest q)
   behind_extends counts above bytes longer (tags.Item kind) rest q =
       let counted = counted_item bounds.limits counts above (is_memory_kind kind) (is_effect_kind kind) in
       both_extend same (Gives (part_more q)) (at_field bytes counted) (at_field longer counted)
@@ -417,7 +510,7 @@ object_extends bytes byte more =
     (λ notes. end_at notes.1 >> Ok (object header.0 rows.0 notes.0)) (notes_extend count.0 count.1 q) (λ notes. end_extends notes.1 byte more (object header.0 rows.0 notes.0)))))
   where
     object : Header → List CodeRow → List Note → CodeWithNotes
-    object header rows notes = record { code = record { limits = header.limits; arrays = header.arrays; rows = rows }; notes = notes }
+    object header rows notes = record { code = code_with header rows; notes = notes }
 
 -- what is no refusal where more bytes follow was want of bytes
 cut_short : (read longer : Result CodeWithNotes Refusal) (object : CodeWithNotes) → Extends IsNoLonger read longer → longer ≡ Ok object → read ≡ Err Short

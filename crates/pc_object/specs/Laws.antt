@@ -9,8 +9,8 @@ use Rattle.pc_object.specs.ObjectText.{CodeWithNotes, object_text, IsObject}
 use Rattle.pc_object.specs.Numbers.{HasWords, HasCounts}
 use Rattle.pc_object.specs.Reading.{object_reading, row_at, deepest}
 use Rattle.pc_object.specs.declared.object.Note.{Note}
-use Rattle.pc_object.specs.ObjectText.{operand_text, item_text, leaf_text, row_text, header_text, notes_text}
-use Rattle.pc_object.specs.Sizes.{operand_bytes, item_bytes, test_bytes, goto_bytes, end_bytes, trap_bytes, header_bytes, length_bytes, count_bytes, note_bytes}
+use Rattle.pc_object.specs.ObjectText.{operand_text, item_text, leaf_text, row_text, version_of, header_text, notes_text}
+use Rattle.pc_object.specs.Sizes.{operand_bytes, item_bytes, test_bytes, goto_bytes, end_bytes, trap_bytes, header_bytes, length_bytes, initial_bytes, count_bytes, note_bytes}
 use Rattle.pc_word.specs.declared.item.Item.{Item}
 use Rattle.pc_word.specs.declared.item.Operand.{Operand}
 use Rattle.pc_word.specs.declared.item.TrapKind.{TrapKind}
@@ -56,5 +56,5 @@ pub record SizesAreLengths : Type 0 where
   pub goto : (row : ℕ) → length (leaf_text (Goto row)) ≡ goto_bytes
   pub end : length (leaf_text Stop) ≡ end_bytes
   pub trap : (kind : TrapKind) (line : ℕ) → length (leaf_text (Trap kind line)) ≡ trap_bytes
-  pub header : (code : RowCode) → length (header_text code) ≡ header_bytes + length_bytes * length code.arrays
+  pub header : (code : RowCode) → length (header_text code) ≡ header_bytes (version_of code) + length_bytes * length code.arrays + initial_bytes (version_of code) code.initial
   pub notes : (ns : List Note) → length (notes_text ns) ≡ count_bytes + note_bytes * length ns

@@ -1,5 +1,5 @@
 -- Which numbers have a text of their own. In memory they have their types; here they are numbers of any size.
-use Rattle.std.specs.Prelude.{◌<◌, ◌^◌, length, FitsSigned}
+use Rattle.std.specs.Prelude.{◌≡◌, ◌<◌, ◌^◌, ℤ, List, length, FitsSigned}
 use Rattle.std.specs.Int.{w32}
 use Rattle.std.specs.List.{AllByRecursion}
 use Rattle.pc_word.specs.declared.item.Item.{Item}
@@ -46,8 +46,13 @@ pub record NoteFits (note : Note) : Type 0 where
   pub number : note.number < 2 ^ 32
   pub limit : note.limit < 2 ^ 32
 
--- each literal is a word, and each line and number is below 2^32, as in every object in memory
+-- the words with which an array begins are words
+abbrev pub WordsFit : List ℤ → Type 0
+WordsFit words = AllByRecursion (FitsSigned w32) words
+
+-- each literal and each word of the data is a word, and each line and number is below 2^32, as in every object in memory
 pub record HasWords (object : CodeWithNotes) : Type 0 where
+  pub initial : AllByRecursion WordsFit object.code.initial
   pub rows : AllByRecursion RowNumbersFit object.code.rows
   pub notes : AllByRecursion NoteFits object.notes
 
@@ -63,9 +68,13 @@ TargetsFit (Then item rest) = TargetsFit rest
 TargetsFit (Either on on_yes on_no) = TargetsFit on_yes × TargetsFit on_no
 TargetsFit (At_leaf leaf) = TargetFits leaf
 
--- each length, the number of rows and each row that a goto leads to is below 2^32, as in every code in memory; in a well-formed
--- code they are
+-- the number of registers is below 2^16, and each length, the count of each array's words, the number of rows and each row that a
+-- goto leads to below 2^32, as in every code in memory; and each array has its list of words, since a text has one for each. In a
+-- well-formed code they are
 pub record HasCounts (code : RowCode) : Type 0 where
+  pub registers : code.registers < 2 ^ 16
   pub lengths : AllByRecursion (λ n. n < 2 ^ 32) code.arrays
+  pub lists : length code.initial ≡ length code.arrays
+  pub counts : AllByRecursion (λ words. length words < 2 ^ 32) code.initial
   pub few_rows : length code.rows < 2 ^ 32
   pub targets : AllByRecursion TargetsFit code.rows

@@ -1,5 +1,5 @@
--- The text of an object in the format PTV1. Numbers are big-endian.
-use Rattle.std.specs.Prelude.{ℕ, ◌≤◌, ℤ, List, [], ◌∷◌, ◌++◌, length}
+-- The text of an object in the format PTV1 or PTV2. Numbers are big-endian.
+use Rattle.std.specs.Prelude.{ℕ, ◌≤◌, ℤ, Bool, if◌then◌else◌, ◌&&◌, nat_eq, List, [], ◌∷◌, ◌++◌, length}
 use Rattle.std.specs.List.{flat_map, AllByRecursion}
 use Rattle.std.specs.Int.{w16, w32, to_be_bytes, cast_unsigned}
 use Rattle.pc_word.specs.declared.item.OpCode.{OpCode}
@@ -12,9 +12,13 @@ use Rattle.pc_word.specs.declared.item.TrapKind.{TrapKind}
 use Rattle.pc_word.specs.declared.item.TrapKind.TheVariants.{DivideByZero, OutOfBounds, EndOfInput}
 use Rattle.pc_machine.specs.declared.tree.Leaf.{Leaf}
 use Rattle.pc_machine.specs.declared.tree.Leaf.TheVariants.{Goto, Stop, Trap}
+use Rattle.pc_machine.specs.Registers.{few_registers}
+use Rattle.pc_machine.specs.Data.{has_no_data}
 use Rattle.pc_machine.specs.MachineCode.{CodeRow, RowCode, code_of}
 use Rattle.pc_word.specs.Row.{Then, Either, At_leaf}
 use Rattle.pc_machine.specs.WellFormed.{WellFormed}
+use Rattle.pc_object.specs.declared.version.Version.{Version}
+use Rattle.pc_object.specs.declared.version.Version.TheVariants.{Ptv1, Ptv2}
 use Rattle.pc_object.specs.declared.object.Note.{Note}
 use Rattle.pc_object.specs.declared.object.Object.{Object}
 use Rattle.pc_word.specs.MachineLimits.{most_object}
@@ -95,13 +99,46 @@ row_text (Then item rest) = item_text item ++ row_text rest
 row_text (Either on on_yes on_no) = 0x10 ∷ (operand_text on ++ (row_text on_yes ++ row_text on_no))
 row_text (At_leaf leaf) = leaf_text leaf
 
--- ---- the whole
+-- ---- the header
 
--- `PTV1`, the limits and the number of arrays; the length of each array; the number of rows
+-- whether PTV1 can tell of so many registers and this data: it has no field of either
+abbrev pub fits_ptv1 : ℕ → List (List ℤ) → Bool
+fits_ptv1 registers initial = nat_eq registers few_registers && has_no_data initial
+
+-- the version of a text with so many registers and this data: PTV1 wherever it can tell of them
+abbrev pub version_for : ℕ → List (List ℤ) → Version
+version_for registers initial = if fits_ptv1 registers initial then Ptv1 else Ptv2
+
+-- the version of a code's text
+abbrev pub version_of : RowCode → Version
+version_of code = version_for code.registers code.initial
+
+-- the first four bytes: `PTV1` or `PTV2`
+abbrev pub version_text : Version → List ℕ
+version_text Ptv1 = 0x50 ∷ 0x54 ∷ 0x56 ∷ 0x31 ∷ []
+version_text Ptv2 = 0x50 ∷ 0x54 ∷ 0x56 ∷ 0x32 ∷ []
+
+-- the data of an array: how many words, and each word
+abbrev pub data_text : List ℤ → List ℕ
+data_text words = u32_text (length words) ++ flat_map word_text words
+
+-- the number of registers, the length of each array and the data of each; PTV1 has the lengths alone
+abbrev pub storage_text : Version → ℕ → List ℕ → List (List ℤ) → List ℕ
+storage_text Ptv1 registers arrays initial = flat_map u32_text arrays
+storage_text Ptv2 registers arrays initial = u16_text registers ++ (flat_map u32_text arrays ++ flat_map data_text initial)
+
+-- a header of this version: its first bytes, the limits and the number of arrays; registers, lengths and data; the number of rows
+abbrev pub header_text_in : Version → RowCode → List ℕ
+header_text_in version code =
+    version_text version
+    ++ (code.limits.ops ∷ code.limits.tests ∷ code.limits.mem ∷ length code.arrays
+    ∷ (storage_text version code.registers code.arrays code.initial ++ u32_text (length code.rows)))
+
+-- the header of a code
 abbrev pub header_text : RowCode → List ℕ
-header_text code =
-    0x50 ∷ 0x54 ∷ 0x56 ∷ 0x31 ∷ code.limits.ops ∷ code.limits.tests ∷ code.limits.mem ∷ length code.arrays
-    ∷ (flat_map u32_text code.arrays ++ u32_text (length code.rows))
+header_text code = header_text_in (version_of code) code
+
+-- ---- the whole
 
 -- a note: its choice, line, number and limit
 abbrev pub note_text : Note → List ℕ

@@ -1,6 +1,6 @@
 -- The reading of an object's text: field by field from the left, up to the first that is wrong.
 -- A reader takes the bytes that are left, and gives a value and the bytes after its fields.
-use Rattle.std.specs.Prelude.{ℕ, zero, suc, ◌+◌, ◌-◌, ℤ, Bool, true, false, if◌then◌else◌, ◌==◌, nat_lt, List, [], ◌∷◌, length, take, drop, find, Option, Some, None, Result, Ok, Err}
+use Rattle.std.specs.Prelude.{ℕ, zero, suc, ◌+◌, ◌-◌, ℤ, Bool, true, false, if◌then◌else◌, ◌==◌, nat_eq, nat_lt, List, [], ◌∷◌, length, replicate, take, drop, find, Option, Some, None, Result, Ok, Err}
 use Rattle.std.specs.Int.{Width, w16, w32, byte_len, from_be_bytes, cast_signed}
 use Rattle.pc_word.specs.declared.item.OpCode.{OpCode}
 use Rattle.pc_word.specs.declared.item.OpCode.TheVariants.{Add, Sub, Mul, Div, Rem, Shl, Shr, And, Or, Xor, Less, LessEq, Equal, Unequal, Below}
@@ -16,9 +16,11 @@ use Rattle.pc_machine.specs.declared.code.Flaw.TheVariants as flaws
 use Rattle.pc_machine.specs.declared.check.Bounds.{Bounds}
 use Rattle.pc_machine.specs.declared.check.Counts.{Counts}
 use Rattle.pc_machine.specs.declared.tree.Leaf.TheVariants.{Goto, Stop, Trap}
-use Rattle.pc_machine.specs.MachineCode.{CodeRow}
+use Rattle.pc_machine.specs.Registers.{few_registers}
+use Rattle.pc_machine.specs.MachineCode.{CodeRow, RowCode}
 use Rattle.pc_word.specs.Row.{Then, Either, At_leaf}
-use Rattle.pc_machine.specs.Flaws.{flaw_where, limit_flaws, array_count_flaws, length_flaws, row_count_flaws, Above, nothing_above, above_with}
+use Rattle.pc_machine.specs.Flaws.{flaw_where, limit_flaws, array_count_flaws, register_count_flaws, length_flaws, data_count_flaws}
+use Rattle.pc_machine.specs.Flaws.{data_tail_flaws, row_count_flaws, Above, nothing_above, above_with}
 use Rattle.pc_machine.specs.Flaws.{no_counts, counts_with_item, counts_with_test, item_tag_flaws, test_tag_flaws, register_flaws, dest_flaws}
 use Rattle.pc_machine.specs.Flaws.{array_flaws, target_flaws}
 use Rattle.pc_word.specs.Exact.{checked}
@@ -31,7 +33,9 @@ use Rattle.pc_object.specs.declared.tag.ItemKind.{ItemKind}
 use Rattle.pc_object.specs.declared.tag.ItemKind.TheVariants as kinds
 use Rattle.pc_object.specs.declared.tag.Tag.{Tag}
 use Rattle.pc_object.specs.declared.tag.Tag.TheVariants as tags
-use Rattle.pc_object.specs.ObjectText.{CodeWithNotes, operator_byte, trap_byte}
+use Rattle.pc_object.specs.declared.version.Version.{Version}
+use Rattle.pc_object.specs.declared.version.Version.TheVariants.{Ptv1, Ptv2}
+use Rattle.pc_object.specs.ObjectText.{CodeWithNotes, operator_byte, trap_byte, fits_ptv1}
 use Rattle.pc_word.specs.MachineLimits.{most_mem, most_ops, most_tests}
 
 -- one reading after another: the first refusal wins
@@ -80,11 +84,22 @@ word_at bytes = do
 
 -- ---- the header
 
--- the first bytes; one that differs is not they, also where the others are missing
+-- these first bytes; one that differs is not they, also where the others are missing
 abbrev pub magic_at : List ℕ → List ℕ → Result (List ℕ) Refusal
 magic_at [] bytes = Ok bytes
 magic_at (first ∷ magic) [] = Err Short
 magic_at (first ∷ magic) (byte ∷ bytes) = if byte == first then magic_at magic bytes else Err NotMagic
+
+-- the version that the byte after `PTV` stands for
+abbrev pub digit_at : List ℕ → Result (Version × List ℕ) Refusal
+digit_at [] = Err Short
+digit_at (byte ∷ rest) = if byte == 0x31 then Ok (Ptv1, rest) else if byte == 0x32 then Ok (Ptv2, rest) else Err NotMagic
+
+-- the version, by the first four bytes
+unfoldable pub version_at : List ℕ → Result (Version × List ℕ) Refusal
+version_at bytes = do
+  rest ← magic_at (0x50 ∷ 0x54 ∷ 0x56 ∷ []) bytes
+  digit_at rest
 
 -- a limit, from 1 to the most
 unfoldable pub limit_at : ℕ → List ℕ → Result (ℕ × List ℕ) Refusal
@@ -116,6 +131,69 @@ array_count_at bytes = do
   count ← byte_at bytes
   unflawed bytes (array_count_flaws count.0)
   Ok count
+
+-- the number of registers, of which PTV1 has no field
+unfoldable pub register_count_at : Version → List ℕ → Result (ℕ × List ℕ) Refusal
+register_count_at Ptv1 bytes = Ok (few_registers, bytes)
+register_count_at Ptv2 bytes = do
+  count ← number_at w16 bytes
+  unflawed bytes (register_count_flaws count.0)
+  Ok count
+
+-- a word of an array's data, which is not 0 if it is the last
+unfoldable pub data_word_at : Bool → List ℕ → Result (ℤ × List ℕ) Refusal
+data_word_at is_last bytes = do
+  word ← word_at bytes
+  unflawed bytes (if is_last then data_tail_flaws word.0 else [])
+  Ok word
+
+-- so many words of an array's data
+unfoldable pub words_at : ℕ → List ℕ → Result (List ℤ × List ℕ) Refusal
+words_at zero bytes = Ok ([], bytes)
+words_at (suc after) bytes = do
+  word ← data_word_at (nat_eq after 0) bytes
+  others ← words_at after word.1
+  Ok (word.0 ∷ others.0, others.1)
+
+-- the data of an array of so many elements: how many words, and each word
+unfoldable pub data_at : ℕ → List ℕ → Result (List ℤ × List ℕ) Refusal
+data_at elements bytes = do
+  count ← number_at w32 bytes
+  unflawed bytes (data_count_flaws elements count.0)
+  words_at count.0 count.1
+
+-- the data of each array of these lengths
+unfoldable pub each_data_at : List ℕ → List ℕ → Result (List (List ℤ) × List ℕ) Refusal
+each_data_at [] bytes = Ok ([], bytes)
+each_data_at (elements ∷ lengths) bytes = do
+  words ← data_at elements bytes
+  others ← each_data_at lengths words.1
+  Ok (words.0 ∷ others.0, others.1)
+
+-- the data of all arrays, of which PTV1 has no field
+abbrev pub initial_at : Version → List ℕ → List ℕ → Result (List (List ℤ) × List ℕ) Refusal
+initial_at Ptv1 lengths bytes = Ok (replicate (length lengths) [], bytes)
+initial_at Ptv2 lengths bytes = each_data_at lengths bytes
+
+-- at the number of registers, where PTV2 tells of what PTV1 could
+abbrev pub version_flaws : Version → ℕ → List (List ℤ) → List Flaw
+version_flaws Ptv1 registers initial = []
+version_flaws Ptv2 registers initial = flaw_where (fits_ptv1 registers initial) flaws.Version
+
+-- how many registers there are, the lengths of arrays, and their data
+pub record Storage : Type 0 where
+  pub registers : ℕ
+  pub arrays : List ℕ
+  pub initial : List (List ℤ)
+
+-- the number of registers, the lengths of so many arrays, and their data
+unfoldable pub storage_at : Version → ℕ → List ℕ → Result (Storage × List ℕ) Refusal
+storage_at version count bytes = do
+  registers ← register_count_at version bytes
+  arrays ← lengths_at count 0 registers.1
+  initial ← initial_at version arrays.0 arrays.1
+  unflawed bytes (version_flaws version registers.0 initial.0)
+  Ok (record { registers = registers.0; arrays = arrays.0; initial = initial.0 }, initial.1)
 
 -- the number of rows
 unfoldable pub row_count_at : List ℕ → Result (ℕ × List ℕ) Refusal
@@ -156,18 +234,18 @@ trap_at bytes = do
   kind ← known bytes flaws.Trap (trap_of byte.0)
   Ok (kind, byte.1)
 
--- a register that is read
-unfoldable pub register_at : List ℕ → Result (ℕ × List ℕ) Refusal
-register_at bytes = do
+-- a register that is read, of so many
+unfoldable pub register_at : ℕ → List ℕ → Result (ℕ × List ℕ) Refusal
+register_at registers bytes = do
   register ← byte_at bytes
-  unflawed bytes (register_flaws register.0)
+  unflawed bytes (register_flaws registers register.0)
   Ok register
 
 -- a register that is written
-unfoldable pub dest_at : Above → List ℕ → Result (ℕ × List ℕ) Refusal
-dest_at above bytes = do
+unfoldable pub dest_at : ℕ → Above → List ℕ → Result (ℕ × List ℕ) Refusal
+dest_at registers above bytes = do
   register ← byte_at bytes
-  unflawed bytes (dest_flaws above register.0)
+  unflawed bytes (dest_flaws registers above register.0)
   Ok register
 
 -- an array, of so many
@@ -178,15 +256,15 @@ array_at arrays bytes = do
   Ok array
 
 -- a register after 00, or a literal after 01
-unfoldable pub operand_at : List ℕ → Result (Operand × List ℕ) Refusal
-operand_at [] = Err Short
-operand_at (zero ∷ rest) = do
-  register ← register_at rest
+unfoldable pub operand_at : ℕ → List ℕ → Result (Operand × List ℕ) Refusal
+operand_at registers [] = Err Short
+operand_at registers (zero ∷ rest) = do
+  register ← register_at registers rest
   Ok (Name register.0, register.1)
-operand_at (suc zero ∷ rest) = do
+operand_at registers (suc zero ∷ rest) = do
   word ← word_at rest
   Ok (Lit word.0, word.1)
-operand_at (suc (suc tag) ∷ rest) = Err (Flawed (suc (length rest)) flaws.OperandTag)
+operand_at registers (suc (suc tag) ∷ rest) = Err (Flawed (suc (length rest)) flaws.OperandTag)
 
 -- ---- rows
 
@@ -235,35 +313,35 @@ is_effect_kind kinds.More = true
 is_effect_kind _ = false
 
 -- the fields of an item after its tag
-unfoldable pub fields_at : ℕ → Above → ItemKind → List ℕ → Result (Item × List ℕ) Refusal
-fields_at arrays above kinds.Bin bytes = do
+unfoldable pub fields_at : Bounds → Above → ItemKind → List ℕ → Result (Item × List ℕ) Refusal
+fields_at bounds above kinds.Bin bytes = do
   op ← operator_at bytes
-  dest ← dest_at above op.1
-  left ← operand_at dest.1
-  right ← operand_at left.1
+  dest ← dest_at bounds.registers above op.1
+  left ← operand_at bounds.registers dest.1
+  right ← operand_at bounds.registers left.1
   Ok (items.Bin op.0 dest.0 left.0 right.0, right.1)
-fields_at arrays above kinds.Copy bytes = do
-  dest ← dest_at above bytes
-  from ← operand_at dest.1
+fields_at bounds above kinds.Copy bytes = do
+  dest ← dest_at bounds.registers above bytes
+  from ← operand_at bounds.registers dest.1
   Ok (items.Copy dest.0 from.0, from.1)
-fields_at arrays above kinds.Load bytes = do
-  dest ← dest_at above bytes
-  array ← array_at arrays dest.1
-  index ← operand_at array.1
+fields_at bounds above kinds.Load bytes = do
+  dest ← dest_at bounds.registers above bytes
+  array ← array_at bounds.arrays dest.1
+  index ← operand_at bounds.registers array.1
   Ok (items.Load dest.0 array.0 index.0, index.1)
-fields_at arrays above kinds.Store bytes = do
-  array ← array_at arrays bytes
-  index ← operand_at array.1
-  value ← operand_at index.1
+fields_at bounds above kinds.Store bytes = do
+  array ← array_at bounds.arrays bytes
+  index ← operand_at bounds.registers array.1
+  value ← operand_at bounds.registers index.1
   Ok (items.Store array.0 index.0 value.0, value.1)
-fields_at arrays above kinds.Print bytes = do
-  value ← operand_at bytes
+fields_at bounds above kinds.Print bytes = do
+  value ← operand_at bounds.registers bytes
   Ok (items.Print value.0, value.1)
-fields_at arrays above kinds.Read bytes = do
-  dest ← dest_at above bytes
+fields_at bounds above kinds.Read bytes = do
+  dest ← dest_at bounds.registers above bytes
   Ok (items.Read dest.0, dest.1)
-fields_at arrays above kinds.More bytes = do
-  dest ← dest_at above bytes
+fields_at bounds above kinds.More bytes = do
+  dest ← dest_at bounds.registers above bytes
   Ok (items.More dest.0, dest.1)
 
 -- the row that a goto leads to, of so many
@@ -291,14 +369,14 @@ ReadsPart = Counts → Above → List ℕ → Result PartOfRow Refusal
 -- after an item's tag: its fields, and what follows under the path with the item
 unfoldable pub step_at : Bounds → ReadsPart → Counts → Above → ItemKind → List ℕ → Result PartOfRow Refusal
 step_at bounds below counts above kind bytes = do
-  item ← fields_at bounds.arrays above kind bytes
+  item ← fields_at bounds above kind bytes
   next ← below counts (above_with item.0 above) item.1
   Ok (Then item.0 next.0, next.1, next.2)
 
 -- after a test's tag: its operand, and both sides under the same path, of which the second counts on from the first
-unfoldable pub test_at : ReadsPart → Counts → Above → List ℕ → Result PartOfRow Refusal
-test_at below counts above bytes = do
-  on ← operand_at bytes
+unfoldable pub test_at : Bounds → ReadsPart → Counts → Above → List ℕ → Result PartOfRow Refusal
+test_at bounds below counts above bytes = do
+  on ← operand_at bounds.registers bytes
   on_yes ← below counts above on.1
   on_no ← below on_yes.1 above on_yes.2
   Ok (Either on.0 on_yes.0 on_no.0, on_no.1, on_no.2)
@@ -322,7 +400,7 @@ behind_tag bounds below counts above bytes tags.Trap rest = do
   Ok (leaf.0, counts, leaf.1)
 behind_tag bounds below counts above bytes tags.Test rest = do
   more ← at_field bytes (counted_test bounds.limits counts)
-  test_at below more above rest
+  test_at bounds below more above rest
 behind_tag bounds below counts above bytes (tags.Item kind) rest = do
   more ← at_field bytes (counted_item bounds.limits counts above (is_memory_kind kind) (is_effect_kind kind))
   step_at bounds below more above kind rest
@@ -379,25 +457,31 @@ abbrev pub end_at : List ℕ → Result (Unit {0}) Refusal
 end_at [] = Ok tt
 end_at (byte ∷ bytes) = Err (Longer (suc (length bytes)))
 
--- the limits, the arrays and the number of rows
+-- the limits, the registers and arrays, and the number of rows
 pub record Header : Type 0 where
   pub limits : Limits
-  pub arrays : List ℕ
+  pub storage : Storage
   pub rows : ℕ
 
--- the first bytes, the limits, the arrays and the number of rows
+-- the version, the limits, the number of arrays, the registers and arrays, and the number of rows
 unfoldable pub header_at : List ℕ → Result (Header × List ℕ) Refusal
 header_at bytes = do
-  start ← magic_at (0x50 ∷ 0x54 ∷ 0x56 ∷ 0x31 ∷ []) bytes
-  limits ← limits_at start
+  version ← version_at bytes
+  limits ← limits_at version.1
   count ← array_count_at limits.1
-  arrays ← lengths_at count.0 0 count.1
-  rows ← row_count_at arrays.1
-  Ok (record { limits = limits.0; arrays = arrays.0; rows = rows.0 }, rows.1)
+  storage ← storage_at version.0 count.0 count.1
+  rows ← row_count_at storage.1
+  Ok (record { limits = limits.0; storage = storage.0; rows = rows.0 }, rows.1)
 
 -- what each row is held against
 abbrev pub header_bounds : Header → Bounds
-header_bounds header = record { limits = header.limits; arrays = length header.arrays; rows = header.rows }
+header_bounds header =
+    record { limits = header.limits; registers = header.storage.registers; arrays = length header.storage.arrays; rows = header.rows }
+
+-- the code of a header and rows
+abbrev pub code_with : Header → List CodeRow → RowCode
+code_with header rows =
+    record { limits = header.limits; registers = header.storage.registers; arrays = header.storage.arrays; initial = header.storage.initial; rows = rows }
 
 -- the header, the rows, the number of notes and the notes, and nothing after them
 unfoldable pub object_at : List ℕ → Result CodeWithNotes Refusal
@@ -407,7 +491,7 @@ object_at bytes = do
   count ← number_at w16 rows.1
   notes ← notes_at count.0 count.1
   end_at notes.1
-  Ok (record { code = record { limits = header.0.limits; arrays = header.0.arrays; rows = rows.0 }; notes = notes.0 })
+  Ok (record { code = code_with header.0 rows.0; notes = notes.0 })
 
 -- the refusal of bytes of this number: the offset of a field is the number of bytes before it
 abbrev pub told : ℕ → Refusal → ObjectError

@@ -1,9 +1,12 @@
 -- How many bytes each part of an object's text has.
-use Rattle.std.specs.Prelude.{ℕ, ◌+◌}
+use Rattle.std.specs.Prelude.{ℕ, ◌+◌, ◌*◌, ℤ, List, length}
+use Rattle.std.specs.List.{sum_by}
 use Rattle.pc_word.specs.declared.item.Item.{Item}
 use Rattle.pc_word.specs.declared.item.Item.TheVariants.{Bin, Copy, Load, Store, Print, Read, More}
 use Rattle.pc_word.specs.declared.item.Operand.{Operand}
 use Rattle.pc_word.specs.declared.item.Operand.TheVariants.{Name, Lit}
+use Rattle.pc_object.specs.declared.version.Version.{Version}
+use Rattle.pc_object.specs.declared.version.Version.TheVariants.{Ptv1, Ptv2}
 
 -- ---- parts of a row
 
@@ -38,16 +41,28 @@ trap_bytes = 6
 
 -- ---- what stands round the rows
 
--- the header but for the lengths of arrays, and each of these
-abbrev pub header_bytes : ℕ
-header_bytes = 12
+-- the header but for what it has of each array
+abbrev pub header_bytes : Version → ℕ
+header_bytes Ptv1 = 12
+header_bytes Ptv2 = 14
 
+-- the length of an array
 abbrev pub length_bytes : ℕ
 length_bytes = 4
 
--- the count of notes, and each note
+-- the data of an array
+abbrev pub data_bytes : List ℤ → ℕ
+data_bytes words = 4 + 4 * length words
+
+-- the data of all arrays, of which PTV1 tells nothing
+abbrev pub initial_bytes : Version → List (List ℤ) → ℕ
+initial_bytes Ptv1 initial = 0
+initial_bytes Ptv2 initial = sum_by data_bytes initial
+
+-- the count of notes
 abbrev pub count_bytes : ℕ
 count_bytes = 2
 
+-- a note
 abbrev pub note_bytes : ℕ
 note_bytes = 13

@@ -8,14 +8,16 @@ ghost use Rattle.pc_object.specs.models.Headers.{shown};
 ghost use Rattle.pc_word.specs.Exact.{IsExact};
 ghost use Rattle.pc_object.specs.Cause.{object_cause};
 ghost use Rattle.pc_object.specs.models.HaltCause.{halt_cause};
-ghost use Rattle.pc_object.specs.Reading.{magic_at, lengths_at, header_at, note_at, notes_at, end_at, object_at, object_reading, told};
+ghost use Rattle.pc_object.specs.Reading.{magic_at, version_at, header_at, note_at, notes_at, end_at, object_at, object_reading, told};
 ghost use Rattle.pc_word.specs.MachineLimits.{most_object};
 
-use crate::fields::{array_count_of, at_field, choice, half, limits, number, row_count_of};
+use crate::fields::{array_count_of, choice, half, limits, number, row_count_of};
 use crate::object::{Note, Object};
 use crate::refusal::{Halt, ObjectError, Refusal};
 use crate::rows::rows;
-use pc_machine::{Bounds, Code, array_length};
+use crate::storage::{Storage, storage_of};
+use crate::version::Version;
+use pc_machine::{Bounds, Code};
 use pc_word::{Limits, Seq};
 use std::alloc::Global;
 
@@ -76,7 +78,7 @@ fn tell(bytes: &[u8], refusal: Refusal) -> ObjectError
 #[derive(Drop)]
 struct Header {
     limits: Limits,
-    arrays: Vec<u32>,
+    storage: Storage,
     rows: u32,
 }
 
@@ -87,7 +89,8 @@ fn object(alloc: Global, bytes: &[u8]) -> Result<Object, Halt>
     let (header, rest) = header_of(alloc, bytes)?;
     let bounds = Bounds {
         limits: header.limits,
-        arrays: header.arrays.len(),
+        registers: header.storage.registers as usize,
+        arrays: header.storage.arrays.len(),
         rows: header.rows as usize,
     };
     let (rows, rest) = rows(alloc, &bounds, rest)?;
@@ -97,7 +100,9 @@ fn object(alloc: Global, bytes: &[u8]) -> Result<Object, Halt>
     Ok(Object {
         code: Code {
             limits: header.limits,
-            arrays: Seq::from_vec(header.arrays),
+            registers: header.storage.registers,
+            arrays: Seq::from_vec(header.storage.arrays),
+            initial: Seq::from_vec(header.storage.initial),
             rows: Seq::from_vec(rows),
         },
         notes: Seq::from_vec(notes),
@@ -108,17 +113,30 @@ fn object(alloc: Global, bytes: &[u8]) -> Result<Object, Halt>
 fn header_of(alloc: Global, bytes: &[u8]) -> Result<(Header, &[u8]), Halt>
     ensures { IsExact (λ x. (shown x.0, x.1.now)) halt_cause result (header_at bytes.now) }
 {
-    let rest = magic(b"PTV1", bytes)?;
+    let (version, rest) = version(bytes)?;
     let (limits, rest) = limits(rest)?;
     let (count, rest) = array_count_of(rest)?;
-    let (arrays, rest) = lengths(alloc, count, rest)?;
+    let (storage, rest) = storage_of(alloc, version, count, rest)?;
     let (rows, rest) = row_count_of(rest)?;
     let header = Header {
         limits,
-        arrays,
+        storage,
         rows,
     };
     Ok((header, rest))
+}
+
+#[tactic(auto, unfolding(crate::specs::Reading::version_at))]
+fn version(bytes: &[u8]) -> Result<(Version, &[u8]), Halt>
+    ensures { IsExact (λ x. (x.0, x.1.now)) halt_cause result (version_at bytes.now) }
+{
+    let rest = magic(b"PTV", bytes)?;
+    match rest {
+        [] => Err(Halt::Refused(Refusal::Short)),
+        [b'1', rest @ ..] => Ok((Version::Ptv1, rest)),
+        [b'2', rest @ ..] => Ok((Version::Ptv2, rest)),
+        [_, ..] => Err(Halt::Refused(Refusal::NotMagic)),
+    }
 }
 
 fn magic<'a>(magic: &[u8], bytes: &'a [u8]) -> Result<&'a [u8], Halt>
@@ -135,21 +153,6 @@ fn magic<'a>(magic: &[u8], bytes: &'a [u8]) -> Result<&'a [u8], Halt>
         rest = after;
     }
     Ok(rest)
-}
-
-fn lengths(alloc: Global, count: u8, bytes: &[u8]) -> Result<(Vec<u32>, &[u8]), Halt>
-    ensures { IsExact (λ x. (x.0.items, x.1.now)) halt_cause result (lengths_at count 0 bytes.now) }
-{
-    let mut lengths = Vec::new(alloc);
-    let mut elements = 0;
-    let mut rest = bytes;
-    for _ in 0..count {
-        let (length, after) = number(rest)?;
-        elements = at_field(rest, array_length(elements, length))?;
-        lengths.push(length)?;
-        rest = after;
-    }
-    Ok((lengths, rest))
 }
 
 fn notes(alloc: Global, count: u16, bytes: &[u8]) -> Result<(Vec<Note>, &[u8]), Halt>

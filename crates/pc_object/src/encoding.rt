@@ -1,19 +1,22 @@
 //! An object as bytes.
 
-ghost use Rattle.std.specs.Prelude.{◌≡◌, ◌++◌, ◌∷◌, [], ◌<◌, ◌≤◌, ◌^◌, length, All, IfOk, OnOk};
+ghost use Rattle.std.specs.Prelude.{◌≡◌, ◌++◌, ◌∷◌, [], ◌<◌, ◌≤◌, ◌^◌, length, All, IfOk, OnOk, FitsSigned};
+ghost use Rattle.std.specs.Int.{w32};
 ghost use Rattle.std.specs.List.{flat_map};
 ghost use Rattle.pc_machine.specs.MachineCode.{row_of, rows_of, code_of};
 ghost use Rattle.pc_machine.specs.WellFormed.{IsOperand, IsItem};
 ghost use Rattle.pc_object.specs.ObjectText.{object_of, IsObject, object_text, header_text, notes_text, note_text, row_text, leaf_text, item_text, operand_text};
-ghost use Rattle.pc_object.specs.ObjectText.{word_text, u16_text, u32_text, operator_byte, trap_byte};
+ghost use Rattle.pc_object.specs.ObjectText.{word_text, u16_text, u32_text, operator_byte, trap_byte, version_of, version_text, data_text, storage_text};
 ghost use Rattle.pc_object.specs.models.InRange.{IsInRange};
 ghost use Rattle.pc_object.specs.Numbers.{OperandFits, ItemNumbersFit, LeafFits, RowNumbersFit, NoteFits, HasWords};
 ghost use Rattle.pc_word.specs.MachineLimits.{most_arrays};
+ghost use Rattle.pc_machine.specs.Registers.{most_registers};
 
 use crate::object::{Note, Object};
+use crate::version::{Version, version_for};
 use byteorder::{BigEndian, ByteOrder};
 use pc_machine::{Code, Leaf, Tree};
-use pc_word::{Item, OpCode, Operand, OutOfMemory, RowTree, TrapKind};
+use pc_word::{Item, OpCode, Operand, OutOfMemory, RowTree, TrapKind, WordList};
 use std::alloc::{AllocError, Global};
 
 /// Why an object could not be written.
@@ -57,15 +60,65 @@ fn push_word(out: &mut Vec<u8>, word: i32) -> Result<(), AllocError>
 
 fn push_header(out: &mut Vec<u8>, code: &Code) -> Result<(), AllocError>
     requires arrays { length code.now.arrays ≤ most_arrays }
+    requires initial { All (λ words. length words < 2 ^ 32) code.now.initial }
     requires rows { length code.now.rows < 2 ^ 32 }
-    ensures { OnOk result (out.new.items ≡ out.old.items ++ header_text (code_of code.now)) }
+    ensures text { OnOk result (out.new.items ≡ out.old.items ++ header_text (code_of code.now)) }
+    ensures words { OnOk result (All (All (FitsSigned w32)) code.now.initial) }
 {
-    let arrays = code.arrays.as_slice();
     let limits = code.limits;
-    out.extend_from_slice(b"PTV1")?;
-    out.extend_from_slice(&[limits.ops, limits.tests, limits.mem, arrays.len() as u8])?;
-    push_lengths(out, arrays)?;
+    let version = version_for(code.registers, code.initial.as_slice());
+    push_version(out, version)?;
+    out.extend_from_slice(&[limits.ops, limits.tests, limits.mem, code.arrays.len() as u8])?;
+    push_storage(out, version, code)?;
     push_u32(out, code.rows.len() as u32)
+}
+
+fn push_version(out: &mut Vec<u8>, version: Version) -> Result<(), AllocError>
+    ensures { OnOk result (out.new.items ≡ out.old.items ++ version_text version) }
+{
+    match version {
+        Version::Ptv1 => out.extend_from_slice(b"PTV1"),
+        Version::Ptv2 => out.extend_from_slice(b"PTV2"),
+    }
+}
+
+fn push_storage(out: &mut Vec<u8>, version: Version, code: &Code) -> Result<(), AllocError>
+    requires version { version ≡ version_of (code_of code.now) }
+    requires initial { All (λ words. length words < 2 ^ 32) code.now.initial }
+    ensures words { OnOk result (All (All (FitsSigned w32)) code.now.initial) }
+    ensures text { OnOk result (out.new.items ≡ out.old.items ++ storage_text version code.now.registers code.now.arrays code.now.initial) }
+{
+    match version {
+        Version::Ptv1 => push_lengths(out, code.arrays.as_slice()),
+        Version::Ptv2 => {
+            push_u16(out, code.registers)?;
+            push_lengths(out, code.arrays.as_slice())?;
+            push_each_data(out, code.initial.as_slice())
+        }
+    }
+}
+
+fn push_each_data(out: &mut Vec<u8>, initial: &[WordList]) -> Result<(), AllocError>
+    requires { All (λ words. length words < 2 ^ 32) initial.now }
+    ensures text { OnOk result (out.new.items ≡ out.old.items ++ flat_map data_text initial.now) }
+    ensures words { OnOk result (All (All (FitsSigned w32)) initial.now) }
+{
+    for words in initial {
+        push_data(out, words.as_slice())?;
+    }
+    Ok(())
+}
+
+fn push_data(out: &mut Vec<u8>, words: &[i32]) -> Result<(), AllocError>
+    requires { length words.now < 2 ^ 32 }
+    ensures text { OnOk result (out.new.items ≡ out.old.items ++ data_text words.now) }
+    ensures words { All (FitsSigned w32) words.now }
+{
+    push_u32(out, words.len() as u32)?;
+    for word in words {
+        push_word(out, *word)?;
+    }
+    Ok(())
 }
 
 fn push_lengths(out: &mut Vec<u8>, lengths: &[u32]) -> Result<(), AllocError>
@@ -78,7 +131,7 @@ fn push_lengths(out: &mut Vec<u8>, lengths: &[u32]) -> Result<(), AllocError>
 }
 
 fn push_rows(out: &mut Vec<u8>, rows: &[Tree]) -> Result<(), AllocError>
-    requires { All (λ tree. IsInRange most_arrays (2 ^ 32) (row_of tree)) rows.now }
+    requires { All (λ tree. IsInRange most_registers most_arrays (2 ^ 32) (row_of tree)) rows.now }
     ensures text { OnOk result (out.new.items ≡ out.old.items ++ flat_map row_text (rows_of rows.now)) }
     ensures words { OnOk result (All (λ tree. RowNumbersFit (row_of tree)) rows.now) }
 {
@@ -89,7 +142,7 @@ fn push_rows(out: &mut Vec<u8>, rows: &[Tree]) -> Result<(), AllocError>
 }
 
 fn push_row(out: &mut Vec<u8>, row: &Tree) -> Result<(), AllocError>
-    requires { IsInRange most_arrays (2 ^ 32) (row_of row.now) }
+    requires { IsInRange most_registers most_arrays (2 ^ 32) (row_of row.now) }
     ensures text { OnOk result (out.new.items ≡ out.old.items ++ row_text (row_of row.now)) }
     ensures words { OnOk result (RowNumbersFit (row_of row.now)) }
 {
@@ -126,7 +179,7 @@ fn push_leaf(out: &mut Vec<u8>, leaf: Leaf) -> Result<(), AllocError>
 }
 
 fn push_item(out: &mut Vec<u8>, item: Item) -> Result<(), AllocError>
-    requires { IsItem most_arrays item }
+    requires { IsItem most_registers most_arrays item }
     ensures text { OnOk result (out.new.items ≡ out.old.items ++ item_text item) }
     ensures words { OnOk result (ItemNumbersFit item) }
 {
@@ -166,8 +219,8 @@ fn push_operands(
     first: Operand,
     second: Operand,
 ) -> Result<(), AllocError>
-    requires first { IsOperand first }
-    requires second { IsOperand second }
+    requires first { IsOperand most_registers first }
+    requires second { IsOperand most_registers second }
     ensures text { OnOk result (out.new.items ≡ out.old.items ++ (front.now ++ (operand_text first ++ operand_text second))) }
     ensures first { OnOk result (OperandFits first) }
     ensures second { OnOk result (OperandFits second) }
@@ -178,7 +231,7 @@ fn push_operands(
 }
 
 fn push_operand(out: &mut Vec<u8>, operand: Operand) -> Result<(), AllocError>
-    requires { IsOperand operand }
+    requires { IsOperand most_registers operand }
     ensures text { OnOk result (out.new.items ≡ out.old.items ++ operand_text operand) }
     ensures words { OnOk result (OperandFits operand) }
 {

@@ -8,12 +8,12 @@ ghost use Rattle.pc_word.specs.Exact.{IsExact};
 ghost use Rattle.pc_object.specs.models.HaltCause.{halt_cause};
 ghost use Rattle.pc_object.specs.Reading.{at_field, byte_at, number_at, word_at, limit_at, limits_at, array_count_at, row_count_at, operator_at};
 ghost use Rattle.pc_object.specs.Reading.{trap_at, register_at, dest_at, array_at, operand_at, tag_at, choice_at};
-ghost use Rattle.pc_word.specs.MachineLimits.{registers};
+ghost use Rattle.pc_machine.specs.Registers.{most_registers};
 
 use crate::refusal::{Halt, Refusal};
 use crate::tag::{Tag, operator_of_byte, tag_of, trap_of};
 use byteorder::{BigEndian, ByteOrder};
-use pc_machine::{Bounds, Flaw, Path, array_count, is_register, limit, row_count};
+use pc_machine::{Bounds, Flaw, Path, array_count, limit, row_count};
 use pc_word::{Limits, MOST_MEM, MOST_OPS, MOST_TESTS, OpCode, Operand, TrapKind};
 
 /// The flaw of the field that begins where `bytes` do.
@@ -66,7 +66,7 @@ pub fn number(bytes: &[u8]) -> Result<(u32, &[u8]), Halt>
 }
 
 #[tactic(auto, unfolding(crate::specs::Reading::word_at))]
-fn word(bytes: &[u8]) -> Result<(i32, &[u8]), Halt>
+pub fn word(bytes: &[u8]) -> Result<(i32, &[u8]), Halt>
     ensures { IsExact (λ x. (x.0, x.1.now)) halt_cause result (word_at bytes.now) }
 {
     let (number, rest) = number(bytes)?;
@@ -133,23 +133,24 @@ pub fn trap_kind(bytes: &[u8]) -> Result<(TrapKind, &[u8]), Halt>
 }
 
 #[tactic(auto, unfolding(crate::specs::Reading::register_at))]
-fn register(bytes: &[u8]) -> Result<(u32, &[u8]), Halt>
-    ensures { IsExact (λ x. (x.0, x.1.now)) halt_cause result (register_at bytes.now) }
+fn register<'a>(bounds: &Bounds, bytes: &'a [u8]) -> Result<(u32, &'a [u8]), Halt>
+    ensures { IsExact (λ x. (x.0, x.1.now)) halt_cause result (register_at bounds.now.registers bytes.now) }
 {
     let (register, rest) = byte(bytes)?;
     let register = register as u32;
-    at_field(bytes, is_register(register))?;
+    at_field(bytes, bounds.register(register))?;
     Ok((register, rest))
 }
 
 #[tactic(auto, unfolding(crate::specs::Reading::dest_at))]
-pub fn dest<'a>(path: &Path, bytes: &'a [u8]) -> Result<(u32, &'a [u8]), Halt>
-    ensures read { IsExact (λ x. (x.0, x.1.now)) halt_cause result (dest_at (above_of path.now) bytes.now) }
-    ensures register { IfOk result (λ x. x.0 < registers) }
+pub fn dest<'a>(bounds: &Bounds, path: &Path, bytes: &'a [u8]) -> Result<(u32, &'a [u8]), Halt>
+    ensures read { IsExact (λ x. (x.0, x.1.now)) halt_cause result (dest_at bounds.now.registers (above_of path.now) bytes.now) }
+    // A register is a byte, so the machine has it.
+    ensures register { IfOk result (λ x. x.0 < most_registers) }
 {
     let (register, rest) = byte(bytes)?;
     let register = register as u32;
-    at_field(bytes, path.dest(register))?;
+    at_field(bytes, bounds.dest(path, register))?;
     Ok((register, rest))
 }
 
@@ -163,13 +164,13 @@ pub fn array<'a>(bounds: &Bounds, bytes: &'a [u8]) -> Result<(u8, &'a [u8]), Hal
 }
 
 #[tactic(auto, unfolding(crate::specs::Reading::operand_at))]
-pub fn operand(bytes: &[u8]) -> Result<(Operand, &[u8]), Halt>
-    ensures { IsExact (λ x. (x.0, x.1.now)) halt_cause result (operand_at bytes.now) }
+pub fn operand<'a>(bounds: &Bounds, bytes: &'a [u8]) -> Result<(Operand, &'a [u8]), Halt>
+    ensures { IsExact (λ x. (x.0, x.1.now)) halt_cause result (operand_at bounds.now.registers bytes.now) }
 {
     match bytes {
         [] => Err(Halt::Refused(Refusal::Short)),
         [0x00, rest @ ..] => {
-            let (register, rest) = register(rest)?;
+            let (register, rest) = register(bounds, rest)?;
             Ok((Operand::Name(register), rest))
         }
         [0x01, rest @ ..] => {

@@ -1,4 +1,5 @@
-//! Objects and their format, PTV1: a code and a note for each pipelined or refused loop, as bytes.
+//! Objects and their format, PTV1 or PTV2: a code and a note for each pipelined or refused loop, as
+//! bytes.
 #![tactic(auto)]
 
 mod decoding;
@@ -9,7 +10,9 @@ mod object;
 mod refusal;
 mod rows;
 mod sizes;
+mod storage;
 mod tag;
+mod version;
 
 pub use decoding::decode;
 pub use encoding::{EncodeError, encode};
@@ -23,3 +26,4 @@ pub use sizes::{
     COUNT_BYTES, END_BYTES, GOTO_BYTES, HEADER_BYTES, LENGTH_BYTES, NOTE_BYTES, TRAP_BYTES,
     item_bytes, operand_bytes, test_bytes,
 };
+pub use version::Version;

@@ -9,8 +9,8 @@ use thiserror::Error;
 /// right. Offsets count bytes from 0.
 #[derive(Clone, Copy, Debug, PartialEq, Eq, Error)]
 pub enum ObjectError {
-    /// One of the first four bytes that are there is not that of `PTV1`.
-    #[error("not an object: the first bytes are not PTV1")]
+    /// One of the first four bytes that are there fits neither `PTV1` nor `PTV2`.
+    #[error("not an object: the first bytes are neither PTV1 nor PTV2")]
     BadMagic,
     /// The bytes end within a field that is due, or before it. The offset is their number.
     #[error("the object is cut off at byte {offset}")]

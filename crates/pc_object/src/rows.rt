@@ -5,6 +5,7 @@ ghost use Rattle.pc_machine.specs.MachineCode.{row_of, rows_of};
 ghost use Rattle.pc_word.specs.Row.{At_leaf};
 ghost use Rattle.pc_word.specs.Items.{dest_of};
 ghost use Rattle.pc_machine.specs.Checks.{above_of, IsDest};
+ghost use Rattle.pc_machine.specs.Registers.{most_registers};
 ghost use Rattle.pc_word.specs.Exact.{IsExact};
 ghost use Rattle.pc_object.specs.models.HaltCause.{halt_cause};
 ghost use Rattle.pc_object.specs.Reading.{at_field, counted_item, is_memory_kind, is_effect_kind, fields_at, goto_at, trap_fields_at, step_at, test_at, row_at, rows_at};
@@ -127,9 +128,9 @@ fn test<'a>(
     bytes: &'a [u8],
 ) -> Result<(Tree, Counts, &'a [u8]), Halt>
     ensures { IsExact (λ x. (row_of x.0, x.1, x.2.now)) halt_cause result
-        (test_at (row_at bounds.now depth) counts (above_of path.now) bytes.now) }
+        (test_at bounds.now (row_at bounds.now depth) counts (above_of path.now) bytes.now) }
 {
-    let (on, rest) = operand(bytes)?;
+    let (on, rest) = operand(bounds, bytes)?;
     let (yes, counts, rest) = boxed_row(alloc, bounds, depth, counts, path, rest)?;
     let (no, counts, rest) = boxed_row(alloc, bounds, depth, counts, path, rest)?;
     Ok((RowTree::Test { on, yes, no }, counts, rest))
@@ -158,28 +159,28 @@ fn item_fields<'a>(
     kind: ItemKind,
     bytes: &'a [u8],
 ) -> Result<(Item, &'a [u8]), Halt>
-    ensures read { IsExact (λ x. (x.0, x.1.now)) halt_cause result (fields_at bounds.now.arrays (above_of path.now) kind bytes.now) }
-    ensures dest { IfOk result (λ x. IsDest (dest_of x.0)) }
+    ensures read { IsExact (λ x. (x.0, x.1.now)) halt_cause result (fields_at bounds.now (above_of path.now) kind bytes.now) }
+    ensures dest { IfOk result (λ x. IsDest most_registers (dest_of x.0)) }
 {
     match kind {
         ItemKind::Bin => bin_fields(bounds, path, bytes),
         ItemKind::Copy => {
-            let (dest, rest) = dest(path, bytes)?;
-            let (from, rest) = operand(rest)?;
+            let (dest, rest) = dest(bounds, path, bytes)?;
+            let (from, rest) = operand(bounds, rest)?;
             Ok((Item::Copy { dest, from }, rest))
         }
         ItemKind::Load => load_fields(bounds, path, bytes),
         ItemKind::Store => store_fields(bounds, path, bytes),
         ItemKind::Print => {
-            let (value, rest) = operand(bytes)?;
+            let (value, rest) = operand(bounds, bytes)?;
             Ok((Item::Print { value }, rest))
         }
         ItemKind::Read => {
-            let (dest, rest) = dest(path, bytes)?;
+            let (dest, rest) = dest(bounds, path, bytes)?;
             Ok((Item::Read { dest }, rest))
         }
         ItemKind::More => {
-            let (dest, rest) = dest(path, bytes)?;
+            let (dest, rest) = dest(bounds, path, bytes)?;
             Ok((Item::More { dest }, rest))
         }
     }
@@ -187,13 +188,13 @@ fn item_fields<'a>(
 
 #[tactic(auto, unfolding(crate::specs::Reading::fields_at))]
 fn bin_fields<'a>(bounds: &Bounds, path: &Path, bytes: &'a [u8]) -> Result<(Item, &'a [u8]), Halt>
-    ensures read { IsExact (λ x. (x.0, x.1.now)) halt_cause result (fields_at bounds.now.arrays (above_of path.now) ItemKind.Bin bytes.now) }
-    ensures dest { IfOk result (λ x. IsDest (dest_of x.0)) }
+    ensures read { IsExact (λ x. (x.0, x.1.now)) halt_cause result (fields_at bounds.now (above_of path.now) ItemKind.Bin bytes.now) }
+    ensures dest { IfOk result (λ x. IsDest most_registers (dest_of x.0)) }
 {
     let (op, rest) = operator(bytes)?;
-    let (dest, rest) = dest(path, rest)?;
-    let (left, rest) = operand(rest)?;
-    let (right, rest) = operand(rest)?;
+    let (dest, rest) = dest(bounds, path, rest)?;
+    let (left, rest) = operand(bounds, rest)?;
+    let (right, rest) = operand(bounds, rest)?;
     let item = Item::Bin {
         op,
         dest,
@@ -205,23 +206,23 @@ fn bin_fields<'a>(bounds: &Bounds, path: &Path, bytes: &'a [u8]) -> Result<(Item
 
 #[tactic(auto, unfolding(crate::specs::Reading::fields_at))]
 fn load_fields<'a>(bounds: &Bounds, path: &Path, bytes: &'a [u8]) -> Result<(Item, &'a [u8]), Halt>
-    ensures read { IsExact (λ x. (x.0, x.1.now)) halt_cause result (fields_at bounds.now.arrays (above_of path.now) ItemKind.Load bytes.now) }
-    ensures dest { IfOk result (λ x. IsDest (dest_of x.0)) }
+    ensures read { IsExact (λ x. (x.0, x.1.now)) halt_cause result (fields_at bounds.now (above_of path.now) ItemKind.Load bytes.now) }
+    ensures dest { IfOk result (λ x. IsDest most_registers (dest_of x.0)) }
 {
-    let (dest, rest) = dest(path, bytes)?;
+    let (dest, rest) = dest(bounds, path, bytes)?;
     let (array, rest) = array(bounds, rest)?;
-    let (index, rest) = operand(rest)?;
+    let (index, rest) = operand(bounds, rest)?;
     Ok((Item::Load { dest, array, index }, rest))
 }
 
 #[tactic(auto, unfolding(crate::specs::Reading::fields_at))]
 fn store_fields<'a>(bounds: &Bounds, path: &Path, bytes: &'a [u8]) -> Result<(Item, &'a [u8]), Halt>
-    ensures read { IsExact (λ x. (x.0, x.1.now)) halt_cause result (fields_at bounds.now.arrays (above_of path.now) ItemKind.Store bytes.now) }
-    ensures dest { IfOk result (λ x. IsDest (dest_of x.0)) }
+    ensures read { IsExact (λ x. (x.0, x.1.now)) halt_cause result (fields_at bounds.now (above_of path.now) ItemKind.Store bytes.now) }
+    ensures dest { IfOk result (λ x. IsDest most_registers (dest_of x.0)) }
 {
     let (array, rest) = array(bounds, bytes)?;
-    let (index, rest) = operand(rest)?;
-    let (value, rest) = operand(rest)?;
+    let (index, rest) = operand(bounds, rest)?;
+    let (value, rest) = operand(bounds, rest)?;
     let item = Item::Store {
         array,
         index,

@@ -4,7 +4,7 @@ ghost use Rattle.pc_object.specs.Sizes.{operand_bytes, item_bytes, test_bytes};
 
 use pc_word::{Item, Operand};
 
-/// The header but for the lengths of arrays.
+/// The header of `PTV1` but for the lengths of arrays.
 pub const HEADER_BYTES: u32 = 12;
 
 /// The length of an array.

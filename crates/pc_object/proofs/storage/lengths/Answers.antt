@@ -1,7 +1,7 @@
 use Rattle.std.proofs.lemmas.Result.{err_from_is_err_and}
 use Rattle.pc_object.specs.Reading.{lengths_at}
 use Rattle.pc_object.proofs.Loop.{lengths_go_on, lengths_end, lengths_flawed, lengths_done, few_with}
-use Rattle.pc_object.proofs.decoding.lengths.Goals as goal
+use Rattle.pc_object.proofs.storage.lengths.Goals as goal
 
 pub returns-in_err-length : goal.returns-in_err-length
 returns-in_err-length c =

@@ -2,7 +2,7 @@ use Rattle.std.proofs.Common.{◌≡◌, ◌-◌, ◌≤◌}
 use Rattle.pc_object.specs.Reading.{lengths_at}
 use Rattle.pc_object.proofs.Loop.{with_front}
 use Rattle.pc_word.specs.MachineLimits.{most_elements}
-use Rattle.pc_object.proofs.decoding.lengths.Given as goal
+use Rattle.pc_object.proofs.storage.lengths.Given as goal
 
 abbrev pub invariant-loop : goal.invariant-loop
 invariant-loop l = record {
