@@ -59,7 +59,7 @@ pub record IsPlaced (code : RowCode) (left : Option (List ℕ)) (machine : Stand
   pub numbers : List ℤ
   pub in_input : SpellsInput left numbers
   pub runs : code_of machine.code ≡ code
-  pub start : here_of machine ≡ machine_start numbers
+  pub start : here_of machine ≡ machine_start code numbers
   pub not_over : machine.over ≡ false
 
 -- the machine is at the start of the code of an object that the file holds, with the numbers of the input
