@@ -1,18 +1,15 @@
 -- The text of a code with flaws is refused for the first of them. Each part of a text is read as its value, or as the first of its flaws.
-use Rattle.std.proofs.Common.{◌≡◌, ℕ, zero, suc, ◌+◌, ◌-◌, ◌^◌, ◌<◌, ◌≤◌, Bool, leb, ◌&&◌, List, [], ◌∷◌, ◌++◌, length, Some, Result, Ok, Err, refl, sym, ap, ◌∙◌, subst, arith, append_assoc}
+use Rattle.std.proofs.Common.{◌≡◌, ℕ, zero, suc, ◌-◌, ◌^◌, ◌<◌, ◌≤◌, Bool, leb, ◌&&◌, List, [], ◌∷◌, ◌++◌, length, Some, Result, Ok, Err, refl, sym, ap, ◌∙◌, subst, arith, append_assoc}
 use Rattle.std.proofs.lemmas.Bool.{leb-false}
 use Rattle.std.specs.Prelude.{slice_get}
 use Rattle.std.specs.List.{flat_map, AllByRecursion}
 use Rattle.std.specs.Int.{w16, w32}
 use Rattle.pc_word.specs.declared.item.Item.{Item}
 use Rattle.pc_word.specs.declared.item.Item.TheVariants as items
-use Rattle.pc_word.specs.declared.item.Limits.{Limits}
 use Rattle.pc_word.specs.declared.item.Operand.{Operand}
 use Rattle.pc_word.specs.declared.item.Operand.TheVariants.{Name, Lit}
 use Rattle.pc_word.specs.Items.{is_memory, is_effect}
 use Rattle.pc_word.specs.Row.{Then, Either, At_leaf}
-use Rattle.pc_word.specs.MachineLimits.{most_ops, most_tests, most_mem}
-use Rattle.pc_word.specs.Exact.{checked}
 use Rattle.pc_machine.specs.declared.code.Flaw.{Flaw}
 use Rattle.pc_machine.specs.declared.code.Flaw.TheVariants as flaws
 use Rattle.pc_machine.specs.declared.check.Bounds.{Bounds}
@@ -20,19 +17,18 @@ use Rattle.pc_machine.specs.declared.check.Counts.{Counts}
 use Rattle.pc_machine.specs.declared.tree.Leaf.{Leaf}
 use Rattle.pc_machine.specs.declared.tree.Leaf.TheVariants.{Goto, Stop, Trap}
 use Rattle.pc_machine.specs.MachineCode.{CodeRow, RowCode}
-use Rattle.pc_machine.specs.Flaws.{limit_flaws, limits_flaws, array_count_flaws, length_flaws, lengths_flaws, row_count_flaws, header_flaws, Above}
+use Rattle.pc_machine.specs.Flaws.{limits_flaws, header_flaws, Above}
 use Rattle.pc_machine.specs.Flaws.{above_with, nothing_above, no_counts, counts_with_item, counts_with_test, counts_after, item_tag_flaws}
 use Rattle.pc_machine.specs.Flaws.{test_tag_flaws, register_flaws, dest_flaws, operand_flaws, array_flaws, target_flaws, field_flaws, item_flaws}
 use Rattle.pc_machine.specs.Flaws.{test_flaws, leaf_flaws, row_flaws, bounds_of, flaws_of, flaw_where}
 use Rattle.pc_machine.proofs.Flaws.{limits_sound}
 use Rattle.pc_object.specs.declared.refusal.Refusal.{Refusal}
-use Rattle.pc_object.specs.declared.refusal.Refusal.TheVariants.{Flawed}
 use Rattle.pc_object.specs.declared.refusal.ObjectError.TheVariants.{BadField}
 use Rattle.pc_object.specs.declared.tag.ItemKind.TheVariants as kinds
 use Rattle.pc_object.specs.declared.tag.Tag.TheVariants as tags
 use Rattle.pc_object.specs.ObjectText.{CodeWithNotes, u32_text, operator_byte, operand_text, item_text, row_text, leaf_text, header_text, notes_text, object_text}
 use Rattle.pc_object.specs.Numbers.{OperandFits, ItemNumbersFit, LeafFits, RowNumbersFit, HasWords, TargetFits, TargetsFit, HasCounts}
-use Rattle.pc_object.specs.Reading.{◌>>=◌, ◌>>◌, at_field, unflawed, number_at, limit_at, limits_at, lengths_at, array_count_at, row_count_at}
+use Rattle.pc_object.specs.Reading.{◌>>=◌, ◌>>◌, at_field, unflawed, number_at}
 use Rattle.pc_object.specs.Reading.{register_at, dest_at, array_at, operator_at, operand_at, fields_at, goto_at, PartOfRow, ReadsPart, tag_byte}
 use Rattle.pc_object.specs.Reading.{is_memory_kind, is_effect_kind, step_at, test_at, counted_item, counted_test, behind_tag, row_at, deepest}
 use Rattle.pc_object.specs.Reading.{rows_at, notes_at, end_at, header_at, header_bounds, code_with, object_at, told_of, object_reading}
