@@ -14,7 +14,8 @@ returns-in_err-word c =
 pub loop-place-preserved : goal.loop-place-preserved
 loop-place-preserved c =
     let fits : SFits w32 c.in_ok-word.word = search rules in
-    rw (c.in_ok-push.ensures.items, to_z-of_z w32 c.in_ok-word.word fits) (words_go_on c.loop-place.words.items c.args.count c.loop-place.place c.loop-place.rest.now c.in_ok-word.word c.in_ok-word.after.now
+    rw (c.in_ok-push.ensures.items, to_z-of_z w32 c.in_ok-word.word fits)
+    (words_go_on c.loop-place.words.items c.args.count c.loop-place.place c.loop-place.rest.now c.in_ok-word.word c.in_ok-word.after.now
     (words_at c.args.count c.args.bytes.now) c.loop-place-test.true c.in_ok-word.ensures c.loop-place.invariant)
 
 pub returns : goal.returns
