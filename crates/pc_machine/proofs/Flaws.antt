@@ -1,5 +1,6 @@
 -- A code has no flaw exactly where it is well formed.
-use Rattle.std.proofs.Common.{◌≡◌, inl, inr, ℕ, suc, ◌+◌, ◌<◌, ◌≤◌, zero-le, Bool, true, false, cond, not, ◌&&◌, ◌||◌, List, [], ◌∷◌, ◌++◌, length, Option, Some, None, refl, sym, ◌∙◌, ap, arith, length-append}
+use Rattle.std.proofs.Common.{◌≡◌, inl, inr, ℕ, suc, ◌+◌, ◌<◌, ◌≤◌, zero-le, Bool, true, false, cond, not, ◌&&◌}
+use Rattle.std.proofs.Common.{◌||◌, List, [], ◌∷◌, ◌++◌, length, Option, Some, None, refl, sym, ◌∙◌, ap, arith, length-append}
 use Rattle.std.specs.Prelude.{ℤ, slice_get, nat_eq, nat_lt, nat_le, sum, ◌↔◌}
 use Rattle.std.specs.List.{AllByRecursion, IsDistinct, count_by, filter_map, cons_option, flat_map}
 use Rattle.std.proofs.lemmas.Bool.Decides.{nat_tests}
@@ -467,7 +468,8 @@ row_sound bounds counts above (Either on on_yes on_no) within e =
     let t = none_front test rest e in
     let r = none_back test rest e in
     let full : Bool = nat_le bounds.limits.tests counts.tests in
-    let room : counts.tests < bounds.limits.tests = below_of bounds.limits.tests counts.tests (where_none full TooManyTests (none_front (test_tag_flaws bounds.limits counts) (operand_flaws bounds.registers on) t)) in
+    let room : counts.tests < bounds.limits.tests = below_of bounds.limits.tests counts.tests (where_none full TooManyTests (none_front (test_tag_flaws bounds.limits counts)
+    (operand_flaws bounds.registers on) t)) in
     let still : Within bounds.limits behind = record { ops = within.ops; tests = omega arith; mem = within.mem } in
     let yes_keeps = row_sound bounds behind above on_yes still (none_front (row_flaws bounds behind above on_yes) (row_flaws bounds between above on_no) r) in
     let later : Within bounds.limits between = record {
@@ -538,14 +540,16 @@ whole_complete bounds row is = row_complete bounds no_counts nothing_above row (
   paths = all_imply IsPath (IsBelow nothing_above) (paths_of row) below_of_path is.paths;
 })
 
-rows_sound : (bounds : Bounds) (rows : List CodeRow) → flat_map (row_flaws bounds no_counts nothing_above) rows ≡ [] → AllByRecursion (IsRow bounds.limits bounds.registers bounds.arrays bounds.rows) rows
+rows_sound : (bounds : Bounds) (rows : List CodeRow) → flat_map (row_flaws bounds no_counts nothing_above) rows ≡ []
+    → AllByRecursion (IsRow bounds.limits bounds.registers bounds.arrays bounds.rows) rows
 rows_sound bounds [] e = tt
 rows_sound bounds (row ∷ rows) e =
     let first : List Flaw = row_flaws bounds no_counts nothing_above row in
     let rest : List Flaw = flat_map (row_flaws bounds no_counts nothing_above) rows in
     (whole_sound bounds row (none_front first rest e), rows_sound bounds rows (none_back first rest e))
 
-rows_complete : (bounds : Bounds) (rows : List CodeRow) → AllByRecursion (IsRow bounds.limits bounds.registers bounds.arrays bounds.rows) rows → flat_map (row_flaws bounds no_counts nothing_above) rows ≡ []
+rows_complete : (bounds : Bounds) (rows : List CodeRow) → AllByRecursion (IsRow bounds.limits bounds.registers bounds.arrays bounds.rows) rows
+    → flat_map (row_flaws bounds no_counts nothing_above) rows ≡ []
 rows_complete bounds [] h = refl
 rows_complete bounds (row ∷ rows) h =
     none_both (row_flaws bounds no_counts nothing_above row) (flat_map (row_flaws bounds no_counts nothing_above) rows)
@@ -699,7 +703,8 @@ well_formed_without_flaw code e =
     let measured = none_back registers (lengths ++ (initial ++ row_count)) numbered in
     let filled = none_back lengths (initial ++ row_count) measured in
     let each = lengths_sound 0 code.arrays zero-le (none_front lengths (initial ++ row_count) measured) in
-    let few : nat_lt most_arrays (length code.arrays) ≡ false = where_none (nat_lt most_arrays (length code.arrays)) ArrayCount (none_front count (registers ++ (lengths ++ (initial ++ row_count))) counted) in
+    let few : nat_lt most_arrays (length code.arrays) ≡ false =
+    where_none (nat_lt most_arrays (length code.arrays)) ArrayCount (none_front count (registers ++ (lengths ++ (initial ++ row_count))) counted) in
     record {
       limits = limits_sound code.limits (none_front limits (count ++ (registers ++ (lengths ++ (initial ++ row_count)))) header);
       registers = register_count_sound code.registers (none_front registers (lengths ++ (initial ++ row_count)) numbered);

@@ -1,7 +1,7 @@
 //! Codes that are well formed, and the flaws of others.
 
-use pc_machine::{Code, Flaw, Leaf, Tree, well_formed};
-use pc_word::{Item, LengthList, Limits, OpCode, Operand, RowTree, Seq, TrapKind};
+use pc_machine::{Code, DataList, Flaw, Leaf, Tree, well_formed};
+use pc_word::{Item, LengthList, Limits, OpCode, Operand, RowTree, Seq, TrapKind, WordList};
 use std::alloc::{AllocError, Global};
 use std::test::Fail;
 
@@ -41,7 +41,16 @@ fn planted(alloc: Global, part: Part, behind: &mut Vec<Tree>) -> Result<Tree, Al
     }
 }
 
-/// A code of limits 4, 2, 2 and one array, whose second row is the tree of these parts.
+/// The data of arrays.
+fn data(alloc: Global, lists: &[&[i32]]) -> Result<DataList, AllocError> {
+    let mut initial = Seq::new(alloc);
+    for words in lists {
+        initial.push(WordList::from_slice(alloc, words)?)?;
+    }
+    Ok(initial)
+}
+
+/// A code of limits 4, 2, 2 with 128 registers and one array, whose second row is the tree of these parts.
 fn code(alloc: Global, parts: &[Part]) -> Result<Code, AllocError> {
     let mut trees = Vec::new(alloc);
     for part in parts.iter().rev() {
@@ -56,7 +65,9 @@ fn code(alloc: Global, parts: &[Part]) -> Result<Code, AllocError> {
             tests: 2,
             mem: 2,
         },
+        registers: 128,
         arrays: LengthList::from_slice(alloc, &[9])?,
+        initial: data(alloc, &[&[]])?,
         rows: Seq::from_vec(trees),
     })
 }
@@ -354,9 +365,14 @@ fn with_header(
 ) -> Result<Code, AllocError> {
     let mut code = Code {
         limits,
+        registers: 128,
         arrays: LengthList::from_slice(alloc, lengths)?,
+        initial: Seq::new(alloc),
         rows: Seq::new(alloc),
     };
+    for _ in lengths {
+        code.initial.push(Seq::new(alloc))?;
+    }
     for _ in 0..rows {
         code.rows.push(leaf(Leaf::Goto { row: 3 }))?;
     }
@@ -425,5 +441,59 @@ fn arrays_and_rows(rt: HostRuntime) -> Result<(), Fail> {
         well_formed(&with_header(alloc, limits, &LARGE, 0)?),
         Some(Flaw::Elements)
     );
+    Ok(())
+}
+
+static REGISTERS: [(u16, u32, Option<Flaw>); 9] = [
+    (128, 127, None),
+    (128, 128, Some(Flaw::Register)),
+    (256, 255, None),
+    (256, 256, Some(Flaw::Register)),
+    (256, 4294967295, Some(Flaw::Register)),
+    (0, 0, Some(Flaw::Registers)),
+    (127, 0, Some(Flaw::Registers)),
+    (257, 0, Some(Flaw::Registers)),
+    (65535, 0, Some(Flaw::Registers)),
+];
+
+#[test]
+fn registers(rt: HostRuntime) -> Result<(), Fail> {
+    let alloc = rt.alloc();
+    for (registers, register, want) in REGISTERS {
+        let read = Part::Do(Item::Read { dest: register });
+        let mut code = code(alloc, &[read])?;
+        code.registers = registers;
+        let found = well_formed(&code);
+        assert!(rt; found == want, "{register} of {registers}: {found:?}");
+    }
+    Ok(())
+}
+
+static DATA: [(&[&[i32]], Option<Flaw>); 9] = [
+    (&[&[], &[]], None),
+    (&[&[0, -5], &[1]], None),
+    (&[&[0, 0, 7], &[]], None),
+    (&[&[1, 2, 3, 0], &[]], Some(Flaw::DataCount)),
+    (&[&[0], &[1, 1]], Some(Flaw::DataTail)),
+    (&[&[6], &[1, 1]], Some(Flaw::DataCount)),
+    (&[&[6], &[0]], Some(Flaw::DataTail)),
+    (&[&[0]], Some(Flaw::DataCount)),
+    (&[&[0], &[], &[]], Some(Flaw::DataCount)),
+];
+
+#[test]
+fn data_of_arrays(rt: HostRuntime) -> Result<(), Fail> {
+    let alloc = rt.alloc();
+    let limits = Limits {
+        ops: 8,
+        tests: 3,
+        mem: 2,
+    };
+    for (i, (lists, want)) in DATA.iter().enumerate() {
+        let mut code = with_header(alloc, limits, &[3, 1], 4)?;
+        code.initial = data(alloc, lists)?;
+        let found = well_formed(&code);
+        assert!(rt; found == *want, "data {i}: {found:?}");
+    }
     Ok(())
 }

@@ -13,6 +13,14 @@ use std::test::Fail;
 /// The object that prints 7 and stops.
 const SEVEN: &[u8] = b"PTV1\x08\x03\x02\x00\x00\x00\x00\x01\x24\x01\x00\x00\x00\x07\x02\x00\x00";
 
+/// The object that puts 5 into register 200 and stops.
+const WIDE: &[u8] =
+    b"PTV2\x08\x03\x02\x00\x01\x00\x00\x00\x00\x01\x21\xC8\x01\x00\x00\x00\x05\x02\x00\x00";
+
+/// The object whose array begins with 5, which it prints.
+const FILLED: &[u8] =
+    b"PTV2\x08\x03\x02\x01\x00\x80\x00\x00\x00\x02\x00\x00\x00\x01\x00\x00\x00\x05\x00\x00\x00\x02\x22\x00\x00\x01\x00\x00\x00\x00\x01\x00\x00\x00\x01\x24\x00\x00\x02\x00\x00";
+
 /// The header of one row for 4 items, 2 tests, and 2 loads and stores, over one array.
 const HEAD: &[u8] = b"PTV1\x04\x02\x02\x01\x00\x00\x00\x09\x00\x00\x00\x01";
 
@@ -69,7 +77,9 @@ fn seven(alloc: Global) -> Result<Object, AllocError>
     };
     let code = Code {
         limits,
+        registers: 128,
         arrays: Seq::new(alloc),
+        initial: Seq::new(alloc),
         rows,
     };
     let notes = Seq::new(alloc);
@@ -89,13 +99,15 @@ fn a_print_is_written(rt: HostRuntime) -> Result<(), Fail> {
 
 #[test]
 fn cut_longer_and_other_bytes(rt: HostRuntime) -> Result<(), Fail> {
-    for length in 0..SEVEN.len() {
-        let offset = length as u32;
-        assert_eq!(rt;
-            refusal(rt.alloc(), &SEVEN[..length]),
-            Some(ObjectError::Truncated { offset }),
-            "cut at {length}"
-        );
+    for bytes in [SEVEN, WIDE, FILLED] {
+        for length in 0..bytes.len() {
+            let offset = length as u32;
+            assert_eq!(rt;
+                refusal(rt.alloc(), &bytes[..length]),
+                Some(ObjectError::Truncated { offset }),
+                "cut at {length}"
+            );
+        }
     }
     let longer = joined(rt.alloc(), &[SEVEN, b"\x00"])?;
     assert_eq!(rt;
@@ -104,7 +116,7 @@ fn cut_longer_and_other_bytes(rt: HostRuntime) -> Result<(), Fail> {
     );
     let other = joined(rt.alloc(), &[b"\x51", &SEVEN[1..]])?;
     assert_eq!(rt; refusal(rt.alloc(), &other), Some(ObjectError::BadMagic));
-    assert_eq!(rt; refusal(rt.alloc(), b"PTV2"), Some(ObjectError::BadMagic));
+    assert_eq!(rt; refusal(rt.alloc(), b"PTV3"), Some(ObjectError::BadMagic));
     assert_eq!(rt; refusal(rt.alloc(), b"PU"), Some(ObjectError::BadMagic));
     Ok(())
 }
@@ -152,6 +164,74 @@ fn flaws_of_headers(rt: HostRuntime) -> Result<(), Fail> {
         refusal(rt.alloc(), &elements),
         Some(ObjectError::BadField { offset: 72, flaw })
     );
+    Ok(())
+}
+
+const WIDE_FLAWS: &[(&[u8], u32, Flaw)] = &[
+    (b"\x08\x03\x02\x21\x00\x00", 7, Flaw::ArrayCount),
+    (b"\x08\x03\x02\x00\x00\x00", 8, Flaw::Registers),
+    (b"\x08\x03\x02\x00\x00\x7F", 8, Flaw::Registers),
+    (b"\x08\x03\x02\x00\x01\x01", 8, Flaw::Registers),
+    (b"\x08\x03\x02\x00\x80\x00", 8, Flaw::Registers),
+    (b"\x08\x03\x02\x00\x00\x80", 8, Flaw::Version),
+    (
+        b"\x08\x03\x02\x01\x00\x80\x00\x00\x00\x02\x00\x00\x00\x00\x00\x00\x00\x00",
+        8,
+        Flaw::Version,
+    ),
+    (
+        b"\x08\x03\x02\x01\x00\x80\x00\x00\x00\x00\x00\x00\x00\x03",
+        10,
+        Flaw::ArrayLength,
+    ),
+    (
+        b"\x08\x03\x02\x01\x00\x80\x00\x00\x00\x02\x00\x00\x00\x03",
+        14,
+        Flaw::DataCount,
+    ),
+    (
+        b"\x08\x03\x02\x01\x00\x80\x00\x00\x00\x02\xFF\xFF\xFF\xFF",
+        14,
+        Flaw::DataCount,
+    ),
+    (
+        b"\x08\x03\x02\x01\x00\x80\x00\x00\x00\x02\x00\x00\x00\x01\x00\x00\x00\x00",
+        18,
+        Flaw::DataTail,
+    ),
+    (
+        b"\x08\x03\x02\x01\x01\x00\x00\x00\x00\x02\x00\x00\x00\x02\x00\x00\x00\x07\x00\x00\x00\x00",
+        22,
+        Flaw::DataTail,
+    ),
+    (
+        b"\x08\x03\x02\x02\x01\x00\x00\x00\x00\x02\x00\x00\x00\x01\x00\x00\x00\x00\x00\x00\x00\x02",
+        22,
+        Flaw::DataCount,
+    ),
+    (
+        b"\x08\x03\x02\x00\x01\x00\x00\x00\x00\x00",
+        10,
+        Flaw::RowCount,
+    ),
+    (
+        b"\x08\x03\x02\x01\x00\x80\x00\x00\x00\x02\x00\x00\x00\x01\x00\x00\x00\x05\x00\x00\x00\x01\x25\x80",
+        27,
+        Flaw::Register,
+    ),
+];
+
+#[test]
+fn flaws_of_registers_and_data(rt: HostRuntime) -> Result<(), Fail> {
+    for (head, offset, flaw) in WIDE_FLAWS {
+        let (offset, flaw) = (*offset, *flaw);
+        let bytes = joined(rt.alloc(), &[b"PTV2", head])?;
+        assert_eq!(rt;
+            refusal(rt.alloc(), &bytes),
+            Some(ObjectError::BadField { offset, flaw }),
+            "{head:?}"
+        );
+    }
     Ok(())
 }
 
@@ -299,16 +379,35 @@ fn objects_are_kept(rt: HostRuntime) -> Result<(), Fail> {
     let stops = b"PTV1\x08\x03\x02\x00\x00\x00\x00\x01\x02\x00\x00";
     let stores =
         b"PTV1\x08\x03\x02\x01\x00\x00\x00\x04\x00\x00\x00\x01\x23\x00\x01\x00\x00\x00\x01\x01\x00\x00\x00\x05\x23\x00\x01\x00\x00\x00\x01\x01\x00\x00\x00\x06\x02\x00\x00";
-    for bytes in [SEVEN, stops.as_slice(), stores.as_slice()] {
+    for bytes in [SEVEN, WIDE, FILLED, stops.as_slice(), stores.as_slice()] {
         let written = rewritten(alloc, bytes).ok().ok_or("it is refused")?;
         assert_eq!(rt; written.as_slice(), bytes);
     }
-    let large = large_object(alloc)?;
-    let written = rewritten(alloc, large.as_slice())
-        .ok()
-        .ok_or("it is refused")?;
-    assert_eq!(rt; written.as_slice(), large.as_slice());
+    for large in [large_object(alloc)?, large_data(alloc)?] {
+        let written = rewritten(alloc, large.as_slice())
+            .ok()
+            .ok_or("it is refused")?;
+        assert_eq!(rt; written.as_slice(), large.as_slice());
+    }
     Ok(())
+}
+
+/// An object of three arrays, of which the first and the last are filled whole.
+fn large_data(alloc: Global) -> Result<Vec<u8>, AllocError> {
+    let mut bytes = joined(
+        alloc,
+        &[b"PTV2\x08\x03\x02\x03\x01\x00\x00\x01\x00\x00\x00\x00\x00\x09\x00\x01\x00\x00"],
+    )?;
+    bytes.extend_from_slice(b"\x00\x01\x00\x00")?;
+    for word in 0..65_536u32 {
+        bytes.extend_from_slice(&[0xFF, (word >> 16) as u8, (word >> 8) as u8, word as u8])?;
+    }
+    bytes.extend_from_slice(b"\x00\x00\x00\x00\x00\x01\x00\x00")?;
+    for _ in 0..65_536 {
+        bytes.extend_from_slice(b"\x00\x00\x00\x01")?;
+    }
+    bytes.extend_from_slice(b"\x00\x00\x00\x01\x02\x00\x00")?;
+    Ok(bytes)
 }
 
 /// An object of 1000 rows with notes of each choice.

@@ -13,7 +13,10 @@ use Rattle.pc_object.specs.ObjectText.{CodeWithNotes, IsObject, object_text}
 
 -- rows for 8 items, 3 tests and 2 loads and stores, with no note
 plain : List ℕ → List CodeRow → CodeWithNotes
-plain arrays rows = record { code = record { limits = record { ops = 8; tests = 3; mem = 2 }; registers = few_registers; arrays = arrays; initial = replicate (length arrays) []; rows = rows }; notes = [] }
+plain arrays rows = record {
+  code = record { limits = record { ops = 8; tests = 3; mem = 2 }; registers = few_registers; arrays = arrays; initial = replicate (length arrays) []; rows = rows };
+  notes = [];
+}
 
 -- it prints 7 and stops
 prints_seven : object_text (plain [] (Then (Print (Lit (pos 7))) (At_leaf Stop) ∷ [])) ≡
@@ -50,7 +53,16 @@ unfolding plain
 noted = refl
 
 -- 256 registers, of which register 200 takes the word 5
-wide : object_text (record { code = record { limits = record { ops = 8; tests = 3; mem = 2 }; registers = most_registers; arrays = []; initial = []; rows = Then (Copy 200 (Lit (pos 5))) (At_leaf Stop) ∷ [] }; notes = [] }) ≡
+wide : object_text (record {
+  code = record {
+    limits = record { ops = 8; tests = 3; mem = 2 };
+    registers = most_registers;
+    arrays = [];
+    initial = [];
+    rows = Then (Copy 200 (Lit (pos 5))) (At_leaf Stop) ∷ [];
+  };
+  notes = [];
+}) ≡
     0x50 ∷ 0x54 ∷ 0x56 ∷ 0x32 ∷ 0x08 ∷ 0x03 ∷ 0x02 ∷ 0x00 ∷ 0x01 ∷ 0x00 ∷ 0x00 ∷ 0x00 ∷ 0x00 ∷ 0x01
     ∷ 0x21 ∷ 0xC8 ∷ 0x01 ∷ 0x00 ∷ 0x00 ∷ 0x00 ∷ 0x05 ∷ 0x02 ∷ 0x00 ∷ 0x00 ∷ []
 wide = refl
@@ -73,7 +85,8 @@ filled : object_text (record {
 filled = refl
 
 -- and it may be written
-pub prints_seven_is_object : (arrays : List ℕ) (initial : List (List ℤ)) (rows : List CodeRow) (notes : List Note) → arrays ≡ [] → initial ≡ [] → rows ≡ Then (Print (Lit (pos 7))) (At_leaf Stop) ∷ [] → notes ≡ []
+pub prints_seven_is_object : (arrays : List ℕ) (initial : List (List ℤ)) (rows : List CodeRow) (notes : List Note) → arrays ≡ [] → initial ≡ []
+    → rows ≡ Then (Print (Lit (pos 7))) (At_leaf Stop) ∷ [] → notes ≡ []
     → IsObject (record { code = record { limits = record { ops = 8; tests = 3; mem = 2 }; registers = few_registers; arrays = arrays; initial = initial; rows = rows }; notes = notes })
 unfolding IsDistinct
 prints_seven_is_object arrays initial rows notes no_arrays no_data one_row no_notes = rw (no_arrays, no_data, one_row, no_notes) (record {

@@ -285,7 +285,8 @@ operand_takes registers (suc zero ∷ bytes) operand rest fits e =
     subst (λ (y : Operand × List ℕ). IsRead registers (1 ∷ bytes) y.0 y.1) (ok_is (Lit b.0.0, b.0.1) (operand, rest) b.2) (Takes-after 1 bytes (word_text b.0.0) b.0.1 t.0, refl, t.1)
 operand_takes registers (suc (suc b) ∷ bytes) operand rest fits e = absurd cc
 
-pub operand_again : (registers : ℕ) (operand : Operand) (rest : List ℕ) → operand_flaws registers operand ≡ [] → OperandFits operand → operand_at registers (operand_text operand ++ rest) ≡ Ok (operand, rest)
+pub operand_again : (registers : ℕ) (operand : Operand) (rest : List ℕ) → operand_flaws registers operand ≡ [] → OperandFits operand
+    → operand_at registers (operand_text operand ++ rest) ≡ Ok (operand, rest)
 unfolding operand_at
 operand_again registers (Name n) rest none fits = rw (register_again registers n rest none) refl
 operand_again registers (Lit z) rest none fits = rw (word_again z rest fits) refl

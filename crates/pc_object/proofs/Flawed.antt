@@ -1,18 +1,15 @@
 -- The text of a code with flaws is refused for the first of them. Each part of a text is read as its value, or as the first of its flaws.
-use Rattle.std.proofs.Common.{◌≡◌, ℕ, zero, suc, ◌+◌, ◌-◌, ◌^◌, ◌<◌, ◌≤◌, Bool, leb, ◌&&◌, List, [], ◌∷◌, ◌++◌, length, Some, Result, Ok, Err, refl, sym, ap, ◌∙◌, subst, arith, append_assoc}
+use Rattle.std.proofs.Common.{◌≡◌, ℕ, zero, suc, ◌-◌, ◌^◌, ◌<◌, ◌≤◌, Bool, leb, ◌&&◌, List, [], ◌∷◌, ◌++◌, length, Some, Result, Ok, Err, refl, sym, ap, ◌∙◌, subst, arith, append_assoc}
 use Rattle.std.proofs.lemmas.Bool.{leb-false}
 use Rattle.std.specs.Prelude.{slice_get}
 use Rattle.std.specs.List.{flat_map, AllByRecursion}
 use Rattle.std.specs.Int.{w16, w32}
 use Rattle.pc_word.specs.declared.item.Item.{Item}
 use Rattle.pc_word.specs.declared.item.Item.TheVariants as items
-use Rattle.pc_word.specs.declared.item.Limits.{Limits}
 use Rattle.pc_word.specs.declared.item.Operand.{Operand}
 use Rattle.pc_word.specs.declared.item.Operand.TheVariants.{Name, Lit}
 use Rattle.pc_word.specs.Items.{is_memory, is_effect}
 use Rattle.pc_word.specs.Row.{Then, Either, At_leaf}
-use Rattle.pc_word.specs.MachineLimits.{most_ops, most_tests, most_mem}
-use Rattle.pc_word.specs.Exact.{checked}
 use Rattle.pc_machine.specs.declared.code.Flaw.{Flaw}
 use Rattle.pc_machine.specs.declared.code.Flaw.TheVariants as flaws
 use Rattle.pc_machine.specs.declared.check.Bounds.{Bounds}
@@ -20,19 +17,18 @@ use Rattle.pc_machine.specs.declared.check.Counts.{Counts}
 use Rattle.pc_machine.specs.declared.tree.Leaf.{Leaf}
 use Rattle.pc_machine.specs.declared.tree.Leaf.TheVariants.{Goto, Stop, Trap}
 use Rattle.pc_machine.specs.MachineCode.{CodeRow, RowCode}
-use Rattle.pc_machine.specs.Flaws.{limit_flaws, limits_flaws, array_count_flaws, length_flaws, lengths_flaws, row_count_flaws, header_flaws, Above}
+use Rattle.pc_machine.specs.Flaws.{limits_flaws, header_flaws, Above}
 use Rattle.pc_machine.specs.Flaws.{above_with, nothing_above, no_counts, counts_with_item, counts_with_test, counts_after, item_tag_flaws}
 use Rattle.pc_machine.specs.Flaws.{test_tag_flaws, register_flaws, dest_flaws, operand_flaws, array_flaws, target_flaws, field_flaws, item_flaws}
 use Rattle.pc_machine.specs.Flaws.{test_flaws, leaf_flaws, row_flaws, bounds_of, flaws_of, flaw_where}
 use Rattle.pc_machine.proofs.Flaws.{limits_sound}
 use Rattle.pc_object.specs.declared.refusal.Refusal.{Refusal}
-use Rattle.pc_object.specs.declared.refusal.Refusal.TheVariants.{Flawed}
 use Rattle.pc_object.specs.declared.refusal.ObjectError.TheVariants.{BadField}
 use Rattle.pc_object.specs.declared.tag.ItemKind.TheVariants as kinds
 use Rattle.pc_object.specs.declared.tag.Tag.TheVariants as tags
 use Rattle.pc_object.specs.ObjectText.{CodeWithNotes, u32_text, operator_byte, operand_text, item_text, row_text, leaf_text, header_text, notes_text, object_text}
 use Rattle.pc_object.specs.Numbers.{OperandFits, ItemNumbersFit, LeafFits, RowNumbersFit, HasWords, TargetFits, TargetsFit, HasCounts}
-use Rattle.pc_object.specs.Reading.{◌>>=◌, ◌>>◌, at_field, unflawed, number_at, limit_at, limits_at, lengths_at, array_count_at, row_count_at}
+use Rattle.pc_object.specs.Reading.{◌>>=◌, ◌>>◌, at_field, unflawed, number_at}
 use Rattle.pc_object.specs.Reading.{register_at, dest_at, array_at, operator_at, operand_at, fields_at, goto_at, PartOfRow, ReadsPart, tag_byte}
 use Rattle.pc_object.specs.Reading.{is_memory_kind, is_effect_kind, step_at, test_at, counted_item, counted_test, behind_tag, row_at, deepest}
 use Rattle.pc_object.specs.Reading.{rows_at, notes_at, end_at, header_at, header_bounds, code_with, object_at, told_of, object_reading}
@@ -55,10 +51,12 @@ register_tells : (registers register : ℕ) (rest : List ℕ) → Tells (registe
 unfolding register_at
 register_tells registers register rest = passes_tells (register ∷ rest) (register_flaws registers register) (register, rest)
 
-operand_tells : (registers : ℕ) (operand : Operand) (rest : List ℕ) → OperandFits operand → Tells (operand_flaws registers operand) (operand, rest) (operand_at registers (operand_text operand ++ rest))
+operand_tells : (registers : ℕ) (operand : Operand) (rest : List ℕ) → OperandFits operand
+    → Tells (operand_flaws registers operand) (operand, rest) (operand_at registers (operand_text operand ++ rest))
 unfolding operand_at
 operand_tells registers (Name register) rest fits =
-    tells_last (register_flaws registers register) (register, rest) (Name register, rest) (register_at registers (register ∷ rest)) (λ r. Ok (Name r.0, r.1)) (register_tells registers register rest) refl
+    tells_last (register_flaws registers register) (register, rest) (Name register, rest) (register_at registers (register ∷ rest))
+    (λ r. Ok (Name r.0, r.1)) (register_tells registers register rest) refl
 operand_tells registers (Lit value) rest fits = operand_again registers (Lit value) rest refl fits
 
 -- the fields of an item after its tag
@@ -72,40 +70,52 @@ fields_tell bounds above (items.Bin op dest left right) rest fits =
     subst (λ (t : List ℕ). Tells (field_flaws bounds above item) (item, rest) (fields_at bounds above kinds.Bin (operator_byte op ∷ dest ∷ t)))
     (sym (append_assoc (operand_text left) (operand_text right) rest))
     (tells_next (field_flaws bounds above item) (op, dest ∷ behind_dest) (item, rest) (operator_at (operator_byte op ∷ dest ∷ behind_dest))
-    (λ o. dest_at bounds.registers above o.1 >>= λ d. operand_at bounds.registers d.1 >>= λ l. operand_at bounds.registers l.1 >>= λ r. Ok (items.Bin o.0 d.0 l.0 r.0, r.1)) (operator_again op (dest ∷ behind_dest))
-    (tells_then (dest_flaws bounds.registers above dest) (operand_flaws bounds.registers left ++ operand_flaws bounds.registers right) (dest, behind_dest) (item, rest) (dest_at bounds.registers above (dest ∷ behind_dest))
+    (λ o. dest_at bounds.registers above o.1 >>= λ d. operand_at bounds.registers d.1 >>= λ l. operand_at bounds.registers l.1 >>= λ r.
+    Ok (items.Bin o.0 d.0 l.0 r.0, r.1)) (operator_again op (dest ∷ behind_dest))
+    (tells_then (dest_flaws bounds.registers above dest) (operand_flaws bounds.registers left ++ operand_flaws bounds.registers right) (dest, behind_dest) (item, rest)
+    (dest_at bounds.registers above (dest ∷ behind_dest))
     (λ d. operand_at bounds.registers d.1 >>= λ l. operand_at bounds.registers l.1 >>= λ r. Ok (items.Bin op d.0 l.0 r.0, r.1)) (dest_tells bounds.registers above dest behind_dest) (λ none.
     tells_then (operand_flaws bounds.registers left) (operand_flaws bounds.registers right) (left, behind_left) (item, rest) (operand_at bounds.registers behind_dest)
     (λ l. operand_at bounds.registers l.1 >>= λ r. Ok (items.Bin op dest l.0 r.0, r.1)) (operand_tells bounds.registers left behind_left fits.0) (λ none.
-    tells_last (operand_flaws bounds.registers right) (right, rest) (item, rest) (operand_at bounds.registers behind_left) (λ r. Ok (items.Bin op dest left r.0, r.1)) (operand_tells bounds.registers right rest fits.1) refl))))
+    tells_last (operand_flaws bounds.registers right) (right, rest) (item, rest) (operand_at bounds.registers behind_left)
+    (λ r. Ok (items.Bin op dest left r.0, r.1)) (operand_tells bounds.registers right rest fits.1) refl))))
 fields_tell bounds above (items.Copy dest from) rest fits =
-    tells_then (dest_flaws bounds.registers above dest) (operand_flaws bounds.registers from) (dest, operand_text from ++ rest) (items.Copy dest from, rest) (dest_at bounds.registers above (dest ∷ (operand_text from ++ rest)))
+    tells_then (dest_flaws bounds.registers above dest) (operand_flaws bounds.registers from) (dest, operand_text from ++ rest) (items.Copy dest from, rest) (dest_at bounds.registers above
+    (dest ∷ (operand_text from ++ rest)))
     (λ d. operand_at bounds.registers d.1 >>= λ f. Ok (items.Copy d.0 f.0, f.1)) (dest_tells bounds.registers above dest (operand_text from ++ rest)) (λ none.
-    tells_last (operand_flaws bounds.registers from) (from, rest) (items.Copy dest from, rest) (operand_at bounds.registers (operand_text from ++ rest)) (λ f. Ok (items.Copy dest f.0, f.1)) (operand_tells bounds.registers from rest fits) refl)
+    tells_last (operand_flaws bounds.registers from) (from, rest) (items.Copy dest from, rest) (operand_at bounds.registers (operand_text from ++ rest))
+    (λ f. Ok (items.Copy dest f.0, f.1)) (operand_tells bounds.registers from rest fits) refl)
 fields_tell bounds above (items.Load dest array index) rest fits =
     let tail : List ℕ = operand_text index ++ rest in
     let item : Item = items.Load dest array index in
-    tells_then (dest_flaws bounds.registers above dest) (array_flaws bounds.arrays array ++ operand_flaws bounds.registers index) (dest, array ∷ tail) (item, rest) (dest_at bounds.registers above (dest ∷ array ∷ tail))
+    tells_then (dest_flaws bounds.registers above dest) (array_flaws bounds.arrays array ++ operand_flaws bounds.registers index) (dest, array ∷ tail) (item, rest) (dest_at bounds.registers above
+    (dest ∷ array ∷ tail))
     (λ d. array_at bounds.arrays d.1 >>= λ a. operand_at bounds.registers a.1 >>= λ i. Ok (items.Load d.0 a.0 i.0, i.1)) (dest_tells bounds.registers above dest (array ∷ tail)) (λ none.
     tells_then (array_flaws bounds.arrays array) (operand_flaws bounds.registers index) (array, tail) (item, rest) (array_at bounds.arrays (array ∷ tail))
     (λ a. operand_at bounds.registers a.1 >>= λ i. Ok (items.Load dest a.0 i.0, i.1)) (array_tells bounds.arrays array tail) (λ none.
-    tells_last (operand_flaws bounds.registers index) (index, rest) (item, rest) (operand_at bounds.registers tail) (λ i. Ok (items.Load dest array i.0, i.1)) (operand_tells bounds.registers index rest fits) refl))
+    tells_last (operand_flaws bounds.registers index) (index, rest) (item, rest) (operand_at bounds.registers tail)
+    (λ i. Ok (items.Load dest array i.0, i.1)) (operand_tells bounds.registers index rest fits) refl))
 fields_tell bounds above (items.Store array index value) rest fits =
     let behind_index : List ℕ = operand_text value ++ rest in
     let behind_array : List ℕ = operand_text index ++ behind_index in
     let item : Item = items.Store array index value in
     subst (λ (t : List ℕ). Tells (field_flaws bounds above item) (item, rest) (fields_at bounds above kinds.Store (array ∷ t))) (sym (append_assoc (operand_text index) (operand_text value) rest))
-    (tells_then (array_flaws bounds.arrays array) (operand_flaws bounds.registers index ++ operand_flaws bounds.registers value) (array, behind_array) (item, rest) (array_at bounds.arrays (array ∷ behind_array))
+    (tells_then (array_flaws bounds.arrays array) (operand_flaws bounds.registers index ++ operand_flaws bounds.registers value) (array, behind_array) (item, rest) (array_at bounds.arrays
+    (array ∷ behind_array))
     (λ a. operand_at bounds.registers a.1 >>= λ i. operand_at bounds.registers i.1 >>= λ v. Ok (items.Store a.0 i.0 v.0, v.1)) (array_tells bounds.arrays array behind_array) (λ none.
     tells_then (operand_flaws bounds.registers index) (operand_flaws bounds.registers value) (index, behind_index) (item, rest) (operand_at bounds.registers behind_array)
     (λ i. operand_at bounds.registers i.1 >>= λ v. Ok (items.Store array i.0 v.0, v.1)) (operand_tells bounds.registers index behind_index fits.0) (λ none.
-    tells_last (operand_flaws bounds.registers value) (value, rest) (item, rest) (operand_at bounds.registers behind_index) (λ v. Ok (items.Store array index v.0, v.1)) (operand_tells bounds.registers value rest fits.1) refl)))
+    tells_last (operand_flaws bounds.registers value) (value, rest) (item, rest) (operand_at bounds.registers behind_index)
+    (λ v. Ok (items.Store array index v.0, v.1)) (operand_tells bounds.registers value rest fits.1) refl)))
 fields_tell bounds above (items.Print value) rest fits =
-    tells_last (operand_flaws bounds.registers value) (value, rest) (items.Print value, rest) (operand_at bounds.registers (operand_text value ++ rest)) (λ v. Ok (items.Print v.0, v.1)) (operand_tells bounds.registers value rest fits) refl
+    tells_last (operand_flaws bounds.registers value) (value, rest) (items.Print value, rest) (operand_at bounds.registers (operand_text value ++ rest))
+    (λ v. Ok (items.Print v.0, v.1)) (operand_tells bounds.registers value rest fits) refl
 fields_tell bounds above (items.Read dest) rest fits =
-    tells_last (dest_flaws bounds.registers above dest) (dest, rest) (items.Read dest, rest) (dest_at bounds.registers above (dest ∷ rest)) (λ d. Ok (items.Read d.0, d.1)) (dest_tells bounds.registers above dest rest) refl
+    tells_last (dest_flaws bounds.registers above dest) (dest, rest) (items.Read dest, rest) (dest_at bounds.registers above (dest ∷ rest))
+    (λ d. Ok (items.Read d.0, d.1)) (dest_tells bounds.registers above dest rest) refl
 fields_tell bounds above (items.More dest) rest fits =
-    tells_last (dest_flaws bounds.registers above dest) (dest, rest) (items.More dest, rest) (dest_at bounds.registers above (dest ∷ rest)) (λ d. Ok (items.More d.0, d.1)) (dest_tells bounds.registers above dest rest) refl
+    tells_last (dest_flaws bounds.registers above dest) (dest, rest) (items.More dest, rest) (dest_at bounds.registers above (dest ∷ rest))
+    (λ d. Ok (items.More d.0, d.1)) (dest_tells bounds.registers above dest rest) refl
 
 -- ---- rows
 
@@ -163,7 +173,8 @@ test_tells bounds below counts above on bytes behind_on behind_yes fs gs on_yes 
     let row : PartOfRow = (Either on on_yes on_no, after, rest) in
     let read : Result PartOfRow Refusal = at_field bytes (counted_test bounds.limits counts) >>= λ more. test_at bounds below more above (operand_text on ++ behind_on) in
     subst (λ (hs : List Flaw). Tells hs row read) (sym (append_assoc tag (operand_flaws bounds.registers on) (fs ++ gs)))
-    (tells_then tag (operand_flaws bounds.registers on ++ (fs ++ gs)) behind row (at_field bytes (counted_test bounds.limits counts)) (λ more. test_at bounds below more above (operand_text on ++ behind_on))
+    (tells_then tag (operand_flaws bounds.registers on ++ (fs ++ gs)) behind row (at_field bytes (counted_test bounds.limits counts))
+    (λ more. test_at bounds below more above (operand_text on ++ behind_on))
     (field_tells bytes tag behind) (λ none.
     tells_then (operand_flaws bounds.registers on) (fs ++ gs) (on, behind_on) row (operand_at bounds.registers (operand_text on ++ behind_on))
     (λ o. below behind above o.1 >>= λ y. below y.1 above y.2 >>= λ n. Ok (Either o.0 y.0 n.0, n.1, n.2)) (operand_tells bounds.registers on behind_on fits) (λ none2.

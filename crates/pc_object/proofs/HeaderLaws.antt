@@ -1,5 +1,5 @@
 -- A header that is read is the header that was written, without a flaw.
-use Rattle.std.proofs.Common.{◌≡◌, ℕ, zero, suc, ◌+◌, ◌^◌, ◌<◌, ◌≤◌, ℤ, Bool, true, false, not, cond, leb, eqb, ◌&&◌, List, [], ◌∷◌, ◌++◌, length, replicate}
+use Rattle.std.proofs.Common.{◌≡◌, ℕ, zero, suc, ◌+◌, ◌^◌, ◌<◌, ℤ, Bool, true, false, cond, eqb, List, [], ◌∷◌, ◌++◌, length, replicate}
 use Rattle.std.proofs.Common.{Ok, Err, refl, sym, ap, subst, ◌∙◌, arith}
 use Rattle.std.specs.Prelude.{nat_eq, if◌then◌else◌, FitsSigned}
 use Rattle.std.specs.Int.{w16, w32}
@@ -24,7 +24,7 @@ use Rattle.pc_object.specs.declared.refusal.Refusal.TheVariants.{NotMagic}
 use Rattle.pc_object.specs.ObjectText.{u16_text, u32_text, word_text, fits_ptv1, version_for, version_text, data_text, storage_text}
 use Rattle.pc_object.specs.Numbers.{WordsFit}
 use Rattle.pc_object.specs.Reading.{◌>>=◌, ◌>>◌, at_field, unflawed, number_at, word_at, magic_at, digit_at, version_at, limit_at, limits_at, lengths_at}
-use Rattle.pc_object.specs.Reading.{array_count_at, register_count_at, data_word_at, words_at, data_at, each_data_at, initial_at, version_flaws, Storage}
+use Rattle.pc_object.specs.Reading.{array_count_at, register_count_at, data_word_at, words_at, data_at, each_data_at, version_flaws, Storage}
 use Rattle.pc_object.specs.Reading.{storage_at, row_count_at, Header, header_at}
 use Rattle.pc_object.proofs.FieldLaws.{IsBytes, IsBytes-rest, Takes, Takes-then, bind_ok, ok_is, checked_ok, passes_then, wide16, wide32}
 use Rattle.pc_object.proofs.FieldLaws.{number_takes, word_takes, checked_byte_takes}

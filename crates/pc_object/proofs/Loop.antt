@@ -1,5 +1,6 @@
 -- Reading so many things one after the other, as a loop does.
-use Rattle.std.proofs.Common.{ℤ, get_or, zero, Bool, true, false, not, ltb, length, drop, drop-cons, ◌≡◌, ℕ, suc, ◌+◌, ◌-◌, ◌<◌, ◌≤◌, List, [], ◌∷◌, ◌++◌, Result, Ok, Err, refl, sym, ap, ◌∙◌, append_assoc, arith}
+use Rattle.std.proofs.Common.{ℤ, get_or, Bool, true, false, not, ltb, length, drop, drop-cons, ◌≡◌, ℕ, suc, ◌+◌, ◌-◌}
+use Rattle.std.proofs.Common.{◌<◌, ◌≤◌, List, [], ◌∷◌, ◌++◌, Result, Ok, Err, refl, sym, ap, ◌∙◌, append_assoc, arith}
 use Rattle.std.proofs.Math.ListN.{drop_of_length-le}
 use Rattle.std.proofs.lemmas.List.{append-nil}
 use Rattle.std.proofs.lemmas.Bool.{ltb-false}
@@ -112,11 +113,12 @@ words_done front count i bytes all le so_far =
 
 pub each_data_goes_on : (front : List (List ℤ)) (lengths : List ℕ) (i : ℕ) (bytes : List ℕ) (words : List ℤ) (after : List ℕ) (all : Result (List (List ℤ) × List ℕ) Refusal) → i < length lengths
     → data_at (get_or lengths i 0) bytes ≡ Ok (words, after)
-    → with_front front (each_data_at (drop i lengths) bytes) ≡ all → with_front (front ++ words ∷ []) (each_data_at (drop (suc i) lengths) after) ≡ all
+    → with_front front (each_data_at (drop i lengths) bytes) ≡ all → with_front (front ++ words ∷ []) (each_data_at (drop (i + 1) lengths) after) ≡ all
 unfolding each_data_at
 each_data_goes_on front lengths i bytes words after all lt h so_far =
-    let one : with_front front (each_data_at (drop i lengths) bytes) ≡ with_front (front ++ words ∷ []) (each_data_at (drop (suc i) lengths) after) =
-    rw (drop-cons lengths i 0 lt, h) (regroup front words (each_data_at (drop (suc i) lengths) after)) in
+    let next : i + 1 ≡ suc i = omega arith in
+    let one : with_front front (each_data_at (drop i lengths) bytes) ≡ with_front (front ++ words ∷ []) (each_data_at (drop (i + 1) lengths) after) =
+    rw (next, drop-cons lengths i 0 lt, h) (regroup front words (each_data_at (drop (suc i) lengths) after)) in
     sym one ∙ so_far
 
 pub each_data_ends : (halt : Halt) (front : List (List ℤ)) (lengths : List ℕ) (i : ℕ) (bytes : List ℕ) (all : Result (List (List ℤ) × List ℕ) Refusal) → i < length lengths

@@ -1,6 +1,6 @@
 -- The two laws of objects: what is read is an object whose text the bytes are, and the text of an object is read as it.
-use Rattle.std.proofs.Common.{◌≡◌, ℕ, zero, suc, ◌+◌, ◌^◌, ◌<◌, ◌≤◌, Bool, true, false, ltb, List, [], ◌∷◌, ◌++◌, length}
-use Rattle.std.proofs.Common.{Ok, Err, refl, sym, ap, subst, ◌∙◌, append_assoc, arith}
+use Rattle.std.proofs.Common.{◌≡◌, ℕ, zero, suc, ◌^◌, ◌<◌, ◌≤◌, Bool, true, false, ltb, List, [], ◌∷◌, ◌++◌, length}
+use Rattle.std.proofs.Common.{Ok, refl, sym, ap, subst, ◌∙◌, append_assoc, arith}
 use Rattle.std.specs.Int.{w16, w32}
 use Rattle.std.specs.List.{flat_map, AllByRecursion}
 use Rattle.std.proofs.lemmas.Bool.{ltb-false, le-ltb}
@@ -176,9 +176,9 @@ object_takes bytes object fits e =
     let tcd = Takes-then b.0.1 (u16_text (length d.0.0)) c.0.1 (flat_map note_text d.0.0) d.0.1 count_text td.0 in
     let tbd = Takes-then a.0.1 (flat_map row_text b.0.0) b.0.1 (notes_text d.0.0) d.0.1 tb.0 tcd in
     let tad = Takes-then bytes (header_text code) a.0.1 (flat_map row_text b.0.0 ++ notes_text d.0.0) d.0.1 head_text tbd in
+    let bounds : Bounds = header_bounds header in
     let rows_sound : flat_map (row_flaws (bounds_of code) no_counts nothing_above) b.0.0 ≡ [] =
-    subst (λ (n : ℕ). flat_map (row_flaws (record { limits = header.limits; registers = header.storage.registers; arrays = length header.storage.arrays; rows = n }) no_counts nothing_above) b.0.0 ≡ [])
-    (sym tb.1) tb.2 in
+    subst (λ (n : ℕ). flat_map (row_flaws (record bounds { rows = n }) no_counts nothing_above) b.0.0 ≡ []) (sym tb.1) tb.2 in
     let count_sound : row_count_flaws (length b.0.0) ≡ [] = subst (λ (n : ℕ). row_count_flaws n ≡ []) (sym tb.1) ta.rows in
     let head_sound : header_flaws code ≡ [] = rw (ta.limits, ta.count, ta.registers, ta.lengths, ta.initial, count_sound) refl in
     subst (IsReadObject bytes) f.1 (record {

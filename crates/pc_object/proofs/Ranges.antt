@@ -1,6 +1,10 @@
 -- What a well-formed object has: registers, arrays and targets that are there, and few rows.
-use Rattle.std.proofs.Common.{◌≡◌, inl, inr, ℤ, ℕ, ◌^◌, ◌<◌, ◌≤◌, List, [], ◌∷◌, ◌++◌, length, All, refl, arith, length-append}
-use Rattle.std.specs.Prelude.{FitsSigned}
+use Rattle.std.proofs.Common.{◌≡◌, Bool, true, false, inl, inr, ℤ, ℕ, ◌^◌, ◌<◌, ◌≤◌, List, [], ◌∷◌, ◌++◌, length, All, refl, arith, length-append}
+use Rattle.std.specs.Prelude.{FitsSigned, nat_eq, if◌then◌else◌, OnOk, Result, Ok, Err}
+use Rattle.pc_word.proofs.Truth.{and_true}
+use Rattle.pc_machine.specs.Data.{has_no_data}
+use Rattle.pc_object.specs.declared.version.Version.TheVariants.{Ptv1, Ptv2}
+use Rattle.pc_object.specs.ObjectText.{fits_ptv1, version_for}
 use Rattle.std.specs.Int.{w32}
 use Rattle.std.specs.List.{flat_map, AllByRecursion}
 use Rattle.std.proofs.lemmas.List.Elements.{All-from_recursion, recursion_from_All}
@@ -21,7 +25,7 @@ use Rattle.pc_object.specs.models.InRange.{IsInRange}
 use Rattle.pc_object.specs.Numbers.{RowNumbersFit, NoteFits, WordsFit, HasWords}
 use Rattle.pc_word.proofs.Lists.{all_front, all_back}
 use Rattle.pc_word.specs.MachineLimits.{most_arrays, most_length}
-use Rattle.pc_machine.specs.Registers.{most_registers, IsRegisterCount}
+use Rattle.pc_machine.specs.Registers.{few_registers, most_registers, IsRegisterCount}
 use Rattle.pc_machine.specs.WellFormed.{AreData}
 use Rattle.pc_word.specs.Ranges.{IsBetween}
 
@@ -163,6 +167,26 @@ few_words object h =
 rows_fit : (trees : List (RowTree Leaf)) → AllByRecursion (λ tree. RowNumbersFit (row_of tree)) trees → AllByRecursion RowNumbersFit (rows_of trees)
 rows_fit [] h = tt
 rows_fit (tree ∷ trees) h = (h.0, rows_fit trees h.1)
+
+-- lists without words have none that is no word
+empty_fit : (initial : List (List ℤ)) → has_no_data initial ≡ true → AllByRecursion (All (FitsSigned w32)) initial
+empty_fit [] none = tt
+empty_fit ([] ∷ initial) none = ((λ k d lt. absurd (omega (arith, lt))), empty_fit initial none)
+empty_fit ((word ∷ words) ∷ initial) none = absurd cc
+
+-- so it is where PTV1 is due
+pub ptv1_fits : (registers : ℕ) (initial : List (List ℤ)) → Ptv1 ≡ version_for registers initial → All (All (FitsSigned w32)) initial
+ptv1_fits registers initial e = by_fit (fits_ptv1 registers initial) refl e
+  where
+    by_fit : (fits : Bool) → fits_ptv1 registers initial ≡ fits → Ptv1 ≡ (if fits then Ptv1 else Ptv2) → All (All (FitsSigned w32)) initial
+    by_fit true is due =
+        All-from_recursion (All (FitsSigned w32)) initial (empty_fit initial (and_true (nat_eq registers few_registers) (has_no_data initial) is).1)
+    by_fit false is due = absurd cc
+
+-- what holds holds after a call
+pub on_ok : {X E P : Type 0} (result : Result X E) → P → OnOk result P
+on_ok (Ok x) p = p
+on_ok (Err e) p = tt
 
 lists_fit : (initial : List (List ℤ)) → AllByRecursion (All (FitsSigned w32)) initial → AllByRecursion WordsFit initial
 lists_fit [] h = tt

@@ -101,8 +101,10 @@ pub fields_take : (bounds : Bounds) (above : Above) (kind : ItemKind) (bytes : L
     → Fields bounds above kind bytes read
 unfolding fields_at
 fields_take bounds above kinds.Bin bytes read fits e =
-    let a = bind_ok (operator_at bytes) (λ op. dest_at bounds.registers above op.1 >>= λ dest. operand_at bounds.registers dest.1 >>= λ left. operand_at bounds.registers left.1 >>= λ right. Ok (items.Bin op.0 dest.0 left.0 right.0, right.1)) read e in
-    let b = bind_ok (dest_at bounds.registers above a.0.1) (λ dest. operand_at bounds.registers dest.1 >>= λ left. operand_at bounds.registers left.1 >>= λ right. Ok (items.Bin a.0.0 dest.0 left.0 right.0, right.1)) read a.2 in
+    let a = bind_ok (operator_at bytes) (λ op. dest_at bounds.registers above op.1 >>= λ dest. operand_at bounds.registers dest.1 >>= λ left. operand_at bounds.registers left.1 >>= λ right.
+    Ok (items.Bin op.0 dest.0 left.0 right.0, right.1)) read e in
+    let b = bind_ok (dest_at bounds.registers above a.0.1) (λ dest. operand_at bounds.registers dest.1 >>= λ left. operand_at bounds.registers left.1 >>= λ right.
+    Ok (items.Bin a.0.0 dest.0 left.0 right.0, right.1)) read a.2 in
     let c = bind_ok (operand_at bounds.registers b.0.1) (λ left. operand_at bounds.registers left.1 >>= λ right. Ok (items.Bin a.0.0 b.0.0 left.0 right.0, right.1)) read b.2 in
     let d = bind_ok (operand_at bounds.registers c.0.1) (λ right. Ok (items.Bin a.0.0 b.0.0 c.0.0 right.0, right.1)) read c.2 in
     let ta = operator_takes bytes a.0.0 a.0.1 fits a.1 in
@@ -116,7 +118,8 @@ fields_take bounds above kinds.Bin bytes read fits e =
     subst (Fields bounds above kinds.Bin bytes) (ok_is made read d.2) (record {
       kind_is = refl;
       takes = tad;
-      sound = nil_joined (dest_flaws bounds.registers above b.0.0) (operand_flaws bounds.registers c.0.0 ++ operand_flaws bounds.registers d.0.0) tb.1 (nil_joined (operand_flaws bounds.registers c.0.0) (operand_flaws bounds.registers d.0.0) tc.1 td.1);
+      sound = nil_joined (dest_flaws bounds.registers above b.0.0) (operand_flaws bounds.registers c.0.0 ++ operand_flaws bounds.registers d.0.0) tb.1 (nil_joined
+      (operand_flaws bounds.registers c.0.0) (operand_flaws bounds.registers d.0.0) tc.1 td.1);
       fits = (tc.2, td.2);
     })
 fields_take bounds above kinds.Copy bytes read fits e =
@@ -132,7 +135,8 @@ fields_take bounds above kinds.Copy bytes read fits e =
       fits = tb.2;
     })
 fields_take bounds above kinds.Load bytes read fits e =
-    let a = bind_ok (dest_at bounds.registers above bytes) (λ dest. array_at bounds.arrays dest.1 >>= λ array. operand_at bounds.registers array.1 >>= λ index. Ok (items.Load dest.0 array.0 index.0, index.1)) read e in
+    let a = bind_ok (dest_at bounds.registers above bytes) (λ dest. array_at bounds.arrays dest.1 >>= λ array. operand_at bounds.registers array.1 >>= λ index.
+    Ok (items.Load dest.0 array.0 index.0, index.1)) read e in
     let b = bind_ok (array_at bounds.arrays a.0.1) (λ array. operand_at bounds.registers array.1 >>= λ index. Ok (items.Load a.0.0 array.0 index.0, index.1)) read a.2 in
     let c = bind_ok (operand_at bounds.registers b.0.1) (λ index. Ok (items.Load a.0.0 b.0.0 index.0, index.1)) read b.2 in
     let ta = dest_takes bounds.registers above bytes a.0.0 a.0.1 fits a.1 in
@@ -143,11 +147,13 @@ fields_take bounds above kinds.Load bytes read fits e =
     subst (Fields bounds above kinds.Load bytes) (ok_is made read c.2) (record {
       kind_is = refl;
       takes = Takes-then bytes (a.0.0 ∷ []) a.0.1 (b.0.0 ∷ operand_text c.0.0) c.0.1 ta.0 tbc;
-      sound = nil_joined (dest_flaws bounds.registers above a.0.0) (array_flaws bounds.arrays b.0.0 ++ operand_flaws bounds.registers c.0.0) ta.1 (nil_joined (array_flaws bounds.arrays b.0.0) (operand_flaws bounds.registers c.0.0) tb.1 tc.1);
+      sound = nil_joined (dest_flaws bounds.registers above a.0.0) (array_flaws bounds.arrays b.0.0 ++ operand_flaws bounds.registers c.0.0) ta.1 (nil_joined (array_flaws bounds.arrays b.0.0)
+      (operand_flaws bounds.registers c.0.0) tb.1 tc.1);
       fits = tc.2;
     })
 fields_take bounds above kinds.Store bytes read fits e =
-    let a = bind_ok (array_at bounds.arrays bytes) (λ array. operand_at bounds.registers array.1 >>= λ index. operand_at bounds.registers index.1 >>= λ value. Ok (items.Store array.0 index.0 value.0, value.1)) read e in
+    let a = bind_ok (array_at bounds.arrays bytes) (λ array. operand_at bounds.registers array.1 >>= λ index. operand_at bounds.registers index.1 >>= λ value.
+    Ok (items.Store array.0 index.0 value.0, value.1)) read e in
     let b = bind_ok (operand_at bounds.registers a.0.1) (λ index. operand_at bounds.registers index.1 >>= λ value. Ok (items.Store a.0.0 index.0 value.0, value.1)) read a.2 in
     let c = bind_ok (operand_at bounds.registers b.0.1) (λ value. Ok (items.Store a.0.0 b.0.0 value.0, value.1)) read b.2 in
     let ta = array_takes bounds.arrays bytes a.0.0 a.0.1 fits a.1 in
@@ -158,7 +164,8 @@ fields_take bounds above kinds.Store bytes read fits e =
     subst (Fields bounds above kinds.Store bytes) (ok_is made read c.2) (record {
       kind_is = refl;
       takes = Takes-then bytes (a.0.0 ∷ []) a.0.1 (operand_text b.0.0 ++ operand_text c.0.0) c.0.1 ta.0 tbc;
-      sound = nil_joined (array_flaws bounds.arrays a.0.0) (operand_flaws bounds.registers b.0.0 ++ operand_flaws bounds.registers c.0.0) ta.1 (nil_joined (operand_flaws bounds.registers b.0.0) (operand_flaws bounds.registers c.0.0) tb.1 tc.1);
+      sound = nil_joined (array_flaws bounds.arrays a.0.0) (operand_flaws bounds.registers b.0.0 ++ operand_flaws bounds.registers c.0.0) ta.1 (nil_joined (operand_flaws bounds.registers b.0.0)
+      (operand_flaws bounds.registers c.0.0) tb.1 tc.1);
       fits = (tb.2, tc.2);
     })
 fields_take bounds above kinds.Print bytes read fits e =
@@ -196,7 +203,8 @@ fields_again bounds above (items.Copy dest from) rest none fits =
 fields_again bounds above (items.Load dest array index) rest none fits =
     let p = nil_parts (dest_flaws bounds.registers above dest) (array_flaws bounds.arrays array ++ operand_flaws bounds.registers index) none in
     let q = nil_parts (array_flaws bounds.arrays array) (operand_flaws bounds.registers index) p.1 in
-    rw (dest_again bounds.registers above dest (array ∷ (operand_text index ++ rest)) p.0, array_again bounds.arrays array (operand_text index ++ rest) q.0, operand_again bounds.registers index rest q.1 fits) refl
+    rw (dest_again bounds.registers above dest (array ∷ (operand_text index ++ rest)) p.0, array_again bounds.arrays array
+    (operand_text index ++ rest) q.0, operand_again bounds.registers index rest q.1 fits) refl
 fields_again bounds above (items.Store array index value) rest none fits =
     let p = nil_parts (array_flaws bounds.arrays array) (operand_flaws bounds.registers index ++ operand_flaws bounds.registers value) none in
     let q = nil_parts (operand_flaws bounds.registers index) (operand_flaws bounds.registers value) p.1 in
@@ -263,7 +271,8 @@ test_takes : (bounds : Bounds) (below : ReadsPart) → ReadsWell bounds below �
     → test_at bounds below more above rest ≡ Ok read → Part bounds counts above bytes read
 unfolding test_at
 test_takes bounds below well counts more above bytes rest read tag counted e =
-    let a = bind_ok (operand_at bounds.registers rest) (λ on. below more above on.1 >>= λ on_yes. below on_yes.1 above on_yes.2 >>= λ on_no. Ok (Either on.0 on_yes.0 on_no.0, on_no.1, on_no.2)) read e in
+    let a = bind_ok (operand_at bounds.registers rest) (λ on. below more above on.1 >>= λ on_yes. below on_yes.1 above on_yes.2 >>= λ on_no.
+    Ok (Either on.0 on_yes.0 on_no.0, on_no.1, on_no.2)) read e in
     let b = bind_ok (below more above a.0.1) (λ on_yes. below on_yes.1 above on_yes.2 >>= λ on_no. Ok (Either a.0.0 on_yes.0 on_no.0, on_no.1, on_no.2)) read a.2 in
     let c = bind_ok (below b.0.1 above b.0.2) (λ on_no. Ok (Either a.0.0 b.0.0 on_no.0, on_no.1, on_no.2)) read b.2 in
     let o = operand_takes bounds.registers rest a.0.0 a.0.1 tag.rest_fits a.1 in
@@ -379,7 +388,8 @@ at_test : (bounds : Bounds) (below : ReadsPart) (counts : Counts) (above : Above
 unfolding behind_tag
 at_test bounds below counts above bytes rest none = rw none refl
 
-at_sides : (bounds : Bounds) (below : ReadsPart) (counts : Counts) (above : Above) (bytes : List ℕ) (on : Operand) (rest : List ℕ) (on_yes : CodeRow) (between : Counts) (more : List ℕ) (on_no : CodeRow)
+at_sides : (bounds : Bounds) (below : ReadsPart) (counts : Counts) (above : Above) (bytes : List ℕ) (on : Operand) (rest : List ℕ) (on_yes : CodeRow) (between : Counts) (more : List ℕ)
+    (on_no : CodeRow)
     (after : Counts) (end : List ℕ)
     → operand_at bounds.registers bytes ≡ Ok (on, rest) → below counts above rest ≡ Ok (on_yes, between, more) → below between above more ≡ Ok (on_no, after, end)
     → test_at bounds below counts above bytes ≡ Ok (Either on on_yes on_no, after, end)

@@ -338,7 +338,8 @@ operand_extends : (registers : ℕ) (bytes q : List ℕ) → Extends (Gives (wit
 unfolding operand_at
 operand_extends registers [] q = tt
 operand_extends registers (zero ∷ rest) q =
-    then_extends q (Gives (with_more q)) (register_at registers rest) (register_at registers (rest ++ q)) (λ register. Ok (Name register.0, register.1)) (register_extends registers rest q) (λ register. refl)
+    then_extends q (Gives (with_more q)) (register_at registers rest) (register_at registers (rest ++ q)) (λ register. Ok (Name register.0, register.1)) (register_extends registers rest q)
+    (λ register. refl)
 operand_extends registers (suc zero ∷ rest) q =
     then_extends q (Gives (with_more q)) (word_at rest) (word_at (rest ++ q)) (λ word. Ok (Lit word.0, word.1)) (word_extends rest q) (λ word. refl)
 operand_extends registers (suc (suc tag) ∷ rest) q = tt
@@ -347,9 +348,11 @@ fields_extend : (bounds : Bounds) (above : Above) (kind : ItemKind) (bytes q : L
 unfolding fields_at
 fields_extend bounds above kinds.Bin bytes q =
     then_extends q (Gives (with_more q)) (operator_at bytes) (operator_at (bytes ++ q))
-    (λ op. dest_at bounds.registers above op.1 >>= λ dest. operand_at bounds.registers dest.1 >>= λ left. operand_at bounds.registers left.1 >>= λ right. Ok (items.Bin op.0 dest.0 left.0 right.0, right.1)) (operator_extends bytes q) (λ op.
+    (λ op. dest_at bounds.registers above op.1 >>= λ dest. operand_at bounds.registers dest.1 >>= λ left. operand_at bounds.registers left.1 >>= λ right.
+    Ok (items.Bin op.0 dest.0 left.0 right.0, right.1)) (operator_extends bytes q) (λ op.
     then_extends q (Gives (with_more q)) (dest_at bounds.registers above op.1) (dest_at bounds.registers above (op.1 ++ q))
-    (λ dest. operand_at bounds.registers dest.1 >>= λ left. operand_at bounds.registers left.1 >>= λ right. Ok (items.Bin op.0 dest.0 left.0 right.0, right.1)) (dest_extends bounds.registers above op.1 q) (λ dest.
+    (λ dest. operand_at bounds.registers dest.1 >>= λ left. operand_at bounds.registers left.1 >>= λ right.
+    Ok (items.Bin op.0 dest.0 left.0 right.0, right.1)) (dest_extends bounds.registers above op.1 q) (λ dest.
     then_extends q (Gives (with_more q)) (operand_at bounds.registers dest.1) (operand_at bounds.registers (dest.1 ++ q))
     (λ left. operand_at bounds.registers left.1 >>= λ right. Ok (items.Bin op.0 dest.0 left.0 right.0, right.1)) (operand_extends bounds.registers dest.1 q) (λ left.
     then_extends q (Gives (with_more q)) (operand_at bounds.registers left.1) (operand_at bounds.registers (left.1 ++ q))
@@ -357,25 +360,33 @@ fields_extend bounds above kinds.Bin bytes q =
 fields_extend bounds above kinds.Copy bytes q =
     then_extends q (Gives (with_more q)) (dest_at bounds.registers above bytes) (dest_at bounds.registers above (bytes ++ q))
     (λ dest. operand_at bounds.registers dest.1 >>= λ from. Ok (items.Copy dest.0 from.0, from.1)) (dest_extends bounds.registers above bytes q) (λ dest.
-    then_extends q (Gives (with_more q)) (operand_at bounds.registers dest.1) (operand_at bounds.registers (dest.1 ++ q)) (λ from. Ok (items.Copy dest.0 from.0, from.1)) (operand_extends bounds.registers dest.1 q) (λ from. refl))
+    then_extends q (Gives (with_more q)) (operand_at bounds.registers dest.1) (operand_at bounds.registers (dest.1 ++ q))
+    (λ from. Ok (items.Copy dest.0 from.0, from.1)) (operand_extends bounds.registers dest.1 q) (λ from. refl))
 fields_extend bounds above kinds.Load bytes q =
     then_extends q (Gives (with_more q)) (dest_at bounds.registers above bytes) (dest_at bounds.registers above (bytes ++ q))
-    (λ dest. array_at bounds.arrays dest.1 >>= λ array. operand_at bounds.registers array.1 >>= λ index. Ok (items.Load dest.0 array.0 index.0, index.1)) (dest_extends bounds.registers above bytes q) (λ dest.
+    (λ dest. array_at bounds.arrays dest.1 >>= λ array. operand_at bounds.registers array.1 >>= λ index.
+    Ok (items.Load dest.0 array.0 index.0, index.1)) (dest_extends bounds.registers above bytes q) (λ dest.
     then_extends q (Gives (with_more q)) (array_at bounds.arrays dest.1) (array_at bounds.arrays (dest.1 ++ q))
     (λ array. operand_at bounds.registers array.1 >>= λ index. Ok (items.Load dest.0 array.0 index.0, index.1)) (array_extends bounds.arrays dest.1 q) (λ array.
-    then_extends q (Gives (with_more q)) (operand_at bounds.registers array.1) (operand_at bounds.registers (array.1 ++ q)) (λ index. Ok (items.Load dest.0 array.0 index.0, index.1)) (operand_extends bounds.registers array.1 q) (λ index. refl)))
+    then_extends q (Gives (with_more q)) (operand_at bounds.registers array.1) (operand_at bounds.registers (array.1 ++ q))
+    (λ index. Ok (items.Load dest.0 array.0 index.0, index.1)) (operand_extends bounds.registers array.1 q) (λ index. refl)))
 fields_extend bounds above kinds.Store bytes q =
     then_extends q (Gives (with_more q)) (array_at bounds.arrays bytes) (array_at bounds.arrays (bytes ++ q))
-    (λ array. operand_at bounds.registers array.1 >>= λ index. operand_at bounds.registers index.1 >>= λ value. Ok (items.Store array.0 index.0 value.0, value.1)) (array_extends bounds.arrays bytes q) (λ array.
+    (λ array. operand_at bounds.registers array.1 >>= λ index. operand_at bounds.registers index.1 >>= λ value.
+    Ok (items.Store array.0 index.0 value.0, value.1)) (array_extends bounds.arrays bytes q) (λ array.
     then_extends q (Gives (with_more q)) (operand_at bounds.registers array.1) (operand_at bounds.registers (array.1 ++ q))
     (λ index. operand_at bounds.registers index.1 >>= λ value. Ok (items.Store array.0 index.0 value.0, value.1)) (operand_extends bounds.registers array.1 q) (λ index.
-    then_extends q (Gives (with_more q)) (operand_at bounds.registers index.1) (operand_at bounds.registers (index.1 ++ q)) (λ value. Ok (items.Store array.0 index.0 value.0, value.1)) (operand_extends bounds.registers index.1 q) (λ value. refl)))
+    then_extends q (Gives (with_more q)) (operand_at bounds.registers index.1) (operand_at bounds.registers (index.1 ++ q))
+    (λ value. Ok (items.Store array.0 index.0 value.0, value.1)) (operand_extends bounds.registers index.1 q) (λ value. refl)))
 fields_extend bounds above kinds.Print bytes q =
-    then_extends q (Gives (with_more q)) (operand_at bounds.registers bytes) (operand_at bounds.registers (bytes ++ q)) (λ value. Ok (items.Print value.0, value.1)) (operand_extends bounds.registers bytes q) (λ value. refl)
+    then_extends q (Gives (with_more q)) (operand_at bounds.registers bytes) (operand_at bounds.registers (bytes ++ q))
+    (λ value. Ok (items.Print value.0, value.1)) (operand_extends bounds.registers bytes q) (λ value. refl)
 fields_extend bounds above kinds.Read bytes q =
-    then_extends q (Gives (with_more q)) (dest_at bounds.registers above bytes) (dest_at bounds.registers above (bytes ++ q)) (λ dest. Ok (items.Read dest.0, dest.1)) (dest_extends bounds.registers above bytes q) (λ dest. refl)
+    then_extends q (Gives (with_more q)) (dest_at bounds.registers above bytes) (dest_at bounds.registers above (bytes ++ q))
+    (λ dest. Ok (items.Read dest.0, dest.1)) (dest_extends bounds.registers above bytes q) (λ dest. refl)
 fields_extend bounds above kinds.More bytes q =
-    then_extends q (Gives (with_more q)) (dest_at bounds.registers above bytes) (dest_at bounds.registers above (bytes ++ q)) (λ dest. Ok (items.More dest.0, dest.1)) (dest_extends bounds.registers above bytes q) (λ dest. refl)
+    then_extends q (Gives (with_more q)) (dest_at bounds.registers above bytes) (dest_at bounds.registers above (bytes ++ q))
+    (λ dest. Ok (items.More dest.0, dest.1)) (dest_extends bounds.registers above bytes q) (λ dest. refl)
 
 goto_extends : (rows : ℕ) (bytes q : List ℕ) → Extends (Gives (with_more q)) (goto_at rows bytes) (goto_at rows (bytes ++ q))
 unfolding goto_at
@@ -430,7 +441,8 @@ module _ (bounds : Bounds) (below : ReadsPart) (extends : PartExtends below) whe
       then_extends q (Gives (part_more q)) (trap_fields_at rest) (trap_fields_at (rest ++ q)) (λ leaf. Ok (leaf.0, counts, leaf.1)) (trap_fields_extend rest q) (λ leaf. refl)
   behind_extends counts above bytes longer tags.Test rest q =
       both_extend same (Gives (part_more q)) (at_field bytes (counted_test bounds.limits counts)) (at_field longer (counted_test bounds.limits counts))
-      (λ more. test_at bounds below more above rest) (λ more. test_at bounds below more above (rest ++ q)) (field_extends bytes longer (counted_test bounds.limits counts)) (λ more. test_extends more above rest q)
+      (λ more. test_at bounds below more above rest) (λ more. test_at bounds below more above (rest ++ q)) (field_extends bytes longer (counted_test bounds.limits counts))
+      (λ more. test_extends more above rest q)
   behind_extends counts above bytes longer (tags.Item kind) rest q =
       let counted = counted_item bounds.limits counts above (is_memory_kind kind) (is_effect_kind kind) in
       both_extend same (Gives (part_more q)) (at_field bytes counted) (at_field longer counted)

@@ -1,6 +1,7 @@
 -- The reading of an object's text: field by field from the left, up to the first that is wrong.
 -- A reader takes the bytes that are left, and gives a value and the bytes after its fields.
-use Rattle.std.specs.Prelude.{ℕ, zero, suc, ◌+◌, ◌-◌, ℤ, Bool, true, false, if◌then◌else◌, ◌==◌, nat_eq, nat_lt, List, [], ◌∷◌, length, replicate, take, drop, find, Option, Some, None, Result, Ok, Err}
+use Rattle.std.specs.Prelude.{ℕ, zero, suc, ◌+◌, ◌-◌, ℤ, Bool, true, false, if◌then◌else◌, ◌==◌, nat_eq, nat_lt}
+use Rattle.std.specs.Prelude.{List, [], ◌∷◌, length, replicate, take, drop, find, Option, Some, None, Result, Ok, Err}
 use Rattle.std.specs.Int.{Width, w16, w32, byte_len, from_be_bytes, cast_signed}
 use Rattle.pc_word.specs.declared.item.OpCode.{OpCode}
 use Rattle.pc_word.specs.declared.item.OpCode.TheVariants.{Add, Sub, Mul, Div, Rem, Shl, Shr, And, Or, Xor, Less, LessEq, Equal, Unequal, Below}

@@ -68,7 +68,12 @@ fn push_header(out: &mut Vec<u8>, code: &Code) -> Result<(), AllocError>
     let limits = code.limits;
     let version = version_for(code.registers, code.initial.as_slice());
     push_version(out, version)?;
-    out.extend_from_slice(&[limits.ops, limits.tests, limits.mem, code.arrays.len() as u8])?;
+    out.extend_from_slice(&[
+        limits.ops,
+        limits.tests,
+        limits.mem,
+        code.arrays.len() as u8,
+    ])?;
     push_storage(out, version, code)?;
     push_u32(out, code.rows.len() as u32)
 }
@@ -98,12 +103,12 @@ fn push_storage(out: &mut Vec<u8>, version: Version, code: &Code) -> Result<(), 
     }
 }
 
-fn push_each_data(out: &mut Vec<u8>, initial: &[WordList]) -> Result<(), AllocError>
-    requires { All (λ words. length words < 2 ^ 32) initial.now }
-    ensures text { OnOk result (out.new.items ≡ out.old.items ++ flat_map data_text initial.now) }
-    ensures words { OnOk result (All (All (FitsSigned w32)) initial.now) }
+fn push_each_data(out: &mut Vec<u8>, lists: &[WordList]) -> Result<(), AllocError>
+    requires { All (λ words. length words < 2 ^ 32) lists.now }
+    ensures text { OnOk result (out.new.items ≡ out.old.items ++ flat_map data_text lists.now) }
+    ensures words { OnOk result (All (All (FitsSigned w32)) lists.now) }
 {
-    for words in initial {
+    for words in lists {
         push_data(out, words.as_slice())?;
     }
     Ok(())
@@ -112,7 +117,7 @@ fn push_each_data(out: &mut Vec<u8>, initial: &[WordList]) -> Result<(), AllocEr
 fn push_data(out: &mut Vec<u8>, words: &[i32]) -> Result<(), AllocError>
     requires { length words.now < 2 ^ 32 }
     ensures text { OnOk result (out.new.items ≡ out.old.items ++ data_text words.now) }
-    ensures words { All (FitsSigned w32) words.now }
+    ensures words { OnOk result (All (FitsSigned w32) words.now) }
 {
     push_u32(out, words.len() as u32)?;
     for word in words {

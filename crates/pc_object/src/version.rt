@@ -33,10 +33,10 @@ pub fn version_for(registers: u16, initial: &[WordList]) -> Version
     }
 }
 
-fn has_no_data(initial: &[WordList]) -> bool
-    ensures { result ≡ has_no_data initial.now }
+fn has_no_data(lists: &[WordList]) -> bool
+    ensures { result ≡ has_no_data lists.now }
 {
-    for words in initial {
+    for words in lists {
         if !words.is_empty() {
             return false;
         }
