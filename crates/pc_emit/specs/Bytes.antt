@@ -7,6 +7,7 @@ use Rattle.pc_automaton.specs.declared.automaton.AutomatonLeaf.{AutomatonLeaf}
 use Rattle.pc_automaton.specs.declared.automaton.AutomatonLeaf.TheVariants.{To, Out, Stop, Trap}
 use Rattle.pc_automaton.specs.Automaton.{AutomatonState}
 use Rattle.pc_emit.specs.Emitted.{RegionForm, Plain, ByAutomaton}
+use Rattle.pc_object.specs.declared.version.Version.TheVariants.{Ptv1}
 use Rattle.pc_object.specs.Sizes.{item_bytes, test_bytes, goto_bytes, end_bytes, trap_bytes, header_bytes, length_bytes, count_bytes, note_bytes}
 
 -- for each argument or home that is passed, two rows of one copy
@@ -60,7 +61,7 @@ abbrev pub regions_bytes : (ℕ → Option RegionForm) → (number : ℕ) → Li
 regions_bytes forms number [] = zero
 regions_bytes forms number (region ∷ regions) = form_bytes region.tree (forms number) + regions_bytes forms (1 + number) regions
 
--- an object of a table in these forms: its header and arrays, its regions, and a note for each loop
+-- an object of a table in these forms, as PTV1: its header and arrays, its regions, and a note for each loop
 abbrev pub object_bytes : Table → (ℕ → Option RegionForm) → ℕ
 object_bytes table forms =
-    header_bytes + length_bytes * length table.arrays + (regions_bytes forms 0 table.regions + (count_bytes + note_bytes * length table.loops))
+    header_bytes Ptv1 + length_bytes * length table.arrays + (regions_bytes forms 0 table.regions + (count_bytes + note_bytes * length table.loops))
