@@ -5,5 +5,6 @@ pub mod Copied
 pub mod Folded
 pub mod Leaves
 pub mod LoopTests
+pub mod Passes
 pub mod Tally
 pub mod Valued
