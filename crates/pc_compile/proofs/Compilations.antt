@@ -183,6 +183,10 @@ is_without_data : (limits : Limits) (table : Table) (arrays : List ℕ) (initial
 is_without_data limits table arrays initial rows same none =
     ap (λ (l : List ℕ). code_of_parts limits l initial rows) same ∙ ap (λ (d : List (List ℤ)). code_of_parts limits table.arrays d rows) none
 
+-- no words for as many arrays as there are
+pub none_for_each : (initial : List (List ℤ)) (many count : ℕ) → initial ≡ replicate many [] → many ≡ count → initial ≡ replicate count []
+none_for_each initial many count none same = none ∙ ap (λ (n : ℕ). replicate n []) same
+
 -- rows that were emitted may be tightened
 pub loose_is_well_formed : (table : Table) (forms : List (Option StoredForm)) (limits : Limits) (arrays : List ℕ) (initial : List (List ℤ)) (rows : List CodeRow)
     → AreLimits limits → AreArrays table.arrays → arrays ≡ table.arrays → initial ≡ replicate (length table.arrays) [] → AreEmitted table forms limits rows

@@ -1,5 +1,5 @@
 -- How many lines a graph has.
-use Rattle.std.proofs.Common.{◌≡◌, ℕ, suc, ◌+◌, List, [], ◌∷◌, ◌++◌, length, refl, sym, ◌∙◌, ap, arith, codes}
+use Rattle.std.proofs.Common.{◌≡◌, ℕ, suc, ◌+◌, List, [], ◌∷◌, ◌++◌, length, refl, ap, arith, codes}
 use Rattle.std.proofs.Common.{length-append}
 use Rattle.std.specs.List.{count_by, sum_by}
 use Rattle.std.proofs.lemmas.List.Sums.{sum_by-cons}
@@ -15,8 +15,9 @@ use Rattle.pc_view.specs.Laws.{is_edge, has_words, graph_line_count}
 
 length-data_nodes : (array : ℕ) (initial : List (List ℤ)) → length (data_nodes array initial) ≡ count_by has_words initial
 length-data_nodes array [] = refl
-length-data_nodes array ([] ∷ initial) = length-data_nodes (suc array) initial
-length-data_nodes array ((word ∷ words) ∷ initial) = ap suc (length-data_nodes (suc array) initial) ∙ sym (count_more has_words (word ∷ words) initial)
+length-data_nodes array ([] ∷ initial) = omega (arith, length-data_nodes (suc array) initial, count_more has_words [] initial)
+length-data_nodes array ((word ∷ words) ∷ initial) =
+    omega (arith, length-data_nodes (suc array) initial, count_more has_words (word ∷ words) initial)
 
 length-row_edges : (number : ℕ) (port : List ℕ) (row : CodeRow) → length (row_edges number port row) ≡ count_by is_edge (leaves_of row)
 length-row_edges number port (Then item rest) = length-row_edges number port rest

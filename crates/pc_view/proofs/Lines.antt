@@ -76,8 +76,10 @@ length-data_lines array place (a ∷ b ∷ c ∷ d ∷ e ∷ f ∷ g ∷ []) = r
 length-data_lines array place (a ∷ b ∷ c ∷ d ∷ e ∷ f ∷ g ∷ h ∷ rest) =
     ap suc (length-data_lines array (place + 8) rest) ∙ sym (one_more (length rest))
   where
-    one_more : (n : ℕ) → (8 + n + 7) / 8 ≡ suc ((n + 7) / 8)
-    one_more n = ap (λ (m : ℕ). m / 8) (let e : 8 + n + 7 ≡ 1 * 8 + (n + 7) = omega arith in e) ∙ mul-add-div_right {8} (omega arith) 1 (n + 7)
+    one_more : (n : ℕ) → (suc (suc (suc (suc (suc (suc (suc (suc n))))))) + 7) / 8 ≡ suc ((n + 7) / 8)
+    one_more n =
+        ap (λ (m : ℕ). m / 8) (let e : suc (suc (suc (suc (suc (suc (suc (suc n))))))) + 7 ≡ 1 * 8 + (n + 7) = omega arith in e)
+        ∙ mul-add-div_right {m = 8} (omega arith) 1 (n + 7) ∙ (let f : 1 + (n + 7) / 8 ≡ suc ((n + 7) / 8) = omega arith in f)
 
 length-all_data_lines : (array : ℕ) (initial : List (List ℤ)) → length (all_data_lines array initial) ≡ sum_by data_line_count initial
 length-all_data_lines array [] = refl

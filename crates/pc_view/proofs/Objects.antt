@@ -17,8 +17,8 @@ use Rattle.pc_view.specs.models.Counted.{HasFew}
 use Rattle.pc_view.specs.models.Rows.{CanList}
 
 -- a row of a code has few items and tests
-few_of_row : (limits : Limits) (arrays rows : ℕ) (row : CodeRow) → AreLimits limits → IsRow limits arrays rows row → HasFew row
-few_of_row limits arrays rows row are is = record {
+few_of_row : (limits : Limits) (registers arrays rows : ℕ) (row : CodeRow) → AreLimits limits → IsRow limits registers arrays rows row → HasFew row
+few_of_row limits registers arrays rows row are is = record {
   ops = omega (arith, is.ops, are.ops.1);
   tests = omega (arith, is.tests, are.tests.1);
   mem = omega (arith, is.mem, are.mem.1);
@@ -28,7 +28,7 @@ pub can_list : (object : Object) → IsObject (object_of object) → CanList (le
 can_list object h = record {
   few = All-from_recursion (λ tree. HasFew (row_of tree)) trees
       (all_imply (λ tree. Is (row_of tree)) (λ tree. HasFew (row_of tree)) trees
-      (λ tree is. few_of_row object.code.limits (length object.code.arrays) (length (rows_of trees)) (row_of tree) h.code.limits is) each);
+      (λ tree is. few_of_row object.code.limits object.code.registers (length object.code.arrays) (length (rows_of trees)) (row_of tree) h.code.limits is) each);
   leaves = All-from_recursion (λ tree. AllByRecursion (IsLeaf (length trees)) (leaves_of (row_of tree))) trees
       (all_imply (λ tree. Is (row_of tree)) (λ tree. AllByRecursion (IsLeaf (length trees)) (leaves_of (row_of tree))) trees
       (λ tree is. subst (λ rows. AllByRecursion (IsLeaf rows) (leaves_of (row_of tree))) (length-map trees row_of) is.leaves) each);
@@ -38,7 +38,7 @@ can_list object h = record {
     trees = object.code.rows
 
     Is : CodeRow → Type 0
-    Is row = IsRow object.code.limits (length object.code.arrays) (length (rows_of trees)) row
+    Is row = IsRow object.code.limits object.code.registers (length object.code.arrays) (length (rows_of trees)) row
 
     each : AllByRecursion (λ tree. Is (row_of tree)) trees
     each = all_of_map Is row_of trees h.code.rows

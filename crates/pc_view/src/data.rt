@@ -10,10 +10,10 @@ use std::alloc::AllocError;
 const VALUES: usize = 8;
 
 /// Appends the lines of the words with which each array begins to a text.
-pub(crate) fn push_data(text: &mut String, initial: &[WordList]) -> Result<(), AllocError>
-    ensures { OnOk result (string_bytes text.new ≡ string_bytes text.old ++ lines_text (all_data_lines 0 initial.now)) }
+pub(crate) fn push_data(text: &mut String, lists: &[WordList]) -> Result<(), AllocError>
+    ensures { OnOk result (string_bytes text.new ≡ string_bytes text.old ++ lines_text (all_data_lines 0 lists.now)) }
 {
-    for (array, words) in initial.iter().enumerate() {
+    for (array, words) in lists.iter().enumerate() {
         push_data_lines(text, array, words.as_slice())?;
     }
     Ok(())

@@ -31,10 +31,10 @@ pub fn graph_text(alloc: Global, object: &Object) -> Result<Vec<u8>, AllocError>
 }
 
 /// Appends the boxes of the arrays that have data to a text.
-fn push_data(text: &mut String, initial: &[WordList]) -> Result<(), AllocError>
-    ensures { OnOk result (string_bytes text.new ≡ string_bytes text.old ++ lines_text (data_nodes 0 initial.now)) }
+fn push_data(text: &mut String, lists: &[WordList]) -> Result<(), AllocError>
+    ensures { OnOk result (string_bytes text.new ≡ string_bytes text.old ++ lines_text (data_nodes 0 lists.now)) }
 {
-    for (array, words) in initial.iter().enumerate() {
+    for (array, words) in lists.iter().enumerate() {
         if !words.is_empty() {
             push_data_node(text, array, words.len())?;
             text.push_str("\n")?;
