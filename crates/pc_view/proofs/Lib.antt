@@ -4,3 +4,4 @@ pub mod LeadingRows
 pub mod Objects
 pub mod LeadsTo
 pub mod GraphLines
+pub mod DataLines

@@ -1,13 +1,10 @@
 //! The data of arrays in lines.
-ghost use Rattle.std.specs.Prelude.{◌≡◌, ◌++◌, OnOk, string_bytes};
+ghost use Rattle.std.specs.Prelude.{◌≡◌, ◌++◌, ◌<◌, length, OnOk, string_bytes};
 ghost use Rattle.pc_view.specs.DataLines.{separator, values_from, data_start, data_line, data_lines, all_data_lines};
 ghost use Rattle.pc_view.specs.Listing.{lines_text};
 
 use pc_word::WordList;
 use std::alloc::AllocError;
-
-/// How many values stand in a line.
-const VALUES: usize = 8;
 
 /// Appends the lines of the words with which each array begins to a text.
 pub(crate) fn push_data(text: &mut String, lists: &[WordList]) -> Result<(), AllocError>
@@ -24,15 +21,31 @@ fn push_data_lines(text: &mut String, array: usize, words: &[i32]) -> Result<(),
     ensures { OnOk result (string_bytes text.new ≡ string_bytes text.old ++ lines_text (data_lines array 0 words.now)) }
 {
     let mut place = 0;
-    let mut rest = words;
-    while !rest.is_empty() {
-        let many = rest.len().min(VALUES);
-        push_data_line(text, array, place, &rest[..many])?;
+    let mut left = words;
+    while let [a, b, c, d, e, f, g, h, rest @ ..] = left {
+        push_data_line(text, array, place, &[*a, *b, *c, *d, *e, *f, *g, *h])?;
         text.push_str("\n")?;
-        place += many;
-        rest = &rest[many..];
+        place += 8;
+        left = rest;
     }
-    Ok(())
+    push_last_line(text, array, place, left)
+}
+
+/// Appends the line of fewer than eight values to a text, if there are any.
+fn push_last_line(
+    text: &mut String,
+    array: usize,
+    place: usize,
+    values: &[i32],
+) -> Result<(), AllocError>
+    requires { length values.now < 8 }
+    ensures { OnOk result (string_bytes text.new ≡ string_bytes text.old ++ lines_text (data_lines array place values.now)) }
+{
+    if values.is_empty() {
+        return Ok(());
+    }
+    push_data_line(text, array, place, values)?;
+    text.push_str("\n")
 }
 
 /// Appends a line of values to a text.
