@@ -32,6 +32,7 @@ fn push_data_lines(text: &mut String, array: usize, words: &[i32]) -> Result<(),
 }
 
 /// Appends the line of fewer than eight values to a text, if there are any.
+#[tactic(auto, using(crate::proofs::DataLines::last_line))]
 fn push_last_line(
     text: &mut String,
     array: usize,
