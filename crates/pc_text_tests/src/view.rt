@@ -190,7 +190,14 @@ const DATA: [u8; 76] = [
 
 const DATA_LISTING: &str = "\
 limits of a row: 8 items, 3 tests, 2 loads and stores; arrays: a0[12], a1[1]; registers: 256\n\
-\x20   a0[0] = 5, -6, 0, 7, 1, 2, 3, 4\n\
+\x20   a0[0] = 5\n\
+\x20   a0[1] = -6\n\
+\x20   a0[2] = 0\n\
+\x20   a0[3] = 7\n\
+\x20   a0[4] = 1\n\
+\x20   a0[5] = 2\n\
+\x20   a0[6] = 3\n\
+\x20   a0[7] = 4\n\
 \x20   a0[8] = 9\n\
 row 0: 1 of 8 items, 0 of 3 tests, 0 of 2 loads and stores; from rows: none\n\
 \x20   r200 = 5\n\

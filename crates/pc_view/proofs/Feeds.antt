@@ -1,7 +1,7 @@
 -- No line of a listing has a line feed in it.
 use Rattle.std.proofs.Common.{◌≡◌, ℕ, zero, suc, ◌/◌, ◌%◌, ◌==◌, Bool, true, false, cond, List, [], ◌∷◌}
 use Rattle.std.proofs.Common.{◌++◌, length, map, refl, ◌∙◌, arith, codes}
-use Rattle.std.specs.Prelude.{◌+◌, ℤ, pos, negsuc, if◌then◌else◌, nat_eq}
+use Rattle.std.specs.Prelude.{ℤ, pos, negsuc, if◌then◌else◌, nat_eq}
 use Rattle.std.proofs.lemmas.Bool.Decides.{nat_tests}
 use Rattle.std.specs.List.{AllByRecursion, count_by}
 use Rattle.std.specs.Fmt.{decimal, digits, digits_onto, digit_glyph, signed_decimal}
@@ -29,8 +29,8 @@ use Rattle.pc_view.specs.Words.{operator_words, operand_words, item_words, test_
 use Rattle.pc_view.specs.Leading.{rows_leading_to}
 use Rattle.pc_view.specs.Tree.{tree_lines}
 use Rattle.pc_machine.specs.Registers.{few_registers}
-use Rattle.pc_view.specs.DataLines.{separator, values_from, data_start, data_line, data_lines, all_data_lines}
-use Rattle.pc_view.specs.Listing.{arrays_from, array_words, register_words, row_numbers_from, leading_words, limit_words, limits_line, count_words}
+use Rattle.pc_view.specs.DataLines.{data_line, data_lines, all_data_lines}
+use Rattle.pc_view.specs.Listing.{separator, arrays_from, array_words, register_words, row_numbers_from, leading_words, limit_words, limits_line, count_words}
 use Rattle.pc_view.specs.Listing.{heading, row_lines, rows_lines, listing_lines, listing_text, lines_text}
 use Rattle.pc_view.specs.Laws.{line_count}
 use Rattle.pc_view.proofs.Lines.{length-listing_lines}
@@ -201,30 +201,15 @@ unfed_limits code =
     unfed_both (limit_words code.limits) (array_words code.arrays ++ register_words code.registers) (unfed_limit_words code.limits)
     (unfed_both (array_words code.arrays) (register_words code.registers) (unfed_arrays code.arrays) (unfed_registers code.registers))
 
-unfed_values : (place : ℕ) (values : List ℤ) → Unfed (values_from place values)
-unfed_values place [] = refl
-unfed_values place (value ∷ rest) =
-    unfed_both (separator place) (signed_decimal value ++ values_from (suc place) rest) (unfed_separator place)
-    (unfed_both (signed_decimal value) (values_from (suc place) rest) (unfed_signed value) (unfed_values (suc place) rest))
-
-unfed_data_start : (array place : ℕ) → Unfed (data_start array place)
-unfolding data_start
-unfed_data_start array place = numbered (codes "    a") array (codes "[" ++ (decimal place ++ codes "] =")) refl (numbered (codes "[") place (codes "] =") refl refl)
-
-unfed_data_line : (array place : ℕ) (values : List ℤ) → Unfed (data_line array place values)
-unfed_data_line array place values = unfed_both (data_start array place) (values_from 0 values) (unfed_data_start array place) (unfed_values 0 values)
+unfed_data_line : (array place : ℕ) (word : ℤ) → Unfed (data_line array place word)
+unfolding data_line
+unfed_data_line array place word =
+    numbered (codes "    a") array (codes "[" ++ (decimal place ++ (codes "] = " ++ signed_decimal word))) refl
+    (numbered (codes "[") place (codes "] = " ++ signed_decimal word) refl (unfed_both (codes "] = ") (signed_decimal word) refl (unfed_signed word)))
 
 unfed_data_lines : (array place : ℕ) (words : List ℤ) → AllByRecursion Unfed (data_lines array place words)
 unfed_data_lines array place [] = tt
-unfed_data_lines array place (a ∷ []) = (unfed_data_line array place (a ∷ []), tt)
-unfed_data_lines array place (a ∷ b ∷ []) = (unfed_data_line array place (a ∷ b ∷ []), tt)
-unfed_data_lines array place (a ∷ b ∷ c ∷ []) = (unfed_data_line array place (a ∷ b ∷ c ∷ []), tt)
-unfed_data_lines array place (a ∷ b ∷ c ∷ d ∷ []) = (unfed_data_line array place (a ∷ b ∷ c ∷ d ∷ []), tt)
-unfed_data_lines array place (a ∷ b ∷ c ∷ d ∷ e ∷ []) = (unfed_data_line array place (a ∷ b ∷ c ∷ d ∷ e ∷ []), tt)
-unfed_data_lines array place (a ∷ b ∷ c ∷ d ∷ e ∷ f ∷ []) = (unfed_data_line array place (a ∷ b ∷ c ∷ d ∷ e ∷ f ∷ []), tt)
-unfed_data_lines array place (a ∷ b ∷ c ∷ d ∷ e ∷ f ∷ g ∷ []) = (unfed_data_line array place (a ∷ b ∷ c ∷ d ∷ e ∷ f ∷ g ∷ []), tt)
-unfed_data_lines array place (a ∷ b ∷ c ∷ d ∷ e ∷ f ∷ g ∷ h ∷ rest) =
-    (unfed_data_line array place (a ∷ b ∷ c ∷ d ∷ e ∷ f ∷ g ∷ h ∷ []), unfed_data_lines array (place + 8) rest)
+unfed_data_lines array place (word ∷ words) = (unfed_data_line array place word, unfed_data_lines array (suc place) words)
 
 unfed_all_data : (array : ℕ) (initial : List (List ℤ)) → AllByRecursion Unfed (all_data_lines array initial)
 unfed_all_data array [] = tt

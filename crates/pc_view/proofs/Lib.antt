@@ -4,4 +4,3 @@ pub mod LeadingRows
 pub mod Objects
 pub mod LeadsTo
 pub mod GraphLines
-pub mod DataLines

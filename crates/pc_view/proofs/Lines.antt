@@ -1,9 +1,8 @@
 -- The lines of a listing, one by one and how many.
-use Rattle.std.proofs.Common.{◌≡◌, ℕ, suc, ◌+◌, ◌/◌, List, [], ◌∷◌, ◌++◌, length, map, refl, sym, ◌∙◌, ap, arith, codes}
+use Rattle.std.proofs.Common.{◌≡◌, ℕ, suc, ◌+◌, List, [], ◌∷◌, ◌++◌, length, map, refl, ap, arith, codes}
 use Rattle.std.proofs.Common.{length-append}
-use Rattle.std.specs.Prelude.{ℤ, ◌*◌}
+use Rattle.std.specs.Prelude.{ℤ}
 use Rattle.std.specs.List.{sum_by}
-use Rattle.std.proofs.Math.Nat.{mul-add-div_right}
 use Rattle.std.proofs.lemmas.List.{length-map}
 use Rattle.std.proofs.lemmas.List.Sums.{sum_by-cons}
 use Rattle.pc_word.specs.Row.{Then, Either, At_leaf, items_of, tests_of, leaves_of}
@@ -13,7 +12,7 @@ use Rattle.pc_report.specs.Report.{note_words}
 use Rattle.pc_view.specs.Tree.{tree_lines}
 use Rattle.pc_view.specs.DataLines.{data_lines, all_data_lines}
 use Rattle.pc_view.specs.Listing.{row_lines, rows_lines, listing_lines}
-use Rattle.pc_view.specs.Laws.{words_of, EndWith, part_count, data_line_count, line_count}
+use Rattle.pc_view.specs.Laws.{words_of, EndWith, part_count, line_count}
 
 -- ---- what the lines of a tree end with
 
@@ -64,24 +63,11 @@ length-rows_lines code number (row ∷ rest) =
       sum_by-cons (λ (row : CodeRow). 1 + part_count row) row rest,
     )
 
-length-data_lines : (array place : ℕ) (words : List ℤ) → length (data_lines array place words) ≡ data_line_count words
+length-data_lines : (array place : ℕ) (words : List ℤ) → length (data_lines array place words) ≡ length words
 length-data_lines array place [] = refl
-length-data_lines array place (a ∷ []) = refl
-length-data_lines array place (a ∷ b ∷ []) = refl
-length-data_lines array place (a ∷ b ∷ c ∷ []) = refl
-length-data_lines array place (a ∷ b ∷ c ∷ d ∷ []) = refl
-length-data_lines array place (a ∷ b ∷ c ∷ d ∷ e ∷ []) = refl
-length-data_lines array place (a ∷ b ∷ c ∷ d ∷ e ∷ f ∷ []) = refl
-length-data_lines array place (a ∷ b ∷ c ∷ d ∷ e ∷ f ∷ g ∷ []) = refl
-length-data_lines array place (a ∷ b ∷ c ∷ d ∷ e ∷ f ∷ g ∷ h ∷ rest) =
-    ap suc (length-data_lines array (place + 8) rest) ∙ sym (one_more (length rest))
-  where
-    one_more : (n : ℕ) → (suc (suc (suc (suc (suc (suc (suc (suc n))))))) + 7) / 8 ≡ suc ((n + 7) / 8)
-    one_more n =
-        ap (λ (m : ℕ). m / 8) (let e : suc (suc (suc (suc (suc (suc (suc (suc n))))))) + 7 ≡ 1 * 8 + (n + 7) = omega arith in e)
-        ∙ mul-add-div_right {m = 8} (omega arith) 1 (n + 7) ∙ (let f : 1 + (n + 7) / 8 ≡ suc ((n + 7) / 8) = omega arith in f)
+length-data_lines array place (word ∷ words) = ap suc (length-data_lines array (suc place) words)
 
-length-all_data_lines : (array : ℕ) (initial : List (List ℤ)) → length (all_data_lines array initial) ≡ sum_by data_line_count initial
+length-all_data_lines : (array : ℕ) (initial : List (List ℤ)) → length (all_data_lines array initial) ≡ sum_by length initial
 length-all_data_lines array [] = refl
 length-all_data_lines array (words ∷ initial) =
     omega (
@@ -89,7 +75,7 @@ length-all_data_lines array (words ∷ initial) =
       length-append (data_lines array 0 words) (all_data_lines (suc array) initial),
       length-data_lines array 0 words,
       length-all_data_lines (suc array) initial,
-      sum_by-cons data_line_count words initial,
+      sum_by-cons length words initial,
     )
 
 pub length-listing_lines : (object : CodeWithNotes) → length (listing_lines object) ≡ line_count object

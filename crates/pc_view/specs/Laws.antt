@@ -1,5 +1,5 @@
 -- Laws of the texts, of every object. Each is the contract of a function of laws.rt, which does nothing.
-use Rattle.std.specs.Prelude.{◌≡◌, ℕ, ◌+◌, ◌/◌, ◌<◌, ◌↔◌, ℤ, Bool, true, false, List, [], ◌∷◌, ◌++◌, length}
+use Rattle.std.specs.Prelude.{◌≡◌, ℕ, ◌+◌, ◌<◌, ◌↔◌, ℤ, Bool, true, false, List, [], ◌∷◌, ◌++◌, length}
 use Rattle.std.specs.Prelude.{Contains, Some, slice_get}
 use Rattle.std.specs.List.{AllByRecursion, count_by, sum_by}
 use Rattle.pc_word.specs.Line.{is_line_feed}
@@ -39,15 +39,11 @@ TreesShowEachPart = (first below : List ℕ) (row : CodeRow) → EndWith (tree_l
 abbrev pub part_count : CodeRow → ℕ
 part_count row = length (items_of row) + (length (tests_of row) + length (leaves_of row))
 
--- how many lines the words of an array need, eight in a line
-abbrev pub data_line_count : List ℤ → ℕ
-data_line_count words = (length words + 7) / 8
-
--- a line for the limits; for each array the lines of its words; for each row a heading and a line for each part; and a line for each
+-- a line for the limits; for each array a line for each of its words; for each row a heading and a line for each part; and a line for each
 -- note
 abbrev pub line_count : CodeWithNotes → ℕ
 line_count object =
-    1 + (sum_by data_line_count object.code.initial + (sum_by (λ row. 1 + part_count row) object.code.rows + length object.notes))
+    1 + (sum_by length object.code.initial + (sum_by (λ row. 1 + part_count row) object.code.rows + length object.notes))
 
 -- the listing of an object has so many lines
 abbrev pub ListingsHaveALineForEachPart : Type 0

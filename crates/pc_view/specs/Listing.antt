@@ -1,5 +1,5 @@
 -- An object as a text to be read: its limits, arrays and their data, its rows, and its notes.
-use Rattle.std.specs.Prelude.{ℕ, suc, if◌then◌else◌, nat_eq, List, [], ◌∷◌, ◌++◌, length, map, codes}
+use Rattle.std.specs.Prelude.{ℕ, zero, suc, if◌then◌else◌, nat_eq, List, [], ◌∷◌, ◌++◌, length, map, codes}
 use Rattle.std.specs.List.{count_by, flat_map}
 use Rattle.std.specs.Fmt.{decimal}
 use Rattle.pc_word.specs.Line.{line}
@@ -10,11 +10,16 @@ use Rattle.pc_machine.specs.MachineCode.{CodeRow, RowCode}
 use Rattle.pc_machine.specs.Registers.{few_registers}
 use Rattle.pc_object.specs.ObjectText.{CodeWithNotes}
 use Rattle.pc_report.specs.Report.{note_words}
-use Rattle.pc_view.specs.DataLines.{separator, all_data_lines}
+use Rattle.pc_view.specs.DataLines.{all_data_lines}
 use Rattle.pc_view.specs.Leading.{rows_leading_to}
 use Rattle.pc_view.specs.Tree.{tree_lines}
 
 -- ---- lists in a line
+
+-- what stands in front of an element of a list by its number: a blank in front of the first, a comma and a blank in front of another
+abbrev pub separator : ℕ → List ℕ
+separator zero = codes " "
+separator (suc number) = codes ", "
 
 -- the arrays, numbered from `number` on, with their lengths
 abbrev pub arrays_from : ℕ → List ℕ → List ℕ

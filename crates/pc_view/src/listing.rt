@@ -4,14 +4,14 @@ ghost use Rattle.std.specs.List.{AllByRecursion};
 ghost use Rattle.pc_machine.specs.MachineCode.{row_of, rows_of, code_of};
 ghost use Rattle.pc_object.specs.ObjectText.{object_of, IsObject, IsChoice};
 ghost use Rattle.pc_report.specs.Report.{note_words};
-ghost use Rattle.pc_view.specs.Listing.{array_words, arrays_from, register_words, leading_words, row_numbers_from};
+ghost use Rattle.pc_view.specs.Listing.{separator, array_words, arrays_from, register_words, leading_words, row_numbers_from};
 ghost use Rattle.pc_view.specs.Listing.{limit_words, limits_line, count_words, heading, row_lines, rows_lines, lines_text, listing_text};
 ghost use Rattle.pc_view.specs.models.Counted.{HasFew};
 ghost use Rattle.pc_view.specs.models.Rows.{CanList};
 ghost use Rattle.pc_view.specs.models.Lists.{AreLists};
 
 use crate::counts::count;
-use crate::data::{push_data, separator};
+use crate::data::push_data;
 use crate::leading::{RowNumbers, leading_rows};
 use crate::rows::push_tree;
 use pc_machine::{Code, Counts, FEW_REGISTERS, Tree};
@@ -21,7 +21,7 @@ use pc_word::Limits;
 use std::alloc::{AllocError, Global};
 
 /// An object as a text to be read: a line for the limits, the arrays and the registers, where these are more than
-/// the fewer; the words with which each array begins, eight in a line; each row with its number, what it has
+/// the fewer; the words with which each array begins, a line each; each row with its number, what it has
 /// of what it may have, the rows that lead to it, and its tree; a line for each note.
 pub fn listing_text(alloc: Global, object: &Object) -> Result<Vec<u8>, AllocError>
     requires { IsObject (object_of object.now) }
@@ -89,6 +89,13 @@ fn push_each_array(text: &mut String, lengths: &[u32]) -> Result<(), AllocError>
         write!(text, "{front}a{number}[{length}]")?;
     }
     Ok(())
+}
+
+/// What stands in front of an element of a list, by its number.
+fn separator(number: usize) -> &'static str
+    ensures { result.now ≡ separator number }
+{
+    if number == 0 { " " } else { ", " }
 }
 
 /// Appends the rows that lead to a row to a text.
