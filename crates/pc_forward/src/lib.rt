@@ -7,5 +7,6 @@ mod forwarding;
 mod trail;
 mod walking;
 mod ways;
+mod probe;
 
 pub use forward::Forward;

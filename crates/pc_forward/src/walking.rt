@@ -134,15 +134,12 @@ impl Walk {
                 if !leads_on(flow, table, at, no) {
                     return self.go_to(flow, table, at, yes, trail);
                 }
-                if leads_on(flow, table, at, yes) {
-                    let copy = trail.copy(alloc)?;
-                    self.waiting.push(Waiting {
-                        at: yes,
-                        trail: copy,
-                    })?;
+                if !leads_on(flow, table, at, yes) {
+                    return self.go_to(flow, table, at, no, trail);
                 }
-                self.waiting.push(Waiting { at: no, trail })?;
-                Ok(())
+                let copy = trail.copy(alloc)?;
+                self.go_to(flow, table, at, yes, copy)?;
+                self.go_to(flow, table, at, no, trail)
             }
             FlowNode::Stop | FlowNode::Trap { .. } => Ok(()),
         }
