@@ -3,7 +3,7 @@ use Rattle.std.proofs.Common.{◌≡◌, ◌≢◌, ◌⊎◌, inl, inr, ℕ, ze
 use Rattle.std.specs.Prelude.{IfSome, slice_get, slice_set, slice_index_or}
 use Rattle.std.specs.List.{count_by}
 use Rattle.std.proofs.lemmas.Bool.{cases_eq}
-use Rattle.std.proofs.lemmas.Option.{slice_get_within}
+use Rattle.std.proofs.lemmas.Option.{slice_get_within, slice_get-get_or}
 use Rattle.pc_word.specs.declared.item.Item.{Item}
 use Rattle.pc_word.specs.declared.item.Item.TheVariants.{Bin, Copy, Load, Store, Print, Read, More}
 use Rattle.pc_word.specs.Items.{dest_of}
@@ -103,6 +103,10 @@ few_left : (left : List Bool) → how_many left ≤ length left
 few_left [] = omega arith
 few_left (true ∷ left) = let more = count_more (λ (flag : Bool). flag) true left in let rest = few_left left in omega (arith, more, rest)
 few_left (false ∷ left) = let more = count_more (λ (flag : Bool). flag) false left in let rest = few_left left in omega (arith, more, rest)
+
+-- a flag that was read
+pub flag_read : (left read : List Bool) (at : ℕ) (b : Bool) → read ≡ left → at < length left → get_or read at false ≡ b → slice_get left at ≡ Some b
+flag_read left read at b same low is = slice_get-get_or left at false low ∙ ap (λ (l : List Bool). Some (get_or l at false)) (sym same) ∙ ap (λ (f : Bool). Some f) is
 
 -- ---- one node more waits
 

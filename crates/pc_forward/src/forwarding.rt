@@ -32,22 +32,24 @@ pub(crate) fn forward_flow(alloc: Global, flow: &mut Flow) -> Result<u32, AllocE
 }
 
 /// A node, where the trail to it tells this: a load whose value is known and at hand is a copy.
+#[tactic(auto, using(crate::proofs::Holders::forwarding))]
 pub(crate) fn forwarded(trail: &Trail, node: FlowNode) -> FlowNode
     requires { length trail.now.forms ≡ variables }
     ensures { IsForwardedNode trail.now node result }
 {
     match node {
-        FlowNode::Op {
-            item: Item::Load { dest, array, index },
-            next,
-        } => match known_operand(trail, array, index) {
-            Some(from) => FlowNode::Op {
-                item: Item::Copy { dest, from },
-                next,
+        FlowNode::Op { item, next } => match item {
+            Item::Load { dest, array, index } => match known_operand(trail, array, index) {
+                Some(from) => FlowNode::Op {
+                    item: Item::Copy { dest, from },
+                    next,
+                },
+                None => node,
             },
-            None => node,
+            Item::Bin { .. } | Item::Copy { .. } | Item::Store { .. } => node,
+            Item::Print { .. } | Item::Read { .. } | Item::More { .. } => node,
         },
-        _ => node,
+        FlowNode::Test { .. } | FlowNode::Stop | FlowNode::Trap { .. } => node,
     }
 }
 
@@ -70,7 +72,10 @@ fn at_hand(forms: &[LinForm], value: &LinForm) -> Option<Operand>
 {
     match value.term(0) {
         None => Some(Operand::Lit(value.offset())),
-        Some(_) => Some(Operand::Name(holder(forms, value)?)),
+        Some(_) => match holder(forms, value) {
+            Some(name) => Some(Operand::Name(name)),
+            None => None,
+        },
     }
 }
 

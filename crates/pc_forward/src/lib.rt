@@ -7,6 +7,5 @@ mod forwarding;
 mod trail;
 mod walking;
 mod ways;
-mod probe;
 
 pub use forward::Forward;
