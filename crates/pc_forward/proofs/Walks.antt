@@ -16,6 +16,8 @@ use Rattle.pc_flow.specs.Reachable.{IsReachableNode, Entry, Behind}
 use Rattle.pc_pass.proofs.Changes.{reachable_there}
 use Rattle.pc_linear.specs.Form.{Form}
 use Rattle.pc_linear.specs.Combine.{variable_form, combine}
+use Rattle.pc_scalar.specs.declared.plan.Plan.{Plan}
+use Rattle.pc_scalar.specs.Tally.{AreMany}
 use Rattle.pc_scalar.specs.models.Met.{edges_of, AreReached}
 use Rattle.pc_forward.specs.declared.trail.Trail.{Trail}
 use Rattle.pc_forward.specs.declared.walking.Waiting.{Waiting}
@@ -24,7 +26,7 @@ use Rattle.pc_forward.specs.declared.ways.Way.TheVariants.{Nothing, Only, Severa
 use Rattle.pc_forward.specs.Trail.{IsOnlyWay, own_forms, first_trail, operand_form, combined, behind_item, behind, Along, Begins, Goes_on}
 use Rattle.pc_forward.specs.models.Ways.{AreWays, IsWay}
 use Rattle.pc_forward.specs.models.Words.{TakesWords, node_writes}
-use Rattle.pc_forward.specs.models.Walking.{IsForwardedNode, Is_forwarded, Stays, KeepsDone, KnownAt, IsDone, Ends, IsEnd, how_many, Waits, IsListed, Walked, weight, StaysDone, begins, AddsAll, IsForwardedAt}
+use Rattle.pc_forward.specs.models.Walking.{IsForwardedNode, Is_forwarded, Stays, KeepsDone, KnownAt, IsDone, Ends, IsEnd, how_many, Waits, IsListed, Walked, weight, StaysDone, begins, AreBegun, AddsAll, IsForwardedAt, BecameCopy, IsForwarding}
 use Rattle.pc_forward.proofs.Noting.{one_is_edge}
 use Rattle.pc_forward.proofs.OwnForms.{own_length}
 use Rattle.pc_forward.proofs.GoingOn.{only_way, begins_trail, all_stay, all_from, all_few, all_to, few_edges}
@@ -334,7 +336,7 @@ end_edge Stop to ends edge = edge
 end_edge (Trap kind line) to ends edge = edge
 
 module _ (flow : FlowGraph) (table : List Way) (left : List Bool) (nodes : List FlowNode) (are : AreWays flow table) (walked : Walked flow left nodes [])
-    (heads : (head : ℕ) → head < length flow.nodes → begins (slice_index_or table head Nothing) ≡ true → slice_get left head ≡ Some false) where
+    (heads : AreBegun table (length flow.nodes) left) where
   abbrev Settled : ℕ → Type 0
   Settled at = (slice_get left at ≡ Some false) ⊎ IsEnd flow at
 
@@ -390,4 +392,31 @@ forwarded_at flow left nodes at d = record {
   stands = d.stands;
   words = d.words;
   is = d.is;
+}
+
+-- one head more
+pub heads_more : (table : List Way) (bound : ℕ) (left new : List Bool) → StaysDone left new → AreBegun table bound left
+    → (begins (slice_index_or table bound Nothing) ≡ true → slice_get new bound ≡ Some false) → AreBegun table (bound + 1) new
+heads_more table bound left new still before here head low is = elim (cases_eq head bound) [
+  | inl same ↦
+      subst (λ (n : ℕ). slice_get new n ≡ Some false) (sym same) (here (subst (λ (n : ℕ). begins (slice_index_or table n Nothing) ≡ true) same is))
+  | inr apart ↦ still head (before head (omega (arith, low, apart)) is)
+]
+
+-- the plan that a walk ends with
+pub forwarding_is : (flow : FlowGraph) (table : List Way) (left : List Bool) (plan : Plan) → AreWays flow table → Walked flow left plan.nodes [] → AreBegun table (length flow.nodes) left
+    → plan.entry ≡ flow.entry → AreMany (BecameCopy flow.nodes plan.nodes) (length flow.nodes) plan.changed → IsForwarding flow plan
+forwarding_is flow table left plan are walked heads entry changed = record {
+  is_flow = walked.is_flow;
+  as_many = walked.as_many;
+  each = λ at. elim (walked.each at) [
+    | inl same ↦ inl same
+    | inr d ↦ inr (forwarded_at flow left plan.nodes at d)
+  ];
+  done = λ at reached. elim (settled flow table left plan.nodes are walked heads at reached) [
+    | inl gone ↦ inl (forwarded_at flow left plan.nodes at (walked.done at reached gone))
+    | inr end ↦ inr end
+  ];
+  entry = entry;
+  changed = changed;
 }

@@ -18,6 +18,7 @@ use pc_word::{Item, Operand};
 use std::alloc::{AllocError, Global};
 
 /// Forwards the loads of a graph. How many nodes were changed.
+#[tactic(auto, using(crate::proofs::Forwardings::forwarding_laws))]
 pub(crate) fn forward_flow(alloc: Global, flow: &mut Flow) -> Result<u32, AllocError>
     ensures keeps { OnOk result (Keeps flow.old flow.new) }
     ensures undone { OnErr result (flow.new ≡ flow.old) }
