@@ -36,7 +36,6 @@ fn compile(rt: &HostRuntime) -> Result<ExitCode, AllocError> {
 }
 
 /// Compiles with these passes, in this order.
-#[tactic(auto, using(pc_passes::proofs::Passes::are_the_passes))]
 fn compile_in_order(
     rt: &HostRuntime,
     fold: Box<dyn Pass>,
