@@ -1,21 +1,19 @@
 -- The graph of which loads were forwarded.
-use Rattle.std.proofs.Common.{◌≡◌, ◌≢◌, ◌⊎◌, inl, inr, ℕ, zero, suc, ◌+◌, ◌<◌, Bool, true, false, ◌&&◌, List, [], ◌∷◌, length, Option, Some, None, refl, sym, ◌∙◌, ap, subst, arith}
-use Rattle.std.specs.Prelude.{ℤ, All, IfSome, slice_get, slice_index}
-use Rattle.std.specs.List.{AllByRecursion, list_any}
+use Rattle.std.proofs.Common.{◌≡◌, ◌≢◌, ◌⊎◌, inl, inr, ℕ, ◌+◌, true, ◌&&◌, List, [], length, Some, refl, sym, ◌∙◌, ap, subst, arith}
+use Rattle.std.specs.Prelude.{ℤ, All, slice_get}
+use Rattle.std.specs.List.{AllByRecursion}
 use Rattle.std.proofs.lemmas.Option.{slice_get_within}
 use Rattle.pc_word.specs.declared.item.Item.{Item}
 use Rattle.pc_word.specs.declared.item.Item.TheVariants.{Bin, Copy, Load, Store, Print, Read, More}
 use Rattle.pc_word.specs.declared.item.Operand.{Operand}
-use Rattle.pc_word.specs.declared.item.Operand.TheVariants.{Name, Lit}
 use Rattle.pc_word.specs.Word.{IsWord}
 use Rattle.pc_word.specs.State.{State, start_state}
-use Rattle.pc_word.specs.Items.{operand_value, operands_of, dest_of}
+use Rattle.pc_word.specs.Items.{operands_of, dest_of}
 use Rattle.pc_word.specs.Row.{Commits, item_step}
 use Rattle.pc_word.proofs.Items.{item_step-is}
-use Rattle.pc_word.proofs.Truth.{and_true}
 use Rattle.pc_flow.specs.declared.node.FlowNode.{FlowNode}
 use Rattle.pc_flow.specs.declared.node.FlowNode.TheVariants.{Op, Test, Stop, Trap}
-use Rattle.pc_flow.specs.FlowGraph.{FlowGraph, IsVariable, ItemFits, IsFlow, NodeFits, HasEdge, KeepsTurn, tested_loop, variables}
+use Rattle.pc_flow.specs.FlowGraph.{FlowGraph, IsVariable, NodeFits, HasEdge, KeepsTurn, tested_loop, variables}
 use Rattle.pc_flow.specs.Reachable.{IsReachableNode, Entry, Behind}
 use Rattle.pc_pass.specs.Pass.{Keeps}
 use Rattle.pc_pass.specs.models.Change.{Change, Here, LeadsPast, Becomes, Does, Tests, Stops_too, Traps_too, IsChange}
@@ -23,23 +21,23 @@ use Rattle.pc_pass.proofs.Changes.{node_there, change_agrees, change_paces}
 use Rattle.pc_linear.specs.Form.{Form, form_value}
 use Rattle.pc_linear.specs.Combine.{variable_form}
 use Rattle.pc_scalar.specs.declared.plan.Plan.{Plan}
-use Rattle.pc_scalar.specs.LoopTests.{IsLoopTest, IsEdge, KeepsLoopTests}
+use Rattle.pc_scalar.specs.LoopTests.{IsEdge, KeepsLoopTests}
 use Rattle.pc_scalar.specs.Tally.{AreMany, counted, without_edges, IsChangedNode, IsWorkedOn}
 use Rattle.pc_scalar.specs.models.Plan.{Fits, planned}
 use Rattle.pc_scalar.proofs.Chains.{keeps_turn}
 use Rattle.pc_scalar.proofs.Tallies.{many_same, leaves}
 use Rattle.pc_forward.specs.declared.access.Access.{Access}
 use Rattle.pc_forward.specs.declared.trail.Trail.{Trail}
-use Rattle.pc_forward.specs.Trail.{HasOneEdge, IsOnlyWay, own_forms, first_trail, behind_item, behind, Along, Begins, Goes_on}
+use Rattle.pc_forward.specs.Trail.{HasOneEdge, IsOnlyWay, own_forms, first_trail, behind, Along, Begins, Goes_on}
 use Rattle.pc_forward.specs.Forwardable.{IsForwardable, ForwardsAll}
 use Rattle.pc_forward.specs.Forwarded.{StandsFor, Is_constant, Is_least, IsForwardedLoad, ForwardsEach, Forwards}
 use Rattle.pc_forward.specs.models.Words.{TakesWords}
-use Rattle.pc_forward.specs.models.Walking.{IsKnownAs, IsForwardedNode, Is_forwarded, Stays, is_load, is_copy, IsForwardedAt, BecameCopy, Ends, IsEnd, IsForwarding}
+use Rattle.pc_forward.specs.models.Walking.{IsForwardedNode, Is_forwarded, Stays, is_load, is_copy, IsForwardedAt, BecameCopy, Ends, IsForwarding}
 use Rattle.pc_forward.proofs.Below.{IsBelow, variable_below, variable_value}
 use Rattle.pc_forward.proofs.Noting.{one_is_edge}
 use Rattle.pc_forward.proofs.OwnForms.{own_length, own_at}
 use Rattle.pc_forward.proofs.Stepping.{holds_behind, forwarded_does}
-use Rattle.pc_forward.proofs.Telling.{WordsIn, zero_word, words_behind, IsKept, kept_behind, Tells, Holds}
+use Rattle.pc_forward.proofs.Telling.{WordsIn, zero_word, words_behind, IsKept, kept_behind, Holds}
 
 -- ---- where a trail begins
 

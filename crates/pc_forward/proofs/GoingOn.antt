@@ -1,19 +1,19 @@
 -- Which ways go on from a node.
-use Rattle.std.proofs.Common.{◌≡◌, ◌⊎◌, inl, inr, ℕ, ◌+◌, ◌<◌, ◌≤◌, Bool, true, false, List, [], ◌∷◌, ◌++◌, length, Some, refl, sym, ◌∙◌, ap, subst, arith, eq-eqb, eqb-true, true≢false, Result, Ok, Err}
-use Rattle.std.specs.Prelude.{OnOk, slice_get, slice_index_or}
-use Rattle.pc_word.specs.declared.item.Item.{Item}
+use Rattle.std.proofs.Common.{◌≡◌, ◌⊎◌, inl, inr, ℕ, ◌+◌, ◌<◌, ◌≤◌, true, false, List, [], ◌∷◌, length, Some, refl, sym, ◌∙◌, subst, arith}
+use Rattle.std.proofs.Common.{eq-eqb, eqb-true, true≢false, Result, Ok, Err}
+use Rattle.std.specs.Prelude.{OnOk, slice_get}
 use Rattle.pc_word.proofs.Places.{get_front, get_last, get_more, length_more}
 use Rattle.pc_flow.specs.declared.node.FlowNode.{FlowNode}
 use Rattle.pc_flow.specs.declared.node.FlowNode.TheVariants.{Op, Test, Stop, Trap}
-use Rattle.pc_flow.specs.FlowGraph.{FlowGraph, IsFlow, HasEdge, IsTarget}
+use Rattle.pc_flow.specs.FlowGraph.{FlowGraph, IsFlow, HasEdge}
 use Rattle.pc_pass.proofs.Changes.{edge_target, reachable_there}
 use Rattle.pc_scalar.specs.models.Met.{edges_of}
 use Rattle.pc_forward.specs.declared.trail.Trail.{Trail}
 use Rattle.pc_forward.specs.declared.walking.Waiting.{Waiting}
 use Rattle.pc_forward.specs.declared.ways.Way.{Way}
 use Rattle.pc_forward.specs.declared.ways.Way.TheVariants.{Nothing, Only, Several}
-use Rattle.pc_forward.specs.Trail.{HasOneEdge, IsOnlyWay}
-use Rattle.pc_forward.specs.models.Walking.{Ends, IsEnd, IsListed, follows, begins, Adds, Waits_too, Not_so, AddsAll, Nothing_added, Node_added}
+use Rattle.pc_forward.specs.Trail.{IsOnlyWay}
+use Rattle.pc_forward.specs.models.Walking.{IsEnd, IsListed, follows, begins, Adds, Waits_too, Not_so, AddsAll, Nothing_added, Node_added}
 use Rattle.pc_forward.specs.models.Ways.{IsWay}
 use Rattle.pc_forward.proofs.Noting.{one_is_edge}
 
@@ -109,7 +109,8 @@ module _ (flow : FlowGraph) (from : ℕ) (trail : Trail) where
   second_to first to nodes _ _ (Node_added {mid = mid} {more = more} one rest) way = first_to to nodes mid more rest way
 
   -- all ways of a node
-  pub all_to : (node : FlowNode) (waiting more : List Waiting) (to : ℕ) → AddsAll flow from trail (edges_of node) waiting more → HasEdge node to → IsOnlyWay flow from to → IsEnd flow to ⊎ IsListed more to
+  pub all_to : (node : FlowNode) (waiting more : List Waiting) (to : ℕ) → AddsAll flow from trail (edges_of node) waiting more → HasEdge node to → IsOnlyWay flow from to
+      → IsEnd flow to ⊎ IsListed more to
   all_to (Op item next) waiting more to adds edge way =
       subst (λ (n : ℕ). IsEnd flow n ⊎ IsListed more n) edge (first_to next [] waiting more adds (subst (IsOnlyWay flow from) (sym edge) way))
   all_to (Test on on_yes on_no turn) waiting more to adds (inl edge) way =

@@ -1,12 +1,11 @@
 -- What stands for a value, and what becomes of a node.
-use Rattle.std.proofs.Common.{◌≡◌, inl, inr, ℕ, zero, suc, ◌+◌, ◌<◌, ◌≤◌, Bool, true, false, List, [], ◌∷◌, length, get_or, Option, Some, None, refl, sym, ◌∙◌, ap, subst, arith}
-use Rattle.std.specs.Prelude.{ℤ, MatchOption, slice_get, slice_index_or}
+use Rattle.std.proofs.Common.{◌≡◌, inl, inr, ℕ, ◌+◌, ◌<◌, ◌≤◌, List, [], ◌∷◌, length, Option, Some, None, refl, sym, ◌∙◌, ap, subst, arith}
+use Rattle.std.specs.Prelude.{MatchOption, slice_get, slice_index_or}
 use Rattle.std.proofs.lemmas.Bool.{cases_eq}
 use Rattle.std.proofs.lemmas.Option.{slice_get_within, slice_get-get_or}
 use Rattle.pc_word.specs.declared.item.Item.TheVariants.{Bin, Copy, Load, Store, Print, Read, More}
 use Rattle.pc_word.specs.declared.item.OpCode.{OpCode}
 use Rattle.pc_word.specs.declared.item.Operand.{Operand}
-use Rattle.pc_word.specs.declared.item.Operand.TheVariants.{Name, Lit}
 use Rattle.pc_word.specs.declared.item.TrapKind.{TrapKind}
 use Rattle.pc_flow.specs.declared.node.FlowNode.{FlowNode}
 use Rattle.pc_flow.specs.declared.node.FlowNode.TheVariants.{Op, Test, Stop, Trap}
@@ -16,7 +15,7 @@ use Rattle.pc_linear.specs.Equality.{AlwaysEqual}
 use Rattle.pc_forward.specs.declared.trail.Trail.{Trail}
 use Rattle.pc_forward.specs.Trail.{operand_form}
 use Rattle.pc_forward.specs.Forwardable.{IsHolder, IsAtHand, HasElement, IsForwardable}
-use Rattle.pc_forward.specs.Forwarded.{IsLeast, StandsFor, Is_constant, Is_least}
+use Rattle.pc_forward.specs.Forwarded.{StandsFor}
 use Rattle.pc_forward.specs.models.Words.{IsWordOperand}
 use Rattle.pc_forward.specs.models.Walking.{IsKnownAs, NotKnown, IsForwardedNode, Is_forwarded, Stays}
 use Rattle.pc_forward.proofs.Elements.{latest_once}

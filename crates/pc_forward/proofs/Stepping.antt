@@ -1,14 +1,12 @@
 -- What is known holds behind an item, and what stands for a load's value gives the same.
-use Rattle.std.proofs.Common.{◌≡◌, ℕ, ◌+◌, ◌<◌, List, [], ◌∷◌, length, Option, Some, None, refl, sym, ◌∙◌, ap, subst, arith}
-use Rattle.std.specs.Prelude.{ℤ, slice_get, slice_index}
+use Rattle.std.proofs.Common.{◌≡◌, ℕ, List, [], ◌∷◌, Option, Some, None, refl, sym, ◌∙◌, ap, subst}
+use Rattle.std.specs.Prelude.{ℤ, slice_index}
 use Rattle.std.specs.List.{AllByRecursion}
 use Rattle.std.proofs.lemmas.List.Elements.{All-head}
 use Rattle.std.specs.Prelude.{All}
 use Rattle.pc_word.specs.declared.item.Item.{Item}
 use Rattle.pc_word.specs.declared.item.Item.TheVariants.{Bin, Copy, Load, Store, Print, Read, More}
-use Rattle.pc_word.specs.declared.item.OpCode.{OpCode}
 use Rattle.pc_word.specs.declared.item.Operand.{Operand}
-use Rattle.pc_word.specs.declared.item.Operand.TheVariants.{Name, Lit}
 use Rattle.pc_word.specs.Word.{IsWord, word_of_test, word_apply}
 use Rattle.pc_word.specs.State.{State, set_name, set_input}
 use Rattle.pc_word.specs.Items.{operand_value, place_in, element_at, some_left, operands_of}
@@ -19,16 +17,15 @@ use Rattle.pc_word.proofs.Words.{IsWord-apply}
 use Rattle.pc_flow.specs.FlowGraph.{IsVariable}
 use Rattle.pc_linear.specs.Form.{Form, form_value}
 use Rattle.pc_linear.specs.Combine.{constant_form, variable_form, combine}
-use Rattle.pc_forward.specs.declared.access.Access.{Access}
 use Rattle.pc_forward.specs.declared.access.AccessKind.TheVariants as kind
 use Rattle.pc_forward.specs.declared.trail.Trail.{Trail}
-use Rattle.pc_forward.specs.Trail.{operand_form, given, renewed, combined, accessed, behind_item}
-use Rattle.pc_forward.specs.Forwardable.{HasElement}
+use Rattle.pc_forward.specs.Trail.{operand_form, renewed, combined, behind_item}
 use Rattle.pc_forward.specs.Forwarded.{StandsFor, Is_constant, Is_least}
 use Rattle.pc_forward.specs.models.Words.{IsWordOperand, ItemTakesWords}
 use Rattle.pc_forward.specs.models.Walking.{IsKnownAs}
 use Rattle.pc_forward.proofs.Below.{IsBelow, value_agrees, constant_value, variable_value, combined_is}
-use Rattle.pc_forward.proofs.Telling.{WordsIn, zero_word, test_word, operand_word, element_word, IsKept, operand_below, kept_renewed, Tells, Holds, operand_told, with_value, with_value_there, below_same, tells_given, tells_renewed, tells_loaded, tells_stored}
+use Rattle.pc_forward.proofs.Telling.{WordsIn, test_word, operand_word, element_word, IsKept, operand_below}
+use Rattle.pc_forward.proofs.Telling.{Tells, Holds, operand_told, with_value, with_value_there, below_same, tells_given, tells_renewed, tells_loaded, tells_stored}
 
 -- a new form variable has the value that it got
 fresh_value : (n : ℕ) (v : ℤ) (σ : ℕ → ℤ) → IsWord v → v ≡ form_value (with_value n v σ) (variable_form n)
@@ -86,10 +83,12 @@ holds_behind lengths (Bin op dest left right) trail s t to printed kept own ther
     let one = operand_told lengths held.values trail s left kept held.tells there.0 own.0 in
     let other = operand_told lengths held.values trail s right kept held.tells there.1.0 own.1 in
     subst (Holds lengths (behind_item (Bin op dest left right) trail)) same
-    (combined_holds lengths trail s kept held dest (word_apply op (operand_value s.names left) (operand_value s.names right)) (combine op (operand_form trail.forms left) (operand_form trail.forms right))
+    (combined_holds lengths trail s kept held dest (word_apply op (operand_value s.names left) (operand_value s.names right))
+    (combine op (operand_form trail.forms left) (operand_form trail.forms right))
     (IsWord-apply op (operand_value s.names left) (operand_value s.names right) (operand_word s left words own.0) (operand_word s right words own.1))
     (λ form made.
-    (combined_is trail.next op (operand_form trail.forms left) (operand_form trail.forms right) form (operand_below trail left kept own.0) (operand_below trail right kept own.1) made).value held.values
+    (combined_is trail.next op (operand_form trail.forms left) (operand_form trail.forms right) form
+    (operand_below trail left kept own.0) (operand_below trail right kept own.1) made).value held.values
     ∙ ap (λ (z : ℤ). word_apply op z (form_value held.values (operand_form trail.forms right))) (sym one) ∙ ap (word_apply op (operand_value s.names left)) (sym other)))
 holds_behind lengths (Copy dest from) trail s t to printed kept own there words held e =
     let same : set_name dest (operand_value s.names from) s ≡ t = (cc) in

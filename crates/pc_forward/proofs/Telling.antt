@@ -1,36 +1,31 @@
 -- What is known along a trail holds of the state.
-use Rattle.std.proofs.Common.{◌≡◌, ◌≢◌, ◌⊎◌, inl, inr, ℕ, zero, suc, ◌+◌, ◌<◌, ◌≤◌, Bool, true, false, ◌&&◌, List, [], ◌∷◌, ◌++◌, length, Option, Some, None, refl, sym, ◌∙◌, ap, subst, arith}
-use Rattle.std.specs.Prelude.{ℤ, pos, negsuc, if◌then◌else◌, nat_eq, nat_lt, All, IfSome, slice_get, slice_set, slice_index}
-use Rattle.std.specs.Int.{w32}
-use Rattle.std.specs.List.{AllByRecursion}
-use Rattle.std.proofs.lemmas.Bool.{cases_eq}
+use Rattle.std.proofs.Common.{◌≡◌, ◌≢◌, ◌⊎◌, inl, inr, ℕ, ◌+◌, ◌<◌, Bool, true, false, ◌&&◌, List, [], ◌∷◌, ◌++◌, length, Option, Some, None, refl, sym, ◌∙◌, ap, subst, arith}
+use Rattle.std.specs.Prelude.{ℤ, pos, negsuc, if◌then◌else◌, nat_eq, nat_lt, All, slice_get, slice_index}
 use Rattle.std.proofs.lemmas.List.Elements.{All-head, All-tail}
 use Rattle.std.proofs.lemmas.Option.{slice_get_within}
 use Rattle.pc_word.specs.declared.item.Item.{Item}
 use Rattle.pc_word.specs.declared.item.Item.TheVariants.{Bin, Copy, Load, Store, Print, Read, More}
-use Rattle.pc_word.specs.declared.item.OpCode.{OpCode}
 use Rattle.pc_word.specs.declared.item.Operand.{Operand}
 use Rattle.pc_word.specs.declared.item.Operand.TheVariants.{Name, Lit}
 use Rattle.pc_word.specs.Word.{IsWord, word_of_test, word_apply}
 use Rattle.pc_word.specs.State.{State, set_name, set_cell, set_input}
-use Rattle.pc_word.specs.Items.{operand_value, place_in, element_at, some_left, operands_of}
-use Rattle.pc_word.specs.Row.{RowOutcome, Commits}
+use Rattle.pc_word.specs.Items.{operand_value, place_in, element_at, some_left}
+use Rattle.pc_word.specs.Row.{Commits}
 use Rattle.pc_word.specs.Laws.{does_alone, stores_alone, reads_alone}
 use Rattle.pc_word.proofs.Lists.{set_at, set_length}
 use Rattle.pc_word.proofs.Places.{get_front, get_last, get_more, found_within, same_number, own_number, number_apart}
 use Rattle.pc_word.proofs.Words.{IsWord-apply}
 use Rattle.pc_flow.specs.FlowGraph.{IsVariable, variables}
 use Rattle.pc_linear.specs.Form.{Form, form_value}
-use Rattle.pc_linear.specs.Combine.{constant_form, variable_form, combine}
+use Rattle.pc_linear.specs.Combine.{variable_form, combine}
 use Rattle.pc_linear.specs.Equality.{NeverEqual, AlwaysEqual}
 use Rattle.pc_forward.specs.declared.access.Access.{Access}
-use Rattle.pc_forward.specs.declared.access.AccessKind.{AccessKind}
 use Rattle.pc_forward.specs.declared.access.AccessKind.TheVariants as kind
 use Rattle.pc_forward.specs.declared.trail.Trail.{Trail}
 use Rattle.pc_forward.specs.Trail.{form_or_zero, operand_form, given, renewed, combined, accessed, behind_item}
-use Rattle.pc_forward.specs.Forwardable.{Meets, Decides, IsLatest, HasElement}
+use Rattle.pc_forward.specs.Forwardable.{Decides, HasElement}
 use Rattle.pc_forward.specs.models.Words.{IsWordOperand, ItemTakesWords}
-use Rattle.pc_forward.proofs.Below.{IsBelow, value_agrees, constant_value, variable_value, below_more, constant_below, variable_below, IsCombined, combined_is}
+use Rattle.pc_forward.proofs.Below.{IsBelow, value_agrees, constant_value, variable_value, below_more, constant_below, variable_below, combined_is}
 
 -- ---- states of words
 
@@ -173,7 +168,8 @@ pub record Holds (lengths : List ℕ) (trail : Trail) (s : State) : Type 0 where
   pub values : ℕ → ℤ
   pub tells : Tells lengths values trail s
 
-or_zero_told : (σ : ℕ → ℤ) (forms : List Form) (x : ℕ) (v : ℤ) → x < length forms → ((form : Form) → slice_get forms x ≡ Some form → v ≡ form_value σ form) → v ≡ form_value σ (operand_form forms (Name x))
+or_zero_told : (σ : ℕ → ℤ) (forms : List Form) (x : ℕ) (v : ℤ) → x < length forms → ((form : Form) → slice_get forms x ≡ Some form → v ≡ form_value σ form)
+    → v ≡ form_value σ (operand_form forms (Name x))
 or_zero_told σ forms x v low h =
     let found = found_within forms x low in
     h found.0 found.1 ∙ ap (λ (o : Option Form). form_value σ (form_or_zero o)) (sym found.1)

@@ -1,12 +1,11 @@
 -- The walk, node by node.
-use Rattle.std.proofs.Common.{◌≡◌, ◌≢◌, ◌⊎◌, inl, inr, ℕ, zero, suc, ◌+◌, ◌*◌, ◌^◌, ◌<◌, ◌≤◌, Bool, true, false, not, List, [], ◌∷◌, ◌++◌, length, get_or, Option, Some, None, refl, sym, ◌∙◌, ap, subst, arith, eq-eqb}
+use Rattle.std.proofs.Common.{◌≡◌, ◌≢◌, ◌⊎◌, inl, inr, ℕ, zero, suc, ◌+◌, ◌^◌, ◌<◌, ◌≤◌, Bool, true, false, List, [], ◌∷◌, ◌++◌, length}
+use Rattle.std.proofs.Common.{get_or, Option, Some, None, refl, sym, ◌∙◌, ap, subst, arith, eq-eqb}
 use Rattle.std.specs.Prelude.{IfSome, slice_get, slice_set, slice_index_or}
-use Rattle.std.specs.List.{count_by}
 use Rattle.std.proofs.lemmas.Bool.{cases_eq}
-use Rattle.std.proofs.lemmas.Option.{slice_get_within, slice_get-get_or}
+use Rattle.std.proofs.lemmas.Option.{slice_get-get_or}
 use Rattle.pc_word.specs.declared.item.Item.{Item}
 use Rattle.pc_word.specs.declared.item.Item.TheVariants.{Bin, Copy, Load, Store, Print, Read, More}
-use Rattle.pc_word.specs.Items.{dest_of}
 use Rattle.pc_word.proofs.Lists.{set_length, count_more}
 use Rattle.pc_word.proofs.Places.{get_front, get_last, get_more, set_there, set_elsewhere}
 use Rattle.pc_flow.specs.declared.node.FlowNode.{FlowNode}
@@ -23,13 +22,14 @@ use Rattle.pc_forward.specs.declared.trail.Trail.{Trail}
 use Rattle.pc_forward.specs.declared.walking.Waiting.{Waiting}
 use Rattle.pc_forward.specs.declared.ways.Way.{Way}
 use Rattle.pc_forward.specs.declared.ways.Way.TheVariants.{Nothing, Only, Several}
-use Rattle.pc_forward.specs.Trail.{IsOnlyWay, own_forms, first_trail, operand_form, combined, behind_item, behind, Along, Begins, Goes_on}
+use Rattle.pc_forward.specs.Trail.{IsOnlyWay, first_trail, operand_form, combined, behind_item, behind, Along, Begins, Goes_on}
 use Rattle.pc_forward.specs.models.Ways.{AreWays, IsWay}
 use Rattle.pc_forward.specs.models.Words.{TakesWords, node_writes}
-use Rattle.pc_forward.specs.models.Walking.{IsForwardedNode, Is_forwarded, Stays, KeepsDone, KnownAt, IsDone, Ends, IsEnd, how_many, Waits, IsListed, Walked, weight, StaysDone, begins, AreBegun, AddsAll, IsForwardedAt, BecameCopy, IsForwarding}
+use Rattle.pc_forward.specs.models.Walking.{IsForwardedNode, Is_forwarded, Stays, KeepsDone, KnownAt, IsDone, Ends, IsEnd, how_many}
+use Rattle.pc_forward.specs.models.Walking.{Waits, IsListed, Walked, weight, StaysDone, begins, AreBegun, AddsAll, IsForwardedAt, BecameCopy, IsForwarding}
 use Rattle.pc_forward.proofs.Noting.{one_is_edge}
 use Rattle.pc_forward.proofs.OwnForms.{own_length}
-use Rattle.pc_forward.proofs.GoingOn.{only_way, begins_trail, all_stay, all_from, all_few, all_to, few_edges}
+use Rattle.pc_forward.proofs.GoingOn.{only_way, all_stay, all_from, all_few, all_to, few_edges}
 
 -- ---- what a node does to what is known
 
@@ -83,7 +83,8 @@ node_writes_fit flow at (Test on on_yes on_no turn) fits = tt
 node_writes_fit flow at Stop fits = tt
 node_writes_fit flow at (Trap kind line) fits = tt
 
-pub writes_there : (flow : FlowGraph) (at : ℕ) (trail : Trail) (node made : FlowNode) → IsFlow flow → slice_get flow.nodes at ≡ Some node → length trail.forms ≡ variables → IsForwardedNode trail node made
+pub writes_there : (flow : FlowGraph) (at : ℕ) (trail : Trail) (node made : FlowNode) → IsFlow flow → slice_get flow.nodes at ≡ Some node → length trail.forms ≡ variables
+    → IsForwardedNode trail node made
     → IfSome (node_writes made) (λ name. name < length trail.forms)
 writes_there flow at trail node made is there long becomes =
     subst (λ (n : ℕ). IfSome (node_writes made) (λ name. name < n)) (sym long)

@@ -59,10 +59,26 @@ module _ {P : Type 0} (label : P → List ℕ) (changed : P → ℕ) (does : P �
       → IsFresh label changed does dead (codes "dead") (Leaves WritesAreLive)
       → AreThePasses label changed does passes
   are_the_passes passes fold copies values forward dead is one two three four five = record {
-    first = fold; others = _; are = is; fresh = one; follow = record {
-      first = copies; others = _; are = refl; fresh = two; follow = record {
-        first = values; others = _; are = refl; fresh = three; follow = record {
-          first = forward; others = _; are = refl; fresh = four; follow = record { first = dead; others = []; are = refl; fresh = five; follow = refl };
+    first = fold;
+    others = _;
+    are = is;
+    fresh = one;
+    follow = record {
+      first = copies;
+      others = _;
+      are = refl;
+      fresh = two;
+      follow = record {
+        first = values;
+        others = _;
+        are = refl;
+        fresh = three;
+        follow = record {
+          first = forward;
+          others = _;
+          are = refl;
+          fresh = four;
+          follow = record { first = dead; others = []; are = refl; fresh = five; follow = refl };
         };
       };
     };

@@ -1,5 +1,5 @@
 -- The walk along all trails: which nodes are left, which are done, and which wait with what is known there.
-use Rattle.std.specs.Prelude.{◌≡◌, ◌≢◌, ◌⊎◌, ℕ, ◌+◌, ◌*◌, ◌<◌, ◌≤◌, Bool, true, false, ◌&&◌, nat_eq, List, [], ◌∷◌, ◌++◌, length, Some, slice_get, slice_index_or}
+use Rattle.std.specs.Prelude.{◌≡◌, ◌⊎◌, ℕ, ◌+◌, ◌*◌, ◌<◌, ◌≤◌, Bool, true, false, ◌&&◌, nat_eq, List, [], ◌∷◌, ◌++◌, length, Some, slice_get, slice_index_or}
 use Rattle.std.specs.List.{count_by}
 use Rattle.pc_word.specs.declared.item.Item.TheVariants.{Copy, Load}
 use Rattle.pc_word.specs.declared.item.Operand.{Operand}

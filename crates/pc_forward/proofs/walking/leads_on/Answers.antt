@@ -10,4 +10,5 @@ returns-clause-only c = λ e.
 
 pub returns-clause-ends : goal.returns-clause-ends
 returns-clause-ends c = λ e way. absurd
-    (no_way c.args.flow.now c.args.from c.args.to (slice_index_or c.args.table.now c.args.to Nothing) c.requires.kept (c.requires.table.each c.args.to c.requires.there) (sym c.follows.ensures ∙ e) way)
+    (no_way c.args.flow.now c.args.from c.args.to (slice_index_or c.args.table.now c.args.to Nothing) c.requires.kept (c.requires.table.each c.args.to c.requires.there)
+    (sym c.follows.ensures ∙ e) way)

@@ -1,4 +1,4 @@
-use Rattle.std.proofs.Common.{inl, inr, refl, [], ◌∷◌, List, ℕ, subst, sym}
+use Rattle.std.proofs.Common.{inl, inr, refl, List, ℕ, subst}
 use Rattle.pc_flow.specs.declared.node.FlowNode.TheVariants.{Op, Test, Stop, Trap}
 use Rattle.pc_forward.specs.declared.trail.Trail.{Trail}
 use Rattle.pc_forward.specs.models.Walking.{Adds, Not_so, AddsAll, Nothing_added, Node_added}
@@ -55,7 +55,8 @@ pub returns-in_ok-go_to-in-Test-clause-goes_on : goal.returns-in_ok-go_to-in-Tes
 returns-in_ok-go_to-in-Test-clause-goes_on c = on_ok c.go_to-in-Test-2.result (λ adds.
     edges_are c.args.flow.now c.args.at (Test c.in-Test.on c.in-Test.yes c.in-Test.no c.in-Test.turn)
     (λ (nodes : List ℕ). AddsAll c.args.flow.now c.args.at c.args.trail nodes c.args.self.now.waiting c.go_to-in-Test-2.new.self.waiting) c.in-Test.ensures
-    (Node_added (subst (λ (t : Trail). Adds c.args.flow.now c.args.at t c.in-Test.yes c.args.self.now.waiting c.go_to-in-Test.new.self.waiting) c.in_ok-copy-in-Test.ensures c.in_ok-go_to-in-Test.ensures.adds)
+    (Node_added (subst (λ (t : Trail). Adds c.args.flow.now c.args.at t c.in-Test.yes c.args.self.now.waiting c.go_to-in-Test.new.self.waiting)
+    c.in_ok-copy-in-Test.ensures c.in_ok-go_to-in-Test.ensures.adds)
     (Node_added adds Nothing_added)))
     c.go_to-in-Test-2.ensures.adds
 

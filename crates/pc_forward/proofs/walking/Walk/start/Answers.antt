@@ -1,6 +1,5 @@
-use Rattle.std.proofs.Common.{List, sym, ◌∙◌, subst}
+use Rattle.std.proofs.Common.{sym, ◌∙◌, subst}
 use Rattle.std.specs.Prelude.{slice_index_or}
-use Rattle.pc_forward.specs.declared.walking.Waiting.{Waiting}
 use Rattle.pc_forward.specs.declared.ways.Way.TheVariants.{Nothing}
 use Rattle.pc_forward.specs.models.Walking.{Walked}
 use Rattle.pc_forward.proofs.GoingOn.{begins_trail, on_ok}
