@@ -1,14 +1,14 @@
 -- Forms of which all variables are below a number: their values do not hang on the variables above.
-use Rattle.std.proofs.Common.{◌≡◌, ℕ, zero, suc, ◌+◌, ◌<◌, ◌≤◌, List, [], ◌∷◌, Bool, true, false, length, Option, Some, None, refl, sym, ◌∙◌, ap, subst, arith}
+use Rattle.std.proofs.Common.{◌≡◌, ℕ, zero, suc, ◌<◌, ◌≤◌, List, [], ◌∷◌, Bool, true, false, length, Option, Some, None, refl, ◌∙◌, ap, subst, arith}
 use Rattle.std.specs.Prelude.{ℤ, pos, negsuc, ◌+ℤ◌, ◌*ℤ◌, if◌then◌else◌, nat_eq, nat_lt, IfSome}
 use Rattle.std.specs.Int.{w32, int_wrap}
 use Rattle.std.specs.List.{AllByRecursion}
 use Rattle.pc_word.specs.declared.item.OpCode.{OpCode}
-use Rattle.pc_word.specs.Word.{IsWord, word_apply}
+use Rattle.pc_word.specs.Word.{IsWord}
 use Rattle.pc_word.proofs.Lists.{all_imply}
 use Rattle.pc_linear.specs.declared.term.Term.{Term}
-use Rattle.pc_linear.specs.Form.{Form, most_terms, IsForm, HasFactor, sum_of, form_number, form_value}
-use Rattle.pc_linear.specs.Combine.{prepended, add_term, add_times, plus, constant_form, variable_form, fitting, combine}
+use Rattle.pc_linear.specs.Form.{Form, most_terms, IsForm, HasFactor, sum_of, form_value}
+use Rattle.pc_linear.specs.Combine.{prepended, add_term, add_times, constant_form, variable_form, combine}
 use Rattle.pc_linear.specs.Laws.{HasValueOf}
 use Rattle.pc_linear.proofs.Forms.{variable_means, combine_keeps}
 use Rattle.pc_linear.proofs.Normal.{constant-normal}

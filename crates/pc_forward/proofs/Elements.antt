@@ -1,9 +1,8 @@
 -- What accesses tell of an element.
-use Rattle.std.proofs.Common.{◌≡◌, inl, inr, ℕ, ◌+◌, ◌<◌, ◌≤◌, List, [], ◌∷◌, ◌++◌, length, get_or, Option, Some, None, refl, sym, ◌∙◌, ap, subst, arith}
-use Rattle.std.specs.Prelude.{MatchOption, true, false, Bool, ◌↔◌, slice_get, slice_index_or}
+use Rattle.std.proofs.Common.{◌≡◌, inl, inr, ℕ, ◌+◌, ◌<◌, ◌≤◌, List, length, Option, Some, None, sym, ◌∙◌, ap, subst, arith}
+use Rattle.std.specs.Prelude.{MatchOption, slice_get, slice_index_or}
 use Rattle.std.proofs.lemmas.Bool.{cases_eq}
 use Rattle.std.proofs.lemmas.Option.{slice_get_within, slice_get-get_or}
-use Rattle.pc_word.proofs.Places.{get_front, get_last, get_more}
 use Rattle.pc_word.proofs.Truth.{decide_le}
 use Rattle.pc_linear.specs.Form.{Form}
 use Rattle.pc_linear.specs.Equality.{AlwaysEqual}
@@ -52,7 +51,8 @@ module _ (accesses : List Access) (array : ℕ) (index : Form) where
     access_there = slice_get-get_or accesses place access low ∙ ap (λ (a : Access). Some a) (sym is)
 
     -- what the latest one tells
-    pub told_by : Decides array index access → NoneFrom (place + 1) → (told : Option Form) → MatchOption told (AlwaysEqual access.index index → ⊥) (λ value. (value ≡ access.value) × AlwaysEqual access.index index)
+    pub told_by : Decides array index access → NoneFrom (place + 1) → (told : Option Form)
+        → MatchOption told (AlwaysEqual access.index index → ⊥) (λ value. (value ≡ access.value) × AlwaysEqual access.index index)
         → MatchOption told ((value : Form) → HasElement accesses array index value → ⊥) (λ value. HasElement accesses array index value)
     told_by decides none None h = element_lost access (latest_here place access access_there decides none) h
     told_by decides none (Some value) h = element_told access value (latest_here place access access_there decides none) h.0 h.1

@@ -1,4 +1,10 @@
 pub mod Below
 pub mod Elements
+pub mod Forwardings
+pub mod GoingOn
+pub mod Holders
 pub mod Noting
 pub mod OwnForms
+pub mod Stepping
+pub mod Telling
+pub mod Walks

@@ -3,7 +3,6 @@ use Rattle.std.proofs.Common.{◌≡◌, ◌≢◌, inl, inr, ℕ, ◌+◌, ◌<
 use Rattle.std.specs.Prelude.{slice_get, slice_set, slice_index_or}
 use Rattle.std.proofs.lemmas.Bool.{cases_eq}
 use Rattle.std.proofs.lemmas.List.{get_or-replicate, length-replicate}
-use Rattle.pc_word.specs.declared.item.Item.{Item}
 use Rattle.pc_flow.specs.declared.node.FlowNode.{FlowNode}
 use Rattle.pc_flow.specs.declared.node.FlowNode.TheVariants.{Op, Test, Stop, Trap}
 use Rattle.pc_flow.specs.FlowGraph.{FlowGraph, HasEdge}
@@ -123,7 +122,7 @@ note_node flow bound table (Test on on_yes on_no turn) long reached there within
             ∙ ap (with_edge bound) (edge_there table on_yes bound within.0)
             ∙ twice_several bound bound (slice_index_or table on_yes Nothing) in
             subst (IsWay flow (bound + 1) to) (sym here)
-            (two_edges flow bound to (Test on on_yes on_no turn) reached there (λ one. elim one [ | inl h ↦ h.1 (sym is_no) | inr h ↦ h.1 (sym is_yes) ]) (inl (sym is_yes)))
+            (two_edges flow bound to (Test on on_yes on_no turn) reached there (λ one. elim one [ inl h ↦ h.1 (sym is_no) | inr h ↦ h.1 (sym is_yes) ]) (inl (sym is_yes)))
         | inr not_yes ↦
             let here : slice_index_or (with_edge_to on_no bound (with_edge_to on_yes bound table)) to Nothing ≡ with_edge bound (slice_index_or table to Nothing) =
             ap (λ (n : ℕ). slice_index_or (with_edge_to on_no bound (with_edge_to on_yes bound table)) n Nothing) is_no

@@ -49,6 +49,7 @@ impl Pass for Forward {
         self.tally.changes
     }
 
+    #[tactic(auto, using(crate::proofs::Forwardings::forwards))]
     fn apply(&mut self, flow: &mut Flow) -> Result<(), PassMemory> {
         let nodes = forward_flow(self.alloc, flow)?;
         self.tally.add(nodes);

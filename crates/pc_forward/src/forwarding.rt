@@ -18,6 +18,7 @@ use pc_word::{Item, Operand};
 use std::alloc::{AllocError, Global};
 
 /// Forwards the loads of a graph. How many nodes were changed.
+#[tactic(auto, using(crate::proofs::Forwardings::forwarding_laws))]
 pub(crate) fn forward_flow(alloc: Global, flow: &mut Flow) -> Result<u32, AllocError>
     ensures keeps { OnOk result (Keeps flow.old flow.new) }
     ensures undone { OnErr result (flow.new ≡ flow.old) }
@@ -32,22 +33,24 @@ pub(crate) fn forward_flow(alloc: Global, flow: &mut Flow) -> Result<u32, AllocE
 }
 
 /// A node, where the trail to it tells this: a load whose value is known and at hand is a copy.
+#[tactic(auto, using(crate::proofs::Holders::forwarding))]
 pub(crate) fn forwarded(trail: &Trail, node: FlowNode) -> FlowNode
     requires { length trail.now.forms ≡ variables }
     ensures { IsForwardedNode trail.now node result }
 {
     match node {
-        FlowNode::Op {
-            item: Item::Load { dest, array, index },
-            next,
-        } => match known_operand(trail, array, index) {
-            Some(from) => FlowNode::Op {
-                item: Item::Copy { dest, from },
-                next,
+        FlowNode::Op { item, next } => match item {
+            Item::Load { dest, array, index } => match known_operand(trail, array, index) {
+                Some(from) => FlowNode::Op {
+                    item: Item::Copy { dest, from },
+                    next,
+                },
+                None => node,
             },
-            None => node,
+            Item::Bin { .. } | Item::Copy { .. } | Item::Store { .. } => node,
+            Item::Print { .. } | Item::Read { .. } | Item::More { .. } => node,
         },
-        _ => node,
+        FlowNode::Test { .. } | FlowNode::Stop | FlowNode::Trap { .. } => node,
     }
 }
 
@@ -70,7 +73,10 @@ fn at_hand(forms: &[LinForm], value: &LinForm) -> Option<Operand>
 {
     match value.term(0) {
         None => Some(Operand::Lit(value.offset())),
-        Some(_) => Some(Operand::Name(holder(forms, value)?)),
+        Some(_) => match holder(forms, value) {
+            Some(name) => Some(Operand::Name(name)),
+            None => None,
+        },
     }
 }
 

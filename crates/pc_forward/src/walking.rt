@@ -4,7 +4,7 @@ ghost use Rattle.pc_flow.specs.declared.node.FlowNode.{FlowNode};
 ghost use Rattle.pc_flow.specs.FlowGraph.{IsFlow};
 ghost use Rattle.pc_scalar.specs.models.Met.{edges_of};
 ghost use Rattle.pc_forward.specs.Trail.{IsOnlyWay};
-ghost use Rattle.pc_forward.specs.models.Walking.{IsEnd, Ends, Walked, IsListed, StaysDone, weight, begins, follows, Adds, AddsAll, is_load, is_copy, BecameCopy, IsForwarding};
+ghost use Rattle.pc_forward.specs.models.Walking.{IsEnd, Ends, Walked, StaysDone, weight, begins, AreBegun, follows, Adds, AddsAll, is_load, is_copy, BecameCopy, IsForwarding};
 ghost use Rattle.pc_forward.specs.models.Ways.{AreWays};
 ghost use Rattle.pc_scalar.specs.Tally.{AreMany};
 
@@ -57,18 +57,39 @@ impl Walk {
     fn all(&mut self, alloc: Global, flow: &Flow, table: &[Way]) -> Result<(), AllocError>
         requires table { AreWays flow.now table.now }
         requires none { self.old.waiting ≡ [] }
-        requires walked { Walked flow.now self.old.left self.old.nodes self.old.waiting }
+        requires walked { Walked flow.now self.old.left self.old.nodes [] }
         ensures walked { OnOk result (Walked flow.now self.new.left self.new.nodes []) }
-        ensures heads { OnOk result ((head : ℕ) → head < length flow.now.nodes → begins (slice_index_or table.now head Way.Nothing) ≡ true → slice_get self.new.left head ≡ Some false) }
+        ensures heads { OnOk result (AreBegun table.now (length flow.now.nodes) self.new.left) }
     {
         for head in 0..flow.count() {
-            if begins(table[head as usize]) {
-                let trail = Trail::first(alloc)?;
-                self.waiting.push(Waiting { at: head, trail })?;
-                self.rest(alloc, flow, table)?;
-            }
+            self.start(alloc, flow, table, head)?;
         }
         Ok(())
+    }
+
+    /// Walks along the trails from a node, if it begins one.
+    fn start(
+        &mut self,
+        alloc: Global,
+        flow: &Flow,
+        table: &[Way],
+        head: u32,
+    ) -> Result<(), AllocError>
+        requires table { AreWays flow.now table.now }
+        requires there { head < length flow.now.nodes }
+        requires none { self.old.waiting ≡ [] }
+        requires walked { Walked flow.now self.old.left self.old.nodes [] }
+        ensures walked { OnOk result (Walked flow.now self.new.left self.new.nodes []) }
+        ensures none { OnOk result (self.new.waiting ≡ []) }
+        ensures still { OnOk result (StaysDone self.old.left self.new.left) }
+        ensures begun { OnOk result (begins (slice_index_or table.now head Way.Nothing) ≡ true → slice_get self.new.left head ≡ Some false) }
+    {
+        if !begins(table[head as usize]) {
+            return Ok(());
+        }
+        let trail = Trail::first(alloc)?;
+        self.visit(alloc, flow, table, head, trail)?;
+        self.rest(alloc, flow, table)
     }
 
     /// Visits the nodes that wait, until none does.
@@ -77,11 +98,10 @@ impl Walk {
         requires walked { Walked flow.now self.old.left self.old.nodes self.old.waiting }
         ensures walked { OnOk result (Walked flow.now self.new.left self.new.nodes []) }
         ensures none { OnOk result (self.new.waiting ≡ []) }
-        ensures listed { OnOk result ((at : ℕ) → IsListed self.old.waiting at → slice_get self.new.left at ≡ Some false) }
         ensures still { OnOk result (StaysDone self.old.left self.new.left) }
     {
-        while let Some(next) = self.waiting.pop() {
-            self.visit(alloc, flow, table, next)?;
+        while let Some(Waiting { at, trail }) = self.waiting.pop() {
+            self.visit(alloc, flow, table, at, trail)?;
         }
         Ok(())
     }
@@ -92,16 +112,16 @@ impl Walk {
         alloc: Global,
         flow: &Flow,
         table: &[Way],
-        next: Waiting,
+        at: u32,
+        mut trail: Trail,
     ) -> Result<(), AllocError>
         requires table { AreWays flow.now table.now }
-        requires walked { Walked flow.now self.old.left self.old.nodes (self.old.waiting ++ next ∷ []) }
+        requires walked { Walked flow.now self.old.left self.old.nodes (self.old.waiting ++ record { at = at; trail = trail } ∷ []) }
         ensures walked { OnOk result (Walked flow.now self.new.left self.new.nodes self.new.waiting) }
         ensures still { OnOk result (StaysDone self.old.left self.new.left) }
-        ensures done { OnOk result (slice_get self.new.left next.at ≡ Some false) }
+        ensures done { OnOk result (slice_get self.new.left at ≡ Some false) }
         ensures lighter { OnOk result (weight self.new.left self.new.waiting ≤ weight self.old.left self.old.waiting) }
     {
-        let Waiting { at, mut trail } = next;
         if !self.left.as_slice()[at as usize] {
             return Ok(());
         }
@@ -134,17 +154,15 @@ impl Walk {
                 if !leads_on(flow, table, at, no) {
                     return self.go_to(flow, table, at, yes, trail);
                 }
-                if leads_on(flow, table, at, yes) {
-                    let copy = trail.copy(alloc)?;
-                    self.waiting.push(Waiting {
-                        at: yes,
-                        trail: copy,
-                    })?;
+                if !leads_on(flow, table, at, yes) {
+                    return self.go_to(flow, table, at, no, trail);
                 }
-                self.waiting.push(Waiting { at: no, trail })?;
-                Ok(())
+                let copy = trail.copy(alloc)?;
+                self.go_to(flow, table, at, yes, copy)?;
+                self.go_to(flow, table, at, no, trail)
             }
-            FlowNode::Stop | FlowNode::Trap { .. } => Ok(()),
+            FlowNode::Stop => Ok(()),
+            FlowNode::Trap { .. } => Ok(()),
         }
     }
 

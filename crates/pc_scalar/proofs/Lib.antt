@@ -7,7 +7,6 @@ pub mod Knowing
 pub mod Meetings
 pub mod Needs
 pub mod Operands
-pub mod Passes
 pub mod Plans
 pub mod Predecessors
 pub mod Rewrites

@@ -5,6 +5,5 @@ pub mod Copied
 pub mod Folded
 pub mod Leaves
 pub mod LoopTests
-pub mod Passes
 pub mod Tally
 pub mod Valued

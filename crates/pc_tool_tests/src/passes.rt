@@ -3,6 +3,7 @@ ghost use Rattle.std.specs.Prelude.{◌≡◌, codes};
 
 use crate::bench::{NONE_FAILS, SILENCE, Wanted, answers, answers_with, shelf_with};
 use pc_flow::Flow;
+use pc_forward::Forward;
 use pc_outside::MemoryShelf;
 use pc_pass::{Pass, PassMemory};
 use pc_scalar::{Copies, Dead, Fold, Values};
@@ -96,8 +97,10 @@ fn passes_fold_copy_and_clear(rt: HostRuntime) -> Result<(), Fail> {
     passes.push(Box::new(alloc, Fold::new(alloc))?)?;
     passes.push(Box::new(alloc, Copies::new(alloc))?)?;
     passes.push(Box::new(alloc, Values::new(alloc))?)?;
+    passes.push(Box::new(alloc, Forward::new(alloc))?)?;
     passes.push(Box::new(alloc, Dead::new(alloc))?)?;
-    let report = b"nodes 5\nrows 1\npass fold 1\npass copies 3\npass values 0\npass dead 3\n";
+    let report =
+        b"nodes 5\nrows 1\npass fold 1\npass copies 3\npass values 0\npass forward 0\npass dead 3\n";
     assert!(rt; reports(alloc, &mut passes, report)?);
     Ok(())
 }

@@ -2,12 +2,15 @@
 #![tactic(auto)]
 
 ghost use Rattle.std.specs.Prelude.{codes};
+ghost use Rattle.pc_forward.specs.Forwarded.{Forwards};
+ghost use Rattle.pc_passes.specs.Passes.{IsFresh, AreThePasses};
 ghost use Rattle.pc_scalar.specs.Cleared.{WritesAreLive};
 ghost use Rattle.pc_scalar.specs.Copied.{NamesNoCopy};
 ghost use Rattle.pc_scalar.specs.Folded.{IsFolded};
-ghost use Rattle.pc_scalar.specs.Passes.{IsFresh, AreScalarPasses};
+ghost use Rattle.pc_scalar.specs.Leaves.{Leaves};
 ghost use Rattle.pc_scalar.specs.Valued.{ComputesNoneAgain};
 
+use pc_forward::Forward;
 use pc_pass::Pass;
 use pc_scalar::{Copies, Dead, Fold, Values};
 use pc_tool::{Who, run, run_out};
@@ -27,8 +30,9 @@ fn compile(rt: &HostRuntime) -> Result<ExitCode, AllocError> {
     let fold = Box::new(alloc, Fold::new(alloc))?;
     let copies = Box::new(alloc, Copies::new(alloc))?;
     let values = Box::new(alloc, Values::new(alloc))?;
+    let forward = Box::new(alloc, Forward::new(alloc))?;
     let dead = Box::new(alloc, Dead::new(alloc))?;
-    compile_in_order(rt, fold, copies, values, dead)
+    compile_in_order(rt, fold, copies, values, forward, dead)
 }
 
 /// Compiles with these passes, in this order.
@@ -37,24 +41,27 @@ fn compile_in_order(
     fold: Box<dyn Pass>,
     copies: Box<dyn Pass>,
     values: Box<dyn Pass>,
+    forward: Box<dyn Pass>,
     dead: Box<dyn Pass>,
 ) -> Result<ExitCode, AllocError>
-    requires fold { IsFresh (λ b. label b) (λ b. changed b) (λ b. does b) fold (codes "fold") IsFolded }
-    requires copies { IsFresh (λ b. label b) (λ b. changed b) (λ b. does b) copies (codes "copies") NamesNoCopy }
-    requires values { IsFresh (λ b. label b) (λ b. changed b) (λ b. does b) values (codes "values") ComputesNoneAgain }
-    requires dead { IsFresh (λ b. label b) (λ b. changed b) (λ b. does b) dead (codes "dead") WritesAreLive }
+    requires fold { IsFresh (λ b. label b) (λ b. changed b) (λ b. does b) fold (codes "fold") (Leaves IsFolded) }
+    requires copies { IsFresh (λ b. label b) (λ b. changed b) (λ b. does b) copies (codes "copies") (Leaves NamesNoCopy) }
+    requires values { IsFresh (λ b. label b) (λ b. changed b) (λ b. does b) values (codes "values") (Leaves ComputesNoneAgain) }
+    requires forward { IsFresh (λ b. label b) (λ b. changed b) (λ b. does b) forward (codes "forward") Forwards }
+    requires dead { IsFresh (λ b. label b) (λ b. changed b) (λ b. does b) dead (codes "dead") (Leaves WritesAreLive) }
 {
     let mut passes = Vec::new(rt.alloc());
     passes.push(fold)?;
     passes.push(copies)?;
     passes.push(values)?;
+    passes.push(forward)?;
     passes.push(dead)?;
     Ok(compile_with(rt, &mut passes))
 }
 
-/// Compiles with a list of passes, which are those four.
+/// Compiles with a list of passes, which are those.
 fn compile_with(rt: &HostRuntime, passes: &mut Vec<Box<dyn Pass>>) -> ExitCode
-    requires { AreScalarPasses (λ b. label b) (λ b. changed b) (λ b. does b) passes.old.items }
+    requires { AreThePasses (λ b. label b) (λ b. changed b) (λ b. does b) passes.old.items }
 {
     run(rt, Who::Pcc, passes)
 }

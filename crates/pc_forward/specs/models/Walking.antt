@@ -1,5 +1,5 @@
 -- The walk along all trails: which nodes are left, which are done, and which wait with what is known there.
-use Rattle.std.specs.Prelude.{◌≡◌, ◌≢◌, ◌⊎◌, ℕ, ◌+◌, ◌*◌, ◌<◌, ◌≤◌, Bool, true, false, ◌&&◌, nat_eq, List, [], ◌∷◌, ◌++◌, length, Some, slice_get}
+use Rattle.std.specs.Prelude.{◌≡◌, ◌⊎◌, ℕ, ◌+◌, ◌*◌, ◌<◌, ◌≤◌, Bool, true, false, ◌&&◌, nat_eq, List, [], ◌∷◌, ◌++◌, length, Some, slice_get, slice_index_or}
 use Rattle.std.specs.List.{count_by}
 use Rattle.pc_word.specs.declared.item.Item.TheVariants.{Copy, Load}
 use Rattle.pc_word.specs.declared.item.Operand.{Operand}
@@ -151,6 +151,10 @@ abbrev pub follows : ℕ → Way → Bool
 follows from Nothing = false
 follows from (Only other) = nat_eq other from
 follows from Several = false
+
+-- of the nodes with smaller numbers, those that begin a trail are done
+abbrev pub AreBegun : List Way → ℕ → List Bool → Type 0
+AreBegun table bound left = (head : ℕ) → head < bound → begins (slice_index_or table head Nothing) ≡ true → slice_get left head ≡ Some false
 
 -- a node waits too, if another one is the only way to it and it is no end
 pub data Adds (flow : FlowGraph) (from : ℕ) (trail : Trail) (to : ℕ) (waiting : List Waiting) : (more : List Waiting) → Type 0 where

@@ -1,4 +1,4 @@
-use Rattle.std.proofs.Common.{◌+◌, ◌-◌, ◌≡◌, subst, sym, arith}
+use Rattle.std.proofs.Common.{◌+◌, ◌-◌, ◌≡◌, subst, arith}
 use Rattle.pc_word.proofs.Truth.{held, failed}
 use Rattle.pc_forward.proofs.Elements.{NoneFrom, none_here, element_none, told_by, none_more}
 use Rattle.pc_forward.proofs.access.element.Goals as goal
