@@ -2,7 +2,7 @@
 ghost use Rattle.std.specs.Prelude.{◌≡◌};
 ghost use Rattle.pc_ranges.specs.Interval.{all_words, exactly, is_bounded, is_single, is_zero, lacks_zero, interval_of, operand_interval};
 ghost use Rattle.pc_ranges.specs.Over.{is_less, is_at_most, is_from_zero};
-ghost use Rattle.pc_ranges.specs.models.Keeping.{is_inside};
+ghost use Rattle.pc_ranges.specs.models.Keeping.{has_zero, is_empty, is_inside};
 
 use pc_word::Operand;
 
@@ -63,6 +63,20 @@ impl Interval {
         ensures { result ≡ lacks_zero self }
     {
         0 < self.low || self.high < 0
+    }
+
+    /// Whether 0 lies in it.
+    pub(crate) fn has_zero(self) -> bool
+        ensures { result ≡ has_zero self }
+    {
+        self.low <= 0 && 0 <= self.high
+    }
+
+    /// Whether no number lies in it.
+    pub(crate) fn is_empty(self) -> bool
+        ensures { result ≡ is_empty self }
+    {
+        self.high < self.low && (i32::MIN < self.low && self.high < i32::MAX)
     }
 
     /// Whether no number in it is negative.

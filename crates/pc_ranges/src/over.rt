@@ -1,7 +1,8 @@
 //! What operators give of intervals.
 ghost use Rattle.std.specs.Prelude.{◌≡◌, ◌+ℤ◌, ◌-ℤ◌, ◌&&◌, ◌||◌, if◌then◌else◌};
 ghost use Rattle.pc_ranges.specs.Interval.{all_words, is_bounded};
-ghost use Rattle.pc_ranges.specs.Over.{span, truth, is_less, is_at_most, sum, difference, over};
+ghost use Rattle.pc_ranges.specs.models.Narrowing.{span_if};
+ghost use Rattle.pc_ranges.specs.Over.{truth, is_less, is_at_most, sum, difference, over};
 
 use crate::interval::Interval;
 use pc_word::OpCode;
@@ -60,6 +61,7 @@ fn truth(surely: bool, never: bool) -> Interval
 }
 
 /// The interval of sums.
+#[tactic(auto)]
 fn sum(a: Interval, b: Interval) -> Interval
     ensures { result ≡ sum a b }
 {
@@ -71,6 +73,7 @@ fn sum(a: Interval, b: Interval) -> Interval
 }
 
 /// The interval of differences.
+#[tactic(auto)]
 fn difference(a: Interval, b: Interval) -> Interval
     ensures { result ≡ difference a b }
 {
@@ -82,7 +85,9 @@ fn difference(a: Interval, b: Interval) -> Interval
 }
 
 /// The interval between two words; all words where an end is none.
-fn span(low: Option<i32>, high: Option<i32>) -> Interval {
+fn span(low: Option<i32>, high: Option<i32>) -> Interval
+    ensures { result ≡ span_if low high }
+{
     match (low, high) {
         (Some(low), Some(high)) => Interval { low, high },
         _ => Interval::ALL,
