@@ -1,11 +1,11 @@
 -- Ends of intervals that are computed with a test of fit.
 use Rattle.std.proofs.Common.{◌≡◌, Bool, true, false, refl, Option, Some, None, sym, ◌∙◌, ap, arith}
-use Rattle.std.specs.Prelude.{ℤ, ◌+ℤ◌, ◌-ℤ◌, ◌&&◌, if◌then◌else◌, SomeIff, FitsSigned, int_le}
+use Rattle.std.specs.Prelude.{ℤ, ◌+ℤ◌, ◌-ℤ◌, ◌*ℤ◌, ◌&&◌, if◌then◌else◌, SomeIff, FitsSigned, int_le}
 use Rattle.std.specs.Int.{w32}
 use Rattle.pc_word.proofs.Truth.{and_true, and_made}
 use Rattle.pc_ranges.specs.declared.interval.Interval.{Interval}
 use Rattle.pc_ranges.specs.Interval.{least, greatest, all_words, is_bounded}
-use Rattle.pc_ranges.specs.Over.{is_word, span, sum, difference}
+use Rattle.pc_ranges.specs.Over.{is_word, span, is_small, sum, difference, product}
 use Rattle.pc_ranges.specs.models.Narrowing.{span_if}
 use Rattle.pc_ranges.proofs.Intervals.{le_of, between_ends, word_fits}
 
@@ -40,6 +40,12 @@ pub sum_made : (a b : Interval) (low high : Option ℤ) → is_bounded a ≡ tru
 sum_made a b low high e f h k =
     span_made low high (a.low +ℤ b.low) (a.high +ℤ b.high) h k
     ∙ picked (is_bounded a && is_bounded b) (span (a.low +ℤ b.low) (a.high +ℤ b.high)) all_words (and_made (is_bounded a) (is_bounded b) e f)
+
+pub product_made : (a b : Interval) (low high : Option ℤ) → is_small a ≡ true → is_small b ≡ true → SomeIff low (FitsSigned w32 (a.low *ℤ b.low)) (a.low *ℤ b.low)
+    → SomeIff high (FitsSigned w32 (a.high *ℤ b.high)) (a.high *ℤ b.high) → span_if low high ≡ product a b
+product_made a b low high e f h k =
+    span_made low high (a.low *ℤ b.low) (a.high *ℤ b.high) h k
+    ∙ picked (is_small a && is_small b) (span (a.low *ℤ b.low) (a.high *ℤ b.high)) all_words (and_made (is_small a) (is_small b) e f)
 
 pub difference_made : (a b : Interval) (low high : Option ℤ) → is_bounded a ≡ true → is_bounded b ≡ true → SomeIff low (FitsSigned w32 (a.low -ℤ b.high)) (a.low -ℤ b.high)
     → SomeIff high (FitsSigned w32 (a.high -ℤ b.low)) (a.high -ℤ b.low) → span_if low high ≡ difference a b
