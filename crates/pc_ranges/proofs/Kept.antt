@@ -1,8 +1,8 @@
 -- A map that is found to be kept is kept.
-use Rattle.std.proofs.Common.{◌≡◌, ◌⊎◌, ℕ, ◌<◌, ◌≤◌, Bool, true, false, not, ◌&&◌, List, [], ◌∷◌, length, Option, Some, None, refl, sym, ◌∙◌, ap, subst, arith, inl, inr, eqb-true}
-use Rattle.std.specs.Prelude.{ℤ, pos, ◌<ℤ◌, ◌≤ℤ◌, if◌then◌else◌, IfSome, nat_eq, int_lt, int_le, slice_get, slice_set, slice_index}
+use Rattle.std.proofs.Common.{◌≡◌, ◌⊎◌, ℕ, ◌<◌, ◌≤◌, Bool, true, false, not, ◌&&◌, List, [], ◌∷◌, length, Option, Some, None, refl, sym, ◌∙◌, ap, subst, arith, inl, inr}
+use Rattle.std.specs.Prelude.{ℤ, pos, ◌<ℤ◌, if◌then◌else◌, IfSome, nat_eq, int_lt, int_le, slice_get, slice_set, slice_index}
 use Rattle.std.proofs.lemmas.Int.{ints}
-use Rattle.std.proofs.lemmas.Option.{slice_get_past, slice_get_within}
+use Rattle.std.proofs.lemmas.Option.{slice_get_past}
 use Rattle.pc_word.specs.declared.item.Item.{Item}
 use Rattle.pc_word.specs.declared.item.Item.TheVariants.{Bin, Copy, Load, Store, Print, Read, More}
 use Rattle.pc_word.specs.declared.item.OpCode.{OpCode}
@@ -11,8 +11,8 @@ use Rattle.pc_word.specs.declared.item.Operand.TheVariants.{Name, Lit}
 use Rattle.pc_word.specs.declared.item.TrapKind.{TrapKind}
 use Rattle.pc_word.specs.Word.{holds, word_of_test, word_apply}
 use Rattle.pc_word.specs.State.{State, start_state, set_name, set_cell, set_input}
-use Rattle.pc_word.specs.Run.{Step, Goes, Stops}
-use Rattle.pc_word.specs.Items.{operand_value, place_in, element_at, next_input, some_left, dest_of, value_of, reads_name}
+use Rattle.pc_word.specs.Run.{Step, Goes}
+use Rattle.pc_word.specs.Items.{operand_value, place_in, next_input, some_left, dest_of, value_of, reads_name}
 use Rattle.pc_word.specs.Commit.{writes}
 use Rattle.pc_word.specs.Row.{RowOutcome, Faults, Commits, item_step}
 use Rattle.pc_word.specs.Laws.{does_alone, stores_alone, reads_alone}
@@ -23,12 +23,11 @@ use Rattle.pc_word.proofs.Truth.{and_true, not_true, decide_le}
 use Rattle.pc_flow.specs.declared.node.FlowNode.{FlowNode}
 use Rattle.pc_flow.specs.declared.node.FlowNode.TheVariants.{Op, Test, Stop, Trap}
 use Rattle.pc_flow.specs.FlowGraph.{FlowGraph}
-use Rattle.pc_flow.specs.FlowRun.{FlowState, step_after_item, run_node, flow_step}
+use Rattle.pc_flow.specs.FlowRun.{FlowState, step_after_item, run_node}
 use Rattle.pc_ranges.specs.declared.interval.Interval.{Interval}
 use Rattle.pc_ranges.specs.declared.bounds.Bounds.{Bounds}
-use Rattle.pc_ranges.specs.Interval.{least, greatest, LiesIn, all_words, interval_if, interval_of, operand_interval}
-use Rattle.pc_ranges.specs.Bounds.{IsDone, IsWithin, bounds_if, bounds_at, IsKept}
-use Rattle.pc_ranges.specs.Over.{over}
+use Rattle.pc_ranges.specs.Interval.{least, greatest, LiesIn, interval_of, operand_interval}
+use Rattle.pc_ranges.specs.Bounds.{IsDone, IsWithin, bounds_at, IsKept}
 use Rattle.pc_ranges.specs.models.Narrowing.{narrowed_left, narrowed_right, tested}
 use Rattle.pc_ranges.specs.models.Keeping.{given, written, stays_done, after_item, with_operand, narrowed, compared, latest_node, on_side}
 use Rattle.pc_ranges.specs.models.Keeping.{is_empty, is_inside, is_latest, has_zero, IsVoid, Implies, BeginsWithin, GoesFrom, GoesOn}
@@ -61,7 +60,7 @@ set_lies true intervals d x interval z e own other =
     (set_interval intervals d interval z (own e) (within d (length intervals)))
   where
     within : (d n : ℕ) → (d < n) ⊎ (n ≤ d)
-    within d n = elim (decide_le n d) [ | inl past ↦ inr past | inr there ↦ inl there ]
+    within d n = elim (decide_le n d) [ inl past ↦ inr past | inr there ↦ inl there ]
 set_lies false intervals d x interval z e own other =
     let apart = other_number d x e in
     rw (set_elsewhere intervals d x interval apart) (other e)

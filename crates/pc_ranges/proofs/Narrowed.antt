@@ -1,7 +1,6 @@
 -- The operands of a comparison lie in the intervals that are narrowed by it.
-use Rattle.std.proofs.Common.{◌≡◌, ℕ, zero, suc, Bool, true, false, not, ◌&&◌, refl, arith, sym, ◌∙◌, ap, true≢false}
+use Rattle.std.proofs.Common.{◌≡◌, zero, suc, Bool, true, false, not, ◌&&◌, refl, arith, sym}
 use Rattle.std.specs.Prelude.{ℤ, pos, negsuc, ◌+ℤ◌, ◌-ℤ◌, ◌<ℤ◌, ◌≤ℤ◌, cond, if◌then◌else◌, int_lt, int_le}
-use Rattle.std.specs.Int.{int_max, int_min}
 use Rattle.std.specs.Ordering.{int_eq}
 use Rattle.std.proofs.lemmas.Int.{ints}
 use Rattle.pc_word.specs.declared.item.OpCode.{OpCode}
@@ -12,7 +11,7 @@ use Rattle.pc_ranges.specs.declared.interval.Interval.{Interval}
 use Rattle.pc_ranges.specs.Interval.{least, greatest, LiesIn}
 use Rattle.pc_ranges.specs.Over.{is_from_zero}
 use Rattle.pc_ranges.specs.models.Narrowing.{meet, at_most, at_least, below, above, from_zero, narrowed_left, narrowed_right, tested}
-use Rattle.pc_ranges.proofs.Intervals.{lt_of, le_of, not_lt, not_le, of_le, of_lt, eq_of, same_by_order}
+use Rattle.pc_ranges.proofs.Intervals.{lt_of, le_of, not_lt, not_le, eq_of}
 
 -- ---- intervals
 

@@ -1,5 +1,5 @@
 -- What operators give of numbers lies in what they give of intervals.
-use Rattle.std.proofs.Common.{◌≡◌, to_z, ℕ, zero, suc, ◌*◌, ◌/◌, ◌%◌, ◌^◌, ◌<◌, ◌≤◌, Bool, true, false, not, ◌&&◌, ◌||◌, refl, arith, sym, ◌∙◌, ap, inl, inr}
+use Rattle.std.proofs.Common.{◌≡◌, to_z, ℕ, zero, suc, ◌/◌, ◌%◌, ◌^◌, ◌<◌, ◌≤◌, Bool, true, false, not, ◌&&◌, ◌||◌, refl, arith, ap, inl, inr}
 use Rattle.std.specs.Prelude.{ℤ, pos, negsuc, ◌+ℤ◌, ◌-ℤ◌, ◌*ℤ◌, FitsSigned, bit_and, ◌<ℤ◌, ◌≤ℤ◌, if◌then◌else◌, int_lt, int_le}
 use Rattle.std.specs.Int.{w32, cast_unsigned, int_wrap, int_shr}
 use Rattle.std.specs.Ordering.{int_eq}
@@ -12,9 +12,8 @@ use Rattle.pc_word.specs.Word.{word_of_test, word_add, word_sub, word_mul, word_
 use Rattle.pc_word.proofs.Truth.{and_true, or_true}
 use Rattle.pc_ranges.specs.declared.interval.Interval.{Interval}
 use Rattle.pc_ranges.specs.Interval.{least, greatest, LiesIn, all_words, is_bounded}
-use Rattle.pc_ranges.specs.Over.{is_word, span, is_less, is_at_most, is_from_zero, truth, sum, difference, up_to, is_small, is_positive, over}
+use Rattle.pc_ranges.specs.Over.{is_word, span, is_less, is_at_most, is_from_zero, truth, up_to, is_small, is_positive, over}
 use Rattle.pc_ranges.proofs.Intervals.{lt_of, le_of, of_lt, of_le, of_not_lt, of_not_le, eq_of, of_eq, in_all, between_ends, lies_between, Between, bounded, same_by_order}
-use Rattle.pc_ranges.proofs.Spans.{word_is}
 
 -- ---- comparisons of intervals
 

@@ -1,5 +1,5 @@
 -- The graph that is rewritten.
-use Rattle.std.proofs.Common.{◌≡◌, ◌≢◌, ◌⊎◌, inl, inr, ℕ, ◌<◌, Bool, true, false, ◌||◌, List, [], length, Option, Some, None, refl, sym, ◌∙◌, ap, subst, arith}
+use Rattle.std.proofs.Common.{◌≡◌, ◌≢◌, ◌⊎◌, inl, inr, ℕ, ◌<◌, Bool, true, false, List, [], length, Option, Some, None, refl, sym, ◌∙◌, ap, subst, arith}
 use Rattle.std.specs.Prelude.{ℤ, if◌then◌else◌, slice_get, slice_index}
 use Rattle.std.proofs.lemmas.Bool.{cases_eq}
 use Rattle.pc_word.specs.declared.item.Item.{Item}
@@ -10,7 +10,6 @@ use Rattle.pc_word.specs.Word.{holds}
 use Rattle.pc_word.specs.State.{State}
 use Rattle.pc_word.specs.Run.{Step, Goes}
 use Rattle.pc_word.specs.Items.{operand_value}
-use Rattle.pc_word.specs.Row.{RowOutcome, Commits, item_step}
 use Rattle.pc_word.proofs.Truth.{or_true, or_false}
 use Rattle.pc_flow.specs.declared.node.FlowNode.{FlowNode}
 use Rattle.pc_flow.specs.declared.node.FlowNode.TheVariants.{Op, Test, Stop, Trap}
@@ -26,15 +25,14 @@ use Rattle.pc_scalar.specs.LoopTests.{KeepsLoopTests}
 use Rattle.pc_scalar.specs.Tally.{AreMany, without_edges, IsWorkedOn}
 use Rattle.pc_scalar.specs.models.Plan.{Fits, planned}
 use Rattle.pc_scalar.specs.models.Ends.{Jump, FallsAlong, led}
-use Rattle.pc_scalar.proofs.Skipping.{sides_there, AreMade, IsSkipping, new_there, new_made_of, new_as_many, skipping_fits, end_leads, reachable_stays, skipping_keeps_tests}
+use Rattle.pc_scalar.proofs.Skipping.{sides_there, IsSkipping, new_there, new_made_of, new_as_many, skipping_fits, end_leads, reachable_stays, skipping_keeps_tests}
 use Rattle.pc_scalar.proofs.Skipped.{Tells, skipping_counts}
-use Rattle.pc_ranges.specs.declared.interval.Interval.{Interval}
 use Rattle.pc_ranges.specs.declared.bounds.Bounds.{Bounds}
 use Rattle.pc_ranges.specs.Interval.{is_single, is_zero, lacks_zero, operand_interval}
-use Rattle.pc_ranges.specs.Bounds.{IsWithin, bounds_at, IsKept}
+use Rattle.pc_ranges.specs.Bounds.{IsWithin, bounds_at}
 use Rattle.pc_ranges.specs.Over.{over}
 use Rattle.pc_ranges.specs.Ranged.{IsRanged}
-use Rattle.pc_ranges.specs.models.Rewriting.{is_settled, settled, settled_item, item_changes, settled_node, taken_side, taken, is_decided, node_changes, AreTaken, IsRanging}
+use Rattle.pc_ranges.specs.models.Rewriting.{is_settled, settled, settled_item, settled_node, taken, is_decided, node_changes, AreTaken, IsRanging}
 use Rattle.pc_ranges.proofs.Intervals.{lacking_holds, zero_holds_not}
 use Rattle.pc_ranges.proofs.Kept.{Lie, operand_lies}
 use Rattle.pc_ranges.proofs.Rewritten.{settled_value, settled_interval, settled_other, settled_same, settled_dest, settled_does, settled_many}
@@ -57,12 +55,20 @@ module _ (flow : FlowGraph) (map : List Bounds) (at : ℕ) where
       → lacks_zero (operand_interval (bounds_at map at).intervals on) ≡ b → is_zero (operand_interval (bounds_at map at).intervals on) ≡ c
       → (if b then on_yes else (if c then on_no else at)) ≢ at → IsTakenSide flow map at (if b then on_yes else (if c then on_no else at))
   side_by true c on on_yes on_no there lacks zero other = record {
-    on = on; on_yes = on_yes; on_no = on_no; side = true; there = there;
+    on = on;
+    on_yes = on_yes;
+    on_no = on_no;
+    side = true;
+    there = there;
     decided = λ s lie. lacking_holds (operand_interval (bounds_at map at).intervals on) (operand_value s.names on) lacks (operand_lies (bounds_at map at).intervals s on lie);
     leads = refl;
   }
   side_by false true on on_yes on_no there lacks zero other = record {
-    on = on; on_yes = on_yes; on_no = on_no; side = false; there = there;
+    on = on;
+    on_yes = on_yes;
+    on_no = on_no;
+    side = false;
+    there = there;
     decided = λ s lie. zero_holds_not (operand_interval (bounds_at map at).intervals on) (operand_value s.names on) zero (operand_lies (bounds_at map at).intervals s on lie);
     leads = refl;
   }
@@ -186,7 +192,7 @@ module _ (flow : FlowGraph) (map : List Bounds) (plan : Plan) (is : IsRanging fl
       let jumped = jump_side flow map is.table is.taken_sides at there (λ same. jump.other (sym jump.leads ∙ same)) in
       let side : IsTakenSide flow map at next = subst (IsTakenSide flow map at) jump.leads jumped in
       let steps = λ (s : State) (known : IsWithin flow (bounds_at map at) s).
-          test_step at side.on side.on_yes side.on_no None side.side s side.there (side.decided s known.lie) ∙ ap (λ (n : ℕ). goes_to n s) (sym side.leads) in
+      test_step at side.on side.on_yes side.on_no None side.side s side.there (side.decided s known.lie) ∙ ap (λ (n : ℕ). goes_to n s) (sym side.leads) in
       record {
         lower = (side_descends flow map at next is.taken_sides.is_flow side).lower;
         reached = λ h. Behind h side.there (edge_taken side.side side.on_yes side.on_no next side.leads);
@@ -233,7 +239,11 @@ module _ (flow : FlowGraph) (map : List Bounds) (plan : Plan) (is : IsRanging fl
       → (if b then on_yes else (if c then on_no else at)) ≡ at → (c ≡ false) × (b ≡ false)
   undecided_by true c at on on_yes on_no there lacks zero stays =
       let side : IsTakenSide flow map at on_yes = record {
-        on = on; on_yes = on_yes; on_no = on_no; side = true; there = there;
+        on = on;
+        on_yes = on_yes;
+        on_no = on_no;
+        side = true;
+        there = there;
         decided = λ s lie. lacking_holds (operand_interval (bounds_at map at).intervals on) (operand_value s.names on) lacks (operand_lies (bounds_at map at).intervals s on lie);
         leads = refl;
       } in
@@ -242,7 +252,11 @@ module _ (flow : FlowGraph) (map : List Bounds) (plan : Plan) (is : IsRanging fl
       absurd (omega (arith, lower, ranks))
   undecided_by false true at on on_yes on_no there lacks zero stays =
       let side : IsTakenSide flow map at on_no = record {
-        on = on; on_yes = on_yes; on_no = on_no; side = false; there = there;
+        on = on;
+        on_yes = on_yes;
+        on_no = on_no;
+        side = false;
+        there = there;
         decided = λ s lie. zero_holds_not (operand_interval (bounds_at map at).intervals on) (operand_value s.names on) zero (operand_lies (bounds_at map at).intervals s on lie);
         leads = refl;
       } in

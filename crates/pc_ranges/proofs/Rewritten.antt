@@ -1,5 +1,5 @@
 -- Nodes that are rewritten by what is known there.
-use Rattle.std.proofs.Common.{◌≡◌, ◌≢◌, ◌⊎◌, inl, inr, ℕ, ◌+◌, ◌<◌, Bool, true, false, ◌||◌, List, [], ◌∷◌, ◌++◌, length, Option, Some, None, refl, sym, ◌∙◌, ap, subst, arith}
+use Rattle.std.proofs.Common.{◌≡◌, ◌≢◌, inl, inr, ℕ, ◌+◌, ◌<◌, Bool, true, false, ◌||◌, List, [], ◌∷◌, ◌++◌, length, Some, refl, sym, ◌∙◌, ap, subst, arith}
 use Rattle.std.specs.Prelude.{ℤ, if◌then◌else◌, slice_get, slice_index}
 use Rattle.std.specs.List.{list_any}
 use Rattle.std.specs.Ordering.{int_eq}
@@ -154,8 +154,8 @@ module _ (intervals : List Interval) where
       → does_alone lengths (item_by b op dest left right) to s ≡ does_alone lengths (Bin op dest left right) to s
   does_by true lengths op dest left right to s e lie =
       let value = single_is (given_by op left right) (word_apply op (operand_value s.names left) (operand_value s.names right)) e
-          (over_lies op (operand_interval intervals left) (operand_interval intervals right) (operand_value s.names left) (operand_value s.names right)
-          (operand_lies intervals s left lie) (operand_lies intervals s right lie)) in
+      (over_lies op (operand_interval intervals left) (operand_interval intervals right) (operand_value s.names left) (operand_value s.names right)
+      (operand_lies intervals s left lie) (operand_lies intervals s right lie)) in
       ap (λ (z : ℤ). let out : RowOutcome ℕ = Commits [] (set_name dest z s) to in out) (sym value)
   does_by false lengths op dest left right to s e lie =
       ap (λ (z : ℤ). let out : RowOutcome ℕ = Commits [] (set_name dest (word_apply op z (operand_value s.names (settled intervals right))) s) to in out) (settled_value left s lie)

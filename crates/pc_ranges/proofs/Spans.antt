@@ -1,5 +1,5 @@
 -- Ends of intervals that are computed with a test of fit.
-use Rattle.std.proofs.Common.{◌≡◌, Bool, true, false, refl, Option, Some, None, sym, ◌∙◌, ap, arith}
+use Rattle.std.proofs.Common.{◌≡◌, Bool, true, false, refl, Option, Some, None, sym, ◌∙◌}
 use Rattle.std.specs.Prelude.{ℤ, ◌+ℤ◌, ◌-ℤ◌, ◌*ℤ◌, ◌&&◌, if◌then◌else◌, SomeIff, FitsSigned, int_le}
 use Rattle.std.specs.Int.{w32}
 use Rattle.pc_word.proofs.Truth.{and_true, and_made}

@@ -226,8 +226,16 @@ fn grow_all(marks: &[i32], growth: Growth, known: &mut [Interval], others: &[Int
 /// An interval that takes in another one.
 fn grown(marks: &[i32], growth: Growth, known: Interval, other: Interval) -> Interval {
     Interval {
-        low: if other.low < known.low { lower(marks, growth, other.low) } else { known.low },
-        high: if known.high < other.high { higher(marks, growth, other.high) } else { known.high },
+        low: if other.low < known.low {
+            lower(marks, growth, other.low)
+        } else {
+            known.low
+        },
+        high: if known.high < other.high {
+            higher(marks, growth, other.high)
+        } else {
+            known.high
+        },
     }
 }
 

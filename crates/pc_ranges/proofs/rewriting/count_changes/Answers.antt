@@ -12,7 +12,7 @@ loop-at-init c = record { counted = None_below; few = omega arith }
 pub loop-at-preserved : goal.loop-at-preserved
 loop-at-preserved c =
     let next = counted_next (IsReachedAnd (λ at node. node_changes c.args.map.now at node) c.args.flow.now) c.loop-at.at c.loop-at.count c.if-is_changed.count
-        c.loop-at.invariant.counted in
+    c.loop-at.invariant.counted in
     elim c.if-is_changed.branch [
       | then-is_changed w ↦ record { counted = next (inl (c.is_changed.ensures.counted w.if-is_changed.true, w.count-is)); few = omega (arith, w.count-is, c.loop-at.invariant.few) }
       | else-is_changed w ↦ record { counted = next (inr (c.is_changed.ensures.left w.if-is_changed.false, w.count-is)); few = omega (arith, w.count-is, c.loop-at.invariant.few) }
