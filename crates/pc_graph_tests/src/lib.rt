@@ -14,6 +14,8 @@ mod lower;
 #[cfg(test)]
 mod pass;
 #[cfg(test)]
+mod ranges;
+#[cfg(test)]
 mod regions;
 #[cfg(test)]
 mod scalar;

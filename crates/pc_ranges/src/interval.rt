@@ -1,8 +1,8 @@
 //! Intervals of words.
 ghost use Rattle.std.specs.Prelude.{◌≡◌};
 ghost use Rattle.pc_ranges.specs.Interval.{all_words, exactly, is_bounded, is_single, is_zero, lacks_zero, interval_of, operand_interval};
-ghost use Rattle.pc_ranges.specs.Over.{is_less, is_at_most, is_from_zero};
-ghost use Rattle.pc_ranges.specs.models.Keeping.{is_inside};
+ghost use Rattle.pc_ranges.specs.Over.{is_less, is_at_most, is_from_zero, is_small, is_positive};
+ghost use Rattle.pc_ranges.specs.models.Keeping.{has_zero, is_empty, is_inside};
 
 use pc_word::Operand;
 
@@ -65,11 +65,39 @@ impl Interval {
         0 < self.low || self.high < 0
     }
 
+    /// Whether 0 lies in it.
+    pub(crate) fn has_zero(self) -> bool
+        ensures { result ≡ has_zero self }
+    {
+        self.low <= 0 && 0 <= self.high
+    }
+
+    /// Whether no number lies in it.
+    pub(crate) fn is_empty(self) -> bool
+        ensures { result ≡ is_empty self }
+    {
+        self.high < self.low && (i32::MIN < self.low && self.high < i32::MAX)
+    }
+
     /// Whether no number in it is negative.
     pub(crate) fn is_from_zero(self) -> bool
         ensures { result ≡ is_from_zero self }
     {
         0 <= self.low
+    }
+
+    /// Whether the numbers in it are words from 0 up.
+    pub(crate) fn is_small(self) -> bool
+        ensures { result ≡ is_small self }
+    {
+        self.is_from_zero() && self.is_bounded()
+    }
+
+    /// Whether they are words from 1 up.
+    pub(crate) fn is_positive(self) -> bool
+        ensures { result ≡ is_positive self }
+    {
+        0 < self.low && (0 < self.high && self.high < i32::MAX)
     }
 
     /// Whether each number in it lies in another one.

@@ -1,16 +1,17 @@
 //! Whether every edge of a graph keeps a map of what is known.
-ghost use Rattle.std.specs.Prelude.{◌≡◌, ◌<◌, ℕ, Option, true, length};
-ghost use Rattle.std.specs.List.{list_any};
+ghost use Rattle.std.specs.Prelude.{◌≡◌, ◌<◌, ℕ, None, true, length};
 ghost use Rattle.pc_ranges.specs.Interval.{interval_of};
 ghost use Rattle.pc_ranges.specs.Bounds.{IsKept, bounds_at, bounds_if};
-ghost use Rattle.pc_ranges.specs.models.Keeping.{is_empty, is_inside, is_latest, HoldsZero, Implies, BeginsWithin, GoesOn};
+ghost use Rattle.pc_ranges.specs.models.Keeping.{is_inside, is_latest, has_zero, IsVoid, Implies, BeginsWithin, GoesFrom, GoesOn, after_item, on_side};
 
 use crate::bounds::{Bounds, after_item, on_side};
 use crate::interval::{Interval, interval_at};
 use pc_flow::{Flow, FlowNode};
+use pc_word::{Item, Operand};
 
 /// Whether every edge of a graph keeps a map. No edge that keeps it only for what stands at other
 /// nodes is found to do so.
+#[tactic(auto)]
 pub(crate) fn is_kept(flow: &Flow, map: &[Bounds]) -> bool
     ensures { result ≡ true → IsKept flow.now map.now }
 {
@@ -26,22 +27,32 @@ pub(crate) fn is_kept(flow: &Flow, map: &[Bounds]) -> bool
 }
 
 /// Whether the start is within what is known at the entry.
+#[tactic(auto, using(crate::proofs::Kept::start_laws))]
 fn begins(flow: &Flow, map: &[Bounds]) -> bool
     ensures { result ≡ true → BeginsWithin flow.now map.now }
 {
     match map.get(flow.entry() as usize) {
-        Some(bounds) => bounds.latest.is_none() && hold_zero(&bounds.intervals),
+        Some(bounds) => is_unknown(bounds.latest) && hold_zero(&bounds.intervals),
         None => false,
+    }
+}
+
+/// Whether no latest item is known.
+fn is_unknown(latest: Option<u32>) -> bool
+    ensures { result ≡ true → latest ≡ None }
+{
+    match latest {
+        None => true,
+        Some(_) => false,
     }
 }
 
 /// Whether 0 lies in each interval.
 fn hold_zero(intervals: &[Interval]) -> bool
-    ensures { result ≡ true → HoldsZero intervals.now }
+    ensures { result ≡ true → (variable : ℕ) → variable < length intervals.now → has_zero (interval_of intervals.now variable) ≡ true }
 {
-    for at in 0..intervals.len() {
-        let interval = intervals[at];
-        if interval.low > 0 || interval.high < 0 {
+    for variable in 0..intervals.len() {
+        if !interval_at(intervals, variable).has_zero() {
             return false;
         }
     }
@@ -49,24 +60,58 @@ fn hold_zero(intervals: &[Interval]) -> bool
 }
 
 /// Whether the edges of a node keep a map.
+#[tactic(auto, using(crate::proofs::Kept::known_laws))]
 fn goes_on(flow: &Flow, map: &[Bounds], at: u32) -> bool
     requires { at < length flow.now.nodes }
     ensures { result ≡ true → GoesOn flow.now map.now at }
 {
     match map.get(at as usize) {
-        Some(bounds) => match flow.node(at) {
-            FlowNode::Op { item, next } => leads(&after_item(bounds, at, item), map, next),
-            FlowNode::Test { on, yes, no, .. } => {
-                leads(&on_side(flow, bounds, on, true), map, yes)
-                    && leads(&on_side(flow, bounds, on, false), map, no)
-            }
-            FlowNode::Stop | FlowNode::Trap { .. } => true,
-        },
+        Some(bounds) => goes_from(flow, bounds, map, at),
         None => false,
     }
 }
 
+/// Whether they do, where so much is known at the node.
+#[tactic(auto, using(crate::proofs::Kept::node_laws))]
+fn goes_from(flow: &Flow, bounds: &Bounds, map: &[Bounds], at: u32) -> bool
+    requires { at < length flow.now.nodes }
+    ensures { result ≡ true → GoesFrom flow.now bounds.now map.now at }
+{
+    match flow.node(at) {
+        FlowNode::Op { item, next } => item_leads(bounds, at, item, map, next),
+        FlowNode::Test { on, yes, no, .. } => {
+            if !side_leads(flow, bounds, on, true, map, yes) {
+                return false;
+            }
+            side_leads(flow, bounds, on, false, map, no)
+        }
+        FlowNode::Stop | FlowNode::Trap { .. } => true,
+    }
+}
+
+/// Whether what is known behind an item is enough for what is known at the next node.
+fn item_leads(bounds: &Bounds, at: u32, item: Item, map: &[Bounds], next: u32) -> bool
+    ensures { result ≡ true → Implies (after_item bounds.now at item) (bounds_at map.now next) }
+{
+    leads(&after_item(bounds, at, item), map, next)
+}
+
+/// Whether what is known on a side of a test is enough for what is known at the node there.
+fn side_leads(
+    flow: &Flow,
+    bounds: &Bounds,
+    on: Operand,
+    side: bool,
+    map: &[Bounds],
+    next: u32,
+) -> bool
+    ensures { result ≡ true → Implies (on_side flow.now bounds.now on side) (bounds_at map.now next) }
+{
+    leads(&on_side(flow, bounds, on, side), map, next)
+}
+
 /// Whether what is known behind a node is enough for what is known at another one.
+#[tactic(auto, using(crate::proofs::Kept::target_laws))]
 fn leads(bounds: &Bounds, map: &[Bounds], next: u32) -> bool
     ensures { result ≡ true → Implies bounds.now (bounds_at map.now next) }
 {
@@ -78,6 +123,7 @@ fn leads(bounds: &Bounds, map: &[Bounds], next: u32) -> bool
 
 /// Whether what is known is enough for what is to be known: no state is within it, or each interval
 /// lies inside of the other.
+#[tactic(auto)]
 fn implies(bounds: &Bounds, target: &Bounds) -> bool
     ensures { result ≡ true → Implies bounds.now target.now }
 {
@@ -103,21 +149,14 @@ fn is_latest(known: Option<u32>, wanted: Option<u32>) -> bool
 
 /// Whether no number lies in one of the intervals.
 pub(crate) fn is_void(intervals: &[Interval]) -> bool
-    ensures { result ≡ list_any (λ interval. is_empty interval) intervals.now }
+    ensures { result ≡ true → IsVoid intervals.now }
 {
-    for interval in intervals {
-        if is_empty(*interval) {
+    for variable in 0..intervals.len() {
+        if interval_at(intervals, variable).is_empty() {
             return true;
         }
     }
     false
-}
-
-/// Whether no number lies in an interval.
-fn is_empty(interval: Interval) -> bool
-    ensures { result ≡ is_empty interval }
-{
-    interval.high < interval.low && (i32::MIN < interval.low && interval.high < i32::MAX)
 }
 
 /// Whether each interval lies inside of the other of the same variable.

@@ -1,7 +1,5 @@
 //! A map of what is known at each node, found by sweeps over the nodes. Nothing rests on it until it
 //! is checked.
-ghost use Rattle.std.specs.Prelude.{◌<◌, length};
-
 use crate::bounds::{Bounds, VARIABLES, after_item, on_side};
 use crate::interval::Interval;
 use crate::keeping::is_void;
@@ -13,7 +11,7 @@ use std::alloc::{AllocError, Global};
 const MOST_SWEEPS: usize = 256;
 
 /// After so many visits what still grows goes to the ends of words.
-const MOST_VISITS: u8 = 12;
+const MOST_VISITS: u8 = 60;
 
 /// What is known where no state comes.
 const NOWHERE: Bounds = Bounds {
@@ -50,6 +48,7 @@ enum Growth {
 pub(crate) fn made(alloc: Global, flow: &Flow) -> Result<Vec<Bounds>, AllocError> {
     let count = flow.count() as usize;
     let marks = marks_of(alloc, flow)?;
+    let order = order_of(alloc, flow)?;
     let mut map = vec![in alloc; NOWHERE; count]?;
     let none = Visits {
         count: 0,
@@ -58,13 +57,31 @@ pub(crate) fn made(alloc: Global, flow: &Flow) -> Result<Vec<Bounds>, AllocError
     };
     let mut visits = vec![in alloc; none; count]?;
     count_edges(flow, visits.as_mut_slice());
+    join(
+        marks.as_slice(),
+        map.as_mut_slice(),
+        visits.as_mut_slice(),
+        flow.entry(),
+        &START,
+    );
     sweep_all(
         flow,
+        order.as_slice(),
         marks.as_slice(),
         map.as_mut_slice(),
         visits.as_mut_slice(),
     );
     Ok(map)
+}
+
+/// The rank and the number of each node, in the order of the ranks.
+fn order_of(alloc: Global, flow: &Flow) -> Result<Vec<(u32, u32)>, AllocError> {
+    let mut order = Vec::with_capacity(alloc, flow.count() as usize)?;
+    for at in 0..flow.count() {
+        order.push((flow.rank(at), at))?;
+    }
+    order.sort_unstable();
+    Ok(order)
 }
 
 /// Counts the edges that lead to each node; the graph's beginning is one.
@@ -90,24 +107,32 @@ fn count_edge(visits: &mut [Visits], node: u32) {
 }
 
 /// Sweeps over the nodes until nothing changes.
-fn sweep_all(flow: &Flow, marks: &[i32], map: &mut [Bounds], visits: &mut [Visits]) {
-    join(marks, map, visits, flow.entry(), &START);
+fn sweep_all(
+    flow: &Flow,
+    order: &[(u32, u32)],
+    marks: &[i32],
+    map: &mut [Bounds],
+    visits: &mut [Visits],
+) {
     for _ in 0..MOST_SWEEPS {
-        if !sweep(flow, marks, map, visits) {
+        if !sweep(flow, order, marks, map, visits) {
             return;
         }
     }
 }
 
-/// Visits each node that is to be visited, the last one first, as lowering numbers them backwards.
-/// Whether there was any.
-fn sweep(flow: &Flow, marks: &[i32], map: &mut [Bounds], visits: &mut [Visits]) -> bool {
+/// Visits each node that is to be visited, those of higher ranks first. Whether there was any.
+fn sweep(
+    flow: &Flow,
+    order: &[(u32, u32)],
+    marks: &[i32],
+    map: &mut [Bounds],
+    visits: &mut [Visits],
+) -> bool {
     let mut any = false;
-    let mut left = flow.count();
-    while left > 0 {
-        left -= 1;
-        if is_pending(visits, left) {
-            visit(flow, marks, map, visits, left);
+    for (_, at) in order.iter().rev() {
+        if is_pending(visits, *at) {
+            visit(flow, marks, map, visits, *at);
             any = true;
         }
     }
@@ -123,9 +148,10 @@ fn is_pending(visits: &mut [Visits], at: u32) -> bool {
 }
 
 /// Joins what is known behind a node to what is known at the nodes to which its edges lead.
-fn visit(flow: &Flow, marks: &[i32], map: &mut [Bounds], visits: &mut [Visits], at: u32)
-    requires { at < length flow.now.nodes }
-{
+fn visit(flow: &Flow, marks: &[i32], map: &mut [Bounds], visits: &mut [Visits], at: u32) {
+    if at >= flow.count() {
+        return;
+    }
     let bounds = match map.get(at as usize) {
         Some(bounds) => *bounds,
         None => return,
@@ -200,8 +226,16 @@ fn grow_all(marks: &[i32], growth: Growth, known: &mut [Interval], others: &[Int
 /// An interval that takes in another one.
 fn grown(marks: &[i32], growth: Growth, known: Interval, other: Interval) -> Interval {
     Interval {
-        low: if other.low < known.low { lower(marks, growth, other.low) } else { known.low },
-        high: if known.high < other.high { higher(marks, growth, other.high) } else { known.high },
+        low: if other.low < known.low {
+            lower(marks, growth, other.low)
+        } else {
+            known.low
+        },
+        high: if known.high < other.high {
+            higher(marks, growth, other.high)
+        } else {
+            known.high
+        },
     }
 }
 

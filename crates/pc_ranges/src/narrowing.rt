@@ -39,7 +39,11 @@ fn at_least(b: Interval) -> Interval
 fn below(b: Interval) -> Interval
     ensures { result ≡ below b }
 {
-    let high = if i32::MIN < b.high && b.high < i32::MAX { b.high - 1 } else { i32::MAX };
+    let high = if i32::MIN < b.high && b.high < i32::MAX {
+        b.high - 1
+    } else {
+        i32::MAX
+    };
     Interval {
         low: i32::MIN,
         high,
@@ -50,7 +54,11 @@ fn below(b: Interval) -> Interval
 fn above(b: Interval) -> Interval
     ensures { result ≡ above b }
 {
-    let low = if i32::MIN < b.low && b.low < i32::MAX { b.low + 1 } else { i32::MIN };
+    let low = if i32::MIN < b.low && b.low < i32::MAX {
+        b.low + 1
+    } else {
+        i32::MIN
+    };
     Interval {
         low,
         high: i32::MAX,
@@ -61,7 +69,13 @@ fn above(b: Interval) -> Interval
 fn from_zero(a: Interval) -> Interval
     ensures { result ≡ meet a from_zero }
 {
-    meet(a, Interval { low: 0, high: i32::MAX })
+    meet(
+        a,
+        Interval {
+            low: 0,
+            high: i32::MAX,
+        },
+    )
 }
 
 /// The left operand of a comparison that holds, or does not.

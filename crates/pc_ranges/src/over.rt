@@ -1,7 +1,8 @@
 //! What operators give of intervals.
-ghost use Rattle.std.specs.Prelude.{◌≡◌, ◌+ℤ◌, ◌-ℤ◌, ◌&&◌, ◌||◌, if◌then◌else◌};
+ghost use Rattle.std.specs.Prelude.{◌≡◌, pos, true, ◌+ℤ◌, ◌-ℤ◌, ◌&&◌, ◌||◌, if◌then◌else◌};
 ghost use Rattle.pc_ranges.specs.Interval.{all_words, is_bounded};
-ghost use Rattle.pc_ranges.specs.Over.{span, truth, is_less, is_at_most, sum, difference, over};
+ghost use Rattle.pc_ranges.specs.models.Narrowing.{span_if};
+ghost use Rattle.pc_ranges.specs.Over.{truth, is_less, is_at_most, is_positive, sum, difference, up_to, product, quotient, remainder, shifted, masked, over};
 
 use crate::interval::Interval;
 use pc_word::OpCode;
@@ -21,14 +22,12 @@ pub(crate) fn over(op: OpCode, a: Interval, b: Interval) -> Interval
             a.is_from_zero() && a.is_less(b),
             b.is_from_zero() && b.is_at_most(a),
         ),
-        OpCode::Mul
-        | OpCode::Div
-        | OpCode::Rem
-        | OpCode::Shl
-        | OpCode::Shr
-        | OpCode::And
-        | OpCode::Or
-        | OpCode::Xor => Interval::ALL,
+        OpCode::Mul => product(a, b),
+        OpCode::Div => quotient(a, b),
+        OpCode::Rem => remainder(a, b),
+        OpCode::Shr => shifted(a),
+        OpCode::And => masked(a, b),
+        OpCode::Shl | OpCode::Or | OpCode::Xor => Interval::ALL,
     }
 }
 
@@ -60,6 +59,7 @@ fn truth(surely: bool, never: bool) -> Interval
 }
 
 /// The interval of sums.
+#[tactic(auto)]
 fn sum(a: Interval, b: Interval) -> Interval
     ensures { result ≡ sum a b }
 {
@@ -71,6 +71,7 @@ fn sum(a: Interval, b: Interval) -> Interval
 }
 
 /// The interval of differences.
+#[tactic(auto)]
 fn difference(a: Interval, b: Interval) -> Interval
     ensures { result ≡ difference a b }
 {
@@ -81,8 +82,82 @@ fn difference(a: Interval, b: Interval) -> Interval
     }
 }
 
+/// The interval from 0 to a word.
+fn up_to(high: i32) -> Interval
+    ensures { result ≡ up_to high }
+{
+    Interval { low: 0, high }
+}
+
+/// The interval of products of words from 0 up.
+fn product(a: Interval, b: Interval) -> Interval
+    ensures { result ≡ product a b }
+{
+    if a.is_small() && b.is_small() {
+        span(a.low.checked_mul(b.low), a.high.checked_mul(b.high))
+    } else {
+        Interval::ALL
+    }
+}
+
+/// The interval of quotients of words from 0 up.
+fn quotient(a: Interval, b: Interval) -> Interval
+    ensures { result ≡ quotient a b }
+{
+    if a.is_small() && b.is_from_zero() {
+        up_to(a.high)
+    } else {
+        Interval::ALL
+    }
+}
+
+/// The interval of remainders of numbers from 0 up.
+fn remainder(a: Interval, b: Interval) -> Interval
+    ensures { result ≡ remainder a b }
+{
+    if a.is_from_zero() && b.is_positive() {
+        up_to(less_one(b))
+    } else {
+        Interval::ALL
+    }
+}
+
+/// The word before the high end of an interval of words from 1 up.
+fn less_one(b: Interval) -> i32
+    requires { is_positive b ≡ true }
+    ensures { result ≡ b.high -ℤ pos 1 }
+{
+    b.high - 1
+}
+
+/// The interval of numbers from 0 up that are shifted to the right.
+fn shifted(a: Interval) -> Interval
+    ensures { result ≡ shifted a }
+{
+    if a.is_from_zero() {
+        up_to(a.high)
+    } else {
+        Interval::ALL
+    }
+}
+
+/// The interval of the bits that a word from 0 up has with another one.
+fn masked(a: Interval, b: Interval) -> Interval
+    ensures { result ≡ masked a b }
+{
+    if a.is_small() {
+        up_to(a.high)
+    } else if b.is_small() {
+        up_to(b.high)
+    } else {
+        Interval::ALL
+    }
+}
+
 /// The interval between two words; all words where an end is none.
-fn span(low: Option<i32>, high: Option<i32>) -> Interval {
+fn span(low: Option<i32>, high: Option<i32>) -> Interval
+    ensures { result ≡ span_if low high }
+{
     match (low, high) {
         (Some(low), Some(high)) => Interval { low, high },
         _ => Interval::ALL,

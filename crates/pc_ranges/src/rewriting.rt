@@ -40,7 +40,7 @@ pub(crate) fn range_flow(alloc: Global, flow: &mut Flow) -> Result<u32, AllocErr
 }
 
 /// The map of a graph, if every edge keeps it, and else one in which nothing is known.
-#[tactic(auto, using(crate::proofs::Kept::nothing_known))]
+#[tactic(auto, using(crate::proofs::Kept::no_map))]
 fn checked_map(alloc: Global, flow: &Flow) -> Result<Vec<Bounds>, AllocError>
     ensures { IfOk result (λ map. IsKept flow.now map.items) }
 {

@@ -14,7 +14,7 @@ use Rattle.pc_flow.specs.FlowGraph.{FlowGraph}
 use Rattle.pc_flow.specs.FlowRun.{FlowState, flow_step}
 use Rattle.pc_ranges.specs.declared.interval.Interval.{Interval}
 use Rattle.pc_ranges.specs.declared.bounds.Bounds.{Bounds}
-use Rattle.pc_ranges.specs.Interval.{least, greatest, all_words, LiesIn, interval_of, operand_interval}
+use Rattle.pc_ranges.specs.Interval.{least, greatest, all_words, interval_of, operand_interval}
 use Rattle.pc_ranges.specs.Bounds.{IsWithin, bounds_at}
 use Rattle.pc_ranges.specs.Over.{over}
 use Rattle.pc_ranges.specs.models.Narrowing.{narrowed_left, narrowed_right, tested}
@@ -73,7 +73,11 @@ on_side flow bounds on side = record {
 
 -- ---- what leads to what
 
--- whether no number lies in an interval
+-- whether 0 lies in an interval
+abbrev pub has_zero : Interval → Bool
+has_zero interval = int_le interval.low (pos 0) && int_le (pos 0) interval.high
+
+-- whether no number does
 abbrev pub is_empty : Interval → Bool
 is_empty interval = int_lt interval.high interval.low && (int_lt least interval.low && int_lt interval.high greatest)
 
@@ -87,19 +91,23 @@ is_latest known None = true
 is_latest (Some known) (Some wanted) = nat_eq known wanted
 is_latest None (Some wanted) = false
 
--- 0 lies in each interval
-abbrev pub HoldsZero : List Interval → Type 0
-HoldsZero intervals = (variable : ℕ) → LiesIn (interval_of intervals variable) (pos 0)
+-- no number lies in the interval of some variable
+pub record IsVoid (intervals : List Interval) : Type 0 where
+  pub variable : ℕ
+  pub empty : is_empty (interval_of intervals variable) ≡ true
 
 -- the start is within what is known at the entry
 abbrev pub BeginsWithin : FlowGraph → List Bounds → Type 0
 BeginsWithin flow map = (input : List ℤ) → IsWithin flow (bounds_at map flow.entry) (start_state input)
 
 -- what is known is enough for what is to be known
-abbrev pub Implies : Bounds → Bounds → Type 0
-Implies bounds target = (flow : FlowGraph) (s : State) → IsWithin flow bounds s → IsWithin flow target s
+pub record Implies (bounds target : Bounds) : Type 0 where
+  pub holds : (flow : FlowGraph) (s : State) → IsWithin flow bounds s → IsWithin flow target s
 
--- a step from a node keeps the map
+-- a step from a node, at which so much is known, keeps the map
+pub record GoesFrom (flow : FlowGraph) (bounds : Bounds) (map : List Bounds) (at : ℕ) : Type 0 where
+  pub goes : (s : State) (next : FlowState) (printed : List ℤ) → IsWithin flow bounds s → flow_step flow (record { node = at; state = s }) ≡ Goes printed next
+      → IsWithin flow (bounds_at map next.node) next.state
+
 abbrev pub GoesOn : FlowGraph → List Bounds → ℕ → Type 0
-GoesOn flow map at = (s : State) (next : FlowState) (printed : List ℤ) → IsWithin flow (bounds_at map at) s
-    → flow_step flow (record { node = at; state = s }) ≡ Goes printed next → IsWithin flow (bounds_at map next.node) next.state
+GoesOn flow map at = GoesFrom flow (bounds_at map at) map at

@@ -1,12 +1,18 @@
 -- Intervals that are narrowed by a test.
-use Rattle.std.specs.Prelude.{ℤ, pos, negsuc, ◌+ℤ◌, ◌-ℤ◌, Bool, true, false, ◌&&◌, if◌then◌else◌, int_lt}
+use Rattle.std.specs.Prelude.{ℤ, pos, negsuc, ◌+ℤ◌, ◌-ℤ◌, Bool, true, false, ◌&&◌, if◌then◌else◌, Option, Some, None, int_lt}
 use Rattle.std.specs.Int.{int_max, int_min}
 use Rattle.std.specs.Ordering.{int_eq}
 use Rattle.pc_word.specs.declared.item.OpCode.{OpCode}
 use Rattle.pc_word.specs.declared.item.OpCode.TheVariants.{Less, LessEq, Equal, Unequal, Below}
 use Rattle.pc_ranges.specs.declared.interval.Interval.{Interval}
-use Rattle.pc_ranges.specs.Interval.{least, greatest}
+use Rattle.pc_ranges.specs.Interval.{least, greatest, all_words}
 use Rattle.pc_ranges.specs.Over.{is_from_zero}
+
+-- the interval between two words, if there are two
+abbrev pub span_if : Option ℤ → Option ℤ → Interval
+span_if (Some low) (Some high) = record { low = low; high = high }
+span_if (Some low) None = all_words
+span_if None high = all_words
 
 -- the numbers of both intervals
 abbrev pub meet : Interval → Interval → Interval
