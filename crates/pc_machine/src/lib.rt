@@ -15,4 +15,4 @@ pub use check::{
 pub use code::{Code, Flaw, TreeList};
 pub use laws::laws_of_codes;
 pub use pc_word::{End, MachineFault};
-pub use tree::{Leaf, Tree};
+pub use tree::{Leaf, Tree, leaf_count};
