@@ -17,4 +17,4 @@ pub use code::{Code, DataList, FEW_REGISTERS, Flaw, MOST_REGISTERS, TreeList};
 pub use initial::no_data;
 pub use laws::laws_of_codes;
 pub use pc_word::{End, MachineFault};
-pub use tree::{Leaf, Tree};
+pub use tree::{Leaf, Tree, leaf_count};

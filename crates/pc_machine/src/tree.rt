@@ -1,3 +1,7 @@
+ghost use Rattle.std.specs.Prelude.{◌≡◌, ◌<◌, ◌^◌, length};
+ghost use Rattle.pc_word.specs.Row.{leaves_of};
+ghost use Rattle.pc_machine.specs.MachineCode.{row_of};
+
 use pc_word::{RowTree, TrapKind};
 
 /// What stands at the end of a path of a row: what comes next.
@@ -39,5 +43,17 @@ impl Leaf {
             Leaf::Goto { row } => *row as usize == target,
             Leaf::Stop | Leaf::Trap { .. } => false,
         }
+    }
+}
+
+/// How many leaves a tree has. It takes time in proportion to the tree.
+pub fn leaf_count(tree: &Tree) -> usize
+    requires { length (leaves_of (row_of tree.now)) < 2 ^ 64 }
+    ensures { result ≡ length (leaves_of (row_of tree.now)) }
+{
+    match tree {
+        RowTree::Step { next, .. } => leaf_count(next),
+        RowTree::Test { yes, no, .. } => leaf_count(yes) + leaf_count(no),
+        RowTree::Leaf { .. } => 1,
     }
 }

@@ -1,6 +1,8 @@
-//! Tests of the machine: codes, objects, and the simulator.
+//! Tests of the machine: codes, objects, the simulator, and what its runs cost.
 #![tactic(auto)]
 
+#[cfg(test)]
+mod count;
 #[cfg(test)]
 mod machine;
 #[cfg(test)]

@@ -19,7 +19,7 @@ struct Shown {
 }
 
 /// The items one after the other, and then a leaf.
-fn chain(alloc: Global, items: &[Item], leaf: Leaf) -> Result<Tree, AllocError> {
+pub(crate) fn chain(alloc: Global, items: &[Item], leaf: Leaf) -> Result<Tree, AllocError> {
     let mut tree = RowTree::Leaf { leaf };
     for item in items.iter().rev() {
         tree = RowTree::Step {
@@ -48,7 +48,7 @@ fn rows_of(alloc: Global, lists: &[&[Item]]) -> Result<TreeList, AllocError> {
 }
 
 /// A code with the fewer registers, and arrays of 4 and 2 elements without data.
-fn code_of(alloc: Global, rows: TreeList) -> Result<Code, AllocError> {
+pub(crate) fn code_of(alloc: Global, rows: TreeList) -> Result<Code, AllocError> {
     Ok(Code {
         limits: Limits {
             ops: 8,

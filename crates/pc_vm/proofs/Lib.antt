@@ -4,4 +4,5 @@ pub mod Results
 pub mod Rows
 pub mod Steps
 pub mod Cycles
+pub mod Exits
 pub mod Starts

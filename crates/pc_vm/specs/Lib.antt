@@ -1,3 +1,4 @@
 pub mod models
 pub mod Contents
 pub mod Standing
+pub mod Exits

@@ -5,10 +5,12 @@
 #![tactic(auto)]
 
 mod event;
+mod exit;
 mod machine;
 mod pending;
 mod row;
 mod values;
 
 pub use event::{Event, MachineError, Outcome, RunError};
+pub use exit::Exit;
 pub use machine::Machine;

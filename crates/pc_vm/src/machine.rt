@@ -8,10 +8,12 @@ ghost use Rattle.pc_machine.specs.MachineRun.{machine_step, machine_start};
 ghost use Rattle.pc_machine.specs.WellFormed.{IsLeaf, WellFormed};
 ghost use Rattle.pc_word.specs.Count.{Rose};
 ghost use Rattle.pc_outside.specs.Stream.{AppendsPart};
+ghost use Rattle.pc_vm.specs.Exits.{IsExit};
 ghost use Rattle.pc_vm.specs.Standing.{here_of, IsStep, KeepsAll, end_of, StandsAt};
 ghost use Rattle.pc_vm.specs.models.Moves.{event_of, moved};
 
 use crate::event::{Event, MachineError, Outcome, RunError};
+use crate::exit::{Exit, exit_number};
 use crate::pending::Pending;
 use crate::row::{RowResult, run_row};
 use crate::values::Values;
@@ -74,6 +76,34 @@ impl Machine {
             pending,
             over: false,
         })
+    }
+
+    /// The code that it runs.
+    pub fn code(&self) -> &Code
+        ensures code { result.now ≡ self.now.code }
+        ensures well { WellFormed (code_of self.now.code) }
+    {
+        &self.code
+    }
+
+    /// The code that it ran.
+    pub fn into_code(self) -> Code
+        ensures { result ≡ self.code }
+    {
+        let Machine { code, .. } = self;
+        code
+    }
+
+    /// Where the next cycle leaves its row, unless it faults. Nothing is changed. It goes down the
+    /// path that the cycle takes, and through the yes side of each test whose no side is taken.
+    pub fn exit(&self) -> Exit
+        ensures { IsExit (code_of self.now.code) (here_of self.now) result }
+    {
+        let tree = &self.code.rows.as_slice()[self.row as usize];
+        Exit {
+            row: self.row as usize,
+            leaf: exit_number(tree, &self.values),
+        }
     }
 
     /// Runs one row: one step of the code. It takes no memory.
