@@ -338,8 +338,8 @@ module _ (flow : FlowGraph) (plan : Plan) (is : IsForwarding flow plan) where
       item_becomes at to item item trail reached there stands along words (is.is_flow.nodes_fit at (Op item to) there) (λ s known. refl) refl
   same_becomes at (Test on on_yes on_no turn) trail reached there stands along words =
       Tests (record { same_value = λ s known. refl; reads = λ x h. tt })
-      (record { leads = leads_there on_yes; passes = λ x m. tt; knows = λ s known. side_knows at on_yes (Test on on_yes on_no turn) s reached there stands (λ t. refl) (inl refl) known })
-      (record { leads = leads_there on_no; passes = λ x m. tt; knows = λ s known. side_knows at on_no (Test on on_yes on_no turn) s reached there stands (λ t. refl) (inr refl) known })
+      (record { leads = leads_there on_yes; passes = λ x m. tt; knows = λ s known taken. side_knows at on_yes (Test on on_yes on_no turn) s reached there stands (λ t. refl) (inl refl) known })
+      (record { leads = leads_there on_no; passes = λ x m. tt; knows = λ s known taken. side_knows at on_no (Test on on_yes on_no turn) s reached there stands (λ t. refl) (inr refl) known })
   same_becomes at Stop trail reached there stands along words = Stops_too
   same_becomes at (Trap kind line) trail reached there stands along words = Traps_too
 

@@ -212,7 +212,7 @@ module _ (flow : FlowGraph) (map : List Bounds) (plan : Plan) (is : IsRanging fl
     is_flow = is.taken_sides.is_flow;
     same_arrays = refl;
     begins = rw is.entry (leads flow.entry is.taken_sides.is_flow.begins);
-    known_first = is.kept.begins;
+    known_first = λ input words. is.kept.begins input;
     skips = skips;
     becomes = λ at node reached there stays. record {
       other = led is.ends (settled_node map at node);
