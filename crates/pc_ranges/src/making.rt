@@ -1,5 +1,5 @@
-//! A map of what is known at each node, found by sweeps over the nodes. Nothing rests on it until it
-//! is checked.
+//! A map of what is known at each node, found by visiting nodes until nothing grows. Nothing rests on it
+//! until it is checked.
 use crate::bounds::{Bounds, VARIABLES, after_item, on_side};
 use crate::interval::Interval;
 use crate::keeping::is_void;
@@ -7,8 +7,8 @@ use crate::marks::{mark_above, mark_below, marks_of};
 use pc_flow::{Flow, FlowNode};
 use std::alloc::{AllocError, Global};
 
-/// After so many sweeps the map is given up.
-const MOST_SWEEPS: usize = 256;
+/// After so many steps a node the map is given up.
+const MOST_STEPS: usize = 1_000;
 
 /// After so many visits what still grows goes to the ends of words.
 const MOST_VISITS: u8 = 60;
@@ -25,11 +25,13 @@ const START: Bounds = Bounds {
     latest: None,
 };
 
-/// How often the sweeps came to a node, how many edges lead there, and whether it is to be visited.
+/// How often what is known at a node grew, how many edges lead there, the node's place in the order
+/// of the ranks, and whether it is to be visited.
 #[derive(Clone, Copy, Debug)]
 struct Visits {
     count: u8,
     edges: u8,
+    place: usize,
     pending: bool,
 }
 
@@ -53,6 +55,7 @@ pub(crate) fn made(alloc: Global, flow: &Flow) -> Result<Vec<Bounds>, AllocError
     let none = Visits {
         count: 0,
         edges: 0,
+        place: 0,
         pending: false,
     };
     let mut visits = vec![in alloc; none; count]?;
@@ -64,7 +67,8 @@ pub(crate) fn made(alloc: Global, flow: &Flow) -> Result<Vec<Bounds>, AllocError
         flow.entry(),
         &START,
     );
-    sweep_all(
+    note_places(order.as_slice(), visits.as_mut_slice());
+    visit_all(
         flow,
         order.as_slice(),
         marks.as_slice(),
@@ -106,37 +110,35 @@ fn count_edge(visits: &mut [Visits], node: u32) {
     }
 }
 
-/// Sweeps over the nodes until nothing changes.
-fn sweep_all(
+/// Notes the place of each node in the order.
+fn note_places(order: &[(u32, u32)], visits: &mut [Visits]) {
+    for (place, (_, at)) in order.iter().enumerate() {
+        if let Some(visit) = visits.get_mut(*at as usize) {
+            visit.place = place;
+        }
+    }
+}
+
+/// Visits nodes until none is left to be visited, those of higher ranks first: where a visit leads
+/// back up, it goes on from there.
+fn visit_all(
     flow: &Flow,
     order: &[(u32, u32)],
     marks: &[i32],
     map: &mut [Bounds],
     visits: &mut [Visits],
 ) {
-    for _ in 0..MOST_SWEEPS {
-        if !sweep(flow, order, marks, map, visits) {
-            return;
+    let mut left = order.len();
+    let mut steps = order.len().saturating_mul(MOST_STEPS);
+    while left > 0 && steps > 0 {
+        left -= 1;
+        steps -= 1;
+        if let Some((_, at)) = order.get(left) {
+            if is_pending(visits, *at) {
+                left = left.max(visit(flow, marks, map, visits, *at));
+            }
         }
     }
-}
-
-/// Visits each node that is to be visited, those of higher ranks first. Whether there was any.
-fn sweep(
-    flow: &Flow,
-    order: &[(u32, u32)],
-    marks: &[i32],
-    map: &mut [Bounds],
-    visits: &mut [Visits],
-) -> bool {
-    let mut any = false;
-    for (_, at) in order.iter().rev() {
-        if is_pending(visits, *at) {
-            visit(flow, marks, map, visits, *at);
-            any = true;
-        }
-    }
-    any
 }
 
 /// Whether a node is to be visited; from now on it is not.
@@ -147,37 +149,49 @@ fn is_pending(visits: &mut [Visits], at: u32) -> bool {
     }
 }
 
-/// Joins what is known behind a node to what is known at the nodes to which its edges lead.
-fn visit(flow: &Flow, marks: &[i32], map: &mut [Bounds], visits: &mut [Visits], at: u32) {
+/// Joins what is known behind a node to what is known at the nodes to which its edges lead. The place
+/// above all that are to be visited for it.
+fn visit(flow: &Flow, marks: &[i32], map: &mut [Bounds], visits: &mut [Visits], at: u32) -> usize {
     if at >= flow.count() {
-        return;
+        return 0;
     }
     let bounds = match map.get(at as usize) {
         Some(bounds) => *bounds,
-        None => return,
+        None => return 0,
     };
     match flow.node(at) {
         FlowNode::Op { item, next } => {
-            join(marks, map, visits, next, &after_item(&bounds, at, item));
+            join(marks, map, visits, next, &after_item(&bounds, at, item))
         }
         FlowNode::Test { on, yes, no, .. } => {
-            join(marks, map, visits, yes, &on_side(flow, &bounds, on, true));
-            join(marks, map, visits, no, &on_side(flow, &bounds, on, false));
+            let first = join(marks, map, visits, yes, &on_side(flow, &bounds, on, true));
+            let second = join(marks, map, visits, no, &on_side(flow, &bounds, on, false));
+            first.max(second)
         }
-        FlowNode::Stop | FlowNode::Trap { .. } => {}
+        FlowNode::Stop | FlowNode::Trap { .. } => 0,
     }
 }
 
-/// Joins bounds to those of a node.
-fn join(marks: &[i32], map: &mut [Bounds], visits: &mut [Visits], at: u32, bounds: &Bounds) {
+/// Joins bounds to those of a node. The place above it, if it is to be visited, and else 0.
+fn join(
+    marks: &[i32],
+    map: &mut [Bounds],
+    visits: &mut [Visits],
+    at: u32,
+    bounds: &Bounds,
+) -> usize {
     if is_void(&bounds.intervals) {
-        return;
+        return 0;
     }
     if let Some(visit) = visits.get_mut(at as usize) {
         if let Some(known) = map.get_mut(at as usize) {
             join_at(marks, known, visit, bounds);
+            if visit.pending {
+                return visit.place.saturating_add(1);
+            }
         }
     }
+    0
 }
 
 /// Joins bounds to others, which are to be visited if that changed them.

@@ -21,7 +21,7 @@ length-leaves_of (At_leaf leaf) = refl
 -- so few that they can be counted
 pub code-few_leaves : (code : RowCode) (i : ℕ) (row : CodeRow) → WellFormed code → slice_get code.rows i ≡ Some row → length (leaves_of row) < 2 ^ 64
 code-few_leaves code i row well at =
-    let is = all_at (IsRow code.limits (length code.arrays) (length code.rows)) code.rows i row well.rows at in
+    let is = all_at (IsRow code.limits code.registers (length code.arrays) (length code.rows)) code.rows i row well.rows at in
     omega (arith, is.tests, well.limits.tests.1, length-leaves_of row)
 
 -- the row that comes next, and the leaf of its path
