@@ -425,8 +425,17 @@ module _ (flow : FlowGraph) (plan : Plan) (is : IsForwarding flow plan) where
   not_forwardable trail _ _ (Is_forwarded known) h = absurd (let e = h.is in cc)
   not_forwardable trail _ _ (Stays off) h = off h
 
+  -- a trail leads to each node that is no end
+  its_trail : (at : ℕ) (old made : FlowNode) → Became at old made → (Ends made → ⊥) → (trail : Trail) × Along new plan.nodes at trail
+  its_trail at old made (inl w) goes_on = (w.0, along_new at w.0 w.1)
+  its_trail at old made (inr end) goes_on = absurd (goes_on (subst Ends (sym end.0) end.1))
+
+  load_trail : (at : ℕ) (made : FlowNode) → IsReachableNode flow at → slice_get plan.nodes at ≡ Some made → (Ends made → ⊥) → (trail : Trail) × Along new plan.nodes at trail
+  load_trail at made reached stands goes_on = let old = old_node at made reached stands in its_trail at old.0 made old.2 goes_on
+
   pub forwarding_forwards : ForwardsAll new
   forwarding_forwards = record {
+    trails = λ at dest array to index reached there. load_trail at (Op (Load dest array index) to) (reached_before at reached) there (λ ends. ends);
     none = λ at node trail reached there along h.
         let was = reached_before at reached in
         let old = old_node at node was there in

@@ -65,7 +65,9 @@ pub record IsForwardable (trail : Trail) (node : FlowNode) : Type 0 where
   pub element : HasElement trail.accesses array (operand_form trail.forms index) value
   pub at_hand : IsAtHand trail.forms value
 
--- no load that can be reached is forwardable
+-- no load that can be reached is forwardable, by the trail that leads to it
 pub record ForwardsAll (flow : FlowGraph) : Type 0 where
+  pub trails : (at dest array to : ℕ) (index : Operand) → IsReachableNode flow at → slice_get flow.nodes at ≡ Some (Op (Load dest array index) to)
+      → (trail : Trail) × Along flow flow.nodes at trail
   pub none : (at : ℕ) (node : FlowNode) (trail : Trail) → IsReachableNode flow at → slice_get flow.nodes at ≡ Some node → Along flow flow.nodes at trail
       → IsForwardable trail node → ⊥

@@ -104,3 +104,95 @@ fn passes_fold_copy_and_clear(rt: HostRuntime) -> Result<(), Fail> {
     assert!(rt; reports(alloc, &mut passes, report)?);
     Ok(())
 }
+
+/// Whether the compiler with all passes reports this of a source, and its object then leaves this on an input.
+fn forwards(
+    alloc: Global,
+    text: &[u8],
+    report: &[u8],
+    input: &[u8],
+    wanted: Wanted,
+) -> Result<bool, Fail> {
+    let mut passes: Vec<Box<dyn Pass>> = Vec::new(alloc);
+    passes.push(Box::new(alloc, Fold::new(alloc))?)?;
+    passes.push(Box::new(alloc, Copies::new(alloc))?)?;
+    passes.push(Box::new(alloc, Values::new(alloc))?)?;
+    passes.push(Box::new(alloc, Forward::new(alloc))?)?;
+    passes.push(Box::new(alloc, Dead::new(alloc))?)?;
+    let mut shelf = shelf_with(alloc, "a.c", text, 0)?;
+    let reported = Wanted {
+        out: report,
+        ..SILENCE
+    };
+    forwards_there(alloc, &mut passes, &mut shelf, reported, input, wanted)
+}
+
+/// The same over a shelf.
+fn forwards_there(
+    alloc: Global,
+    passes: &mut Vec<Box<dyn Pass>>,
+    shelf: &mut MemoryShelf,
+    reported: Wanted,
+    input: &[u8],
+    wanted: Wanted,
+) -> Result<bool, Fail> {
+    let line = "a.c -o b.tv --report";
+    Ok(
+        answers_with(
+            alloc,
+            Who::Pcc,
+            line,
+            passes,
+            shelf,
+            b"",
+            NONE_FAILS,
+            reported,
+        )? && answers(alloc, Who::Pvm, "b.tv", shelf, input, NONE_FAILS, wanted)?,
+    )
+}
+
+/// An element that was stored is not loaded again.
+const STORED: &[u8] = b"int main(void){int a[4];int x=read();a[1]=x;print(a[1]);}";
+
+/// Nor one that was loaded.
+const LOADED: &[u8] = b"int main(void){int a[4];int i=read();int x=a[i];int y=a[i];print(x+y);}";
+
+/// A store that may be to the same element.
+const MAY_MEET: &[u8] =
+    b"int main(void){int a[4];int i=read();int j=read();a[i]=1;a[j]=2;print(a[i]);}";
+
+const STORED_REPORT: &[u8] =
+    b"nodes 15\nrows 4\npass fold 2\npass copies 2\npass values 0\npass forward 1\npass dead 2\n";
+
+const LOADED_REPORT: &[u8] =
+    b"nodes 18\nrows 5\npass fold 0\npass copies 2\npass values 0\npass forward 1\npass dead 1\n";
+
+const MAY_MEET_REPORT: &[u8] =
+    b"nodes 24\nrows 8\npass fold 0\npass copies 0\npass values 0\npass forward 0\npass dead 0\n";
+
+#[test]
+fn loads_are_forwarded(rt: HostRuntime) -> Result<(), Fail> {
+    let alloc = rt.alloc();
+    let trapped = Wanted {
+        code: 11,
+        err: "pvm: trap: out of bounds at line 1\n",
+        ..SILENCE
+    };
+    let six = Wanted {
+        out: b"6\n",
+        ..SILENCE
+    };
+    let none = Wanted {
+        out: b"0\n",
+        ..SILENCE
+    };
+    let two = Wanted {
+        out: b"2\n",
+        ..SILENCE
+    };
+    assert!(rt; forwards(alloc, STORED, STORED_REPORT, b"6", six)?);
+    assert!(rt; forwards(alloc, LOADED, LOADED_REPORT, b"1", none)?);
+    assert!(rt; forwards(alloc, LOADED, LOADED_REPORT, b"4", trapped)?);
+    assert!(rt; forwards(alloc, MAY_MEET, MAY_MEET_REPORT, b"3 3", two)?);
+    Ok(())
+}
