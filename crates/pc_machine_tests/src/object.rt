@@ -400,7 +400,7 @@ fn large_data(alloc: Global) -> Result<Vec<u8>, AllocError> {
     )?;
     bytes.extend_from_slice(b"\x00\x01\x00\x00")?;
     for word in 0..65_536u32 {
-        bytes.extend_from_slice(&[0xFF, (word >> 16) as u8, (word >> 8) as u8, word as u8])?;
+        bytes.extend_from_slice(&(0xFF00_0000 + word).to_be_bytes())?;
     }
     bytes.extend_from_slice(b"\x00\x00\x00\x00\x00\x01\x00\x00")?;
     for _ in 0..65_536 {
