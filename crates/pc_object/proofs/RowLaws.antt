@@ -119,7 +119,7 @@ fields_take bounds above kinds.Bin bytes read fits e =
       kind_is = refl;
       takes = tad;
       sound = nil_joined (dest_flaws bounds.registers above b.0.0) (operand_flaws bounds.registers c.0.0 ++ operand_flaws bounds.registers d.0.0) tb.1 (nil_joined
-      (operand_flaws bounds.registers c.0.0) (operand_flaws bounds.registers d.0.0) tc.1 td.1);
+          (operand_flaws bounds.registers c.0.0) (operand_flaws bounds.registers d.0.0) tc.1 td.1);
       fits = (tc.2, td.2);
     })
 fields_take bounds above kinds.Copy bytes read fits e =
@@ -148,7 +148,7 @@ fields_take bounds above kinds.Load bytes read fits e =
       kind_is = refl;
       takes = Takes-then bytes (a.0.0 ∷ []) a.0.1 (b.0.0 ∷ operand_text c.0.0) c.0.1 ta.0 tbc;
       sound = nil_joined (dest_flaws bounds.registers above a.0.0) (array_flaws bounds.arrays b.0.0 ++ operand_flaws bounds.registers c.0.0) ta.1 (nil_joined (array_flaws bounds.arrays b.0.0)
-      (operand_flaws bounds.registers c.0.0) tb.1 tc.1);
+          (operand_flaws bounds.registers c.0.0) tb.1 tc.1);
       fits = tc.2;
     })
 fields_take bounds above kinds.Store bytes read fits e =
@@ -165,7 +165,7 @@ fields_take bounds above kinds.Store bytes read fits e =
       kind_is = refl;
       takes = Takes-then bytes (a.0.0 ∷ []) a.0.1 (operand_text b.0.0 ++ operand_text c.0.0) c.0.1 ta.0 tbc;
       sound = nil_joined (array_flaws bounds.arrays a.0.0) (operand_flaws bounds.registers b.0.0 ++ operand_flaws bounds.registers c.0.0) ta.1 (nil_joined (operand_flaws bounds.registers b.0.0)
-      (operand_flaws bounds.registers c.0.0) tb.1 tc.1);
+          (operand_flaws bounds.registers c.0.0) tb.1 tc.1);
       fits = (tb.2, tc.2);
     })
 fields_take bounds above kinds.Print bytes read fits e =
@@ -203,8 +203,12 @@ fields_again bounds above (items.Copy dest from) rest none fits =
 fields_again bounds above (items.Load dest array index) rest none fits =
     let p = nil_parts (dest_flaws bounds.registers above dest) (array_flaws bounds.arrays array ++ operand_flaws bounds.registers index) none in
     let q = nil_parts (array_flaws bounds.arrays array) (operand_flaws bounds.registers index) p.1 in
-    rw (dest_again bounds.registers above dest (array ∷ (operand_text index ++ rest)) p.0, array_again bounds.arrays array
-    (operand_text index ++ rest) q.0, operand_again bounds.registers index rest q.1 fits) refl
+    rw (
+      dest_again bounds.registers above dest (array ∷ (operand_text index ++ rest)) p.0,
+      array_again bounds.arrays array
+          (operand_text index ++ rest) q.0,
+      operand_again bounds.registers index rest q.1 fits,
+    ) refl
 fields_again bounds above (items.Store array index value) rest none fits =
     let p = nil_parts (array_flaws bounds.arrays array) (operand_flaws bounds.registers index ++ operand_flaws bounds.registers value) none in
     let q = nil_parts (operand_flaws bounds.registers index) (operand_flaws bounds.registers value) p.1 in

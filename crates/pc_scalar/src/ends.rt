@@ -8,11 +8,7 @@ use std::alloc::{AllocError, Global};
 /// The end of each node's chain in a table that says which node takes its place, itself where it stays.
 ///
 /// Chains are shortened on the way, so all of them together take little more than one step a node.
-pub fn chain_ends(
-    alloc: Global,
-    flow: &Flow,
-    table: &mut [u32],
-) -> Result<Vec<u32>, AllocError>
+pub fn chain_ends(alloc: Global, flow: &Flow, table: &mut [u32]) -> Result<Vec<u32>, AllocError>
     requires { FallsAlong flow.now table.old }
     ensures { IfOk result (λ ends. AreEnds table.old ends.items) }
 {
