@@ -29,20 +29,20 @@ use Rattle.pc_count.proofs.Sums.{counts_of_leaves-sum, leaf_counts-sum, row_coun
 -- ---- before the first cycle
 
 -- the rows of a well-formed code have few leaves
-few_of_row : (limits : Limits) (arrays rows : ℕ) (row : CodeRow) → AreLimits limits → IsRow limits arrays rows row → length (leaves_of row) < 2 ^ 64
-few_of_row limits arrays rows row are is = omega (arith, is.tests, are.tests.1, length-leaves_of row)
+few_of_row : (limits : Limits) (registers arrays rows : ℕ) (row : CodeRow) → AreLimits limits → IsRow limits registers arrays rows row → length (leaves_of row) < 2 ^ 64
+few_of_row limits registers arrays rows row are is = omega (arith, is.tests, are.tests.1, length-leaves_of row)
 
 pub few_leaves : (code : Code) → WellFormed (code_of code) → All (λ tree. length (leaves_of (row_of tree)) < 2 ^ 64) code.rows
 few_leaves code well =
     All-from_recursion (λ tree. length (leaves_of (row_of tree)) < 2 ^ 64) trees
     (all_imply (λ tree. Is (row_of tree)) (λ tree. length (leaves_of (row_of tree)) < 2 ^ 64) trees
-    (λ tree is. few_of_row code.limits (length code.arrays) (length (rows_of trees)) (row_of tree) well.limits is) (all_of_map Is row_of trees well.rows))
+    (λ tree is. few_of_row code.limits code.registers (length code.arrays) (length (rows_of trees)) (row_of tree) well.limits is) (all_of_map Is row_of trees well.rows))
   where
     trees : List (RowTree Leaf)
     trees = code.rows
 
     Is : CodeRow → Type 0
-    Is row = IsRow code.limits (length code.arrays) (length (rows_of trees)) row
+    Is row = IsRow code.limits code.registers (length code.arrays) (length (rows_of trees)) row
 
 -- counts of no cycle are zeros
 no-counts : {X : Type 0} (f : ℕ → X → ℕ) (number : ℕ) (xs : List X) → ((j : ℕ) (x : X) → f j x ≡ 0) → replicate (length xs) 0 ≡ each_numbered f number xs
@@ -68,17 +68,17 @@ profile-is first later profile most start well same is few =
     subst (λ (code : Code). IsProfileOf (code_of code) profile) (sym same) (record { well = well; most = most; start = start; few = few; is = is })
 
 -- each row of a well-formed code with its counts
-rows-counted : (limits : Limits) (arrays many : ℕ) (rows : List CodeRow) (number : ℕ) (cycles : List Passage) → AreLimits limits
-    → AllByRecursion (IsRow limits arrays many) rows → length cycles ≤ most_cycles → AreCounted rows (each_numbered (counts_of_leaves cycles) number rows)
-rows-counted limits arrays many [] number cycles are all few = tt
-rows-counted limits arrays many (row ∷ rows) number cycles are all few = (
+rows-counted : (limits : Limits) (registers arrays many : ℕ) (rows : List CodeRow) (number : ℕ) (cycles : List Passage) → AreLimits limits
+    → AllByRecursion (IsRow limits registers arrays many) rows → length cycles ≤ most_cycles → AreCounted rows (each_numbered (counts_of_leaves cycles) number rows)
+rows-counted limits registers arrays many [] number cycles are all few = tt
+rows-counted limits registers arrays many (row ∷ rows) number cycles are all few = (
   record {
     ops = omega (arith, all.0.ops, are.ops.1);
     tests = omega (arith, all.0.tests, are.tests.1);
     leaves = let same = length-each (λ leaf _. times_left cycles number leaf) 0 (leaves_of row) in omega (arith, same);
     few = omega (arith, counts_of_leaves-sum row number cycles, count_by-le-length (begins_in number) cycles, few);
   },
-  rows-counted limits arrays many rows (suc number) cycles are all.1 few,
+  rows-counted limits registers arrays many rows (suc number) cycles are all.1 few,
 )
 
 module _ (code : RowCode) (profile : RunProfile) (is : IsProfileOf code profile) where
@@ -103,7 +103,7 @@ module _ (code : RowCode) (profile : RunProfile) (is : IsProfileOf code profile)
   pub profile-counted : AreCounted code.rows profile.leaves
   profile-counted =
       subst (λ (ls : List (List ℕ)). AreCounted code.rows ls) (sym leaves-are)
-      (rows-counted code.limits (length code.arrays) (length code.rows) code.rows 0 run_cycles is.well.limits is.well.rows cycles-few)
+      (rows-counted code.limits code.registers (length code.arrays) (length code.rows) code.rows 0 run_cycles is.well.limits is.well.rows cycles-few)
 
   pub profile-leaves : all_counts profile.leaves ≤ profile.cycles
   profile-leaves = omega (arith, ap all_counts leaves-are, leaf_counts-sum code.rows run_cycles, cycles-are)
