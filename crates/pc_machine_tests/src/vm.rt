@@ -103,7 +103,7 @@ fn shows(
     answer: Outcome,
 ) -> Result<bool, Fail> {
     Ok(match run_rows(alloc, rows, inputs, 1000, 256)? {
-        Some(shown) => shown.text.as_slice() == text && shown.answer == Ok(answer),
+        Some(shown) => shown.text.as_slice() == text.as_slice() && shown.answer == Ok(answer),
         None => false,
     })
 }
@@ -282,7 +282,9 @@ fn arrays_begin_with_their_data(rt: HostRuntime) -> Result<(), Fail> {
     code.initial = initial;
     let text = b"5\n-6\n0\n0\n9\n0\n7\n0\n";
     match run_code(alloc, code, &[], 1000, 256)? {
-        Some(shown) => assert!(rt; shown.text.as_slice() == text && shown.answer == Ok(ENDED)),
+        Some(shown) => assert!(rt;
+            shown.text.as_slice() == text.as_slice() && shown.answer == Ok(ENDED)
+        ),
         None => assert!(rt; false),
     }
     Ok(())
