@@ -103,7 +103,7 @@ fn shows(
     answer: Outcome,
 ) -> Result<bool, Fail> {
     Ok(match run_rows(alloc, rows, inputs, 1000, 256)? {
-        Some(shown) => shown.text.as_slice() == text.as_slice() && shown.answer == Ok(answer),
+        Some(shown) => shown.text.as_slice() == text && shown.answer == Ok(answer),
         None => false,
     })
 }

@@ -42,7 +42,7 @@ fn only(alloc: Global, call: u64) -> Result<CallList, AllocError> {
 fn shelf_of_three(alloc: Global, failing: u64) -> Result<MemoryShelf, Fail> {
     let mut shelf = MemoryShelf::new(alloc, only(alloc, failing)?);
     shelf.put(alloc, "o.tv", &SEVEN)?;
-    shelf.put(alloc, "bad.tv", b"PTV2")?;
+    shelf.put(alloc, "bad.tv", b"PTV3")?;
     shelf.put(alloc, "short.tv", &SEVEN[..8])?;
     Ok(shelf)
 }
